@@ -35,13 +35,17 @@ from cutter import spellings
 
 TOP = os.path.dirname(os.path.dirname(os.path.abspath(__file__)))
 sys.path.insert(0, os.path.join(TOP, "scripts"))
-from common import plain, units  # noqa: E402
+from common import Unit, plain  # noqa: E402
 
 # words of a command that say where to write, and those whose next word does
 WRITING, WRITING_WORD = ("-c", "-S", "-MD", "-MMD", "-MP", "-MG", "-M", "-MM"), ("-o", "-MF", "-MT", "-MQ", "-MJ")
 COMPILER = re.compile(r"(?:.*-)?(?:cc|gcc|clang)(?:-[\d.]+)?$")
 MADE = re.compile(r"cppunits-generated/\d+/")
 UNASKED = b"/stdc-predef.h"
+# lines of a dump: tokens with their spellings, and pragmas with their tokens
+PRINTED = re.compile(rb"\np?tok [^ \n]+ [^ \n]+ [^ \n]+ ([^\n]*)")
+PRAGMA = re.compile(rb"\nprag [^\n]*(?:\nptok [^\n]*)*")
+PIECE = 16777216
 # what gcc obeys and doesn't print, and what cppunits doesn't print
 UNPRINTED = re.compile(rb"# ?(?:ident|sccs|pragma +(?:once|push_macro|pop_macro|GCC +(?:poison|system_header|warning|error|dependency)))\b")
 ENVIRONMENT = dict(os.environ, SOURCE_DATE_EPOCH="1707465903", LC_ALL="C")
@@ -116,25 +120,17 @@ def tokens_of_compiler(text):
 
 def tokens_of_unit(unit):
     """The spellings of a dump, the operator _Pragma as the line that a compiler makes of it."""
-    found, pragma = [], []
-    for line in unit.lines:
-        if line.startswith(b"ptok "):
-            pragma.append(spelling(line))
-            continue
-        if pragma:
-            found += pragma_line(pragma)
-            pragma = []
-        if line.startswith(b"tok "):
-            found.append(spelling(line))
-        elif line.startswith(b"prag "):
-            pragma = [b"#", b"pragma"]
-    return without_operators(found + pragma_line(pragma))
+    found, begin = [], 0
+    for pragma in PRAGMA.finditer(unit.text):
+        found += printed_spellings(unit.text, begin, pragma.start())
+        found += pragma_line([b"#", b"pragma", *printed_spellings(unit.text, *pragma.span())])
+        begin = pragma.end()
+    return without_operators(found + printed_spellings(unit.text, begin, len(unit.text)))
 
 
-def spelling(line):
-    """The spelling of a token's line."""
-    word = line.split(b" ", 4)[4]
-    return plain(word) if b"%" in word else word
+def printed_spellings(text, begin, end):
+    """The spellings of a part of a dump."""
+    return [plain(word) if b"%" in word else word for word in PRINTED.findall(text, begin, end)]
 
 
 def pragma_line(tokens):
@@ -160,6 +156,8 @@ def without_operators(tokens):
 
 def difference(ours, theirs, entry):
     """The first place where the tokens differ, in words, or None."""
+    if ours == theirs:
+        return None
     for at, (mine, other) in enumerate(zip(ours, theirs)):
         if mine != other and not same_file(mine, other, entry):
             return "token %d: %s, and the compiler has %s" % (at, told(ours, at), told(theirs, at))
@@ -264,10 +262,32 @@ def compared(unit, entry, seconds):
     return entry.file, taken, {kind: told for kind, told in faults.items() if told is not None}
 
 
+class Dumped(Unit):
+    """A unit of a dump, with its lines as one text, in which each stands after a line end."""
+
+    def __init__(self, text):
+        number, name = text.partition(b"\n")[0].split(b" ", 1)
+        super().__init__(int(number), name)
+        self.text = text.rstrip(b"\n")
+        self.last = self.text[self.text.rindex(b"\n") + 1:]
+        self.lines = [line[1:] for line in re.findall(rb"\ndep [^\n]*", self.text)]
+
+
+def dumped(path):
+    """The units of a dump, which is read in large pieces."""
+    rest = b"\n"
+    with open(path, "rb") as file:
+        while piece := file.read(PIECE):
+            *whole, rest = (rest + piece).split(b"\nunit ")
+            yield from (Dumped(text) for text in whole if text)
+    if rest.strip():
+        yield Dumped(rest)
+
+
 def pairs(output, by_file):
     """Each unit with its command; units of one file are in the order of their commands."""
     used = collections.Counter()
-    for unit in units(output):
+    for unit in dumped(output):
         file = "/" + os.fsdecode(unit.source)
         yield unit, by_file[file][used[file]]
         used[file] += 1

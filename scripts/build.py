@@ -31,7 +31,9 @@ to allow others.  The list has all files that an include line can find.  For nam
 it asks for no more files.
 
 The last line on standard error has the number of units, of units with a fault, of files, and the seconds."""
-FACTS = {"inline": False, "profile": "gnu", "budget": None, "date": None, "time": None, "root": "/"}
+FACTS = {"inline": False, "budget": None, "date": None, "time": None, "root": "/"}
+# definitions that the profile gnu alone takes
+GNU_ALONE = "__has_include", "__STDC_VERSION__"
 DEPENDENCY = re.compile(rb"\ndep (\d+) ")
 
 
@@ -74,7 +76,7 @@ class Asked(Given):
 
     def __init__(self, compilers, asked):
         super().__init__(asked.system, asked.define)
-        self.compilers = compilers
+        self.compilers, self.left_out = compilers, () if asked.profile == "gnu" else GNU_ALONE
 
     def folders(self, command):
         answer = self.compilers.answer(command)
@@ -82,7 +84,10 @@ class Asked(Given):
 
     def definitions(self, command):
         answer = self.compilers.answer(command)
-        return {**(answer.definitions() if answer else {"__has_include": HAS_INCLUDE}), **self.texts}
+        found = dict(answer.definitions() if answer else {"__has_include": HAS_INCLUDE})
+        for name in self.left_out:
+            found.pop(name, None)
+        return {**found, **self.texts}
 
 
 class Work:
@@ -94,7 +99,7 @@ class Work:
         self.said = Counted(self.progress)
         self.program = Program(program_of(asked.program), folder, asked.workers)
         self.faults, self.read = 0, set()
-        facts = argparse.Namespace(**FACTS, generate=os.path.join(folder, "root"))
+        facts = argparse.Namespace(**FACTS, profile=asked.profile, generate=os.path.join(folder, "root"))
         self.compilers = Compilers(self.said, asked.query_driver, asked.seconds)
         self.builder = Builder(facts, self.said, Asked(self.compilers, asked), True)
         self.listed, self.pairs = None, []
@@ -260,6 +265,8 @@ def shared(word):
     """The options that deps, dump and faults share."""
     word.add_argument("--program", metavar="FILE", help="run this program (default: cppunits on PATH)")
     word.add_argument("--workers", metavar="N", type=lambda text: number(text, 1, 64, int), help="preprocess N units in parallel")
+    word.add_argument("--profile", choices=("c11", "later", "gnu"), default="gnu",
+                      help="set the rules: gnu for headers of Linux, later for C23's branches and #pragma once (default: gnu)")
     word.add_argument("--list", metavar="FILE", help="write the list here, with names below / (and with contents if -include made files)")
     word.add_argument("--query-driver", metavar="GLOB", action="append", default=[],
                       help="allow compilers whose paths match, like '/srv/cross/bin/*-gcc' (may be repeated)")

@@ -62,8 +62,7 @@ class Command:
     def with_responses(self, words, depth):
         """The words, with those of response files in the place of @FILE, and those of -Wp, in its place."""
         for word in words:
-            path = os.path.join(self.directory, word[1:])
-            if word.startswith("@") and os.path.isfile(path) and depth < 16:
+            if word.startswith("@") and depth < 16 and os.path.isfile(path := os.path.join(self.directory, word[1:])):
                 with open(path, encoding="utf-8", errors="surrogateescape") as file:
                     yield from self.with_responses(split_response(file.read()), depth + 1)
             elif word.startswith("-Wp,"):
@@ -75,21 +74,15 @@ class Command:
         """The options that are read, each with its word; what can't be is said."""
         words = iter(words)
         for word in words:
-            head, sign, tail = word.partition("=")
-            if head in LONG:
-                yield LONG[head], tail if sign else next(words, "")
-            elif word in READ:
-                yield word, next(words, "")
-            elif word.startswith(NOT_READ):
-                self.said.add("%s: %s isn't read" % (self.file, word))
-            elif word in WORD_BEHIND:
-                self.ask(word, next(words, ""))
-            elif ASKING.fullmatch(word):
+            kind, option, tail = option_of(word)
+            if kind == "read":
+                yield option, next(words, "") if tail is None else tail
+            elif kind == "asked":
                 self.ask(word)
-            else:
-                option = max((o for o in READ if word.startswith(o)), key=len, default=None)
-                if option is not None:
-                    yield option, word[len(option):]
+            elif kind == "word behind":
+                self.ask(word, next(words, ""))
+            elif kind == "not read":
+                self.said.add("%s: %s isn't read" % (self.file, word))
 
     def ask(self, option, word=None):
         """Notes an option that changes the compiler's answers; names of folders become whole ones."""
@@ -157,6 +150,24 @@ class Command:
         return searched(self.folders, system)
 
 
+@functools.lru_cache(maxsize=65536)
+def option_of(word):
+    """What is done with a command's word; of an option that is read, its name and what stands behind it, None where that is the next word."""
+    head, sign, tail = word.partition("=")
+    if head in LONG:
+        return "read", LONG[head], tail if sign else None
+    if word in READ:
+        return "read", word, None
+    if word.startswith(NOT_READ):
+        return "not read", word, None
+    if word in WORD_BEHIND:
+        return "word behind", word, None
+    if ASKING.fullmatch(word):
+        return "asked", word, None
+    option = max((option for option in READ if word.startswith(option)), key=len, default=None)
+    return (None, word, None) if option is None else ("read", option, word[len(option):])
+
+
 def searched(folders, system):
     """Puts the folders of each kind together; one that stands twice is dropped as gcc drops it, told apart as a folder, not by its name."""
     late = once(folders["system"] + system + folders["after"])
@@ -198,13 +209,15 @@ def compiler_at(words):
 
 PIECE = re.compile(r"""[^ \t\r\n"'\\]+ | \\(.) | '([^']*)' | "((?:\\.|[^"\\])*)" """, re.VERBOSE | re.DOTALL)
 WORD = re.compile("(?:%s)+" % PIECE.pattern, re.VERBOSE | re.DOTALL)
+MARK = re.compile(r"[\"'\\]")
 
 
 def split_command(text):
     """The words of a command, as a shell reads them: what shlex gives, in a tenth of its time."""
     if WORD.sub("", text).strip(" \t\r\n"):
         return shlex.split(text)
-    return [PIECE.sub(unquoted, word[0]) for word in WORD.finditer(text)]
+    words = (word[0] for word in WORD.finditer(text))
+    return [PIECE.sub(unquoted, word) if MARK.search(word) else word for word in words]
 
 
 def unquoted(found):

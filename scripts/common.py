@@ -57,8 +57,10 @@ def shown(character):
 def run(main):
     """Runs a script, and ends it with its status and at most one line for what went wrong."""
     try:
-        # ends as an interrupt does, so that no file is left
-        signal.signal(signal.SIGTERM, signal.default_int_handler)
+        # ends as an interrupt does, so that no file is left; nohup has SIGHUP ignored
+        for number in signal.SIGTERM, signal.SIGHUP:
+            if signal.getsignal(number) != signal.SIG_IGN:
+                signal.signal(number, signal.default_int_handler)
         status = main()
         sys.stdout.flush()
     except Refused as refusal:

@@ -100,6 +100,16 @@ class Compilers(Builds):
         self.assertRegex(said[0], r"^build.py: 1 units, 0 with a fault, 2 files \(2 on the list\), [0-9.]+ seconds$")
         self.assertEqual(len(said), 1)
 
+    def test_profiles(self):
+        """Where a profile has no such operator, and lets no `__STDC_VERSION__` be defined, neither is."""
+        self.compiler("bin/gcc")
+        write(self.top, {"a.c": "#ifdef __has_include\nhas\n#endif\n__STDC_VERSION__ WHO\n"})
+        for words, wanted in ([], ["has", "199901L", "1"]), (["gnu"], ["has", "199901L", "1"]), (["later"], ["201112L", "1"]), (["c11"], ["201112L", "1"]):
+            self.assertEqual(self.tokens(["gcc -c a.c"], *["--profile" for _ in words], *words)[0], [wanted])
+        write(self.top, {"a.c": "#define A 1\n#define A 2\n"})
+        for profile, status in ("gnu", 0), ("c11", 1):
+            self.build("faults", ["gcc -c a.c"], "--profile", profile, status=status)
+
     def test_what_a_command_says_of_a_name_counts_for_more(self):
         self.compiler("bin/gcc")
         self.assertEqual(self.tokens(["gcc -DWHO=x -c a.c", "gcc -UWHO -c a.c"])[0], [["int", "sys", ";", "x"], ["int", "sys", ";", "WHO"]])
@@ -369,12 +379,23 @@ class Runs(Builds):
         self.assertIn("\r\x1b[Krunning 1 units over 2 files", said)
         self.assertRegex(said, "\r\x1b\\[Kbuild.py: 1 units, 0 with a fault")
 
+    def test_workers_are_the_programs(self):
+        """Each run of the program, for what a macro names and for the units, has as many as are asked for, or its own number."""
+        self.compiler("bin/cppunits", "#!/bin/sh\necho \"$*\" >> %(top)s/words\nexec '" + program() + "' \"$@\"\n")
+        write(self.top, {"a.c": "#define H <sys.h>\n#include H\nWHO\n"})
+        for words, option in (["--workers", "3"], "--workers 3 "), ([], ""):
+            wanted = [option + "--root / " + word for word in ("deps", "deps", "dump")]
+            tokens, _ = self.tokens(["gcc -c a.c"], "--program", self.path("bin/cppunits"), *words)
+            with open(self.path("words")) as file:
+                self.assertEqual((tokens, file.read().splitlines()), ([["int", "sys", ";", "1"]], wanted))
+            os.unlink(self.path("words"))
+
     def test_interrupts_leave_nothing(self):
         """Where compilers or the program are waited for; the files that stood there stay as they were."""
         write(self.top, {"compile_commands.json": json.dumps([{"directory": self.top, "file": "a.c", "command": "gcc -c a.c"}]), "out": "as it was"})
         slow = "#!/bin/sh\ntouch %(top)s/begun\nprintf 'unit 0 '\nexec sleep 30\n"
         self.compiler("bin/slow", slow)
-        for number in signal.SIGINT, signal.SIGTERM:
+        for number in signal.SIGINT, signal.SIGTERM, signal.SIGHUP:
             for compiler, word in (COMPILER, self.path("bin/slow")), (slow, program()):
                 self.compiler("bin/gcc", compiler)
                 for task, more in ("dump", ["--output", "out"]), ("deps", ["--into", "d"]):
@@ -384,9 +405,9 @@ class Runs(Builds):
             self.assertEqual(file.read(), "as it was")
 
     def interrupted(self, words, number):
-        # a shell that runs these tests in the background has them ignore SIGINT
+        # a shell that runs these tests in the background has them ignore SIGINT, and nohup SIGHUP
         process = subprocess.Popen(words, cwd=self.top, env=self.environment(), stdout=subprocess.PIPE, stderr=subprocess.PIPE,
-                                   preexec_fn=lambda: signal.signal(signal.SIGINT, signal.SIG_DFL))
+                                   preexec_fn=lambda: signal.signal(number, signal.SIG_DFL))
         while not os.path.exists(self.path("begun")) and process.poll() is None:
             time.sleep(0.02)
         os.unlink(self.path("begun"))

@@ -5,6 +5,7 @@
 """
 import json
 import os
+import re
 import shlex
 import shutil
 import stat
@@ -35,11 +36,11 @@ def tokens(dump):
 
 
 class All(Folder):
-    def test_help_names_the_statuses(self):
-        for name in SCRIPTS:
+    def test_help_has_an_example_and_names_the_statuses(self):
+        for name in ("build.py", *SCRIPTS):
             done = script(name, "--help")
             self.assertEqual((done.returncode, done.stderr), (0, b""), name)
-            self.assertIn(b"status:\n  0  done\n", done.stdout)
+            self.assertRegex(done.stdout, rb"\nExample[^\n]*:\s+[^\n]*%s (?:.*\n)*status:\n  0  done\n" % re.escape(name.encode()))
 
     def test_what_is_wrong_is_said_in_a_line(self):
         write(self.top, {"cut": "unit 0 a.c\ntok 0:1:1 0:1:1 i+ a\n", "half": "unit 0 a.c\nok",
