@@ -11,6 +11,7 @@ pub mod Lone
 pub mod Profiles
 pub mod Cut
 pub mod Lines
+pub mod Classes
 pub mod Tree
 pub mod GroupFaults
 pub mod Guard

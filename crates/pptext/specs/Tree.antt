@@ -1,37 +1,16 @@
--- The groups of a file by the grammar of 6.10, by directive names alone.
+-- The groups of a file by the grammar of 6.10, by the classes of its directives alone.
 use Rattle.std.specs.Prelude.{◌≡◌, ◌≢◌, ℕ, zero, suc, ◌+◌, List, [], ◌∷◌, ◌++◌, Bool, true, false, Option, None, Some}
 use Rattle.std.specs.List.{AllByRecursion}
 use Rattle.pptext.specs.declared.tokens.Place.{Place}
 use Rattle.pptext.specs.declared.tokens.Token.{Token}
 use Rattle.pptext.specs.declared.tokens.Fault.{Fault}
 use Rattle.pptext.specs.declared.sources.Directive.{Directive}
-use Rattle.pptext.specs.declared.sources.Directive.TheVariants.{If, Ifdef, Ifndef, Elif, Elifdef, Elifndef, Else, Endif}
+use Rattle.pptext.specs.declared.directives.Class.{Class}
+use Rattle.pptext.specs.declared.directives.Class.TheVariants as class
+use Rattle.pptext.specs.Classes.{class_of}
 use Rattle.pptext.specs.Clean.{place}
 use Rattle.pptext.specs.Lines.{LogicalLine}
 use Rattle.pptext.specs.Tokens.{fault}
-
--- `#if`, `#ifdef`, `#ifndef`
-abbrev pub opens_section : Directive → Bool
-opens_section If = true
-opens_section Ifdef = true
-opens_section Ifndef = true
-opens_section d = false
-
--- `#elif`, `#elifdef`, `#elifndef`: a branch with a condition
-abbrev pub has_condition : Directive → Bool
-has_condition Elif = true
-has_condition Elifdef = true
-has_condition Elifndef = true
-has_condition d = false
-
--- a branch or `#endif`: a group ends before the line
-abbrev pub ends_group : Directive → Bool
-ends_group Elif = true
-ends_group Elifdef = true
-ends_group Elifndef = true
-ends_group Else = true
-ends_group Endif = true
-ends_group d = false
 
 -- What a line does to the groups. `Elses true` is `#else`, `Elses false` a branch with a condition.
 pub data Role : Type 0 where
@@ -41,17 +20,16 @@ pub data Role : Type 0 where
   Elses : Bool → Role
   Closes : Role
 
--- the role of a line with this directive
+-- the role of a line with a directive of this class
+abbrev pub role_in : Class → Role
+role_in (class.Opens q) = Opens
+role_in (class.Elifs q) = Elses false
+role_in class.Else = Elses true
+role_in class.Endif = Closes
+role_in c = ControlLine
+
 abbrev pub role_named : Directive → Role
-role_named If = Opens
-role_named Ifdef = Opens
-role_named Ifndef = Opens
-role_named Elif = Elses false
-role_named Elifdef = Elses false
-role_named Elifndef = Elses false
-role_named Else = Elses true
-role_named Endif = Closes
-role_named d = ControlLine
+role_named d = role_in (class_of d)
 
 abbrev pub role_by : Option Directive → Role
 role_by None = TextLine

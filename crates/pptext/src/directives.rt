@@ -1,35 +1,94 @@
-// Directives by name.
+// Directives: what each is for, and their names.
 ghost use Rattle.std.specs.Prelude.{◌≡◌, ◌++◌, codes, ◌||◌};
 ghost use Rattle.std.specs.Str.{bytes_eq};
+ghost use Rattle.pptext.specs.Classes.{class_of, question_of, opens_section, has_condition, ends_group};
 ghost use Rattle.pptext.specs.Lines.{later_names, gnu_names, named_in, directive_names, directive_named, directive_of};
-ghost use Rattle.pptext.specs.Tree.{opens_section, has_condition, ends_group, role_by, TextLine, ControlLine, Opens, Elses, Closes};
+ghost use Rattle.pptext.specs.Tree.{role_by, TextLine, ControlLine, Opens, Elses, Closes};
 
 use crate::sources::{Directive, Profile};
 use crate::tokens::{Token, is_spelled};
 
+/// What the condition of a line asks (6.10.1).
+#[derive(Clone, Copy, PartialEq, Eq, Debug)]
+pub enum Question {
+    /// Whether a name is a macro's, or where false, whether it isn't.
+    Defined(bool),
+    /// Whether an expression isn't 0.
+    Value,
+}
+
+/// What a directive is for (6.10).
+#[derive(Clone, Copy, PartialEq, Eq, Debug)]
+pub enum Class {
+    /// An if-section opens: `#if`, `#ifdef`, `#ifndef` (6.10.1).
+    Opens(Question),
+    /// A branch is entered by a condition: `#elif` (6.10.1), `#elifdef`, `#elifndef` (ISO/IEC 9899:2024, 6.10.2).
+    Elifs(Question),
+    /// `#else` (6.10.1)
+    Else,
+    /// `#endif` (6.10.1)
+    Endif,
+    /// A file is included: `#include` (6.10.2), or where true, `#include_next` (GNU C).
+    Includes(bool),
+    /// The tokens are a message: `#error` (6.10.5).
+    Error,
+    /// Nothing is done, whatever the tokens are: `#warning`, `#ident`, `#sccs` (GNU C).
+    Ignored,
+    /// Any other control line.
+    Control,
+}
+
 impl Directive {
+    /// What it is for.
+    pub fn class(self) -> Class
+        ensures { result ≡ class_of self }
+    {
+        match self {
+            Directive::If => Class::Opens(Question::Value),
+            Directive::Ifdef => Class::Opens(Question::Defined(true)),
+            Directive::Ifndef => Class::Opens(Question::Defined(false)),
+            Directive::Elif => Class::Elifs(Question::Value),
+            Directive::Elifdef => Class::Elifs(Question::Defined(true)),
+            Directive::Elifndef => Class::Elifs(Question::Defined(false)),
+            Directive::Else => Class::Else,
+            Directive::Endif => Class::Endif,
+            Directive::Include => Class::Includes(false),
+            Directive::IncludeNext => Class::Includes(true),
+            Directive::Error => Class::Error,
+            Directive::Ignored => Class::Ignored,
+            _ => Class::Control,
+        }
+    }
+
+    /// What its line asks, if it has a condition.
+    pub fn question(self) -> Option<Question>
+        ensures { result ≡ question_of self }
+    {
+        match self.class() {
+            Class::Opens(question) | Class::Elifs(question) => Some(question),
+            _ => None,
+        }
+    }
+
     /// Whether an if-section opens with its line: `#if`, `#ifdef`, `#ifndef` (6.10.1).
     pub fn opens_section(self) -> bool
         ensures { result ≡ opens_section self }
     {
-        matches!(self, Directive::If | Directive::Ifdef | Directive::Ifndef)
+        matches!(self.class(), Class::Opens(_))
     }
 
     /// Whether it is a branch that is entered by a condition: `#elif` (6.10.1), `#elifdef`, `#elifndef` (ISO/IEC 9899:2024, 6.10.2).
     pub fn has_condition(self) -> bool
         ensures { result ≡ has_condition self }
     {
-        matches!(
-            self,
-            Directive::Elif | Directive::Elifdef | Directive::Elifndef
-        )
+        matches!(self.class(), Class::Elifs(_))
     }
 
     /// Whether a group ends before its line: a branch, `#else` among them, or `#endif` (6.10.1).
     pub fn ends_group(self) -> bool
         ensures { result ≡ ends_group self }
     {
-        self.has_condition() || matches!(self, Directive::Else | Directive::Endif)
+        matches!(self.class(), Class::Elifs(_) | Class::Else | Class::Endif)
     }
 }
 
@@ -52,13 +111,15 @@ pub(crate) enum Role {
 pub(crate) fn role_of(directive: Option<Directive>) -> Role
     ensures { (elim result [ Role.Text ↦ TextLine | Role.Control ↦ ControlLine | Role.Opens ↦ Opens | Role.Elses last ↦ Elses last | Role.Closes ↦ Closes ]) ≡ role_by directive }
 {
-    match directive {
-        None => Role::Text,
-        Some(Directive::If | Directive::Ifdef | Directive::Ifndef) => Role::Opens,
-        Some(Directive::Elif | Directive::Elifdef | Directive::Elifndef) => Role::Elses(false),
-        Some(Directive::Else) => Role::Elses(true),
-        Some(Directive::Endif) => Role::Closes,
-        Some(_) => Role::Control,
+    let Some(directive) = directive else {
+        return Role::Text;
+    };
+    match directive.class() {
+        Class::Opens(_) => Role::Opens,
+        Class::Elifs(_) => Role::Elses(false),
+        Class::Else => Role::Elses(true),
+        Class::Endif => Role::Closes,
+        _ => Role::Control,
     }
 }
 

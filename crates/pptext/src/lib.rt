@@ -19,6 +19,7 @@ mod tokenizing;
 mod tokens;
 
 pub use characters::Char;
+pub use directives::{Class, Question};
 pub use hashing::Hashing;
 pub use laws::{
     carried_on, cut_unless_unclosed, keeps_every_token, kind_by_language, next_branches, one_cut,

@@ -157,9 +157,6 @@ module _ (around : Surroundings) where
     control_short b is (Controls.include e q here) less =
         let x = includes_short b is here less in
         (x.0, x.1, x.2, Controls.include e q x.3)
-    control_short b is (Controls.include_next e q here) less =
-        let x = includes_short b is here less in
-        (x.0, x.1, x.2, Controls.include_next e q x.3)
 
     includes_short : {depth row : ℕ} {behind : Option ℕ} {s : State} {line : LogicalLine} {m : Reached} (b : ℕ) → Covers s.left b
         → (d : Includes around depth row behind s line m)

@@ -1,46 +1,36 @@
--- The directives of the control lines that open no file and do not refuse.
-use Rattle.std.proofs.Common.{◌≡◌, true, false, Some, refl}
+-- What the class of a control line says of it.
+use Rattle.std.proofs.Common.{◌≡◌, ◌≢◌, ℕ, Bool, true, false, Option, Some, refl}
 use Rattle.pptext.specs.declared.sources.Directive.{Directive}
-use Rattle.pptext.specs.declared.sources.Directive.TheVariants.{If, Ifdef, Ifndef, Elif, Elifdef, Elifndef, Else, Endif, Include, IncludeNext, Define, Undef, Line, Error, Pragma, Null, Ignored, Unknown}
-use Rattle.pptext.specs.Tree.{opens_section, ends_group}
-use Rattle.ppunit.specs.Directives.{IsControl, looks_at_quotes}
+use Rattle.pptext.specs.declared.sources.Directive.TheVariants.{Define, Undef, Line, Pragma, Null, Unknown}
+use Rattle.pptext.specs.declared.sources.Profile.{Profile}
+use Rattle.pptext.specs.declared.directives.Class.{Class}
+use Rattle.pptext.specs.declared.directives.Class.TheVariants as class
+use Rattle.pptext.specs.Classes.{class_by, opens, ends}
+use Rattle.pptext.specs.Lines.{LogicalLine}
+use Rattle.ppunit.specs.States.{State, Reached}
+use Rattle.ppunit.specs.Directives.{ControlBy, looks_at_quotes}
 
-pub other_is_control : (d : Directive) → opens_section d ≡ false → ends_group d ≡ false → (d ≡ Error → ⊥) → (d ≡ Ignored → ⊥) → (d ≡ Include → ⊥) → (d ≡ IncludeNext → ⊥) → IsControl d
-other_is_control If opens ends error ignored include next = absurd (cc)
-other_is_control Ifdef opens ends error ignored include next = absurd (cc)
-other_is_control Ifndef opens ends error ignored include next = absurd (cc)
-other_is_control Elif opens ends error ignored include next = absurd (cc)
-other_is_control Elifdef opens ends error ignored include next = absurd (cc)
-other_is_control Elifndef opens ends error ignored include next = absurd (cc)
-other_is_control Else opens ends error ignored include next = absurd (cc)
-other_is_control Endif opens ends error ignored include next = absurd (cc)
-other_is_control Include opens ends error ignored include next = absurd (include refl)
-other_is_control IncludeNext opens ends error ignored include next = absurd (next refl)
-other_is_control Define opens ends error ignored include next = tt
-other_is_control Undef opens ends error ignored include next = tt
-other_is_control Line opens ends error ignored include next = tt
-other_is_control Error opens ends error ignored include next = absurd (error refl)
-other_is_control Pragma opens ends error ignored include next = tt
-other_is_control Null opens ends error ignored include next = tt
-other_is_control Ignored opens ends error ignored include next = absurd (ignored refl)
-other_is_control Unknown opens ends error ignored include next = tt
+pub other_is_control : (c : Class) → opens c ≡ false → ends c ≡ false → c ≢ class.Error → c ≢ class.Ignored → ((next : Bool) → c ≢ class.Includes next) → c ≡ class.Control
+other_is_control (class.Opens q) o e error ignored include = absurd (cc)
+other_is_control (class.Elifs q) o e error ignored include = absurd (cc)
+other_is_control class.Else o e error ignored include = absurd (cc)
+other_is_control class.Endif o e error ignored include = absurd (cc)
+other_is_control (class.Includes next) o e error ignored include = absurd (include next refl)
+other_is_control class.Error o e error ignored include = absurd (error refl)
+other_is_control class.Ignored o e error ignored include = absurd (ignored refl)
+other_is_control class.Control o e error ignored include = refl
 
-pub other_looks : (d : Directive) → (d ≡ Error → ⊥) → (d ≡ Ignored → ⊥) → looks_at_quotes (Some d) ≡ true
-other_looks Error error ignored = absurd (error refl)
-other_looks Ignored error ignored = absurd (ignored refl)
-other_looks If error ignored = refl
-other_looks Ifdef error ignored = refl
-other_looks Ifndef error ignored = refl
-other_looks Elif error ignored = refl
-other_looks Elifdef error ignored = refl
-other_looks Elifndef error ignored = refl
-other_looks Else error ignored = refl
-other_looks Endif error ignored = refl
-other_looks Include error ignored = refl
-other_looks IncludeNext error ignored = refl
-other_looks Define error ignored = refl
-other_looks Undef error ignored = refl
-other_looks Line error ignored = refl
-other_looks Pragma error ignored = refl
-other_looks Null error ignored = refl
-other_looks Unknown error ignored = refl
+pub other_looks : (c : Class) → c ≢ class.Error → c ≢ class.Ignored → looks_at_quotes (Some c) ≡ true
+other_looks class.Error error ignored = absurd (error refl)
+other_looks class.Ignored error ignored = absurd (ignored refl)
+other_looks c error ignored = refl
+
+-- what `ControlBy` speaks of
+pub control_class : (profile : Profile) (row : ℕ) (d : Option Directive) (s : State) (line : LogicalLine) (m : Reached) → ControlBy profile row d s line m → class_by d ≡ Some class.Control
+control_class profile row (Some Null) s line m does = refl
+control_class profile row (Some Define) s line m does = refl
+control_class profile row (Some Undef) s line m does = refl
+control_class profile row (Some Line) s line m does = refl
+control_class profile row (Some Pragma) s line m does = refl
+control_class profile row (Some Unknown) s line m does = refl
+control_class profile row d s line m does = absurd does

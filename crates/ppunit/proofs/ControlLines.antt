@@ -4,7 +4,8 @@ use Rattle.pptext.specs.declared.tokens.Fault.{Fault}
 use Rattle.pptext.specs.declared.sources.Directive.{Directive}
 use Rattle.pptext.specs.declared.sources.Directive.TheVariants.{Null}
 use Rattle.pptext.specs.Lines.{LogicalLine}
-use Rattle.pptext.specs.Tree.{Parts, Control, AreParts, role, role_by, opens_section, ends_group}
+use Rattle.pptext.specs.Tree.{Parts, Control, AreParts, role, role_by}
+use Rattle.pptext.specs.Classes.{opens_section, ends_group}
 use Rattle.ppunit.specs.States.{State, Surroundings, going}
 use Rattle.ppunit.specs.Group.{Group}
 use Rattle.ppunit.specs.Group.{Controls}

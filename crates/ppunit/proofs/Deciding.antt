@@ -1,5 +1,5 @@
 -- What the code decides by tokens and a directive, of a line.
-use Rattle.std.proofs.Common.{◌≡◌, ℕ, Bool, true, false, ◌&&◌, if◌then◌else◌, List, [], refl, sym, ap, ◌∙◌, subst, Option, None, Some, Result, Ok}
+use Rattle.std.proofs.Common.{◌≡◌, ℕ, Bool, true, false, ◌&&◌, if◌then◌else◌, List, [], refl, sym, ap, ◌∙◌, subst, Option, None, Some, IsSome, Result, Ok}
 use Rattle.std.specs.List.{list_any}
 use Rattle.std.proofs.lemmas.Bool.{false≢true}
 use Rattle.pptext.specs.declared.tokens.Place.{Place}
@@ -7,7 +7,9 @@ use Rattle.pptext.specs.declared.tokens.Token.{Token}
 use Rattle.pptext.specs.declared.tokens.Fault.{Fault}
 use Rattle.pptext.specs.declared.sources.Profile.{Profile}
 use Rattle.pptext.specs.declared.sources.Directive.{Directive}
-use Rattle.pptext.specs.declared.sources.Directive.TheVariants.{Elif, Elifdef, Elifndef}
+use Rattle.pptext.specs.declared.directives.Class.{Class}
+use Rattle.pptext.specs.declared.directives.Class.TheVariants as class
+use Rattle.pptext.specs.Classes.{class_of, asked_by, elifs, has_condition}
 use Rattle.pptext.specs.Lines.{LogicalLine}
 use Rattle.ppunit.specs.States.{Search, State}
 use Rattle.ppunit.specs.Conditions.{DecidesOf, Decides, DecidesUnless, IsConditional}
@@ -16,7 +18,7 @@ use Rattle.ppunit.specs.Lines.{operands, line_fault, directed}
 use Rattle.ppunit.specs.Probing.{is_has_include, probed, tokens_or, condition_tokens}
 use Rattle.ppexpr.specs.Conditions.{IsCondition}
 use Rattle.pptext.specs.Profiles.{is_gnu}
-use Rattle.pptext.specs.Tree.{sign_place, has_condition}
+use Rattle.pptext.specs.Tree.{sign_place}
 use Rattle.ppunit.proofs.Probed.{unused}
 use Rattle.ppunit.specs.Walk.{EntersIf, EntersBy, Enters}
 
@@ -55,11 +57,12 @@ enters_asked search row s r d tokens after taken is same e decides =
     subst (λ (z : Option Directive). EntersBy search row z s r after taken) (sym is)
     (enters_by_condition search row d s r after taken e (decides_at search row s r d tokens after taken is same decides))
 
+elif_asks : (c : Class) → elifs c ≡ true → IsSome (asked_by c)
+elif_asks (class.Elifs q) e = refl
+elif_asks c e = absurd (cc)
+
 pub conditional : (d : Directive) → has_condition d ≡ true → IsConditional d
-conditional Elif e = tt
-conditional Elifdef e = tt
-conditional Elifndef e = tt
-conditional d e = absurd (cc)
+conditional d e = elif_asks (class_of d) e
 
 -- ---- conditions, with the step before them or without it
 

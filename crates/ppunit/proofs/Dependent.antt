@@ -7,7 +7,7 @@ use Rattle.pptext.specs.declared.tokens.Token.{Token}
 use Rattle.pptext.specs.declared.tokens.Fault.{Fault}
 use Rattle.pptext.specs.declared.sources.Profile.{Profile}
 use Rattle.pptext.specs.declared.sources.Directive.{Directive}
-use Rattle.pptext.specs.declared.sources.Directive.TheVariants.{If, Ifdef, Ifndef, Elif, Elifdef, Elifndef, Else, Endif, Include, IncludeNext, Define, Undef, Line, Error, Pragma, Null, Ignored, Unknown}
+use Rattle.pptext.specs.declared.sources.Directive.TheVariants.{Define, Undef, Line, Pragma, Null, Unknown}
 use Rattle.pptext.specs.Lines.{LogicalLine}
 use Rattle.pptext.specs.Tree.{sign_place, Parts, Branches}
 use Rattle.ppmacro.specs.Names.{Macros}
@@ -47,30 +47,18 @@ noting_keeps false s row = refl
 control_keeps : (profile : Profile) (row : ℕ) (d : Option Directive) (s : State) (r : LogicalLine) (m : Reached)
     → ControlBy profile row d s r m
     → m.state.deps ≡ s.deps
-control_keeps profile row None s r m does = absurd does
-control_keeps profile row (Some If) s r m does = absurd does
-control_keeps profile row (Some Ifdef) s r m does = absurd does
-control_keeps profile row (Some Ifndef) s r m does = absurd does
-control_keeps profile row (Some Elif) s r m does = absurd does
-control_keeps profile row (Some Elifdef) s r m does = absurd does
-control_keeps profile row (Some Elifndef) s r m does = absurd does
-control_keeps profile row (Some Else) s r m does = absurd does
-control_keeps profile row (Some Endif) s r m does = absurd does
-control_keeps profile row (Some Include) s r m does = absurd does
-control_keeps profile row (Some IncludeNext) s r m does = absurd does
 control_keeps profile row (Some Define) s r m does =
     ap (λ (z : Reached). z.state.deps) does ∙ macros_keep s (after_define profile s.macros (sign_place r.tokens) (operands r.tokens))
 control_keeps profile row (Some Undef) s r m does =
     ap (λ (z : Reached). z.state.deps) does ∙ macros_keep s (after_undef profile s.macros (sign_place r.tokens) (operands r.tokens))
 control_keeps profile row (Some Line) s r m does =
     ap (λ (z : Reached). z.state.deps) does.is ∙ renumbered_keeps (with_left s does.expanded.left) r does.expanded.fault (presumed does.expanded.tokens)
-control_keeps profile row (Some Error) s r m does = absurd does
 control_keeps profile row (Some Pragma) s r m does =
     let t = passed s (item.Pragma (sign_place r.tokens) (operands r.tokens) ∷ []) in
     ap (λ (z : Reached). z.state.deps) does ∙ noting_keeps (is_once profile (operands r.tokens)) t row
 control_keeps profile row (Some Null) s r m does = ap (λ (z : Reached). z.state.deps) does
-control_keeps profile row (Some Ignored) s r m does = absurd does
 control_keeps profile row (Some Unknown) s r m does = ap (λ (z : Reached). z.state.deps) does
+control_keeps profile row d s r m does = absurd does
 
 -- ---- what joins them
 
@@ -109,7 +97,6 @@ module _ (around : Surroundings) where
     control_within {row = row} {s = s} {line = line} {m = m} (Controls.other q does) all =
         subst Within (sym (control_keeps around.profile row line.directive s line m does)) all
     control_within (Controls.include is q here) all = includes_within here all
-    control_within (Controls.include_next is q here) all = includes_within here all
 
     includes_within : {depth row : ℕ} {behind : Option ℕ} {s : State} {line : LogicalLine} {m : Reached} → Includes around depth row behind s line m → Within s.deps → Within m.state.deps
     includes_within (Includes.misnamed asks) all = all

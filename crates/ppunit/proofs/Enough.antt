@@ -101,7 +101,6 @@ module _ (around : Surroundings) where
     control_enough {row = row} b is (Controls.other {s = s} {line = line} {m = m} q does) n sum =
         Controls.other q (control_by_enough around.profile row line.directive s line m b is does n sum)
     control_enough b is (Controls.include e q here) n sum = Controls.include e q (includes_enough b is here n sum)
-    control_enough b is (Controls.include_next e q here) n sum = Controls.include_next e q (includes_enough b is here n sum)
 
     includes_enough : {depth row : ℕ} {behind : Option ℕ} {s : State} {line : LogicalLine} {m : Reached} (b : ℕ) → Covers s.left b
         → (d : Includes around depth row behind s line m) (n : ℕ)

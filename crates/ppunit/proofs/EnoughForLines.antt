@@ -4,7 +4,10 @@ use Rattle.pptext.specs.declared.tokens.Place.{Place}
 use Rattle.pptext.specs.declared.tokens.Token.{Token}
 use Rattle.pptext.specs.declared.tokens.Fault.{Fault}
 use Rattle.pptext.specs.declared.sources.Directive.{Directive}
-use Rattle.pptext.specs.declared.sources.Directive.TheVariants.{If, Ifdef, Ifndef, Elif, Elifdef, Elifndef, Define, Undef, Line, Pragma, Null, Unknown}
+use Rattle.pptext.specs.declared.sources.Directive.TheVariants.{Define, Undef, Line, Pragma, Null, Unknown}
+use Rattle.pptext.specs.declared.directives.Question.{Question}
+use Rattle.pptext.specs.declared.directives.Question.TheVariants.{Defined, Value}
+use Rattle.pptext.specs.Classes.{question_by}
 use Rattle.pptext.specs.declared.sources.Profile.{Profile}
 use Rattle.pptext.specs.Lines.{LogicalLine}
 use Rattle.pptext.specs.Tree.{sign_place}
@@ -77,24 +80,20 @@ decides_of_enough : (tokens : Result (List Token) Fault) (s : State) (at : Place
 decides_of_enough (Err f) s at after taken b is g n sum = (ap Some (omega arith), g.1)
 decides_of_enough (Ok tokens) s at after taken b is g n sum = condition_enough b is g n sum
 
-decides_by_enough : (search : Search) (row : ℕ) (d : Option Directive) (s : State) (line : List Token) (after : Option ℕ) (taken : Result Bool Fault) (b : ℕ) → Covers s.left b
-    → (g : DecidesBy search row d s line after taken) (n : ℕ)
-    → b ≡ count_decides_by search row d s line after taken g + n
-    → DecidesBy search row d (with_left s (Some b)) line (Some n) taken
-decides_by_enough search row (Some If) s line after taken b is g n sum = decides_of_enough (condition_tokens search row line) s (sign_place line) after taken b is g n sum
-decides_by_enough search row (Some Elif) s line after taken b is g n sum = decides_of_enough (condition_tokens search row line) s (sign_place line) after taken b is g n sum
-decides_by_enough search row (Some Ifdef) s line after taken b is g n sum = (ap Some (omega arith), g.1)
-decides_by_enough search row (Some Ifndef) s line after taken b is g n sum = (ap Some (omega arith), g.1)
-decides_by_enough search row (Some Elifdef) s line after taken b is g n sum = (ap Some (omega arith), g.1)
-decides_by_enough search row (Some Elifndef) s line after taken b is g n sum = (ap Some (omega arith), g.1)
-decides_by_enough search row _ s line after taken b is g n sum = absurd g
+decides_by_enough : (search : Search) (row : ℕ) (q : Option Question) (s : State) (line : List Token) (after : Option ℕ) (taken : Result Bool Fault) (b : ℕ) → Covers s.left b
+    → (g : DecidesBy search row q s line after taken) (n : ℕ)
+    → b ≡ count_decides_by search row q s line after taken g + n
+    → DecidesBy search row q (with_left s (Some b)) line (Some n) taken
+decides_by_enough search row (Some Value) s line after taken b is g n sum = decides_of_enough (condition_tokens search row line) s (sign_place line) after taken b is g n sum
+decides_by_enough search row (Some (Defined wanted)) s line after taken b is g n sum = (ap Some (omega arith), g.1)
+decides_by_enough search row None s line after taken b is g n sum = absurd g
 
 decides_unless_enough : (search : Search) (row : ℕ) (quote : Option Fault) (d : Option Directive) (s : State) (line : List Token) (after : Option ℕ) (taken : Result Bool Fault) (b : ℕ) → Covers s.left b
     → (g : DecidesUnless search row quote d s line after taken) (n : ℕ)
     → b ≡ count_decides_unless search row quote d s line after taken g + n
     → DecidesUnless search row quote d (with_left s (Some b)) line (Some n) taken
 decides_unless_enough search row (Some f) d s line after taken b is g n sum = (ap Some (omega arith), g.1)
-decides_unless_enough search row None d s line after taken b is g n sum = decides_by_enough search row d s line after taken b is g n sum
+decides_unless_enough search row None d s line after taken b is g n sum = decides_by_enough search row (question_by d) s line after taken b is g n sum
 
 pub decides_enough : (search : Search) (row : ℕ) (s : State) (line : LogicalLine) (after : Option ℕ) (taken : Result Bool Fault) (b : ℕ) → Covers s.left b
     → (g : Decides search row s line after taken) (n : ℕ)

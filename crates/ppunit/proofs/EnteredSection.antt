@@ -4,7 +4,8 @@ use Rattle.pptext.specs.declared.tokens.Fault.{Fault}
 use Rattle.pptext.specs.declared.sources.Directive.{Directive}
 use Rattle.pptext.specs.declared.sources.Directive.TheVariants.{If}
 use Rattle.pptext.specs.Lines.{LogicalLine}
-use Rattle.pptext.specs.Tree.{Parts, Section, Branches, role, role_by, opens_section}
+use Rattle.pptext.specs.Tree.{Parts, Section, Branches, role, role_by}
+use Rattle.pptext.specs.Classes.{opens_section}
 use Rattle.pptext.proofs.Walks.{next_of_opening}
 use Rattle.ppunit.specs.States.{Search, State, Surroundings, search_of, going, with_left}
 use Rattle.ppunit.specs.Group.{Group}

@@ -1,13 +1,16 @@
 -- Which part of a group the first line of its lines belongs to, by the line's directive.
-use Rattle.std.proofs.Common.{◌≡◌, ◌≢◌, ℕ, Bool, true, false, List, [], ◌∷◌, ◌++◌, refl, sym, ap, ◌∙◌, append_assoc, Option, None, Some, Result}
+use Rattle.std.proofs.Common.{◌≡◌, ◌≢◌, ℕ, Bool, true, false, List, [], ◌∷◌, ◌++◌, refl, sym, ap, ◌∙◌, subst, append_assoc, Option, None, Some, Result}
 use Rattle.pptext.specs.declared.tokens.Fault.{Fault}
 use Rattle.pptext.specs.declared.sources.Directive.{Directive}
-use Rattle.pptext.specs.declared.sources.Directive.TheVariants.{If, Ifdef, Ifndef, Elif, Elifdef, Elifndef, Else, Endif, Include, IncludeNext, Define, Undef, Line as LineOf, Error, Pragma, Null, Ignored, Unknown}
+use Rattle.pptext.specs.declared.sources.Directive.TheVariants.{If, Elif, Else, Endif, Null}
+use Rattle.pptext.specs.declared.directives.Class.{Class}
+use Rattle.pptext.specs.declared.directives.Class.TheVariants as class
+use Rattle.pptext.specs.Classes.{class_of, opens, opens_section, elifs, ends, ends_group}
 use Rattle.pptext.specs.Lines.{LogicalLine}
-use Rattle.pptext.specs.Tree.{Parts, Done, Run, Control, Section, Branches, End, Branch, part_lines, branch_lines, AreParts, AreBranches, role, role_by, opens_section, ends_group}
+use Rattle.pptext.specs.Tree.{TextLine, ControlLine, Opens, Elses, Parts, Done, Run, Control, Section, Branches, End, Branch, part_lines, branch_lines, AreParts, AreBranches, role, role_in, role_by}
 use Rattle.ppunit.specs.States.{Search, State}
 use Rattle.ppunit.specs.Conditions.{Decides}
-use Rattle.ppunit.specs.Walk.{Outer, lay, AreOuter, EntersBy}
+use Rattle.ppunit.specs.Walk.{Outer, lay, AreOuter, EntersIf, EntersBy}
 
 -- ---- what is laid
 
@@ -31,17 +34,16 @@ lay_branch r ps qs bs k = ap (λ (z : List LogicalLine). r ∷ z) (append_assoc 
 
 -- ---- directives and the grammar
 
+no_text : (c : Class) → role_in c ≢ TextLine
+no_text (class.Opens q) e = cc
+no_text (class.Elifs q) e = cc
+no_text class.Else e = cc
+no_text class.Endif e = cc
+no_text c e = cc
+
 pub text_directive : (d : Option Directive) → role_by d ≡ role_by None → d ≡ None
 text_directive None e = refl
-text_directive (Some If) e = cc
-text_directive (Some Ifdef) e = cc
-text_directive (Some Ifndef) e = cc
-text_directive (Some Elif) e = cc
-text_directive (Some Elifdef) e = cc
-text_directive (Some Elifndef) e = cc
-text_directive (Some Else) e = cc
-text_directive (Some Endif) e = cc
-text_directive (Some d) e = cc
+text_directive (Some d) e = absurd (no_text (class_of d) e)
 
 pub endif_directive : (d : Option Directive) → role_by d ≡ role_by (Some Endif) → d ≡ Some Endif
 endif_directive (Some Endif) e = refl
@@ -55,46 +57,48 @@ else_directive d e = cc
 pub not_else : (d : Option Directive) → role_by d ≡ role_by (Some Elif) → d ≢ Some Else
 not_else d e h = let differs : role_by (Some Elif) ≡ role_by (Some Else) = sym e ∙ ap role_by h in cc
 
+elif_in : (c : Class) → role_in c ≡ Elses false → elifs c ≡ true
+elif_in (class.Elifs q) e = refl
+elif_in c e = absurd (cc)
+
 pub condition_decides : (search : Search) (row : ℕ) (d : Option Directive) (s : State) (r : LogicalLine) (after : Option ℕ) (taken : Result Bool Fault)
     → role_by d ≡ role_by (Some Elif)
     → EntersBy search row d s r after taken
     → Decides search row s r after taken
-condition_decides search row (Some Elif) s r after taken e entered = entered
-condition_decides search row (Some Elifdef) s r after taken e entered = entered
-condition_decides search row (Some Elifndef) s r after taken e entered = entered
-condition_decides search row d s r after taken e entered = absurd (cc)
+condition_decides search row None s r after taken e entered = absurd (cc)
+condition_decides search row (Some d) s r after taken e entered =
+    subst (λ (b : Bool). EntersIf search row b s r after taken) (elif_in (class_of d) e) entered
+
+control_in : (c : Class) → opens c ≡ false → ends c ≡ false → role_in c ≡ ControlLine
+control_in (class.Opens q) o e = absurd (cc)
+control_in (class.Elifs q) o e = absurd (cc)
+control_in class.Else o e = absurd (cc)
+control_in class.Endif o e = absurd (cc)
+control_in c o e = refl
 
 pub control_role : (d : Directive) → opens_section d ≡ false → ends_group d ≡ false → role_by (Some d) ≡ role_by (Some Null)
-control_role Define o e = refl
-control_role Undef o e = refl
-control_role Include o e = refl
-control_role IncludeNext o e = refl
-control_role LineOf o e = refl
-control_role Error o e = refl
-control_role Pragma o e = refl
-control_role Null o e = refl
-control_role Ignored o e = refl
-control_role Unknown o e = refl
-control_role d o e = absurd (cc)
+control_role d o e = control_in (class_of d) o e
+
+opening_in : (c : Class) → opens c ≡ true → role_in c ≡ Opens
+opening_in (class.Opens q) e = refl
+opening_in c e = absurd (cc)
 
 pub opening_role : (d : Directive) → opens_section d ≡ true → role_by (Some d) ≡ role_by (Some If)
-opening_role If e = refl
-opening_role Ifdef e = refl
-opening_role Ifndef e = refl
-opening_role d e = absurd (cc)
+opening_role d e = opening_in (class_of d) e
 
 pub record Differs (r : LogicalLine) : Type 0 where
   pub not_text : role r ≢ role_by None
   pub not_control : role r ≢ role_by (Some Null)
   pub not_opening : role r ≢ role_by (Some If)
 
+ending_in : (c : Class) (r : LogicalLine) → ends c ≡ true → role r ≡ role_in c → Differs r
+ending_in (class.Elifs q) r e is = record { not_text = λ h. cc; not_control = λ h. cc; not_opening = λ h. cc }
+ending_in class.Else r e is = record { not_text = λ h. cc; not_control = λ h. cc; not_opening = λ h. cc }
+ending_in class.Endif r e is = record { not_text = λ h. cc; not_control = λ h. cc; not_opening = λ h. cc }
+ending_in c r e is = absurd (cc)
+
 pub ending_role : (d : Directive) (r : LogicalLine) → ends_group d ≡ true → role r ≡ role_by (Some d) → Differs r
-ending_role Elif r e is = record { not_text = λ h. cc; not_control = λ h. cc; not_opening = λ h. cc }
-ending_role Elifdef r e is = record { not_text = λ h. cc; not_control = λ h. cc; not_opening = λ h. cc }
-ending_role Elifndef r e is = record { not_text = λ h. cc; not_control = λ h. cc; not_opening = λ h. cc }
-ending_role Else r e is = record { not_text = λ h. cc; not_control = λ h. cc; not_opening = λ h. cc }
-ending_role Endif r e is = record { not_text = λ h. cc; not_control = λ h. cc; not_opening = λ h. cc }
-ending_role d r e is = absurd (cc)
+ending_role d r e is = ending_in (class_of d) r e is
 
 pub branches_differ : (bs : Branches) (last : Bool) (r : LogicalLine) (rest behind : List LogicalLine) → AreBranches last bs → branch_lines bs ++ rest ≡ r ∷ behind → Differs r
 branches_differ (End x) last r rest behind is e =

@@ -58,7 +58,6 @@ module _ (around : Surroundings) (more : Files) (grows : Extends more around.fil
     control_grows (Controls.quote is q) = (Controls.quote is q, refl)
     control_grows (Controls.other q does) = (Controls.other q does, refl)
     control_grows (Controls.include is q here) = let h = includes_grow here in (Controls.include is q h.0, h.1)
-    control_grows (Controls.include_next is q here) = let h = includes_grow here in (Controls.include_next is q h.0, h.1)
 
     includes_grow : {depth row : ℕ} {behind : Option ℕ} {s : State} {line : LogicalLine} {m : Reached} (d : Includes around depth row behind s line m) → (e : Includes wider depth row behind s line m) × (count_includes e ≡ count_includes d)
     includes_grow (Includes.misnamed asks) = (Includes.misnamed asks, refl)

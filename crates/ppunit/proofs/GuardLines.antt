@@ -8,6 +8,9 @@ use Rattle.pptext.specs.declared.tokens.Kind.{Kind}
 use Rattle.pptext.specs.declared.tokens.Kind.TheVariants.{Ident, Punct}
 use Rattle.pptext.specs.declared.sources.Directive.{Directive}
 use Rattle.pptext.specs.declared.sources.Directive.TheVariants.{If, Ifndef}
+use Rattle.pptext.specs.declared.directives.Question.{Question}
+use Rattle.pptext.specs.declared.directives.Question.TheVariants.{Value}
+use Rattle.pptext.specs.Classes.{question_of, question_by}
 use Rattle.pptext.specs.declared.sources.Profile.{Profile}
 use Rattle.pptext.specs.declared.sources.Profile.TheVariants.{C11, Later, Gnu}
 use Rattle.pptext.specs.Profiles.{is_gnu}
@@ -38,8 +41,8 @@ use Rattle.ppunit.proofs.Unquoted.{is_quote, is_ident_kind, ident_unquoted, name
 abbrev SkipsOf : Result (List Token) Fault → State → Place → Type 0
 SkipsOf tokens s at = (h : DecidesOf tokens s at s.left (Ok false)) × (count_decides_of tokens s at s.left (Ok false) h ≡ 0)
 
-abbrev SkipsBy : Search → ℕ → Option Directive → State → List Token → Type 0
-SkipsBy search row d s tokens = (h : DecidesBy search row d s tokens s.left (Ok false)) × (count_decides_by search row d s tokens s.left (Ok false) h ≡ 0)
+abbrev SkipsBy : Search → ℕ → Option Question → State → List Token → Type 0
+SkipsBy search row q s tokens = (h : DecidesBy search row q s tokens s.left (Ok false)) × (count_decides_by search row q s tokens s.left (Ok false) h ≡ 0)
 
 abbrev SkipsUnless : Search → ℕ → Option Fault → Option Directive → State → List Token → Type 0
 SkipsUnless search row quote d s tokens = (h : DecidesUnless search row quote d s tokens s.left (Ok false)) × (count_decides_unless search row quote d s tokens s.left (Ok false) h ≡ 0)
@@ -55,7 +58,7 @@ decided : (search : Search) (row : ℕ) (s : State) (profile : Profile) (h d : T
     → directive_named profile name ≡ is_called
     → is_quote name ≡ false
     → AreUnquoted ts
-    → SkipsBy search row (Some is_called) s (h ∷ d ∷ ts)
+    → SkipsBy search row (question_of is_called) s (h ∷ d ∷ ts)
     → Skips search row s (directive_of profile (h ∷ d ∷ ts)) (h ∷ d ∷ ts)
 decided search row s profile h d ts name is_called hash is called plain rest decides =
     let quotes : lone_quote (h ∷ d ∷ ts) ≡ None = no_quote (h ∷ d ∷ ts) (hash_unquoted h hash, (named_unquoted d name is plain, rest)) in
@@ -63,7 +66,7 @@ decided search row s profile h d ts name is_called hash is called plain rest dec
     ap (λ (b : Bool). if b then Some (directive_named profile d.text) else None) hash
     ∙ ap (λ (z : List ℕ). Some (directive_named profile z)) (named_is d name is) ∙ ap (λ (z : Directive). Some z) called in
     subst (λ (q : Option Fault). SkipsUnless search row q (directive_of profile (h ∷ d ∷ ts)) s (h ∷ d ∷ ts)) (sym quotes)
-    (subst (λ (z : Option Directive). SkipsBy search row z s (h ∷ d ∷ ts)) (sym directive) decides)
+    (subst (λ (z : Option Directive). SkipsBy search row (question_by z) s (h ∷ d ∷ ts)) (sym directive) decides)
 
 -- each profile has the names of C11
 if_called : (profile : Profile) → directive_named profile (codes "if") ≡ If
@@ -139,7 +142,7 @@ unprobed search row h d ts e = chosen (is_gnu search.profile)
 by_condition : (search : Search) (row : ℕ) (s : State) (h d : Token) (ts : List Token)
     → probed search row None ts ≡ Some ts
     → IsFalseFreely s h.at ts
-    → SkipsBy search row (Some If) s (h ∷ d ∷ ts)
+    → SkipsBy search row (Some Value) s (h ∷ d ∷ ts)
 by_condition search row s h d ts stays condition =
     subst (λ (z : Result (List Token) Fault). SkipsOf z s h.at) (sym (unprobed search row h d ts stays))
     (condition s.left, costs_nothing s h.at ts condition s.left)

@@ -98,7 +98,6 @@ module _ (around : Surroundings) where
     control_before (Controls.quote {s = s} e q) = same_state s
     control_before {row = row} (Controls.other {s = s} {line = line} {m = m} q does) = control_by_before around.profile row line.directive s line m does
     control_before (Controls.include e q here) = includes_before here
-    control_before (Controls.include_next e q here) = includes_before here
 
     includes_before : {depth row : ℕ} {behind : Option ℕ} {s : State} {line : LogicalLine} {m : Reached} → Includes around depth row behind s line m → Before s m.state
     includes_before (Includes.misnamed {s = s} asks) = same_state s

@@ -1,13 +1,14 @@
 -- A control line, and where a line leads, from what the steps of the code ensure.
-use Rattle.std.proofs.Common.{◌≡◌, ℕ, suc, ◌+◌, ◌<◌, List, length, sym, subst, false, Option, None, Some, Result, Ok, Err}
+use Rattle.std.proofs.Common.{◌≡◌, ℕ, suc, ◌+◌, ◌<◌, List, length, sym, subst, Bool, false, Option, None, Some, Result, Ok, Err, if◌then◌else◌}
 use Rattle.pptext.specs.declared.tokens.Place.{Place}
 use Rattle.pptext.specs.declared.tokens.Token.{Token}
 use Rattle.pptext.specs.declared.tokens.Fault.{Fault}
 use Rattle.pptext.specs.declared.sources.Directive.{Directive}
-use Rattle.pptext.specs.declared.sources.Directive.TheVariants.{Include, IncludeNext}
+use Rattle.pptext.specs.declared.directives.Class.TheVariants as class
 use Rattle.pptext.specs.declared.sources.Profile.{Profile}
 use Rattle.pptext.specs.Lines.{LogicalLine}
-use Rattle.pptext.specs.Tree.{sign_place, opens_section, ends_group}
+use Rattle.pptext.specs.Tree.{sign_place}
+use Rattle.pptext.specs.Classes.{class_by, opens_section, ends_group}
 use Rattle.ppshelf.specs.Files.{Files}
 use Rattle.ppunit.specs.Including.{Asked}
 use Rattle.ppunit.specs.Opening.{Entered}
@@ -77,25 +78,16 @@ leads_included around files depth deeper row behind found at line s t after a r 
     leads_on around files (suc depth) (λ more m. Opened (around more) (suc depth) (sign_place line.tokens) u found.0 (Some found.1) m)
     (λ more m. Includes (around more) depth row behind s line m) t r (λ more m opened. Includes.included a found asks (finds more) opened) here
 
-pub leads_include : (around : Files → Surroundings) (files : Files) (depth row : ℕ) (line : LogicalLine) (s t : State) (r : Result (Option Entered) Fault)
-    → line.directive ≡ Some Include
-    → lone_quote line.tokens ≡ None
-    → Leads around files (suc depth) (λ more m. Includes (around more) depth row None s line m) t r
-    → Leads around files (suc depth) (λ more m. Controls (around more) depth row s line m) t r
-leads_include around files depth row line s t r is alone leads =
-    leads_on around files (suc depth) (λ more m. Includes (around more) depth row None s line m) (λ more m. Controls (around more) depth row s line m) t r
-    (λ more m here. Controls.include is alone here) leads
-
-pub leads_next : (around : Files → Surroundings) (files : Files) (depth row : ℕ) (folder : Option ℕ) (line : LogicalLine) (s t : State)
+pub leads_include : (around : Files → Surroundings) (files : Files) (depth row : ℕ) (next : Bool) (folder : Option ℕ) (line : LogicalLine) (s t : State)
     (r : Result (Option Entered) Fault)
-    → folder ≡ s.folder
-    → line.directive ≡ Some IncludeNext
+    → folder ≡ (if next then s.folder else None)
+    → class_by line.directive ≡ Some (class.Includes next)
     → lone_quote line.tokens ≡ None
     → Leads around files (suc depth) (λ more m. Includes (around more) depth row folder s line m) t r
     → Leads around files (suc depth) (λ more m. Controls (around more) depth row s line m) t r
-leads_next around files depth row folder line s t r its is alone leads =
+leads_include around files depth row next folder line s t r its is alone leads =
     leads_on around files (suc depth) (λ more m. Includes (around more) depth row folder s line m) (λ more m. Controls (around more) depth row s line m) t r
-    (λ more m here. Controls.include_next is alone (subst (λ (z : Option ℕ). Includes (around more) depth row z s line m) its here)) leads
+    (λ more m here. Controls.include is alone (subst (λ (z : Option ℕ). Includes (around more) depth row z s line m) its here)) leads
 
 pub steps_line : (around : Files → Surroundings) (files : Files) (depth row : ℕ) (lines : List LogicalLine) (index : ℕ) (s t : State)
     (next : ℕ) (r : ℕ × Option Entered)

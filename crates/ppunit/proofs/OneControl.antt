@@ -1,9 +1,10 @@
 -- Over the same files a control line reaches one state, if the file that it opens does.
-use Rattle.std.proofs.Common.{◌≡◌, ℕ, suc, List, true, Option, Some, None, Ok, Err, refl, sym, ap, ◌∙◌, subst}
+use Rattle.std.proofs.Common.{◌≡◌, ℕ, suc, List, Bool, true, Option, Some, None, Ok, Err, refl, sym, ap, ◌∙◌, subst, if◌then◌else◌}
 use Rattle.pptext.specs.declared.tokens.Token.{Token}
 use Rattle.pptext.specs.declared.tokens.Fault.{Fault}
-use Rattle.pptext.specs.declared.sources.Directive.{Directive}
-use Rattle.pptext.specs.declared.sources.Directive.TheVariants.{Include, IncludeNext, Error, Ignored}
+use Rattle.pptext.specs.declared.directives.Class.{Class}
+use Rattle.pptext.specs.declared.directives.Class.TheVariants as class
+use Rattle.pptext.specs.Classes.{class_by}
 use Rattle.pptext.specs.Lines.{LogicalLine}
 use Rattle.pptext.specs.Tree.{sign_place}
 use Rattle.ppshelf.specs.Names.{AreNames}
@@ -15,94 +16,83 @@ use Rattle.ppunit.specs.Directives.{ControlBy, message, looks_at_quotes, Asks, F
 use Rattle.ppunit.specs.Group.{Controls, Includes, Opened}
 use Rattle.ppunit.proofs.OneLine.{OneExpansion, OneDecision, OneRow, control_by_once, asks_once}
 use Rattle.ppunit.proofs.OneSection.{stopped_again}
+use Rattle.ppunit.proofs.ControlKinds.{control_class}
 
 -- a line whose quotes are looked at is neither
-error_quiet : (d : Option Directive) → d ≡ Some Error → looks_at_quotes d ≡ true → ⊥
-error_quiet d is looks = absurd (cc)
+error_quiet : (c : Option Class) → c ≡ Some class.Error → looks_at_quotes c ≡ true → ⊥
+error_quiet c is looks = absurd (cc)
 
-ignored_quiet : (d : Option Directive) → d ≡ Some Ignored → looks_at_quotes d ≡ true → ⊥
-ignored_quiet d is looks = absurd (cc)
+ignored_quiet : (c : Option Class) → c ≡ Some class.Ignored → looks_at_quotes c ≡ true → ⊥
+ignored_quiet c is looks = absurd (cc)
 
 module _ (expansions : OneExpansion) (decisions : OneDecision) (rows : OneRow) (around : Surroundings) (once : AreNames around.names) where
   finds_once : (from : ℕ) (behind : Option ℕ) (asked : Asked) (a b : Option (ℕ × ℕ)) → Finds around from behind asked a → Finds around from behind asked b → a ≡ b
   finds_once from behind asked a b p q = rows around.names once _ a b p q
 
-  not_other : (row : ℕ) (d : Directive) (s : State) (line : LogicalLine) (m : Reached)
-      → line.directive ≡ Some d
+  not_other : (row : ℕ) (c : Class) (s : State) (line : LogicalLine) (m : Reached)
+      → class_by line.directive ≡ Some c
       → ControlBy around.profile row line.directive s line m
-      → ControlBy around.profile row (Some d) s line m
-  not_other row d s line m is does = subst (λ x. ControlBy around.profile row x s line m) is does
+      → Some c ≡ Some class.Control
+  not_other row c s line m is does = sym is ∙ control_class around.profile row line.directive s line m does
 
   pub at_error : {depth row : ℕ} {s : State} {line : LogicalLine} {m : Reached}
-      → line.directive ≡ Some Error
+      → class_by line.directive ≡ Some class.Error
       → Controls around depth row s line m
       → stopped s (line_fault 34 line.tokens (message (operands line.tokens))) ≡ m
   at_error e (Controls.error is) = refl
-  at_error e (Controls.ignored is) = let differs : Some Error ≡ Some Ignored = sym e ∙ is in absurd (cc)
-  at_error {line = line} e (Controls.quote is q) = absurd (error_quiet line.directive e is)
-  at_error {row = row} {s = s} {line = line} {m = m} e (Controls.other q does) = absurd (not_other row Error s line m e does)
-  at_error e (Controls.include is q here) = let differs : Some Error ≡ Some Include = sym e ∙ is in absurd (cc)
-  at_error e (Controls.include_next is q here) = let differs : Some Error ≡ Some IncludeNext = sym e ∙ is in absurd (cc)
+  at_error e (Controls.ignored is) = let differs : Some class.Error ≡ Some class.Ignored = sym e ∙ is in absurd (cc)
+  at_error {line = line} e (Controls.quote is q) = absurd (error_quiet (class_by line.directive) e is)
+  at_error {row = row} {s = s} {line = line} {m = m} e (Controls.other q does) = let differs = not_other row class.Error s line m e does in absurd (cc)
+  at_error e (Controls.include {next = next} is q here) = let differs : Some class.Error ≡ Some (class.Includes next) = sym e ∙ is in absurd (cc)
 
   pub at_ignored : {depth row : ℕ} {s : State} {line : LogicalLine} {m : Reached}
-      → line.directive ≡ Some Ignored
+      → class_by line.directive ≡ Some class.Ignored
       → Controls around depth row s line m
       → going s ≡ m
-  at_ignored e (Controls.error is) = let differs : Some Ignored ≡ Some Error = sym e ∙ is in absurd (cc)
+  at_ignored e (Controls.error is) = let differs : Some class.Ignored ≡ Some class.Error = sym e ∙ is in absurd (cc)
   at_ignored e (Controls.ignored is) = refl
-  at_ignored {line = line} e (Controls.quote is q) = absurd (ignored_quiet line.directive e is)
-  at_ignored {row = row} {s = s} {line = line} {m = m} e (Controls.other q does) = absurd (not_other row Ignored s line m e does)
-  at_ignored e (Controls.include is q here) = let differs : Some Ignored ≡ Some Include = sym e ∙ is in absurd (cc)
-  at_ignored e (Controls.include_next is q here) = let differs : Some Ignored ≡ Some IncludeNext = sym e ∙ is in absurd (cc)
+  at_ignored {line = line} e (Controls.quote is q) = absurd (ignored_quiet (class_by line.directive) e is)
+  at_ignored {row = row} {s = s} {line = line} {m = m} e (Controls.other q does) = let differs = not_other row class.Ignored s line m e does in absurd (cc)
+  at_ignored e (Controls.include {next = next} is q here) = let differs : Some class.Ignored ≡ Some (class.Includes next) = sym e ∙ is in absurd (cc)
 
   pub at_quote : {depth row : ℕ} {s : State} {line : LogicalLine} {f : Fault} {m : Reached}
-      → looks_at_quotes line.directive ≡ true
+      → looks_at_quotes (class_by line.directive) ≡ true
       → lone_quote line.tokens ≡ Some f
       → Controls around depth row s line m
       → stopped s f ≡ m
-  at_quote {line = line} looks e (Controls.error is) = absurd (error_quiet line.directive is looks)
-  at_quote {line = line} looks e (Controls.ignored is) = absurd (ignored_quiet line.directive is looks)
+  at_quote {line = line} looks e (Controls.error is) = absurd (error_quiet (class_by line.directive) is looks)
+  at_quote {line = line} looks e (Controls.ignored is) = absurd (ignored_quiet (class_by line.directive) is looks)
   at_quote {s = s} {f = f} looks e (Controls.quote {f = g} is q) = let same : f ≡ g = cc in ap (λ x. stopped s x) same
   at_quote looks e (Controls.other q does) = absurd (cc)
   at_quote looks e (Controls.include is q here) = absurd (cc)
-  at_quote looks e (Controls.include_next is q here) = absurd (cc)
 
   pub at_other : {depth row : ℕ} {s : State} {line : LogicalLine} {k m : Reached}
       → lone_quote line.tokens ≡ None
       → ControlBy around.profile row line.directive s line k
       → Controls around depth row s line m
       → k ≡ m
-  at_other {row = row} {s = s} {line = line} {k = k} q does (Controls.error is) = absurd (not_other row Error s line k is does)
-  at_other {row = row} {s = s} {line = line} {k = k} q does (Controls.ignored is) = absurd (not_other row Ignored s line k is does)
+  at_other {row = row} {s = s} {line = line} {k = k} q does (Controls.error is) = let differs = not_other row class.Error s line k is does in absurd (cc)
+  at_other {row = row} {s = s} {line = line} {k = k} q does (Controls.ignored is) = let differs = not_other row class.Ignored s line k is does in absurd (cc)
   at_other q does (Controls.quote is e) = absurd (cc)
   at_other {row = row} {s = s} {line = line} {k = k} {m = m} q does (Controls.other e does') =
       control_by_once expansions decisions around.profile row line.directive s line k m does does'
-  at_other {row = row} {s = s} {line = line} {k = k} q does (Controls.include is e here) = absurd (not_other row Include s line k is does)
-  at_other {row = row} {s = s} {line = line} {k = k} q does (Controls.include_next is e here) = absurd (not_other row IncludeNext s line k is does)
+  at_other {row = row} {s = s} {line = line} {k = k} q does (Controls.include {next = next} is e here) =
+      let differs = not_other row (class.Includes next) s line k is does in absurd (cc)
 
-  pub at_include : {depth row : ℕ} {s : State} {line : LogicalLine} {m : Reached}
-      → line.directive ≡ Some Include
+  pub at_include : {depth row : ℕ} {next : Bool} {s : State} {line : LogicalLine} {m : Reached}
+      → class_by line.directive ≡ Some (class.Includes next)
       → lone_quote line.tokens ≡ None
       → Controls around depth row s line m
-      → Includes around depth row None s line m
-  at_include e q (Controls.error is) = let differs : Some Include ≡ Some Error = sym e ∙ is in absurd (cc)
-  at_include e q (Controls.ignored is) = let differs : Some Include ≡ Some Ignored = sym e ∙ is in absurd (cc)
+      → Includes around depth row (if next then s.folder else None) s line m
+  at_include {next = next} e q (Controls.error is) = let differs : Some (class.Includes next) ≡ Some class.Error = sym e ∙ is in absurd (cc)
+  at_include {next = next} e q (Controls.ignored is) = let differs : Some (class.Includes next) ≡ Some class.Ignored = sym e ∙ is in absurd (cc)
   at_include e q (Controls.quote is q') = absurd (cc)
-  at_include {row = row} {s = s} {line = line} {m = m} e q (Controls.other q' does) = absurd (not_other row Include s line m e does)
-  at_include e q (Controls.include is q' here) = here
-  at_include e q (Controls.include_next is q' here) = let differs : Some Include ≡ Some IncludeNext = sym e ∙ is in absurd (cc)
-
-  pub at_next : {depth row : ℕ} {s : State} {line : LogicalLine} {m : Reached}
-      → line.directive ≡ Some IncludeNext
-      → lone_quote line.tokens ≡ None
-      → Controls around depth row s line m
-      → Includes around depth row s.folder s line m
-  at_next e q (Controls.error is) = let differs : Some IncludeNext ≡ Some Error = sym e ∙ is in absurd (cc)
-  at_next e q (Controls.ignored is) = let differs : Some IncludeNext ≡ Some Ignored = sym e ∙ is in absurd (cc)
-  at_next e q (Controls.quote is q') = absurd (cc)
-  at_next {row = row} {s = s} {line = line} {m = m} e q (Controls.other q' does) = absurd (not_other row IncludeNext s line m e does)
-  at_next e q (Controls.include is q' here) = let differs : Some IncludeNext ≡ Some Include = sym e ∙ is in absurd (cc)
-  at_next e q (Controls.include_next is q' here) = here
+  at_include {row = row} {next = next} {s = s} {line = line} {m = m} e q (Controls.other q' does) =
+      let differs = not_other row (class.Includes next) s line m e does in absurd (cc)
+  at_include {depth = depth} {row = row} {next = next} {s = s} {line = line} {m = m} e q (Controls.include {next = other} is q' here) =
+      let both : Some (class.Includes other) ≡ Some (class.Includes next) = sym is ∙ e in
+      let same : other ≡ next = cc in
+      subst (λ (b : Bool). Includes around depth row (if b then s.folder else None) s line m) same here
 
   -- one line asks for one thing
   same_asked : (s : State) (line : List Token) (after behind : Option ℕ) (a b : Asked) → Asks s line after (Ok a) → Asks s line behind (Ok b) → a ≡ b

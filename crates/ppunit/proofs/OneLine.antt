@@ -5,7 +5,10 @@ use Rattle.pptext.specs.declared.tokens.Token.{Token}
 use Rattle.pptext.specs.declared.tokens.Fault.{Fault}
 use Rattle.pptext.specs.declared.sources.Profile.{Profile}
 use Rattle.pptext.specs.declared.sources.Directive.{Directive}
-use Rattle.pptext.specs.declared.sources.Directive.TheVariants.{If, Ifdef, Ifndef, Elif, Elifdef, Elifndef, Else, Endif, Include, IncludeNext, Define, Undef, Line, Error, Pragma, Null, Ignored, Unknown}
+use Rattle.pptext.specs.declared.sources.Directive.TheVariants.{Define, Undef, Line, Pragma, Null, Unknown}
+use Rattle.pptext.specs.declared.directives.Question.{Question}
+use Rattle.pptext.specs.declared.directives.Question.TheVariants.{Defined, Value}
+use Rattle.pptext.specs.Classes.{question_by}
 use Rattle.pptext.specs.Lines.{LogicalLine}
 use Rattle.pptext.specs.Sources.{Reads}
 use Rattle.pptext.specs.Tree.{sign_place, Parts, Tree}
@@ -66,25 +69,13 @@ module _ (expansions : OneExpansion) (decisions : OneDecision) where
       → ControlBy profile row d s r a
       → ControlBy profile row d s r b
       → a ≡ b
-  control_by_once profile row None s r a b p q = absurd p
-  control_by_once profile row (Some If) s r a b p q = absurd p
-  control_by_once profile row (Some Ifdef) s r a b p q = absurd p
-  control_by_once profile row (Some Ifndef) s r a b p q = absurd p
-  control_by_once profile row (Some Elif) s r a b p q = absurd p
-  control_by_once profile row (Some Elifdef) s r a b p q = absurd p
-  control_by_once profile row (Some Elifndef) s r a b p q = absurd p
-  control_by_once profile row (Some Else) s r a b p q = absurd p
-  control_by_once profile row (Some Endif) s r a b p q = absurd p
-  control_by_once profile row (Some Include) s r a b p q = absurd p
-  control_by_once profile row (Some IncludeNext) s r a b p q = absurd p
+  control_by_once profile row (Some Null) s r a b p q = p ∙ sym q
   control_by_once profile row (Some Define) s r a b p q = p ∙ sym q
   control_by_once profile row (Some Undef) s r a b p q = p ∙ sym q
   control_by_once profile row (Some Line) s r a b p q = line_once s r a b p q
-  control_by_once profile row (Some Error) s r a b p q = absurd p
   control_by_once profile row (Some Pragma) s r a b p q = p ∙ sym q
-  control_by_once profile row (Some Null) s r a b p q = p ∙ sym q
-  control_by_once profile row (Some Ignored) s r a b p q = absurd p
   control_by_once profile row (Some Unknown) s r a b p q = p ∙ sym q
+  control_by_once profile row d s r a b p q = absurd p
 
   -- one answer, and one rest of the budget
   free_once : {A : Type 0} (left after behind : Option ℕ) (is a b : A) → (after ≡ left) × (a ≡ is) → (behind ≡ left) × (b ≡ is) → (a ≡ b) × (after ≡ behind)
@@ -114,37 +105,20 @@ module _ (expansions : OneExpansion) (decisions : OneDecision) where
   decides_of_once (Err f) s at after behind a b p q = free_once s.left after behind _ a b p q
   decides_of_once (Ok tokens) s at after behind a b p q = decisions s.macros s.env at tokens s.left after behind a b p q
 
-  decides_by_once : (search : Search) (row : ℕ) (d : Option Directive) (s : State) (line : List Token) (after behind : Option ℕ) (a b : Result Bool Fault)
-      → DecidesBy search row d s line after a
-      → DecidesBy search row d s line behind b
+  decides_by_once : (search : Search) (row : ℕ) (asked : Option Question) (s : State) (line : List Token) (after behind : Option ℕ) (a b : Result Bool Fault)
+      → DecidesBy search row asked s line after a
+      → DecidesBy search row asked s line behind b
       → (a ≡ b) × (after ≡ behind)
+  decides_by_once search row (Some Value) s line after behind a b p q =
+      decides_of_once (condition_tokens search row line) s (sign_place line) after behind a b p q
+  decides_by_once search row (Some (Defined wanted)) s line after behind a b p q = free_once s.left after behind _ a b p q
   decides_by_once search row None s line after behind a b p q = absurd p
-  decides_by_once search row (Some If) s line after behind a b p q =
-      decides_of_once (condition_tokens search row line) s (sign_place line) after behind a b p q
-  decides_by_once search row (Some Elif) s line after behind a b p q =
-      decides_of_once (condition_tokens search row line) s (sign_place line) after behind a b p q
-  decides_by_once search row (Some Ifdef) s line after behind a b p q = free_once s.left after behind _ a b p q
-  decides_by_once search row (Some Ifndef) s line after behind a b p q = free_once s.left after behind _ a b p q
-  decides_by_once search row (Some Elifdef) s line after behind a b p q = free_once s.left after behind _ a b p q
-  decides_by_once search row (Some Elifndef) s line after behind a b p q = free_once s.left after behind _ a b p q
-  decides_by_once search row (Some Else) s line after behind a b p q = absurd p
-  decides_by_once search row (Some Endif) s line after behind a b p q = absurd p
-  decides_by_once search row (Some Include) s line after behind a b p q = absurd p
-  decides_by_once search row (Some IncludeNext) s line after behind a b p q = absurd p
-  decides_by_once search row (Some Define) s line after behind a b p q = absurd p
-  decides_by_once search row (Some Undef) s line after behind a b p q = absurd p
-  decides_by_once search row (Some Line) s line after behind a b p q = absurd p
-  decides_by_once search row (Some Error) s line after behind a b p q = absurd p
-  decides_by_once search row (Some Pragma) s line after behind a b p q = absurd p
-  decides_by_once search row (Some Null) s line after behind a b p q = absurd p
-  decides_by_once search row (Some Ignored) s line after behind a b p q = absurd p
-  decides_by_once search row (Some Unknown) s line after behind a b p q = absurd p
 
   decides_unless_once : (search : Search) (row : ℕ) (quote : Option Fault) (d : Option Directive) (s : State) (line : List Token) (after behind : Option ℕ) (a b : Result Bool Fault)
       → DecidesUnless search row quote d s line after a
       → DecidesUnless search row quote d s line behind b
       → (a ≡ b) × (after ≡ behind)
-  decides_unless_once search row None d s line after behind a b p q = decides_by_once search row d s line after behind a b p q
+  decides_unless_once search row None d s line after behind a b p q = decides_by_once search row (question_by d) s line after behind a b p q
   decides_unless_once search row (Some f) d s line after behind a b p q = free_once s.left after behind _ a b p q
 
   pub decides_once : (search : Search) (row : ℕ) (s : State) (line : LogicalLine) (after behind : Option ℕ) (a b : Result Bool Fault)

@@ -12,7 +12,7 @@ use Rattle.ppunit.specs.Group.{Group, Branched, Controls, Includes, Opened}
 use Rattle.ppunit.specs.Unit.{Defines, unread, processed, Translates, undefined, translated, command_file, command_text, first_place}
 use Rattle.ppunit.proofs.OneLine.{OneExpansion, OneDecision, OneReading, OneTree, OneRow, run_once}
 use Rattle.ppunit.proofs.OneSection.{AfterRun, at_run, AfterControl, at_control, at_done, at_stop, at_section, at_end, at_branch, after_taken, after_skipped, after_refused, after_else, after_elif, after_passed, after_faulty}
-use Rattle.ppunit.proofs.OneControl.{at_error, at_ignored, at_quote, at_other, at_include, at_next, after_misnamed, after_missing, after_included}
+use Rattle.ppunit.proofs.OneControl.{at_error, at_ignored, at_quote, at_other, at_include, after_misnamed, after_missing, after_included}
 use Rattle.ppunit.proofs.OneOpening.{at_deep, at_over, at_known, at_unreadable, at_reading, after_fault, AfterLines, after_lines}
 
 module _ (expansions : OneExpansion) (decisions : OneDecision) (readings : OneReading) (trees : OneTree) (rows : OneRow) where
@@ -44,7 +44,6 @@ module _ (expansions : OneExpansion) (decisions : OneDecision) (readings : OneRe
       control_once (Controls.quote is q) z d = at_quote expansions decisions rows around once is q d
       control_once (Controls.other q does) z d = at_other expansions decisions rows around once q does d
       control_once (Controls.include is q here) z d = includes_once here z (at_include expansions decisions rows around once is q d)
-      control_once (Controls.include_next is q here) z d = includes_once here z (at_next expansions decisions rows around once is q d)
 
       includes_once : {depth row : ℕ} {behind : Option ℕ} {s : State} {line : LogicalLine} {y : Reached} → Includes around depth row behind s line y → (z : Reached) → Includes around depth row behind s line z → y ≡ z
       includes_once (Includes.misnamed asks) z d = after_misnamed expansions decisions rows around once asks d

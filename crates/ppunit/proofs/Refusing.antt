@@ -44,7 +44,6 @@ module _ (around : Surroundings) where
     control_other is (Controls.quote {line = line} e q) = subst IsOther q (quote_other line.tokens)
     control_other {row = row} is (Controls.other {s = s} {line = line} {m = m} q does) = control_by_other around.profile row line.directive s line m is does
     control_other is (Controls.include e q here) = includes_other is here
-    control_other is (Controls.include_next e q here) = includes_other is here
 
     includes_other : {depth row : ℕ} {behind : Option ℕ} {s : State} {line : LogicalLine} {m : Reached} → s.left ≡ None → Includes around depth row behind s line m → IsOther m.fault
     includes_other is (Includes.misnamed {s = s} {line = line} {after = after} {f = f} asks) = asks_other s line.tokens after f is asks

@@ -4,11 +4,14 @@ use Rattle.pptext.specs.declared.tokens.Place.{Place}
 use Rattle.pptext.specs.declared.tokens.Token.{Token}
 use Rattle.pptext.specs.declared.tokens.Fault.{Fault}
 use Rattle.pptext.specs.declared.sources.Directive.{Directive}
-use Rattle.pptext.specs.declared.sources.Directive.TheVariants.{If, Ifdef, Ifndef, Elif, Elifdef, Elifndef, Else, Endif, Define, Undef, Line, Pragma, Null, Unknown}
+use Rattle.pptext.specs.declared.sources.Directive.TheVariants.{Define, Undef, Line, Pragma, Null, Unknown}
+use Rattle.pptext.specs.declared.directives.Question.{Question}
+use Rattle.pptext.specs.declared.directives.Question.TheVariants.{Defined, Value}
+use Rattle.pptext.specs.Classes.{question_by}
 use Rattle.pptext.specs.declared.sources.Profile.{Profile}
 use Rattle.pptext.specs.Lines.{LogicalLine, lines_of}
 use Rattle.pptext.specs.Sources.{IsFaultOf}
-use Rattle.pptext.specs.Tree.{role, role_named, role_by, Open, opened, fault_at_end, fault_or, group_fault, Parts, Branches, sign_place}
+use Rattle.pptext.specs.Tree.{Role, Elses, Closes, role, Open, opened, fault_at_end, fault_or, group_fault, Parts, Branches, sign_place}
 use Rattle.pptext.specs.Profiles.{is_gnu}
 use Rattle.pptext.specs.Tokens.{is_lone_quote}
 use Rattle.ppmacro.specs.Names.{Macros}
@@ -72,28 +75,13 @@ abbrev IsOtherNumber : Option ℕ → Type 0
 IsOtherNumber None = Unit {0}
 IsOtherNumber (Some n) = n ≢ 35
 
-elif_other : (r : LogicalLine) (os : List Open) → IsOtherNumber (opened (role_named Elif) r os).0
-elif_other r [] = λ e. absurd (omega arith)
-elif_other r ((o, true) ∷ os) = λ e. absurd (omega arith)
-elif_other r ((o, false) ∷ os) = tt
-
-else_other : (r : LogicalLine) (os : List Open) → IsOtherNumber (opened (role_named Else) r os).0
-else_other r [] = λ e. absurd (omega arith)
-else_other r ((o, true) ∷ os) = λ e. absurd (omega arith)
-else_other r ((o, false) ∷ os) = tt
-
-endif_other : (r : LogicalLine) (os : List Open) → IsOtherNumber (opened (role_named Endif) r os).0
-endif_other r [] = λ e. absurd (omega arith)
-endif_other r (o ∷ os) = tt
-
-opened_line_other : (d : Option Directive) (r : LogicalLine) (os : List Open) → IsOtherNumber (opened (role_by d) r os).0
-opened_line_other None r os = tt
-opened_line_other (Some Elif) r os = elif_other r os
-opened_line_other (Some Elifdef) r os = elif_other r os
-opened_line_other (Some Elifndef) r os = elif_other r os
-opened_line_other (Some Else) r os = else_other r os
-opened_line_other (Some Endif) r os = endif_other r os
-opened_line_other (Some _) r os = tt
+opened_other : (a : Role) (r : LogicalLine) (os : List Open) → IsOtherNumber (opened a r os).0
+opened_other (Elses final) r [] = λ e. absurd (omega arith)
+opened_other (Elses final) r ((o, true) ∷ os) = λ e. absurd (omega arith)
+opened_other (Elses final) r ((o, false) ∷ os) = tt
+opened_other Closes r [] = λ e. absurd (omega arith)
+opened_other Closes r (o ∷ os) = tt
+opened_other a r os = tt
 
 end_other : (os : List Open) → IsOther (fault_at_end os)
 end_other [] = tt
@@ -105,7 +93,7 @@ or_other r (Some n) later h k = h
 
 groups_other : (os : List Open) (lines : List LogicalLine) → IsOther (group_fault os lines)
 groups_other os [] = end_other os
-groups_other os (r ∷ rs) = or_other r (opened (role r) r os).0 _ (opened_line_other r.directive r os) (groups_other (opened (role r) r os).1 rs)
+groups_other os (r ∷ rs) = or_other r (opened (role r) r os).0 _ (opened_other (role r) r os) (groups_other (opened (role r) r os).1 rs)
 
 pub reads_other : {profile : Profile} {file : ℕ} {bytes : List ℕ} {f : Fault} → IsFaultOf profile file bytes f → f.number ≢ 35
 reads_other (IsFaultOf.spliced_end e) = λ h. absurd (omega arith)
@@ -158,18 +146,14 @@ decides_of_other : (tokens : Result (List Token) Fault) (s : State) (at : Place)
 decides_of_other (Err e) s at after f h is g = subst IsOtherOr (sym g.1) h
 decides_of_other (Ok tokens) s at after f h is g = condition_never_refused is g
 
-decides_by_other : (search : Search) (row : ℕ) (d : Option Directive) (s : State) (line : List Token) (after : Option ℕ) (f : Fault) → s.left ≡ None → DecidesBy search row d s line after (Err f) → f.number ≢ 35
-decides_by_other search row (Some If) s line after f is g = decides_of_other (condition_tokens search row line) s (sign_place line) after f (condition_tokens_other search row line) is g
-decides_by_other search row (Some Elif) s line after f is g = decides_of_other (condition_tokens search row line) s (sign_place line) after f (condition_tokens_other search row line) is g
-decides_by_other search row (Some Ifdef) s line after f is g = by_name_decides true s.macros line (one_identifier (operands line)) f g.1
-decides_by_other search row (Some Ifndef) s line after f is g = by_name_decides false s.macros line (one_identifier (operands line)) f g.1
-decides_by_other search row (Some Elifdef) s line after f is g = by_name_decides true s.macros line (one_identifier (operands line)) f g.1
-decides_by_other search row (Some Elifndef) s line after f is g = by_name_decides false s.macros line (one_identifier (operands line)) f g.1
-decides_by_other search row _ s line after f is g = absurd g
+decides_by_other : (search : Search) (row : ℕ) (q : Option Question) (s : State) (line : List Token) (after : Option ℕ) (f : Fault) → s.left ≡ None → DecidesBy search row q s line after (Err f) → f.number ≢ 35
+decides_by_other search row (Some Value) s line after f is g = decides_of_other (condition_tokens search row line) s (sign_place line) after f (condition_tokens_other search row line) is g
+decides_by_other search row (Some (Defined wanted)) s line after f is g = by_name_decides wanted s.macros line (one_identifier (operands line)) f g.1
+decides_by_other search row None s line after f is g = absurd g
 
 decides_unless_other : (search : Search) (row : ℕ) (quote : Option Fault) (d : Option Directive) (s : State) (line : List Token) (after : Option ℕ) (f : Fault) → IsOther quote → s.left ≡ None → DecidesUnless search row quote d s line after (Err f) → f.number ≢ 35
 decides_unless_other search row (Some q) d s line after f h is g = subst IsOtherOr (sym g.1) h
-decides_unless_other search row None d s line after f h is g = decides_by_other search row d s line after f is g
+decides_unless_other search row None d s line after f h is g = decides_by_other search row (question_by d) s line after f is g
 
 pub decides_other : (search : Search) (row : ℕ) (s : State) (line : LogicalLine) (after : Option ℕ) (f : Fault) → s.left ≡ None → Decides search row s line after (Err f) → f.number ≢ 35
 decides_other search row s line after f is g = decides_unless_other search row (lone_quote line.tokens) line.directive s line.tokens after f (quote_other line.tokens) is g

@@ -4,7 +4,8 @@ use Rattle.std.proofs.lemmas.List.{length-drop}
 use Rattle.pptext.specs.declared.sources.Directive.{Directive}
 use Rattle.pptext.specs.Lines.{LogicalLine}
 use Rattle.pptext.specs.Sources.{next_branch}
-use Rattle.pptext.specs.Tree.{Parts, Done, Branches, End, Branch, part_lines, branch_lines, AreParts, AreBranches, role, role_by, branch_behind, ends_group}
+use Rattle.pptext.specs.Tree.{Parts, Done, Branches, End, Branch, part_lines, branch_lines, AreParts, AreBranches, role, role_by, branch_behind}
+use Rattle.pptext.specs.Classes.{ends_group}
 use Rattle.pptext.proofs.Walks.{next_within, next_of_branch, next_of_end, next_behind}
 use Rattle.ppunit.specs.States.{State, Surroundings, going}
 use Rattle.ppunit.specs.Group.{Group}

@@ -1,16 +1,21 @@
 -- Over files of which each row is known, a unit gives something.
-use Rattle.std.proofs.Common.{◌≡◌, ◌≢◌, ℕ, zero, suc, ◌+◌, ◌<◌, ◌≤◌, ◌⊎◌, inl, inr, Bool, true, false, List, [], length, IsSome, map, Option, Some, None, Result, Ok, Err, refl, ap, ◌∙◌, arith}
+use Rattle.std.proofs.Common.{◌≡◌, ◌≢◌, ℕ, zero, suc, ◌+◌, ◌<◌, ◌≤◌, ◌⊎◌, inl, inr, Bool, true, false, List, [], length, IsSome, map, Option, Some, None, Result, Ok, Err, refl, ap, ◌∙◌, arith, if◌then◌else◌}
 use Rattle.std.proofs.lemmas.Bool.{cases_lt}
 use Rattle.pptext.specs.declared.tokens.Place.{Place}
 use Rattle.pptext.specs.declared.tokens.Token.{Token}
 use Rattle.pptext.specs.declared.tokens.Fault.{Fault}
 use Rattle.pptext.specs.declared.sources.Profile.{Profile}
 use Rattle.pptext.specs.declared.sources.Directive.{Directive}
-use Rattle.pptext.specs.declared.sources.Directive.TheVariants.{If, Ifdef, Ifndef, Elif, Elifdef, Elifndef, Else, Endif, Include, IncludeNext, Define, Undef, Line, Error, Pragma, Null, Ignored, Unknown}
+use Rattle.pptext.specs.declared.sources.Directive.TheVariants.{Else, Define, Undef, Line, Pragma, Null, Unknown}
+use Rattle.pptext.specs.declared.directives.Question.{Question}
+use Rattle.pptext.specs.declared.directives.Question.TheVariants.{Defined, Value}
+use Rattle.pptext.specs.declared.directives.Class.{Class}
+use Rattle.pptext.specs.declared.directives.Class.TheVariants as class
+use Rattle.pptext.specs.Classes.{class_of, asked_by, class_by, question_by}
 use Rattle.pptext.specs.Lines.{LogicalLine}
 use Rattle.pptext.specs.Sources.{Reads, IsSource}
 use Rattle.pptext.specs.Tokens.{fault}
-use Rattle.pptext.specs.Tree.{sign_place, ControlLine, Opens, Elses, role, role_by, Parts, Done, Run, Control, Section, Branches, End, Branch, AreParts, AreBranches, Tree, group_fault}
+use Rattle.pptext.specs.Tree.{sign_place, ControlLine, Opens, Elses, role, role_in, role_by, Parts, Done, Run, Control, Section, Branches, End, Branch, AreParts, AreBranches, Tree, group_fault}
 use Rattle.ppmacro.specs.Names.{Macros}
 use Rattle.ppmacro.specs.Define.{after_define, after_undef}
 use Rattle.ppexpand.specs.declared.env.Env.{Env}
@@ -23,6 +28,7 @@ use Rattle.ppshelf.specs.Files.{file_at}
 use Rattle.ppshelf.specs.Names.{name_in}
 use Rattle.ppshelf.specs.Search.{Candidate, IsFirstRow}
 use Rattle.ppshelf.proofs.Finds.{first_within}
+use Rattle.ppunit.proofs.FirstLine.{else_directive, not_else}
 use Rattle.ppunit.specs.Dependencies.{is_among}
 use Rattle.ppunit.specs.declared.units.Item.TheVariants as item
 use Rattle.ppunit.specs.States.{State, Search, Surroundings, search_of, Reached, going, stopped, given, passed, with_left, depending, entering, leaving, paying}
@@ -31,7 +37,7 @@ use Rattle.ppunit.specs.Quotes.{lone_quote}
 use Rattle.ppunit.specs.LineControl.{presumed}
 use Rattle.ppunit.specs.Including.{Asked, begins_with_header, header_asked, asked_or, asked_behind, if_somewhere}
 use Rattle.ppunit.specs.Probing.{condition_tokens}
-use Rattle.ppunit.specs.Conditions.{Decides, DecidesFreely, DecidesOf, DecidesBy, DecidesUnless, IsConditional, by_name}
+use Rattle.ppunit.specs.Conditions.{Decides, DecidesFreely, DecidesOf, DecidesBy, DecidesUnless, by_name}
 use Rattle.ppunit.specs.Directives.{RunGives, LineGives, renumbered_by, with_macros, pragma_passed, ControlBy, Asks, AsksBy, looked_for, Finds, message, looks_at_quotes}
 use Rattle.ppunit.specs.Group.{deepest, Group, Branched, Controls, Includes, Opened}
 use Rattle.ppunit.specs.Laws.{KnowsAll, HasSomeValue}
@@ -57,74 +63,23 @@ SomeTree = (lines : List LogicalLine) → group_fault [] lines ≡ None → (par
 -- ---- what a line is by its role
 
 abbrev HasCondition : Option Directive → Type 0
-HasCondition None = ⊥
-HasCondition (Some d) = IsConditional d
+HasCondition d = IsSome (question_by d)
+
+opens_asks : (c : Class) → role_in c ≡ Opens → IsSome (asked_by c)
+opens_asks (class.Opens q) e = refl
+opens_asks c e = absurd (cc)
 
 opens_conditional : (d : Option Directive) → role_by d ≡ Opens → HasCondition d
 opens_conditional None e = absurd (cc)
-opens_conditional (Some If) e = tt
-opens_conditional (Some Ifdef) e = tt
-opens_conditional (Some Ifndef) e = tt
-opens_conditional (Some Elif) e = absurd (cc)
-opens_conditional (Some Elifdef) e = absurd (cc)
-opens_conditional (Some Elifndef) e = absurd (cc)
-opens_conditional (Some Else) e = absurd (cc)
-opens_conditional (Some Endif) e = absurd (cc)
-opens_conditional (Some Include) e = absurd (cc)
-opens_conditional (Some IncludeNext) e = absurd (cc)
-opens_conditional (Some Define) e = absurd (cc)
-opens_conditional (Some Undef) e = absurd (cc)
-opens_conditional (Some Line) e = absurd (cc)
-opens_conditional (Some Error) e = absurd (cc)
-opens_conditional (Some Pragma) e = absurd (cc)
-opens_conditional (Some Null) e = absurd (cc)
-opens_conditional (Some Ignored) e = absurd (cc)
-opens_conditional (Some Unknown) e = absurd (cc)
+opens_conditional (Some d) e = opens_asks (class_of d) e
+
+elif_asks : (c : Class) → role_in c ≡ Elses false → IsSome (asked_by c)
+elif_asks (class.Elifs q) e = refl
+elif_asks c e = absurd (cc)
 
 elif_conditional : (d : Option Directive) → role_by d ≡ Elses false → HasCondition d
 elif_conditional None e = absurd (cc)
-elif_conditional (Some If) e = absurd (cc)
-elif_conditional (Some Ifdef) e = absurd (cc)
-elif_conditional (Some Ifndef) e = absurd (cc)
-elif_conditional (Some Elif) e = tt
-elif_conditional (Some Elifdef) e = tt
-elif_conditional (Some Elifndef) e = tt
-elif_conditional (Some Else) e = absurd (cc)
-elif_conditional (Some Endif) e = absurd (cc)
-elif_conditional (Some Include) e = absurd (cc)
-elif_conditional (Some IncludeNext) e = absurd (cc)
-elif_conditional (Some Define) e = absurd (cc)
-elif_conditional (Some Undef) e = absurd (cc)
-elif_conditional (Some Line) e = absurd (cc)
-elif_conditional (Some Error) e = absurd (cc)
-elif_conditional (Some Pragma) e = absurd (cc)
-elif_conditional (Some Null) e = absurd (cc)
-elif_conditional (Some Ignored) e = absurd (cc)
-elif_conditional (Some Unknown) e = absurd (cc)
-
-is_else : (d : Option Directive) → role_by d ≡ Elses true → d ≡ Some Else
-is_else None e = absurd (cc)
-is_else (Some If) e = absurd (cc)
-is_else (Some Ifdef) e = absurd (cc)
-is_else (Some Ifndef) e = absurd (cc)
-is_else (Some Elif) e = absurd (cc)
-is_else (Some Elifdef) e = absurd (cc)
-is_else (Some Elifndef) e = absurd (cc)
-is_else (Some Else) e = refl
-is_else (Some Endif) e = absurd (cc)
-is_else (Some Include) e = absurd (cc)
-is_else (Some IncludeNext) e = absurd (cc)
-is_else (Some Define) e = absurd (cc)
-is_else (Some Undef) e = absurd (cc)
-is_else (Some Line) e = absurd (cc)
-is_else (Some Error) e = absurd (cc)
-is_else (Some Pragma) e = absurd (cc)
-is_else (Some Null) e = absurd (cc)
-is_else (Some Ignored) e = absurd (cc)
-is_else (Some Unknown) e = absurd (cc)
-
-no_else : (d : Option Directive) → role_by d ≡ Elses false → d ≢ Some Else
-no_else d e is = let here : role_by d ≡ Elses true = ap role_by is in cc
+elif_conditional (Some d) e = elif_asks (class_of d) e
 
 -- ---- lines
 
@@ -155,33 +110,17 @@ module _ (expansions : SomeExpansion) (decisions : SomeDecision) where
   decides_of (Err f) s at = decides_freely s (Err f)
   decides_of (Ok tokens) s at = decisions s.macros s.env at tokens s.left
 
-  decides_by : (search : Search) (row : ℕ) (d : Option Directive) (s : State) (line : List Token)
-      → HasCondition d
-      → (taken : Result Bool Fault) × (after : Option ℕ) × DecidesBy search row d s line after taken
-  decides_by search row None s line has = absurd has
-  decides_by search row (Some If) s line has = decides_of (condition_tokens search row line) s (sign_place line)
-  decides_by search row (Some Ifdef) s line has = decides_freely s (by_name true s.macros line (one_identifier (operands line)))
-  decides_by search row (Some Ifndef) s line has = decides_freely s (by_name false s.macros line (one_identifier (operands line)))
-  decides_by search row (Some Elif) s line has = decides_of (condition_tokens search row line) s (sign_place line)
-  decides_by search row (Some Elifdef) s line has = decides_freely s (by_name true s.macros line (one_identifier (operands line)))
-  decides_by search row (Some Elifndef) s line has = decides_freely s (by_name false s.macros line (one_identifier (operands line)))
-  decides_by search row (Some Else) s line has = absurd has
-  decides_by search row (Some Endif) s line has = absurd has
-  decides_by search row (Some Include) s line has = absurd has
-  decides_by search row (Some IncludeNext) s line has = absurd has
-  decides_by search row (Some Define) s line has = absurd has
-  decides_by search row (Some Undef) s line has = absurd has
-  decides_by search row (Some Line) s line has = absurd has
-  decides_by search row (Some Error) s line has = absurd has
-  decides_by search row (Some Pragma) s line has = absurd has
-  decides_by search row (Some Null) s line has = absurd has
-  decides_by search row (Some Ignored) s line has = absurd has
-  decides_by search row (Some Unknown) s line has = absurd has
+  decides_by : (search : Search) (row : ℕ) (q : Option Question) (s : State) (line : List Token)
+      → IsSome q
+      → (taken : Result Bool Fault) × (after : Option ℕ) × DecidesBy search row q s line after taken
+  decides_by search row (Some Value) s line has = decides_of (condition_tokens search row line) s (sign_place line)
+  decides_by search row (Some (Defined wanted)) s line has = decides_freely s (by_name wanted s.macros line (one_identifier (operands line)))
+  decides_by search row None s line has = absurd (cc)
 
   decides_unless : (search : Search) (row : ℕ) (q : Option Fault) (d : Option Directive) (s : State) (line : List Token)
       → HasCondition d
       → (taken : Result Bool Fault) × (after : Option ℕ) × DecidesUnless search row q d s line after taken
-  decides_unless search row None d s line has = decides_by search row d s line has
+  decides_unless search row None d s line has = decides_by search row (question_by d) s line has
   decides_unless search row (Some f) d s line has = decides_freely s (Err f)
 
   some_deciding : (search : Search) (row : ℕ) (s : State) (line : LogicalLine)
@@ -189,33 +128,31 @@ module _ (expansions : SomeExpansion) (decisions : SomeDecision) where
       → (taken : Result Bool Fault) × (after : Option ℕ) × Decides search row s line after taken
   some_deciding search row s line has = decides_unless search row (lone_quote line.tokens) line.directive s line.tokens has
 
+  control_gives : (profile : Profile) (row : ℕ) (d : Directive) → class_of d ≡ class.Control → (s : State) (line : LogicalLine) → (m : Reached) × ControlBy profile row (Some d) s line m
+  control_gives profile row Define e s line = (with_macros s (after_define profile s.macros (sign_place line.tokens) (operands line.tokens)), refl)
+  control_gives profile row Undef e s line = (with_macros s (after_undef profile s.macros (sign_place line.tokens) (operands line.tokens)), refl)
+  control_gives profile row Line e s line = some_renumbering s line
+  control_gives profile row Pragma e s line = (going (pragma_passed profile row s line.tokens), refl)
+  control_gives profile row Null e s line = (going s, refl)
+  control_gives profile row Unknown e s line = (stopped s (named_fault 8 line.tokens), refl)
+  control_gives profile row d e s line = absurd (cc)
+
   data Sort (profile : Profile) (row : ℕ) (d : Option Directive) : Type 0 where
-    refuses : d ≡ Some Error → Sort profile row d
-    does_nothing : d ≡ Some Ignored → Sort profile row d
-    asks : looks_at_quotes d ≡ true → d ≡ Some Include → Sort profile row d
-    asks_next : looks_at_quotes d ≡ true → d ≡ Some IncludeNext → Sort profile row d
-    does : looks_at_quotes d ≡ true → ((s : State) (line : LogicalLine) → (m : Reached) × ControlBy profile row d s line m) → Sort profile row d
+    refuses : class_by d ≡ Some class.Error → Sort profile row d
+    does_nothing : class_by d ≡ Some class.Ignored → Sort profile row d
+    asks : (next : Bool) → looks_at_quotes (class_by d) ≡ true → class_by d ≡ Some (class.Includes next) → Sort profile row d
+    does : looks_at_quotes (class_by d) ≡ true → ((s : State) (line : LogicalLine) → (m : Reached) × ControlBy profile row d s line m) → Sort profile row d
+
+  sort_in : (profile : Profile) (row : ℕ) (d : Directive) (c : Class) → class_of d ≡ c → role_in c ≡ ControlLine → Sort profile row (Some d)
+  sort_in profile row d class.Error is e = refuses (ap Some is)
+  sort_in profile row d class.Ignored is e = does_nothing (ap Some is)
+  sort_in profile row d (class.Includes next) is e = asks next (ap (λ (c : Class). looks_at_quotes (Some c)) is) (ap Some is)
+  sort_in profile row d class.Control is e = does (ap (λ (c : Class). looks_at_quotes (Some c)) is) (control_gives profile row d is)
+  sort_in profile row d c is e = absurd (cc)
 
   sort_of : (profile : Profile) (row : ℕ) (d : Option Directive) → role_by d ≡ ControlLine → Sort profile row d
   sort_of profile row None e = absurd (cc)
-  sort_of profile row (Some If) e = absurd (cc)
-  sort_of profile row (Some Ifdef) e = absurd (cc)
-  sort_of profile row (Some Ifndef) e = absurd (cc)
-  sort_of profile row (Some Elif) e = absurd (cc)
-  sort_of profile row (Some Elifdef) e = absurd (cc)
-  sort_of profile row (Some Elifndef) e = absurd (cc)
-  sort_of profile row (Some Else) e = absurd (cc)
-  sort_of profile row (Some Endif) e = absurd (cc)
-  sort_of profile row (Some Include) e = asks refl refl
-  sort_of profile row (Some IncludeNext) e = asks_next refl refl
-  sort_of profile row (Some Define) e = does refl (λ s line. (with_macros s (after_define profile s.macros (sign_place line.tokens) (operands line.tokens)), refl))
-  sort_of profile row (Some Undef) e = does refl (λ s line. (with_macros s (after_undef profile s.macros (sign_place line.tokens) (operands line.tokens)), refl))
-  sort_of profile row (Some Line) e = does refl (λ s line. some_renumbering s line)
-  sort_of profile row (Some Error) e = refuses refl
-  sort_of profile row (Some Pragma) e = does refl (λ s line. (going (pragma_passed profile row s line.tokens), refl))
-  sort_of profile row (Some Null) e = does refl (λ s line. (going s, refl))
-  sort_of profile row (Some Ignored) e = does_nothing refl
-  sort_of profile row (Some Unknown) e = does refl (λ s line. (stopped s (named_fault 8 line.tokens), refl))
+  sort_of profile row (Some d) e = sort_in profile row d (class_of d) refl e
 
   module _ (readings : SomeReading) (trees : SomeTree) (rows : SomeRow) (around : Surroundings) (known : KnowsAll around.names around.files) where
     abbrev SomeOpened : ℕ → Type 0
@@ -254,11 +191,9 @@ module _ (expansions : SomeExpansion) (decisions : SomeDecision) where
           → (m : Reached) × Controls around depth row s line m
       control_by row s line q e (refuses is) = (stopped s (line_fault 34 line.tokens (message (operands line.tokens))), Controls.error is)
       control_by row s line q e (does_nothing is) = (going s, Controls.ignored is)
-      control_by row s line (Some f) e (asks looks is) = (stopped s f, Controls.quote looks e)
-      control_by row s line (Some f) e (asks_next looks is) = (stopped s f, Controls.quote looks e)
+      control_by row s line (Some f) e (asks next looks is) = (stopped s f, Controls.quote looks e)
       control_by row s line (Some f) e (does looks by) = (stopped s f, Controls.quote looks e)
-      control_by row s line None e (asks looks is) = let i = some_include row None s line in (i.0, Controls.include is e i.1)
-      control_by row s line None e (asks_next looks is) = let i = some_include row s.folder s line in (i.0, Controls.include_next is e i.1)
+      control_by row s line None e (asks next looks is) = let i = some_include row (if next then s.folder else None) s line in (i.0, Controls.include is e i.1)
       control_by row s line None e (does looks by) = let m = by s line in (m.0, Controls.other e m.1)
 
       some_control : (row : ℕ) (s : State) (line : LogicalLine) → role line ≡ ControlLine → (m : Reached) × Controls around depth row s line m
@@ -321,10 +256,10 @@ module _ (expansions : SomeExpansion) (decisions : SomeDecision) where
           → ((t : State) → SomeGroup row (going t) ps)
           → ((t : State) → SomeBranched row t bs)
           → SomeBranched row s (Branch line ps bs)
-      at_branch row s line ps bs true is here more = let m = here s in (m.0, Branched.otherwise (is_else line.directive is) m.1)
+      at_branch row s line ps bs true is here more = let m = here s in (m.0, Branched.otherwise (else_directive line.directive is) m.1)
       at_branch row s line ps bs false is here more =
           let d = some_deciding (search_of around) row s line (elif_conditional line.directive is) in
-          at_elif row s line ps bs d.0 d.1 (no_else line.directive is) d.2 here more
+          at_elif row s line ps bs d.0 d.1 (not_else line.directive is) d.2 here more
 
       opening_line : (row : ℕ) (s : State) (line : LogicalLine) (ps qs : Parts) (bs : Branches)
           → role line ≡ Opens

@@ -4,7 +4,10 @@ use Rattle.pptext.specs.declared.tokens.Place.{Place}
 use Rattle.pptext.specs.declared.tokens.Token.{Token}
 use Rattle.pptext.specs.declared.tokens.Fault.{Fault}
 use Rattle.pptext.specs.declared.sources.Directive.{Directive}
-use Rattle.pptext.specs.declared.sources.Directive.TheVariants.{If, Ifdef, Ifndef, Elif, Elifdef, Elifndef, Define, Undef, Line, Pragma, Null, Unknown}
+use Rattle.pptext.specs.declared.sources.Directive.TheVariants.{Define, Undef, Line, Pragma, Null, Unknown}
+use Rattle.pptext.specs.declared.directives.Question.{Question}
+use Rattle.pptext.specs.declared.directives.Question.TheVariants.{Defined, Value}
+use Rattle.pptext.specs.Classes.{question_by}
 use Rattle.pptext.specs.declared.sources.Profile.{Profile}
 use Rattle.pptext.specs.Lines.{LogicalLine}
 use Rattle.pptext.specs.Tree.{Parts, Branches, sign_place}
@@ -85,20 +88,16 @@ decides_of_spends : (tokens : Result (List Token) Fault) (s : State) (at : Place
 decides_of_spends (Err f) s at after taken g = same_left s.left after g.0
 decides_of_spends (Ok tokens) s at after taken g = condition_spends g
 
-decides_by_spends : (search : Search) (row : ℕ) (d : Option Directive) (s : State) (line : List Token) (after : Option ℕ) (taken : Result Bool Fault) (g : DecidesBy search row d s line after taken)
-    → s.left ≡ plus (count_decides_by search row d s line after taken g) after
-decides_by_spends search row (Some If) s line after taken g = decides_of_spends (condition_tokens search row line) s (sign_place line) after taken g
-decides_by_spends search row (Some Elif) s line after taken g = decides_of_spends (condition_tokens search row line) s (sign_place line) after taken g
-decides_by_spends search row (Some Ifdef) s line after taken g = same_left s.left after g.0
-decides_by_spends search row (Some Ifndef) s line after taken g = same_left s.left after g.0
-decides_by_spends search row (Some Elifdef) s line after taken g = same_left s.left after g.0
-decides_by_spends search row (Some Elifndef) s line after taken g = same_left s.left after g.0
-decides_by_spends search row _ s line after taken g = absurd g
+decides_by_spends : (search : Search) (row : ℕ) (q : Option Question) (s : State) (line : List Token) (after : Option ℕ) (taken : Result Bool Fault) (g : DecidesBy search row q s line after taken)
+    → s.left ≡ plus (count_decides_by search row q s line after taken g) after
+decides_by_spends search row (Some Value) s line after taken g = decides_of_spends (condition_tokens search row line) s (sign_place line) after taken g
+decides_by_spends search row (Some (Defined wanted)) s line after taken g = same_left s.left after g.0
+decides_by_spends search row None s line after taken g = absurd g
 
 decides_unless_spends : (search : Search) (row : ℕ) (quote : Option Fault) (d : Option Directive) (s : State) (line : List Token) (after : Option ℕ) (taken : Result Bool Fault) (g : DecidesUnless search row quote d s line after taken)
     → s.left ≡ plus (count_decides_unless search row quote d s line after taken g) after
 decides_unless_spends search row (Some f) d s line after taken g = same_left s.left after g.0
-decides_unless_spends search row None d s line after taken g = decides_by_spends search row d s line after taken g
+decides_unless_spends search row None d s line after taken g = decides_by_spends search row (question_by d) s line after taken g
 
 pub decides_spends : (search : Search) (row : ℕ) (s : State) (line : LogicalLine) (after : Option ℕ) (taken : Result Bool Fault) (g : Decides search row s line after taken)
     → s.left ≡ plus (count_decides search row s line after taken g) after
@@ -148,7 +147,6 @@ module _ (around : Surroundings) where
     control_spends (Controls.quote {s = s} e q) = plus-nothing s.left
     control_spends {row = row} (Controls.other {s = s} {line = line} {m = m} q does) = control_by_spends around.profile row line.directive s line m does
     control_spends (Controls.include e q here) = includes_spend here
-    control_spends (Controls.include_next e q here) = includes_spend here
 
     pub includes_spend : {depth row : ℕ} {behind : Option ℕ} {s : State} {line : LogicalLine} {m : Reached} (d : Includes around depth row behind s line m) → s.left ≡ plus (count_includes d) m.state.left
     includes_spend (Includes.misnamed {s = s} {line = line} {after = after} {f = f} asks) = asks_spends s line.tokens after (Err f) asks

@@ -1,12 +1,14 @@
 -- Whether a line of an if-section takes the group behind it (6.10.1).
-use Rattle.std.specs.Prelude.{◌≡◌, ℕ, Bool, true, false, List, Option, None, Some, Result, Ok, Err}
+use Rattle.std.specs.Prelude.{◌≡◌, ℕ, Bool, true, false, List, Option, None, Some, IsSome, Result, Ok, Err}
 use Rattle.std.specs.Option.{is_some}
 use Rattle.std.specs.FinMap as table
 use Rattle.pptext.specs.declared.tokens.Place.{Place}
 use Rattle.pptext.specs.declared.tokens.Token.{Token}
 use Rattle.pptext.specs.declared.tokens.Fault.{Fault}
 use Rattle.pptext.specs.declared.sources.Directive.{Directive}
-use Rattle.pptext.specs.declared.sources.Directive.TheVariants.{If, Ifdef, Ifndef, Elif, Elifdef, Elifndef}
+use Rattle.pptext.specs.declared.directives.Question.{Question}
+use Rattle.pptext.specs.declared.directives.Question.TheVariants.{Defined, Value}
+use Rattle.pptext.specs.Classes.{question_of, question_by}
 use Rattle.pptext.specs.Lines.{LogicalLine}
 use Rattle.pptext.specs.Tree.{sign_place}
 use Rattle.ppmacro.specs.Names.{Macros}
@@ -35,19 +37,15 @@ abbrev pub DecidesOf : Result (List Token) Fault → State → Place → Option 
 DecidesOf (Err f) s at after taken = DecidesFreely s (Err f) after taken
 DecidesOf (Ok tokens) s at after taken = IsCondition s.macros s.env at tokens s.left taken after
 
--- of a line without lone quotes, in the file of a row
-abbrev pub DecidesBy : Search → ℕ → Option Directive → State → List Token → Option ℕ → Result Bool Fault → Type 0
-DecidesBy search row (Some If) s line after taken = DecidesOf (condition_tokens search row line) s (sign_place line) after taken
-DecidesBy search row (Some Elif) s line after taken = DecidesOf (condition_tokens search row line) s (sign_place line) after taken
-DecidesBy search row (Some Ifdef) s line after taken = DecidesFreely s (by_name true s.macros line (one_identifier (operands line))) after taken
-DecidesBy search row (Some Ifndef) s line after taken = DecidesFreely s (by_name false s.macros line (one_identifier (operands line))) after taken
-DecidesBy search row (Some Elifdef) s line after taken = DecidesFreely s (by_name true s.macros line (one_identifier (operands line))) after taken
-DecidesBy search row (Some Elifndef) s line after taken = DecidesFreely s (by_name false s.macros line (one_identifier (operands line))) after taken
-DecidesBy search row _ s line after taken = ⊥
+-- by what a line without lone quotes asks, in the file of a row
+abbrev pub DecidesBy : Search → ℕ → Option Question → State → List Token → Option ℕ → Result Bool Fault → Type 0
+DecidesBy search row (Some Value) s line after taken = DecidesOf (condition_tokens search row line) s (sign_place line) after taken
+DecidesBy search row (Some (Defined wanted)) s line after taken = DecidesFreely s (by_name wanted s.macros line (one_identifier (operands line))) after taken
+DecidesBy search row None s line after taken = ⊥
 
 abbrev pub DecidesUnless : Search → ℕ → Option Fault → Option Directive → State → List Token → Option ℕ → Result Bool Fault → Type 0
 DecidesUnless search row (Some f) d s line after taken = DecidesFreely s (Err f) after taken
-DecidesUnless search row None d s line after taken = DecidesBy search row d s line after taken
+DecidesUnless search row None d s line after taken = DecidesBy search row (question_by d) s line after taken
 
 -- whether the group behind a line is taken, or the line's fault, and what is left of the budget
 abbrev pub Decides : Search → ℕ → State → LogicalLine → Option ℕ → Result Bool Fault → Type 0
@@ -55,10 +53,4 @@ Decides search row s line after taken = DecidesUnless search row (lone_quote lin
 
 -- the lines that have a condition
 abbrev pub IsConditional : Directive → Type 0
-IsConditional If = Unit {0}
-IsConditional Elif = Unit {0}
-IsConditional Ifdef = Unit {0}
-IsConditional Ifndef = Unit {0}
-IsConditional Elifdef = Unit {0}
-IsConditional Elifndef = Unit {0}
-IsConditional _ = ⊥
+IsConditional d = IsSome (question_of d)

@@ -4,7 +4,10 @@ use Rattle.pptext.specs.declared.tokens.Place.{Place}
 use Rattle.pptext.specs.declared.tokens.Token.{Token}
 use Rattle.pptext.specs.declared.tokens.Fault.{Fault}
 use Rattle.pptext.specs.declared.sources.Directive.{Directive}
-use Rattle.pptext.specs.declared.sources.Directive.TheVariants.{If, Elif, Line}
+use Rattle.pptext.specs.declared.sources.Directive.TheVariants.{Line}
+use Rattle.pptext.specs.declared.directives.Question.{Question}
+use Rattle.pptext.specs.declared.directives.Question.TheVariants.{Value}
+use Rattle.pptext.specs.Classes.{question_by}
 use Rattle.pptext.specs.declared.sources.Profile.{Profile}
 use Rattle.pptext.specs.Lines.{LogicalLine}
 use Rattle.pptext.specs.Tree.{sign_place, Parts, Branches}
@@ -27,12 +30,11 @@ abbrev pub count_decides_of : (tokens : Result (List Token) Fault) (s : State) (
 count_decides_of (Err f) s at after taken h = 0
 count_decides_of (Ok tokens) s at after taken h = count_condition h
 
-abbrev pub count_decides_by : (search : Search) (row : ℕ) (d : Option Directive) (s : State) (line : List Token) (after : Option ℕ)
+abbrev pub count_decides_by : (search : Search) (row : ℕ) (q : Option Question) (s : State) (line : List Token) (after : Option ℕ)
     (taken : Result Bool Fault)
-    → DecidesBy search row d s line after taken
+    → DecidesBy search row q s line after taken
     → ℕ
-count_decides_by search row (Some If) s line after taken h = count_decides_of (condition_tokens search row line) s (sign_place line) after taken h
-count_decides_by search row (Some Elif) s line after taken h = count_decides_of (condition_tokens search row line) s (sign_place line) after taken h
+count_decides_by search row (Some Value) s line after taken h = count_decides_of (condition_tokens search row line) s (sign_place line) after taken h
 count_decides_by search row _ s line after taken h = 0
 
 abbrev pub count_decides_unless : (search : Search) (row : ℕ) (quote : Option Fault) (d : Option Directive) (s : State) (line : List Token)
@@ -40,7 +42,7 @@ abbrev pub count_decides_unless : (search : Search) (row : ℕ) (quote : Option 
     → DecidesUnless search row quote d s line after taken
     → ℕ
 count_decides_unless search row (Some f) d s line after taken h = 0
-count_decides_unless search row None d s line after taken h = count_decides_by search row d s line after taken h
+count_decides_unless search row None d s line after taken h = count_decides_by search row (question_by d) s line after taken h
 
 abbrev pub count_decides : (search : Search) (row : ℕ) (s : State) (line : LogicalLine) (after : Option ℕ) (taken : Result Bool Fault)
     → Decides search row s line after taken
@@ -97,7 +99,6 @@ abbrev mutual
   count_control {around} {depth} {row} (Controls.other {s = s} {line = line} {m = m} q does) =
       count_control_by around.profile row line.directive s line m does
   count_control (Controls.include is q here) = count_includes here
-  count_control (Controls.include_next is q here) = count_includes here
 
   pub count_includes : {around : Surroundings} {depth row : ℕ} {behind : Option ℕ} {s : State} {line : LogicalLine} {m : Reached}
       → Includes around depth row behind s line m

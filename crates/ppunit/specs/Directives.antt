@@ -6,7 +6,10 @@ use Rattle.pptext.specs.declared.tokens.Token.{Token}
 use Rattle.pptext.specs.declared.tokens.Fault.{Fault}
 use Rattle.pptext.specs.declared.sources.Directive.{Directive}
 use Rattle.pptext.specs.declared.sources.Profile.{Profile}
-use Rattle.pptext.specs.declared.sources.Directive.TheVariants.{Define, Undef, Line, Error, Pragma, Null, Ignored, Unknown}
+use Rattle.pptext.specs.declared.sources.Directive.TheVariants.{Define, Undef, Line, Pragma, Null, Unknown}
+use Rattle.pptext.specs.declared.directives.Class.{Class}
+use Rattle.pptext.specs.declared.directives.Class.TheVariants as class
+use Rattle.pptext.specs.Classes.{class_of}
 use Rattle.pptext.specs.Profiles.{has_later}
 use Rattle.pptext.specs.Lines.{LogicalLine}
 use Rattle.pptext.specs.Tree.{sign_place}
@@ -96,9 +99,9 @@ pragma_passed profile row s line = noting_once profile row (operands line) (pass
 -- ---- the other control lines
 
 -- A lone quote is a fault of each line but `#error`, whose tokens are a message, and those that do nothing, whatever their tokens are.
-abbrev pub looks_at_quotes : Option Directive → Bool
-looks_at_quotes (Some Error) = false
-looks_at_quotes (Some Ignored) = false
+abbrev pub looks_at_quotes : Option Class → Bool
+looks_at_quotes (Some class.Error) = false
+looks_at_quotes (Some class.Ignored) = false
 looks_at_quotes _ = true
 
 -- a control line without lone quotes that includes no file, in the file of a row
@@ -113,10 +116,4 @@ ControlBy _ _ _ s line reached = ⊥
 
 -- the control lines that open no file, but for `#error` and those that do nothing
 abbrev pub IsControl : Directive → Type 0
-IsControl Null = Unit {0}
-IsControl Define = Unit {0}
-IsControl Undef = Unit {0}
-IsControl Line = Unit {0}
-IsControl Pragma = Unit {0}
-IsControl Unknown = Unit {0}
-IsControl _ = ⊥
+IsControl d = class_of d ≡ class.Control

@@ -1,8 +1,10 @@
 -- Phase 4 of a group (6.10), by cases on group trees; an included file is a group tree one level deeper (6.10.2).
-use Rattle.std.specs.Prelude.{◌≡◌, ◌≢◌, ℕ, suc, ◌<◌, ◌≤◌, List, [], true, false, Option, None, Some, Ok, Err}
+use Rattle.std.specs.Prelude.{◌≡◌, ◌≢◌, ℕ, suc, ◌<◌, ◌≤◌, List, [], Bool, true, false, if◌then◌else◌, Option, None, Some, Ok, Err}
 use Rattle.pptext.specs.declared.tokens.Place.{Place}
 use Rattle.pptext.specs.declared.tokens.Fault.{Fault}
-use Rattle.pptext.specs.declared.sources.Directive.TheVariants.{Include, IncludeNext, Error, Ignored, Else}
+use Rattle.pptext.specs.declared.sources.Directive.TheVariants.{Else}
+use Rattle.pptext.specs.declared.directives.Class.TheVariants as class
+use Rattle.pptext.specs.Classes.{class_by}
 use Rattle.pptext.specs.Lines.{LogicalLine}
 use Rattle.pptext.specs.Sources.{Reads}
 use Rattle.pptext.specs.Tokens.{fault}
@@ -75,28 +77,23 @@ mutual
   -- a control line; the search of `#include_next` begins behind the folder in which the file was found, where it has a number
   pub data Controls (around : Surroundings) : ℕ → ℕ → State → LogicalLine → Reached → Type 0 where
     error : {depth row : ℕ} {s : State} {line : LogicalLine}
-        → line.directive ≡ Some Error
+        → class_by line.directive ≡ Some class.Error
         → Controls around depth row s line (stopped s (line_fault 34 line.tokens (message (operands line.tokens))))
     ignored : {depth row : ℕ} {s : State} {line : LogicalLine}
-        → line.directive ≡ Some Ignored
+        → class_by line.directive ≡ Some class.Ignored
         → Controls around depth row s line (going s)
     quote : {depth row : ℕ} {s : State} {line : LogicalLine} {f : Fault}
-        → looks_at_quotes line.directive ≡ true
+        → looks_at_quotes (class_by line.directive) ≡ true
         → lone_quote line.tokens ≡ Some f
         → Controls around depth row s line (stopped s f)
     other : {depth row : ℕ} {s : State} {line : LogicalLine} {m : Reached}
         → lone_quote line.tokens ≡ None
         → ControlBy around.profile row line.directive s line m
         → Controls around depth row s line m
-    include : {depth row : ℕ} {s : State} {line : LogicalLine} {m : Reached}
-        → line.directive ≡ Some Include
+    include : {depth row : ℕ} {next : Bool} {s : State} {line : LogicalLine} {m : Reached}
+        → class_by line.directive ≡ Some (class.Includes next)
         → lone_quote line.tokens ≡ None
-        → Includes around depth row None s line m
-        → Controls around depth row s line m
-    include_next : {depth row : ℕ} {s : State} {line : LogicalLine} {m : Reached}
-        → line.directive ≡ Some IncludeNext
-        → lone_quote line.tokens ≡ None
-        → Includes around depth row s.folder s line m
+        → Includes around depth row (if next then s.folder else None) s line m
         → Controls around depth row s line m
 
   -- An include line without lone quotes (6.10.2), whose search begins behind the folder of a number or with the first: its operands have a fault, or

@@ -16,7 +16,7 @@ use crate::states::State;
 use ppexpr::evaluate;
 use ppmacro::Table;
 use ppshelf::Disk;
-use pptext::{Directive, Fault, Place, Stop, Token};
+use pptext::{Directive, Fault, Place, Question, Stop, Token};
 use std::alloc::Global;
 
 /// Whether the group behind a line in the file of a row is taken, or the line's fault: 7, 9, 30, or one of its condition. Only
@@ -36,14 +36,8 @@ pub(crate) fn decide<D: Disk>(
         → spec.Decides (search_in around.now) row state.old (spec_lines.directed directive line.now number) state.new.left taken) }
 {
     refuse_lone_quote(line)?;
-    match directive {
-        Directive::Ifdef | Directive::Elifdef => by_name(around.alloc, true, &state.macros, line),
-        Directive::Ifndef | Directive::Elifndef => by_name(
-            around.alloc,
-            false,
-            &state.macros,
-            line,
-        ),
+    match directive.question() {
+        Some(Question::Defined(wanted)) => by_name(around.alloc, wanted, &state.macros, line),
         _ => by_condition(around, state, row, line),
     }
 }

@@ -1,12 +1,13 @@
 // The lines of a file in the order of their work: each group that is taken, and no other (6.10.1). The lines of an included
 // file come before the line behind its include line.
-ghost use Rattle.std.specs.Prelude.{◌≡◌, ◌<◌, ◌≤◌, ◌+◌, ℕ, suc, Bool, true, false, None, Some, IfOk};
+ghost use Rattle.std.specs.Prelude.{◌≡◌, ◌<◌, ◌≤◌, ◌+◌, ℕ, suc, Bool, true, false, if◌then◌else◌, None, Some, IfOk};
 ghost use Rattle.std.specs.Prelude.{List, ◌++◌, drop, length};
 ghost use Rattle.std.specs.List.{AllByRecursion};
 ghost use Rattle.std.specs.Result.{result_err};
 ghost use Rattle.pptext.specs.Lines.{LogicalLine};
 ghost use Rattle.pptext.specs.Stops.{IfSettled};
-ghost use Rattle.pptext.specs.Tree.{Parts, Branches, branch_lines, AreBranches, opens_section, ends_group};
+ghost use Rattle.pptext.specs.Tree.{Parts, Branches, branch_lines, AreBranches};
+ghost use Rattle.pptext.specs.Classes.{opens_section, ends_group};
 ghost use Rattle.pptext.specs.declared.sources.Directive.{Directive};
 ghost use Rattle.ppshelf.specs.Files.{Files, Extends};
 ghost use Rattle.ppunit.specs.Group.{Controls, Includes};
@@ -23,7 +24,7 @@ use crate::opening::{Around, Entered, OpenFile, Opening, open, resolve_in};
 use crate::stack::Stack;
 use crate::states::State;
 use ppshelf::{Disk, Pass};
-use pptext::{Directive, Source, Stop, Token};
+use pptext::{Class, Directive, Source, Stop, Token};
 use std::alloc::Global;
 use std::marker::Model;
 
@@ -186,6 +187,13 @@ fn include<'x, 'a: 'x, D: Disk>(
     open(around, pass, state, depth + 1, sign(line), opening)
 }
 
+// The folder behind which the search of an include line begins: at `#include_next` that of the file, where it has a number.
+fn folder_before(next: bool, state: &State) -> Option<usize>
+    ensures { result ≡ (if next then state.now.folder else None) }
+{
+    if next { state.folder } else { None }
+}
+
 // A control line: the file that it opens, if it opens one.
 fn do_line<'x, 'a: 'x, D: Disk>(
     around: &Around<'a, '_, D>,
@@ -212,24 +220,20 @@ fn do_line<'x, 'a: 'x, D: Disk>(
         tokens,
         number: _,
     } = line;
-    if directive == Directive::Error {
-        return Err(Stop::Fault(error(around.alloc, tokens)?));
+    match directive.class() {
+        Class::Error => Err(Stop::Fault(error(around.alloc, tokens)?)),
+        Class::Ignored => Ok(None),
+        Class::Includes(next) => {
+            refuse_lone_quote(tokens)?;
+            let folder = folder_before(next, state);
+            include(around, pass, state, depth, Opening { row, folder }, tokens)
+        }
+        _ => {
+            refuse_lone_quote(tokens)?;
+            control(around.alloc, state, around.profile(), line)?;
+            Ok(None)
+        }
     }
-    if directive == Directive::Ignored {
-        return Ok(None);
-    }
-    refuse_lone_quote(tokens)?;
-    if directive == Directive::Include {
-        let from = Opening { row, folder: None };
-        return include(around, pass, state, depth, from, tokens);
-    }
-    if directive == Directive::IncludeNext {
-        let folder = state.folder;
-        let from = Opening { row, folder };
-        return include(around, pass, state, depth, from, tokens);
-    }
-    control(around.alloc, state, around.profile(), line)?;
-    Ok(None)
 }
 
 // What comes next: the lines of a file that was just opened, if there is one, and then the line of this index.

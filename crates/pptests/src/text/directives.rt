@@ -1,5 +1,39 @@
-// What directives do to groups, by their names, and what profiles have.
-use pptext::{Directive, Profile};
+// What directives are for, by their names, and what profiles have.
+use pptext::{Class, Directive, Profile, Question};
+
+/// Directives, what each is for, and what its line asks.
+const CLASSES: &[(Directive, Class, Option<Question>)] = &[
+    (
+        Directive::If,
+        Class::Opens(Question::Value),
+        Some(Question::Value),
+    ),
+    (
+        Directive::Ifndef,
+        Class::Opens(Question::Defined(false)),
+        Some(Question::Defined(false)),
+    ),
+    (
+        Directive::Elifdef,
+        Class::Elifs(Question::Defined(true)),
+        Some(Question::Defined(true)),
+    ),
+    (Directive::Else, Class::Else, None),
+    (Directive::Endif, Class::Endif, None),
+    (Directive::Include, Class::Includes(false), None),
+    (Directive::IncludeNext, Class::Includes(true), None),
+    (Directive::Error, Class::Error, None),
+    (Directive::Ignored, Class::Ignored, None),
+    (Directive::Define, Class::Control, None),
+];
+
+#[test]
+fn tells_what_a_directive_is_for(rt: HostRuntime) {
+    for &(directive, class, question) in CLASSES {
+        assert!(rt; directive.class() == class, "of {directive:?}");
+        assert!(rt; directive.question() == question, "of {directive:?}");
+    }
+}
 
 /// Directives, and whether each opens a section, has a condition, ends a group.
 const ROLES: &[(Directive, bool, bool, bool)] = &[
