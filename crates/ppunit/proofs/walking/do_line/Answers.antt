@@ -38,9 +38,9 @@ returns-in_ok-refuse_lone_quote-in-Includes-clause-control g c =
     let is : class_of c.args.line.directive ≡ class.Includes c.in-Includes.next = sym c.class.ensures ∙ c.in-Includes.is in
     let alone = sym c.in_ok-refuse_lone_quote-in-Includes.ensures in
     on_settled c.include.result
-    (λ r leads. leads_include (surroundings_of c.args.around.now) c.include.new.pass.files c.args.depth c.args.line.row c.in-Includes.next c.folder_before.result
+    (λ r leads. leads_include (surroundings_of c.args.around.now) c.include.new.pass.files c.args.depth c.args.line.row c.in-Includes.next c.folder_before-folder.result
     (directed c.args.line.directive c.args.line.tokens.now c.args.line.number) c.args.state.now c.include.new.state r
-    c.folder_before.ensures (ap (λ (z : Class). Some z) is) alone (leads c.args.line.directive c.args.line.number))
+    c.folder_before-folder.ensures (ap (λ (z : Class). Some z) is) alone (leads c.args.line.directive c.args.line.number))
     c.include.ensures.includes
 
 pub returns-in_err-refuse_lone_quote-in_default : goal.returns-in_err-refuse_lone_quote-in_default
@@ -49,8 +49,8 @@ returns-in_err-refuse_lone_quote-in_default g c = record {
   grows = search rules;
   control = stopped _ _ _ _ c.from_residual-in_err-refuse_lone_quote-in_default.ensures.1 c.in_err-refuse_lone_quote-in_default.ensures (λ fault quote more grows.
       Controls.quote
-          (other_looks (class_of c.args.line.directive) (λ e. c.in_default.not-Error (c.class.ensures ∙ e)) (λ e. c.in_default.not-Ignored (c.class.ensures ∙ e)))
-          (sym quote));
+      (other_looks (class_of c.args.line.directive) (λ e. c.in_default.not-Error (c.class.ensures ∙ e)) (λ e. c.in_default.not-Ignored (c.class.ensures ∙ e)))
+      (sym quote));
 }
 
 pub returns-in_err-control-in_default : goal.returns-in_err-control-in_default
@@ -62,7 +62,7 @@ returns-in_err-control-in_default g c =
       grows = search rules;
       control = stopped _ _ _ _ c.from_residual-in_err-control-in_default.ensures.1 c.in_err-control-in_default.ensures (λ fault gives more grows.
           other_control (surroundings_of c.args.around.now more) c.args.depth c.args.line.row c.profile.result c.args.state.now c.control.new.state
-              c.args.line.directive line (Some fault) c.profile.ensures refl alone gives);
+          c.args.line.directive line (Some fault) c.profile.ensures refl alone gives);
     }
 
 pub returns-in_ok-control-in_default : goal.returns-in_ok-control-in_default
