@@ -1,22 +1,13 @@
 // Marks, by which a table tells at once that most identifiers name no macro, and where a macro probably stands.
-ghost use Rattle.std.specs.Prelude.{◌≡◌, ◌+◌, ◌<◌, ◌≤◌, ℕ, List, length, min};
-ghost use Rattle.std.specs.Hash.FoldHasher.{read_u32};
+ghost use Rattle.std.specs.Prelude.{◌≡◌, ◌+◌, ◌<◌, ℕ, List, length, min};
 ghost use Rattle.ppmacro.specs.Marks.{mark_of, short_mark, at};
 
+use pptext::half_word;
 use std::alloc::{AllocError, Global};
 use std::marker::Model;
 
 // How many marks there are.
 const MARKS: usize = 32_768;
-
-// The four bytes from here on, the lowest first.
-fn half_word(bytes: &[u8], at: usize) -> u64
-    requires { at + 4 ≤ length bytes.now }
-    ensures value { result ≡ read_u32 bytes.now at }
-    ensures bound { result < 4_294_967_296 }
-{
-    u32::from_le_bytes([bytes[at], bytes[at + 1], bytes[at + 2], bytes[at + 3]]) as u64
-}
 
 // The mark of a name, which few others share.
 #[tactic(auto, unfolding(crate::specs::Marks::mark_of))]

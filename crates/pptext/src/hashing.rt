@@ -1,5 +1,5 @@
 // How names are hashed.
-ghost use Rattle.std.specs.Prelude.{◌≡◌, ◌+◌, ◌≤◌, length};
+ghost use Rattle.std.specs.Prelude.{◌≡◌, ◌+◌, ◌<◌, ◌≤◌, length};
 ghost use Rattle.std.specs.Hash.FoldHasher.{folded_multiply, read_u32, read_u64, read_short};
 ghost use Rattle.pptext.specs.Hashed as hashed;
 ghost use Rattle.pptext.specs.Hashed.{behind, drawn};
@@ -68,10 +68,11 @@ fn product(left: u64, right: u64) -> u64
     (product & 0xFFFF_FFFF_FFFF_FFFF) as u64 ^ (product >> 64) as u64
 }
 
-// The four bytes from here on, the lowest first.
-fn half_word(bytes: &[u8], at: usize) -> u64
+/// The four bytes from here on as a number, the lowest first.
+pub fn half_word(bytes: &[u8], at: usize) -> u64
     requires { at + 4 ≤ length bytes.now }
-    ensures { result ≡ read_u32 bytes.now at }
+    ensures value { result ≡ read_u32 bytes.now at }
+    ensures bound { result < 4_294_967_296 }
 {
     u32::from_le_bytes([bytes[at], bytes[at + 1], bytes[at + 2], bytes[at + 3]]) as u64
 }

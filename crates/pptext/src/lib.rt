@@ -19,7 +19,7 @@ mod tokenizing;
 mod tokens;
 
 pub use characters::Char;
-pub use hashing::Hashing;
+pub use hashing::{Hashing, half_word};
 pub use laws::{
     carried_on, cut_unless_unclosed, keeps_every_token, kind_by_language, next_branches, one_cut,
     one_guard, one_lexer, one_reading, one_tree, relexes_what_is_cut, some_reading,

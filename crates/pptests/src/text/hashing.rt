@@ -1,6 +1,6 @@
-// Hashes of names by drawn keys.
+// Hashes of names by drawn keys, and the numbers that they are made of.
 use crate::defining::drawn;
-use pptext::Hashing;
+use pptext::{Hashing, half_word};
 use std::hash::BuildHasher;
 use std::test::Fail;
 
@@ -17,5 +17,11 @@ fn keys_tell_hashes(rt: HostRuntime) -> Result<(), Fail> {
         assert!(rt; agree(one, one, len) && agree(Hashing::fixed(), Hashing::fixed(), len));
         assert!(rt; !agree(one, two, len) && !agree(one, Hashing::fixed(), len));
     }
+    Ok(())
+}
+
+#[test]
+fn four_bytes_are_a_number(rt: HostRuntime) -> Result<(), Fail> {
+    assert!(rt; half_word(b"\x01\x02\x03\x04\x05", 1) == 0x0504_0302);
     Ok(())
 }

@@ -1,6 +1,6 @@
 use Rattle.std.specs.Hash.FoldHasher.{read_u32}
 use Rattle.pptext.proofs.hashing.half_word.Goals as goal
 
-pub returns : goal.returns
+pub returns-clause-value : goal.returns-clause-value
 unfolding read_u32
-returns c = c.from_le_bytes.ensures
+returns-clause-value c = c.from_le_bytes.ensures
