@@ -31,8 +31,8 @@ use crate::spellings::{at_use, is_open, is_quote, lone_quote, over_budget};
 use crate::spending::is_spent;
 use crate::supply::Supply;
 use ppmacro::{
-    Arguments, Builtin, Expansion, Hidden, HideSets, Macro, MacroName, Pattern, Set, Shape, Table,
-    Variadic, substitute_pattern,
+    Arguments, Builtin, Definition, Expansion, Hidden, HideSets, MacroName, Pattern, Set, Shape,
+    Table, Variadic, substitute_pattern,
 };
 use pptext::{Fault, Memory, Place, Spelling, Token};
 use std::alloc::AllocError;
@@ -43,7 +43,7 @@ use std::marker::Model;
 pub(crate) struct Invocation<'t, 'x, 'a> {
     /// The macro's name.
     pub(crate) head: Hidden<'x>,
-    pub(crate) replaced: &'t Macro<'a>,
+    pub(crate) replaced: &'t Definition<'a>,
     /// An argument for each parameter but a variable argument that is absent.
     pub(crate) arguments: Vec<Vec<Hidden<'x>>>,
     /// The names that hide both its name and its `)`; each token of the replacement gains them and the macro's name.
@@ -98,7 +98,7 @@ pub(crate) struct Replacer<'x> {
 
 /// The macro that a token names.
 #[inline(always)]
-pub(crate) fn macro_at<'t, 'a>(table: &'t Table<'a>, token: &Token) -> Option<&'t Macro<'a>>
+pub(crate) fn macro_at<'t, 'a>(table: &'t Table<'a>, token: &Token) -> Option<&'t Definition<'a>>
     ensures { option_copied result ≡ macro_of table.now token.now }
 {
     if token.is_identifier() {
@@ -178,7 +178,7 @@ fn failed_at<'t, 'x, 'a>(number: u8, head: &Hidden) -> Result<Next<'t, 'x, 'a>, 
 fn called<'t, 'x, 'a: 'x>(
     sets: &mut HideSets,
     head: Hidden<'x>,
-    replaced: &'t Macro<'a>,
+    replaced: &'t Definition<'a>,
     arguments: Option<Vec<Vec<Hidden<'x>>>>,
     close: &Hidden,
 ) -> Result<Next<'t, 'x, 'a>, Memory>
@@ -217,7 +217,7 @@ fn failed_quote<'t, 'x, 'a>(quote: &Hidden) -> Result<Next<'t, 'x, 'a>, Memory>
 /// The turn of a macro's name where nothing is left of the budget: a name that is to be replaced is refused, and nothing is done for it.
 fn spent_turn<'t, 'x, 'a: 'x>(
     head: Hidden<'x>,
-    replaced: &Macro<'a>,
+    replaced: &Definition<'a>,
     list: &mut Cursor<'x>,
 ) -> Result<Next<'t, 'x, 'a>, Memory>
     ensures is { IfOk result (λ n.
@@ -226,7 +226,7 @@ fn spent_turn<'t, 'x, 'a: 'x>(
         (macro_turn env (hiding sets head.entry) (hidings sets list.old) replaced.now replaced.now.shape)) }
     ensures known { IfOk result (λ n. (sets : Numbered) → HasSets sets head.entry → AllKnown sets list.old → NextKnown sets list.new n) }
 {
-    if matches!(replaced.definition().shape, Shape::FunctionLike { .. }) {
+    if matches!(replaced.shape, Shape::FunctionLike { .. }) {
         let Some(behind) = list.next() else {
             return Ok(Next {
                 step: Step::Passes(head),
@@ -320,7 +320,7 @@ impl<'x> Replacer<'x> {
         &mut self,
         base: Set,
         head: &Hidden<'x>,
-        replaced: &Macro<'a>,
+        replaced: &Definition<'a>,
         list: &mut Cursor<'x>,
     ) -> Result<Result<(), Fault>, Memory>
         requires base { IsKnown self.old.sets base }
@@ -350,7 +350,7 @@ impl<'x> Replacer<'x> {
     fn object_turn<'t, 'a: 'x>(
         &mut self,
         head: &Hidden<'x>,
-        replaced: &Macro<'a>,
+        replaced: &Definition<'a>,
         list: &mut Cursor<'x>,
     ) -> Result<Next<'t, 'x, 'a>, Memory>
         requires head { HasSets self.old.sets head.now }
@@ -377,7 +377,7 @@ impl<'x> Replacer<'x> {
     fn invoked<'t, 'a: 'x>(
         &mut self,
         head: Hidden<'x>,
-        replaced: &'t Macro<'a>,
+        replaced: &'t Definition<'a>,
         names: &[Spelling],
         variadic: Variadic,
         list: &mut Cursor<'x>,
@@ -404,7 +404,7 @@ impl<'x> Replacer<'x> {
     fn function_turn<'t, 'a: 'x>(
         &mut self,
         head: Hidden<'x>,
-        replaced: &'t Macro<'a>,
+        replaced: &'t Definition<'a>,
         names: &[Spelling],
         variadic: Variadic,
         list: &mut Cursor<'x>,
@@ -437,7 +437,7 @@ impl<'x> Replacer<'x> {
         &mut self,
         env: &Env,
         head: Hidden<'x>,
-        replaced: &'t Macro<'a>,
+        replaced: &'t Definition<'a>,
         list: &mut Cursor<'x>,
     ) -> Result<Next<'t, 'x, 'a>, Memory>
         requires head { HasSets self.old.sets head }
@@ -447,7 +447,7 @@ impl<'x> Replacer<'x> {
         ensures known { IfOk result (λ n. NextKnown self.new.sets list.new n) }
         ensures keeps { Keeps self.old.sets self.new.sets }
     {
-        match &replaced.definition().shape {
+        match &replaced.shape {
             Shape::Predefined(builtin) => { self.predefined_turn(env, &head, *builtin, list) }
             Shape::ObjectLike => self.object_turn(&head, replaced, list),
             Shape::FunctionLike {
@@ -466,7 +466,7 @@ impl<'x> Replacer<'x> {
         &mut self,
         context: &Context<'_, 'a>,
         left: Option<u64>,
-        named: Option<&'t Macro<'a>>,
+        named: Option<&'t Definition<'a>>,
         list: &mut Cursor<'x>,
     ) -> Result<Next<'t, 'x, 'a>, Memory>
         requires named { option_copied named ≡ next_macro context.now.table.now (tokens_of list.old) }

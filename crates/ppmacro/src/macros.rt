@@ -211,42 +211,14 @@ fn has_paste(tokens: &[Token]) -> bool
     tokens.iter().any(|token| is_paste(token))
 }
 
-/// A macro, which contracts see as its definition.
-#[derive(Drop)]
-pub struct Macro<'a> {
-    definition: Definition<'a>,
-}
-
-impl<'a> Model for Macro<'a> {
-    ghost use Rattle.ppmacro.specs.declared.macros.Definition.{Definition};
-
-    ghost Value = { Definition };
-
-    ghost view = { λ m. m.definition };
-}
-
-impl<'a> Macro<'a> {
-    /// The macro that a definition makes.
-    pub(crate) fn new(definition: Definition<'a>) -> Macro<'a>
-        ensures { result ≡ definition.entry }
-    {
-        Macro { definition }
-    }
-
-    /// What defines it.
-    pub fn definition(&self) -> &Definition<'a>
-        ensures { result.now ≡ self.now }
-    {
-        &self.definition
-    }
-
+impl<'a> Definition<'a> {
     /// The replacement list of an object-like macro, where no `##` stands in it. Each of its chains is a token alone then.
     pub fn lone_tokens(&self) -> Option<&'a [Token]>
         ensures is { option_copied result ≡ lone_tokens self.now }
         ensures chains { IfSome result (λ body. chains_of self.now ≡ map lone_chain body.now) }
     {
-        let body = self.definition.body.as_slice();
-        if !is_object_like(&self.definition.shape) || has_paste(body) {
+        let body = self.body.as_slice();
+        if !is_object_like(&self.shape) || has_paste(body) {
             return None;
         }
         Some(body)
@@ -268,13 +240,13 @@ impl<'a> Macro<'a> {
     ) -> Result<Chains<'a>, AllocError>
         ensures { IfOk result (λ c. c ≡ chains_of self.now) }
     {
-        chains_of(alloc, &self.definition, hashing)
+        chains_of(alloc, self, hashing)
     }
 
     /// Its replacement list, without chains where neither `#` nor `##` stands there. Parameters are hashed as in `chains_with_hasher`.
     pub fn pattern(&self, alloc: Global, hashing: Hashing) -> Result<Pattern<'a>, AllocError>
         ensures { IfOk result (λ p. listed p ≡ chains_of self.now) }
     {
-        pattern_of(alloc, &self.definition, hashing)
+        pattern_of(alloc, self, hashing)
     }
 }

@@ -7,7 +7,7 @@ ghost use Rattle.ppmacro.specs.Predefined.{predefined_as, predefined};
 
 use crate::borrowed::Body;
 use crate::keys::Key;
-use crate::macros::{Builtin, Definition, Macro, Shape};
+use crate::macros::{Builtin, Definition, Shape};
 use crate::marks::Marks;
 use indexmap::IndexMap;
 use pptext::{Hashing, Memory, Profile};
@@ -22,7 +22,7 @@ const USUAL: usize = 4_096;
 /// Most identifiers are names of no macro, and most of those have a mark that no name in the table ever had.
 #[derive(Drop)]
 pub struct Table<'a> {
-    macros: IndexMap<Key<'a>, Macro<'a>, Hashing>,
+    macros: IndexMap<Key<'a>, Definition<'a>, Hashing>,
     marks: Marks,
 }
 
@@ -33,11 +33,11 @@ impl<'a> Model for Table<'a> {
 
     ghost use Rattle.std.specs.FinMap as table;
     ghost use Rattle.std.specs.Coded.{coded_list, coded_ℕ};
-    ghost use Rattle.ppmacro.specs.contracts.macros.Macro as macro_contract;
+    ghost use Rattle.ppmacro.specs.contracts.macros.Definition as definition_contract;
     ghost use Rattle.std.specs.Prelude.{[]};
     ghost use mir.Syntax.{named};
 
-    ghost coded = { table.code (coded_list coded_ℕ) ((macro_contract.the_row (record { mir = named 1; lft = [] })).coded) };
+    ghost coded = { table.code (coded_list coded_ℕ) ((definition_contract.the_row (record { mir = named 1; lft = [] })).coded) };
 
     ghost view = { λ t. table.from_entries t.macros.entries };
 
@@ -58,11 +58,11 @@ fn is_fixed_shape(gnu: bool, shape: &Shape) -> bool
 }
 
 // Whether it is such a macro.
-fn is_fixed(gnu: bool, found: Option<&Macro>) -> bool
+fn is_fixed(gnu: bool, found: Option<&Definition>) -> bool
     ensures { result ≡ is_fixed gnu (option_copied found.entry) }
 {
     match found {
-        Some(found) => is_fixed_shape(gnu, &found.definition().shape),
+        Some(found) => is_fixed_shape(gnu, &found.shape),
         None => false,
     }
 }
@@ -128,12 +128,12 @@ impl<'a> Table<'a> {
             shape: Shape::Predefined(builtin),
             body: Body::new(&[]),
         };
-        self.insert(name, Macro::new(definition))
+        self.insert(name, definition)
     }
 
     /// The macro of this name.
     #[inline(always)]
-    pub fn get(&self, name: &[u8]) -> Option<&Macro<'a>>
+    pub fn get(&self, name: &[u8]) -> Option<&Definition<'a>>
         ensures { option_copied result ≡ table.get self.now name.now }
     {
         // Most names have no mark, and need no call: saves 9 % of the instructions of `deps` on Redis.
@@ -146,7 +146,7 @@ impl<'a> Table<'a> {
 
     // The macro of this name, which probably has this place: then it needs no hash.
     #[inline(never)]
-    fn look_up(&self, place: usize, name: &[u8]) -> Option<&Macro<'a>>
+    fn look_up(&self, place: usize, name: &[u8]) -> Option<&Definition<'a>>
         ensures { option_copied result ≡ table.get self.now name.now }
     {
         let Some((key, found)) = self.macros.get_index(place) else {
@@ -160,7 +160,7 @@ impl<'a> Table<'a> {
 
     // The macro of this name, wherever it is.
     #[inline(never)]
-    fn find(&self, name: &[u8]) -> Option<&Macro<'a>>
+    fn find(&self, name: &[u8]) -> Option<&Definition<'a>>
         ensures { option_copied result ≡ table.get self.now name.now }
     {
         let Some(index) = self.macros.get_index_of(&Key { bytes: name }) else {
@@ -180,7 +180,11 @@ impl<'a> Table<'a> {
     }
 
     // Puts a macro under this name.
-    pub(crate) fn insert(&mut self, name: &'a [u8], definition: Macro<'a>) -> Result<(), AllocError>
+    pub(crate) fn insert(
+        &mut self,
+        name: &'a [u8],
+        definition: Definition<'a>,
+    ) -> Result<(), AllocError>
         ensures ok { OnOk result (self.new ≡ table.insert self.old name.now definition.entry) }
         ensures err { OnErr result (self.new ≡ self.old) }
     {

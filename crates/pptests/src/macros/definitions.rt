@@ -301,7 +301,7 @@ fn defines_compares_and_refuses(rt: HostRuntime) -> Result<(), Fail> {
 
 /// The line of the one token that `X` is defined by.
 fn line_of_x(table: &Table) -> Option<u32> {
-    match table.get(b"X")?.definition().body.as_slice() {
+    match table.get(b"X")?.body.as_slice() {
         [token] => Some(token.at.line),
         _ => None,
     }
