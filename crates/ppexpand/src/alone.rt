@@ -4,14 +4,14 @@ ghost use Rattle.ppmacro.specs.Chains.{names_in};
 ghost use Rattle.ppmacro.specs.Patterns.{entry_chain, listed};
 ghost use Rattle.ppexpand.specs.Turn.{is_alone, uses_alone};
 
-use ppmacro::{Chain, Entry, Macro, Operand, Pattern, Shape};
+use ppmacro::{Chain, Definition, Entry, Operand, Pattern, Shape};
 use std::alloc::{AllocError, Global};
 
 /// Returns the number of parameters of a macro.
-pub(crate) fn parameters_of(replaced: &Macro) -> usize
+pub(crate) fn parameters_of(replaced: &Definition) -> usize
     ensures { result ≡ length (names_in replaced.now.shape) }
 {
-    match &replaced.definition().shape {
+    match &replaced.shape {
         Shape::FunctionLike { parameters, .. } => parameters.as_slice().len(),
         _ => 0,
     }
@@ -65,7 +65,7 @@ fn used_entries(
 #[inline(never)]
 pub(crate) fn used_alone(
     alloc: Global,
-    replaced: &Macro,
+    replaced: &Definition,
     pattern: &Pattern,
 ) -> Result<Vec<bool>, AllocError>
     ensures len { IfOk result (λ v. length v.items ≡ length (names_in replaced.now.shape)) }

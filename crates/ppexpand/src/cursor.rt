@@ -7,7 +7,7 @@ ghost use Rattle.ppexpand.specs.Lists.{marked, with_set, is_plain, next_macro, A
 use crate::lists::put;
 use crate::stretch::Stretch;
 use crate::turn::macro_at;
-use ppmacro::{Hidden, Macro, Set, Table};
+use ppmacro::{Definition, Hidden, Set, Table};
 use pptext::Token;
 use std::alloc::{AllocError, Global};
 use std::marker::Model;
@@ -40,7 +40,7 @@ pub(crate) enum Ahead<'t, 'x, 'a> {
     /// A token that is emitted unchanged. It is popped.
     Passes(Hidden<'x>),
     /// A token that names this macro.
-    Names(&'t Macro<'a>),
+    Names(&'t Definition<'a>),
     /// Not known: the token comes from the file, or it is an unmatched quote.
     Unknown,
 }
@@ -155,7 +155,7 @@ impl<'a> Cursor<'a> {
     pub(crate) fn take_plain<'t, 'b>(
         &mut self,
         table: &'t Table<'b>,
-    ) -> (Stretch<'a>, Option<&'t Macro<'b>>)
+    ) -> (Stretch<'a>, Option<&'t Definition<'b>>)
         ensures laid_out { self.old ≡ result.0 ++ self.new }
         ensures plain { ArePlain table.now.macros result.0 }
         ensures named { option_copied result.1 ≡ next_macro table.now.macros (tokens_of self.new) }

@@ -27,7 +27,7 @@ use crate::spending::less_one;
 use crate::stretch::{is_plain, split_plain};
 use crate::supply::Supply;
 use crate::turn::{Invocation, Replacer, Step};
-use ppmacro::{Expansion, Hidden, HideSets, Macro, Pattern, Table};
+use ppmacro::{Definition, Expansion, Hidden, HideSets, Pattern, Table};
 use pptext::{Fault, Memory, Token};
 use std::alloc::{AllocError, Global};
 
@@ -45,7 +45,7 @@ fn skip_flying<'t, 'x, 'a>(
     table: &'t Table<'a>,
     list: &mut Cursor<'x>,
     passed: &mut Passed<'x>,
-) -> Result<Option<&'t Macro<'a>>, AllocError>
+) -> Result<Option<&'t Definition<'a>>, AllocError>
     ensures skipped { OnOk result (HasSkipped table.now.macros list.old passed.old list.new passed.new) }
     ensures named { IfOk result (λ r. IfSome r (λ m. Some m.now ≡ next_macro table.now.macros (tokens_of list.new))) }
 {
@@ -64,7 +64,7 @@ fn skip<'t, 'x, 'a>(
     table: &'t Table<'a>,
     list: &mut Cursor<'x>,
     passed: &mut Passed<'x>,
-) -> Result<Option<&'t Macro<'a>>, AllocError>
+) -> Result<Option<&'t Definition<'a>>, AllocError>
     ensures skipped { OnOk result (HasSkipped table.now.macros list.old passed.old list.new passed.new) }
     ensures named { IfOk result (λ r. option_copied r ≡ next_macro table.now.macros (tokens_of list.new)) }
 {
@@ -160,7 +160,7 @@ impl<'x> Expander<'x> {
     fn take_turn<'t, 'a: 'x>(
         &mut self,
         context: &Context<'t, 'a>,
-        named: Option<&'t Macro<'a>>,
+        named: Option<&'t Definition<'a>>,
         list: &mut Cursor<'x>,
         passed: &mut Passed<'x>,
         call: &mut Option<Invocation<'t, 'x, 'a>>,
@@ -336,7 +336,7 @@ impl<'x> Expander<'x> {
     fn advance<'t, 'a: 'x>(
         &mut self,
         context: &Context<'t, 'a>,
-        named: Option<&'t Macro<'a>>,
+        named: Option<&'t Definition<'a>>,
         list: &mut Cursor<'x>,
         passed: &mut Passed<'x>,
         call: &mut Option<Invocation<'t, 'x, 'a>>,

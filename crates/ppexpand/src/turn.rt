@@ -31,8 +31,8 @@ use crate::spellings::{at_use, is_open, is_quote, lone_quote, over_budget};
 use crate::spending::is_spent;
 use crate::supply::Supply;
 use ppmacro::{
-    Arguments, Builtin, Expansion, Hidden, HideSets, Macro, MacroName, Pattern, Set, Shape, Table,
-    Variadic, substitute_pattern,
+    Arguments, Builtin, Definition, Expansion, Hidden, HideSets, MacroName, Pattern, Set, Shape,
+    Table, Variadic, substitute_pattern,
 };
 use pptext::{Fault, Memory, Place, Spelling, Token};
 use std::alloc::AllocError;
@@ -44,7 +44,7 @@ pub(crate) struct Invocation<'t, 'x, 'a> {
     /// The macro name token.
     pub(crate) head: Hidden<'x>,
     /// The macro.
-    pub(crate) replaced: &'t Macro<'a>,
+    pub(crate) replaced: &'t Definition<'a>,
     /// An argument for each parameter. An absent variable argument has no entry.
     pub(crate) arguments: Vec<Vec<Hidden<'x>>>,
     /// The intersection of the hide sets of the name and the `)`. Each token of the replacement hides these names and the macro's name.
@@ -100,7 +100,7 @@ pub(crate) struct Replacer<'x> {
 
 /// Returns the macro that a token names.
 #[inline(always)]
-pub(crate) fn macro_at<'t, 'a>(table: &'t Table<'a>, token: &Token) -> Option<&'t Macro<'a>>
+pub(crate) fn macro_at<'t, 'a>(table: &'t Table<'a>, token: &Token) -> Option<&'t Definition<'a>>
     ensures { option_copied result ≡ macro_of table.now.macros token.now }
 {
     if token.is_identifier() {
@@ -180,7 +180,7 @@ fn failed_at<'t, 'x, 'a>(number: u8, head: &Hidden) -> Result<Next<'t, 'x, 'a>, 
 fn called<'t, 'x, 'a: 'x>(
     sets: &mut HideSets,
     head: Hidden<'x>,
-    replaced: &'t Macro<'a>,
+    replaced: &'t Definition<'a>,
     arguments: Option<Vec<Vec<Hidden<'x>>>>,
     close: &Hidden,
 ) -> Result<Next<'t, 'x, 'a>, Memory>
@@ -219,7 +219,7 @@ fn failed_quote<'t, 'x, 'a>(quote: &Hidden) -> Result<Next<'t, 'x, 'a>, Memory>
 /// Returns the action for a macro's name if nothing is left of the budget: a name that is to be replaced is refused.
 fn spent_turn<'t, 'x, 'a: 'x>(
     head: Hidden<'x>,
-    replaced: &Macro<'a>,
+    replaced: &Definition<'a>,
     list: &mut Cursor<'x>,
 ) -> Result<Next<'t, 'x, 'a>, Memory>
     ensures is { IfOk result (λ n.
@@ -228,7 +228,7 @@ fn spent_turn<'t, 'x, 'a: 'x>(
         (macro_turn env (hiding sets head.entry) (hidings sets list.old) replaced.now replaced.now.shape)) }
     ensures known { IfOk result (λ n. (sets : Numbered) → HasSets sets head.entry → AllKnown sets list.old → NextKnown sets list.new n) }
 {
-    if matches!(replaced.definition().shape, Shape::FunctionLike { .. }) {
+    if matches!(replaced.shape, Shape::FunctionLike { .. }) {
         let Some(behind) = list.next() else {
             return Ok(Next {
                 step: Step::Passes(head),
@@ -325,7 +325,7 @@ impl<'x> Replacer<'x> {
         &mut self,
         base: Set,
         head: &Hidden<'x>,
-        replaced: &Macro<'a>,
+        replaced: &Definition<'a>,
         list: &mut Cursor<'x>,
     ) -> Result<Result<(), Fault>, Memory>
         requires base { IsKnown self.old.sets base }
@@ -355,7 +355,7 @@ impl<'x> Replacer<'x> {
     fn object_turn<'t, 'a: 'x>(
         &mut self,
         head: &Hidden<'x>,
-        replaced: &Macro<'a>,
+        replaced: &Definition<'a>,
         list: &mut Cursor<'x>,
     ) -> Result<Next<'t, 'x, 'a>, Memory>
         requires head { HasSets self.old.sets head.now }
@@ -382,7 +382,7 @@ impl<'x> Replacer<'x> {
     fn invoked<'t, 'a: 'x>(
         &mut self,
         head: Hidden<'x>,
-        replaced: &'t Macro<'a>,
+        replaced: &'t Definition<'a>,
         names: &[Spelling],
         variadic: Variadic,
         list: &mut Cursor<'x>,
@@ -409,7 +409,7 @@ impl<'x> Replacer<'x> {
     fn function_turn<'t, 'a: 'x>(
         &mut self,
         head: Hidden<'x>,
-        replaced: &'t Macro<'a>,
+        replaced: &'t Definition<'a>,
         names: &[Spelling],
         variadic: Variadic,
         list: &mut Cursor<'x>,
@@ -442,7 +442,7 @@ impl<'x> Replacer<'x> {
         &mut self,
         env: &Env,
         head: Hidden<'x>,
-        replaced: &'t Macro<'a>,
+        replaced: &'t Definition<'a>,
         list: &mut Cursor<'x>,
     ) -> Result<Next<'t, 'x, 'a>, Memory>
         requires head { HasSets self.old.sets head }
@@ -452,7 +452,7 @@ impl<'x> Replacer<'x> {
         ensures known { IfOk result (λ n. NextKnown self.new.sets list.new n) }
         ensures keeps { Keeps self.old.sets self.new.sets }
     {
-        match &replaced.definition().shape {
+        match &replaced.shape {
             Shape::Predefined(builtin) => { self.predefined_turn(env, &head, *builtin, list) }
             Shape::ObjectLike => self.object_turn(&head, replaced, list),
             Shape::FunctionLike {
@@ -472,7 +472,7 @@ impl<'x> Replacer<'x> {
         &mut self,
         context: &Context<'_, 'a>,
         left: Option<u64>,
-        named: Option<&'t Macro<'a>>,
+        named: Option<&'t Definition<'a>>,
         list: &mut Cursor<'x>,
     ) -> Result<Next<'t, 'x, 'a>, Memory>
         requires named { option_copied named ≡ next_macro context.now.table.now.macros (tokens_of list.old) }

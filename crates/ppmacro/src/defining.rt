@@ -15,7 +15,7 @@ use self::bodies::{misplaces_hash, misplaces_paste, misplaces_variable_arguments
 use self::headings::{all_parameters, has_variable_arguments, read_heading, repeats, variadic_by};
 use crate::borrowed::{Body, Text};
 use crate::chains::is_function_like;
-use crate::macros::{Definition, Macro, Shape};
+use crate::macros::{Definition, Shape};
 use crate::tables::Table;
 use pptext::{Fault, Hashing, Memory, Place, Profile, Token};
 use std::alloc::{AllocError, Global};
@@ -274,7 +274,7 @@ fn enter<'a>(table: &mut Table<'a>, named: Named<'a>) -> Result<(), AllocError>
     ensures err { OnErr result (table.new ≡ table.old) }
 {
     let Named { name, definition } = named;
-    table.insert(name.bytes(), Macro::new(definition))
+    table.insert(name.bytes(), definition)
 }
 
 /// Defines a macro (6.10.3). `at` is the location of `#`, and `line` holds the tokens after `define`. An identical definition

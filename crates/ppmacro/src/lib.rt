@@ -24,9 +24,7 @@ pub use flying::{Expansion, Hidden};
 pub use hide_sets::{HideSets, Set};
 pub use invoked::{Arguments, MacroName};
 pub use laws::{lays_out_chains, lenient_in_gnu_alone, reads_headings, tells_origins};
-pub use macros::{
-    Builtin, Chain, Chains, Definition, Macro, Names, Operand, Operands, Shape, Variadic,
-};
+pub use macros::{Builtin, Chain, Chains, Definition, Names, Operand, Operands, Shape, Variadic};
 pub use patterns::{Entry, Pattern};
 pub use substituting::{
     paste, push_escaped, stringize, substitute, substitute_pattern, tells_each_kind,

@@ -211,42 +211,14 @@ fn has_paste(tokens: &[Token]) -> bool
     tokens.iter().any(|token| is_paste(token))
 }
 
-/// A macro. Contracts see its definition.
-#[derive(Drop)]
-pub struct Macro<'a> {
-    definition: Definition<'a>,
-}
-
-impl<'a> Model for Macro<'a> {
-    ghost use Rattle.ppmacro.specs.declared.macros.Definition.{Definition};
-
-    ghost Value = { Definition };
-
-    ghost view = { λ m. m.definition };
-}
-
-impl<'a> Macro<'a> {
-    /// Creates a macro from its definition.
-    pub(crate) fn new(definition: Definition<'a>) -> Macro<'a>
-        ensures { result ≡ definition.entry }
-    {
-        Macro { definition }
-    }
-
-    /// Returns the definition.
-    pub fn definition(&self) -> &Definition<'a>
-        ensures { result.now ≡ self.now }
-    {
-        &self.definition
-    }
-
+impl<'a> Definition<'a> {
     /// Returns the replacement list of an object-like macro without `##`. Each token is a chain of its own.
     pub fn lone_tokens(&self) -> Option<&'a [Token]>
         ensures is { option_copied result ≡ lone_tokens self.now }
         ensures chains { IfSome result (λ body. chains_of self.now ≡ map lone_chain body.now) }
     {
-        let body = self.definition.body.as_slice();
-        if !is_object_like(&self.definition.shape) || has_paste(body) {
+        let body = self.body.as_slice();
+        if !is_object_like(&self.shape) || has_paste(body) {
             return None;
         }
         Some(body)
@@ -268,7 +240,7 @@ impl<'a> Macro<'a> {
     ) -> Result<Chains<'a>, AllocError>
         ensures { IfOk result (λ c. c ≡ chains_of self.now) }
     {
-        chains_of(alloc, &self.definition, hashing)
+        chains_of(alloc, self, hashing)
     }
 
     /// Returns the replacement list for `substitute_pattern`: chains only if it contains `#` or `##`. Many parameters are indexed
@@ -276,6 +248,6 @@ impl<'a> Macro<'a> {
     pub fn pattern(&self, alloc: Global, hashing: Hashing) -> Result<Pattern<'a>, AllocError>
         ensures { IfOk result (λ p. listed p ≡ chains_of self.now) }
     {
-        pattern_of(alloc, &self.definition, hashing)
+        pattern_of(alloc, self, hashing)
     }
 }

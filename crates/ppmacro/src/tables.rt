@@ -7,7 +7,7 @@ ghost use Rattle.ppmacro.specs.Predefined.{predefined_as, predefined};
 
 use crate::borrowed::Body;
 use crate::keys::Key;
-use crate::macros::{Builtin, Definition, Macro, Shape};
+use crate::macros::{Builtin, Definition, Shape};
 use crate::marks::Marks;
 use indexmap::IndexMap;
 use pptext::{Hashing, Memory, Profile};
@@ -22,7 +22,7 @@ const USUAL: usize = 4_096;
 /// Most identifiers name no macro, and a filter rejects most of these at once.
 #[derive(Drop)]
 pub struct Table<'a> {
-    macros: IndexMap<Key<'a>, Macro<'a>, Hashing>,
+    macros: IndexMap<Key<'a>, Definition<'a>, Hashing>,
     marks: Marks,
 }
 
@@ -35,7 +35,7 @@ impl<'a> Model for Table<'a> {
     ghost use Rattle.std.specs.Coded.{codes, coded_list, coded_ℕ};
     ghost use Rattle.std.specs.Ordering.{nat_cmp};
     ghost use Rattle.std.specs.Cmp.Lexicographic.{slice_cmp};
-    ghost use Rattle.ppmacro.specs.contracts.macros.Macro as macro_contract;
+    ghost use Rattle.ppmacro.specs.contracts.macros.Definition as macro_contract;
     ghost use Rattle.std.specs.Prelude.{[]};
     ghost use mir.Syntax.{named};
 
@@ -62,11 +62,11 @@ fn is_fixed_shape(gnu: bool, shape: &Shape) -> bool
 }
 
 /// Whether a macro was found that can't be redefined.
-fn is_fixed(gnu: bool, found: Option<&Macro>) -> bool
+fn is_fixed(gnu: bool, found: Option<&Definition>) -> bool
     ensures { result ≡ is_fixed gnu (option_copied found.entry) }
 {
     match found {
-        Some(found) => is_fixed_shape(gnu, &found.definition().shape),
+        Some(found) => is_fixed_shape(gnu, &found.shape),
         None => false,
     }
 }
@@ -139,12 +139,12 @@ impl<'a> Table<'a> {
             shape: Shape::Predefined(builtin),
             body: Body::new(&[]),
         };
-        self.insert(name, Macro::new(definition))
+        self.insert(name, definition)
     }
 
     /// Returns the macro of a name.
     #[inline(always)]
-    pub fn get(&self, name: &[u8]) -> Option<&Macro<'a>>
+    pub fn get(&self, name: &[u8]) -> Option<&Definition<'a>>
         ensures { option_copied result ≡ table.get self.now.macros name.now }
     {
         // The filter rejects most names without a call: this saves 9 % of the instructions of `deps` on Redis.
@@ -157,7 +157,7 @@ impl<'a> Table<'a> {
 
     /// Returns the macro of a name. Tries the index `place` first, which needs no hash.
     #[inline(never)]
-    fn look_up(&self, place: usize, name: &[u8]) -> Option<&Macro<'a>>
+    fn look_up(&self, place: usize, name: &[u8]) -> Option<&Definition<'a>>
         ensures { option_copied result ≡ table.get self.now.macros name.now }
     {
         let Some((key, found)) = self.macros.get_index(place) else {
@@ -171,7 +171,7 @@ impl<'a> Table<'a> {
 
     /// Returns the macro of a name, by its hash.
     #[inline(never)]
-    fn find(&self, name: &[u8]) -> Option<&Macro<'a>>
+    fn find(&self, name: &[u8]) -> Option<&Definition<'a>>
         ensures { option_copied result ≡ table.get self.now.macros name.now }
     {
         let Some(index) = self.macros.get_index_of(&Key { bytes: name }) else {
@@ -191,7 +191,7 @@ impl<'a> Table<'a> {
     }
 
     /// Inserts a macro, in place of the one before.
-    pub(crate) fn insert(&mut self, name: &'a [u8], definition: Macro<'a>) -> Result<(), AllocError>
+    pub(crate) fn insert(&mut self, name: &'a [u8], definition: Definition<'a>) -> Result<(), AllocError>
         ensures ok { OnOk result (self.new.macros ≡ table.insert self.old.macros name.now definition.entry) }
         ensures hashing { self.new.hashing ≡ self.old.hashing }
         ensures err { OnErr result (self.new ≡ self.old) }

@@ -8,7 +8,7 @@ mod substitution;
 mod two_sets;
 
 use crate::defining::{directed, source_of};
-use ppmacro::{Hidden, HideSets, Macro, Set, Shape, Table, Variadic};
+use ppmacro::{Definition, Hidden, HideSets, Set, Shape, Table, Variadic};
 use pptext::{Memory, Place, Source, Token};
 use std::alloc::{AllocError, Global};
 use std::process::Abort;
@@ -38,7 +38,7 @@ fn table_of<'a>(rt: &impl Abort, alloc: Global, source: &'a Source) -> Result<Ta
 }
 
 /// Returns the macro that a `#define` line names.
-fn macro_of<'t, 'a>(table: &'t Table<'a>, line: &[Token]) -> Option<&'t Macro<'a>> {
+fn macro_of<'t, 'a>(table: &'t Table<'a>, line: &[Token]) -> Option<&'t Definition<'a>> {
     let name = line.get(2)?;
     table.get(name.text.as_bytes())
 }
@@ -119,11 +119,10 @@ fn push_parameters(text: &mut Vec<u8>, shape: &Shape) -> Result<(), AllocError> 
 /// variable argument may be absent, and `none` that there is no definition.
 fn shown(alloc: Global, table: &Table, name: &str) -> Result<Vec<u8>, AllocError> {
     let mut text = Vec::new(alloc);
-    let Some(found) = table.get(name.as_bytes()) else {
+    let Some(definition) = table.get(name.as_bytes()) else {
         text.extend_from_slice(b"none")?;
         return Ok(text);
     };
-    let definition = found.definition();
     if matches!(definition.shape, Shape::Predefined(_)) {
         text.extend_from_slice(b"predefined")?;
     }

@@ -70,10 +70,9 @@ fn same_shape(left: &Shape, right: &Shape) -> bool
 pub(crate) fn clashes(table: &Table, name: &[u8], definition: &Definition) -> bool
     ensures { result ≡ clashes (finite_map.get table.now.macros name.now) definition.now }
 {
-    let Some(macro_before) = table.get(name) else {
+    let Some(before) = table.get(name) else {
         return false;
     };
-    let before = macro_before.definition();
     !(same_shape(&before.shape, &definition.shape)
         && same_body(before.body.as_slice(), definition.body.as_slice()))
 }

@@ -302,7 +302,7 @@ fn defines_compares_and_refuses(rt: HostRuntime) -> Result<(), Fail> {
 
 /// Returns the line of the one token of `X`.
 fn line_of_x(table: &Table) -> Option<u32> {
-    match table.get(b"X")?.definition().body.as_slice() {
+    match table.get(b"X")?.body.as_slice() {
         [token] => Some(token.at.line),
         _ => None,
     }

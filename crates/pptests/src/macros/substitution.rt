@@ -8,8 +8,8 @@ use super::{HASH, has, is_hidden_by, macro_of, push_spelled, set_of, sources_of,
 use crate::defining::{direct, source_of};
 use crate::showing::{assert_shown, push_fault, push_fields};
 use ppmacro::{
-    Arguments, Chain, Expansion, Hidden, HideSets, Macro, MacroName, Pattern, Set, Table, paste,
-    stringize, substitute, substitute_pattern, tells_each_kind,
+    Arguments, Chain, Definition, Expansion, Hidden, HideSets, MacroName, Pattern, Set, Table,
+    paste, stringize, substitute, substitute_pattern, tells_each_kind,
 };
 use pptext::{Fault, Memory, Place, Profile, Source, Token};
 use std::alloc::{AllocError, Global};
@@ -157,7 +157,7 @@ fn replaced<'x, 'a: 'x>(
     rt: &impl Abort,
     alloc: Global,
     sets: &mut HideSets,
-    (table, named): (&Table<'a>, &Macro<'a>),
+    (table, named): (&Table<'a>, &Definition<'a>),
     texts: &'x [Source],
     by: By,
     with: (Set, Set, bool),
@@ -243,7 +243,7 @@ fn told_over(
     rt: &impl Abort,
     alloc: Global,
     sets: &mut HideSets,
-    of: (&Table, &Macro),
+    of: (&Table, &Definition),
     texts: &[Source],
     (by, hides, space): With,
 ) -> Result<Vec<u8>, Memory> {
@@ -258,7 +258,7 @@ fn told_over(
 fn told_of(
     rt: &impl Abort,
     alloc: Global,
-    of: (&Table, &Macro),
+    of: (&Table, &Definition),
     texts: &[Source],
     with: With,
 ) -> Result<Vec<u8>, Memory> {

@@ -4,7 +4,7 @@ use Rattle.ppmacro.specs.Spellings.{is_paste}
 use Rattle.ppmacro.specs.Lone.{is_object_like}
 use Rattle.ppmacro.specs.Chains.{items_behind, grouped, lenient_parameter, with_rest}
 use Rattle.ppmacro.proofs.Lonely.{lone_chains, object_like}
-use Rattle.ppmacro.proofs.macros.Macro.lone_tokens.Goals as goal
+use Rattle.ppmacro.proofs.macros.Definition.lone_tokens.Goals as goal
 
 pub returns-clause-chains : goal.returns-clause-chains
 returns-clause-chains c =
