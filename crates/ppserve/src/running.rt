@@ -15,6 +15,7 @@ use ppshelf::{Disk, MemoryDisk, Shelf, ShelfFault};
 use pptext::{Hashing, Memory, Profile};
 use ppunit::{Setting, Texts, Unit, UnitOut};
 use std::alloc::Global;
+use std::mem;
 use std::thread::Threads;
 
 /// How a run goes about its list.
@@ -28,6 +29,28 @@ pub struct RunOptions {
     pub block: usize,
     /// How names are hashed.
     pub hashing: Hashing,
+    /// What becomes of the files and the answers once they are printed.
+    pub at_end: AtEnd,
+}
+
+/// What becomes of a run's memory when the run ends. The output is the same.
+#[derive(Clone, Copy, Debug, PartialEq, Eq)]
+pub enum AtEnd {
+    /// It is given back, token by token.
+    Free,
+    /// It is left to the system, which takes it back at once when the program ends: for a caller that ends next. Giving it back costs a tenth of a
+    /// run.
+    Leave,
+}
+
+impl AtEnd {
+    /// Lets a value go.
+    pub(crate) fn let_go<T: Drop>(self, value: T) {
+        match self {
+            AtEnd::Free => drop(value),
+            AtEnd::Leave => mem::forget(value),
+        }
+    }
 }
 
 // How often each worker takes units where they are too few for whole blocks.

@@ -70,7 +70,7 @@ const CHUNK: usize = 65_536;
 
 /// Reads a list that holds its files, runs its units through translation phases 1 to 4 (5.1.1.2), and writes their output once they are all done.
 /// Answers whether some unit has a fault. Where the list has a budget, what a unit gives is what it gives within it: a beginning of what it gives
-/// without, and the whole exactly where the budget suffices. The memory of files and answers isn't given back: the caller is to end next.
+/// without, and the whole exactly where the budget suffices. Whether the memory of files and answers is given back, the options say.
 ///
 /// # Errors
 ///
@@ -140,14 +140,13 @@ fn hand_out_held<T: Threads + Sync, W: Sink>(
         units,
         outs.as_slice(),
     );
-    // The program ends next: the system takes memory back at once, where token by token it costs a tenth of a run.
-    mem::forget(outs);
-    mem::forget(shelf);
+    options.at_end.let_go(outs);
+    options.at_end.let_go(shelf);
     answer
 }
 
 /// Reads a list of names, and does with it what `serve` does; workers read a file from the disk when it is asked for, and the content that
-/// is kept first is the file's for all units. Errors, and what isn't given back, are those of `serve`.
+/// is kept first is the file's for all units. Errors are those of `serve`.
 pub fn serve_from<T: Threads + Sync, R: Feed, W: Sink, D: Disk + Send + Sync>(
     threads: &T,
     alloc: Global,
@@ -219,9 +218,8 @@ fn hand_out_from<T: Threads + Sync, W: Sink, D: Disk + Send + Sync>(
         units,
         outs.as_slice(),
     );
-    // as in `hand_out_held`
-    mem::forget(outs);
-    mem::forget(shelf);
+    options.at_end.let_go(outs);
+    options.at_end.let_go(shelf);
     answer
 }
 
