@@ -5,7 +5,9 @@ mod command_line;
 mod room;
 
 use command_line::Asked;
-use ppserve::{ReaderFeed, RunFault, RunOptions, WriterSink, serve, serve_from, status, words};
+use ppserve::{
+    AtEnd, ReaderFeed, RunFault, RunOptions, WriterSink, serve, serve_from, status, words,
+};
 use ppshelf::FolderDisk;
 use pptext::Hashing;
 use room::reserve;
@@ -49,6 +51,8 @@ fn main(rt: HostRuntime) -> ExitCode {
         workers: options.workers,
         block: options.block,
         hashing,
+        // The program exits next.
+        at_end: AtEnd::Leave,
     };
     let outcome = match &options.root {
         None => serve(&rt, rt.alloc(), &mut reader, &mut writer, run),

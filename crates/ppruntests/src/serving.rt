@@ -6,7 +6,7 @@ mod devices;
 mod streams;
 
 use devices::{Limits, Reader, UNLIMITED, Writer};
-use ppserve::{Feed, Mode, RunFault, RunOptions, Sink, serve, status, words};
+use ppserve::{AtEnd, Feed, Mode, RunFault, RunOptions, Sink, serve, status, words};
 use pptext::{Hashing, Memory};
 use std::process::Abort;
 use std::test::Fail;
@@ -30,6 +30,7 @@ fn by_four() -> RunOptions
         workers: 4,
         block: 8,
         hashing: Hashing::fixed(),
+        at_end: AtEnd::Free,
     }
 }
 

@@ -113,13 +113,21 @@ listed_setting s = record {
   budget = budget_of s.budget;
 }
 
--- a unit, whose definitions are read with this profile
-abbrev pub listed_unit : Profile → List (List ℕ) → DraftUnit → UnitOfList
-listed_unit profile names u = record {
-  file = unwrap_or (row_among u.file names) 0;
+-- the row of a unit's file
+abbrev pub file_row : List (List ℕ) → DraftUnit → ℕ
+file_row names u = unwrap_or (row_among u.file names) 0
+
+-- a unit whose file has this row, and whose definitions are read with this profile
+abbrev pub unit_in : Profile → ℕ → DraftUnit → UnitOfList
+unit_in profile row u = record {
+  file = row;
   defines = record { texts = u.defines; profile = profile };
   search = u.search;
 }
+
+-- a unit, whose definitions are read with this profile
+abbrev pub listed_unit : Profile → List (List ℕ) → DraftUnit → UnitOfList
+listed_unit profile names u = unit_in profile (file_row names u) u
 
 -- the list of a draft, with its contents if the list holds them
 abbrev pub listed : Bool → Draft → CompilationList

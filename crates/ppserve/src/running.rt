@@ -15,6 +15,7 @@ use ppshelf::{Disk, MemoryDisk, Shelf, ShelfFault};
 use pptext::{Hashing, Memory, Profile};
 use ppunit::{Setting, Texts, Unit, UnitOut};
 use std::alloc::Global;
+use std::mem;
 use std::thread::Threads;
 
 /// The options of a run.
@@ -28,6 +29,27 @@ pub struct RunOptions {
     pub block: usize,
     /// The hash function of names.
     pub hashing: Hashing,
+    /// Whether the memory of files and results is freed after printing.
+    pub at_end: AtEnd,
+}
+
+/// Whether a run frees its memory when it ends. The output doesn't depend on it.
+#[derive(Clone, Copy, Debug, PartialEq, Eq)]
+pub enum AtEnd {
+    /// Frees it, token by token.
+    Free,
+    /// Leaves it to the system, for a program that exits next. Freeing it takes a tenth of a run.
+    Leave,
+}
+
+impl AtEnd {
+    /// Drops a value, or leaves its memory to the system.
+    pub(crate) fn let_go<T: Drop>(self, value: T) {
+        match self {
+            AtEnd::Free => drop(value),
+            AtEnd::Leave => mem::forget(value),
+        }
+    }
 }
 
 /// How often each worker claims units if there are too few for blocks of full size.

@@ -71,8 +71,8 @@ const CHUNK: usize = 65_536;
 
 /// Reads a list that holds its files, runs translation phases 1 to 4 (5.1.1.2) of its units, and writes their output
 /// once all are done. Returns whether a unit has a fault. If the list has a budget, the output of a unit is a prefix of
-/// its output without one, and the whole of it exactly if the budget suffices. The memory of files and outputs isn't
-/// freed: the program should exit next.
+/// its output without one, and the whole of it exactly if the budget suffices.
+/// `options.at_end` says whether the memory of files and outputs is freed.
 ///
 /// # Errors
 ///
@@ -142,15 +142,13 @@ fn hand_out_held<T: Threads + Sync, W: Sink>(
         units,
         outs.as_slice(),
     );
-    // The program exits next: the system frees all memory at once, while freeing each token takes a tenth of a run.
-    mem::forget(outs);
-    mem::forget(shelf);
+    options.at_end.let_go(outs);
+    options.at_end.let_go(shelf);
     answer
 }
 
 /// Reads a list of names and does what `serve` does. Workers read a file from the disk when it is first needed, and the
-/// content that is recorded first is the file's content for all units. Errors and memory that isn't freed are those of
-/// `serve`.
+/// content that is recorded first is the file's content for all units. Errors are those of `serve`.
 pub fn serve_from<T: Threads + Sync, R: Feed, W: Sink, D: Disk + Send + Sync>(
     threads: &T,
     alloc: Global,
@@ -223,9 +221,8 @@ fn hand_out_from<T: Threads + Sync, W: Sink, D: Disk + Send + Sync>(
         units,
         outs.as_slice(),
     );
-    // As in `hand_out_held`.
-    mem::forget(outs);
-    mem::forget(shelf);
+    options.at_end.let_go(outs);
+    options.at_end.let_go(shelf);
     answer
 }
 

@@ -1,7 +1,7 @@
 //! Tests of streams that fail, that transfer few bytes at a time, and those of the system.
 use super::devices::{Limits, UNLIMITED};
 use super::{assert_ended, assert_sends, by_four, run_list};
-use ppserve::{ReaderFeed, RunFault, WriterSink, serve_from, status};
+use ppserve::{AtEnd, ReaderFeed, RunFault, WriterSink, serve_from, status};
 use ppshelf::{File, MemoryDisk};
 use pptext::Memory;
 use std::alloc::{AllocError, Global};
@@ -94,7 +94,9 @@ fn run_between<R: Threads + AllocGlobal + Sync>(
 ) -> Result<bool, RunFault> {
     let mut reader = ReaderFeed::new(NAMED.as_bytes());
     let mut writer = WriterSink::new(bytes);
-    serve_from(rt, rt.alloc(), &mut reader, &mut writer, disk, by_four())
+    let mut options = by_four();
+    options.at_end = AtEnd::Leave;
+    serve_from(rt, rt.alloc(), &mut reader, &mut writer, disk, options)
 }
 
 #[test]

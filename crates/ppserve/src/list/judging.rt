@@ -1,5 +1,5 @@
 //! Validates the names, sizes and texts of a list.
-ghost use Rattle.std.specs.Prelude.{◌≡◌, ◌≤◌, ℕ, Bool, IfOk, IfErr, OnOk, IsErrOf, true, false, [], map, length, nat_le, if◌then◌else◌};
+ghost use Rattle.std.specs.Prelude.{◌≡◌, ◌≤◌, ℕ, List as ListOf, Bool, IfOk, IfErr, OnOk, IsErrOf, true, false, [], map, length, nat_le, if◌then◌else◌};
 ghost use Rattle.std.specs.List.{list_all};
 ghost use Rattle.ppshelf.specs.Content.{longest};
 ghost use Rattle.ppshelf.specs.Names as shelf_spec;
@@ -36,46 +36,32 @@ pub(super) fn judge(
     ensures bad { (n : ℕ) → IsErrOf result (Bad n) → judged inline draft ≡ refused n }
 {
     match rows_and_profile(alloc, &draft, hashing) {
-        Ok((index, profile)) => listed(alloc, draft, &index, profile, inline),
+        Ok((rows, profile)) => listed(alloc, draft, rows.as_slice(), profile, inline),
         Err(fault) => Err(fault),
     }
 }
 
-/// Returns the indices of the file names and the profile, unless the draft is refused.
+/// Returns the rows of the units' files and the profile, unless the draft is refused.
 fn rows_and_profile(
     alloc: Global,
     draft: &Draft,
     hashing: Hashing,
-) -> Result<(Index, Profile), ListFault>
-    ensures names { IfOk result (λ r. r.0.names ≡ spec.names_of draft.now.files) }
+) -> Result<(Vec<usize>, Profile), ListFault>
+    ensures rows { IfOk result (λ r. r.0.items ≡ map (spec.file_row (spec.names_of draft.now.files)) draft.now.units) }
     ensures profile { IfOk result (λ r. r.1 ≡ spec.profile_of draft.now.setting) }
     ensures fits { OnOk result (spec.commands_fit draft.now.units ≡ true) }
     ensures ok { OnOk result ((inline : Bool) → judged inline draft.now ≡ accepted (spec.listed inline draft.now)) }
     ensures bad { (n : ℕ) → IsErrOf result (Bad n) → (inline : Bool) → judged inline draft.now ≡ refused n }
 {
     let index = index_files(alloc, draft.files.as_slice(), hashing)?;
-    match sound_profile(draft, &index) {
-        Ok(profile) => Ok((index, profile)),
+    if !sizes_hold(draft) {
+        return Err(ListFault::Bad(4));
+    }
+    let rows = file_rows(alloc, &index, draft.units.as_slice())?;
+    match profile_behind_texts(draft) {
+        Ok(profile) => Ok((rows, profile)),
         Err(number) => Err(ListFault::Bad(number)),
     }
-}
-
-/// Returns the profile of a draft with valid file names, or the number of its refusal.
-fn sound_profile(draft: &Draft, index: &Index) -> Result<Profile, u8>
-    requires names { index.now.names ≡ spec.names_of draft.now.files }
-    requires hold { spec.names_hold draft.now.files ≡ true }
-    ensures profile { IfOk result (λ p. p ≡ spec.profile_of draft.now.setting) }
-    ensures fits { OnOk result (spec.commands_fit draft.now.units ≡ true) }
-    ensures ok { OnOk result ((inline : Bool) → judged inline draft.now ≡ accepted (spec.listed inline draft.now)) }
-    ensures bad { IfErr result (λ n. (inline : Bool) → judged inline draft.now ≡ refused n) }
-{
-    if !sizes_hold(draft) {
-        return Err(4);
-    }
-    if !files_are_known(index, draft.units.as_slice()) {
-        return Err(5);
-    }
-    profile_behind_texts(draft)
 }
 
 /// Returns the profile of a draft with valid file names, sizes and unit files, or the number of its refusal. Checks the
@@ -134,6 +120,26 @@ fn index_files(alloc: Global, files: &[DraftFile], hashing: Hashing) -> Result<I
         }
     }
     Ok(index)
+}
+
+/// Returns the row of each unit's file.
+///
+/// # Errors
+///
+/// `Bad(5)` if a unit's file isn't among the names, and `Memory`.
+fn file_rows(alloc: Global, index: &Index, units: &[DraftUnit]) -> Result<Vec<usize>, ListFault>
+    ensures rows { IfOk result (λ rows. rows.items ≡ map (spec.file_row index.now.names) units.now) }
+    ensures known { OnOk result (spec.are_known index.now.names units.now ≡ true) }
+    ensures err { IfErr result (RefusedFor 5 (spec.are_known index.now.names units.now ≡ false)) }
+{
+    let mut rows = Vec::new(alloc);
+    for unit in units {
+        let Some(row) = index.row_of(unit.file.as_str().as_bytes()) else {
+            return Err(ListFault::Bad(5));
+        };
+        rows.push(row)?;
+    }
+    Ok(rows)
 }
 
 /// Whether there are at most 65,535 files and units, and no content or definitions are too large.
@@ -204,15 +210,15 @@ fn budget_of(budget: DraftBudget) -> Option<u64>
     }
 }
 
-/// Builds the list of a valid draft. The definitions of its units are read with the profile.
+/// Builds the list of a valid draft whose units' files have these rows. The definitions of its units are read with the profile.
 fn listed(
     alloc: Global,
     draft: Draft,
-    index: &Index,
+    rows: &[usize],
     profile: Profile,
     inline: bool,
 ) -> Result<List, ListFault>
-    requires names { index.now.names ≡ spec.names_of draft.files }
+    requires rows { rows.now ≡ map (spec.file_row (spec.names_of draft.files)) draft.units }
     requires profile { profile ≡ spec.profile_of draft.setting }
     requires fits { spec.commands_fit draft.units ≡ true }
     ensures ok { IfOk result (λ l. l ≡ spec.listed inline draft) }
@@ -223,7 +229,7 @@ fn listed(
         files,
         units,
     } = draft;
-    let units = listed_units(alloc, index, profile, units)?;
+    let units = listed_units(alloc, rows, profile, units)?;
     let (names, contents) = split_files(alloc, files, inline)?;
     Ok(List {
         setting: listed_setting(setting, profile),
@@ -254,19 +260,21 @@ fn listed_setting(draft: DraftSetting, profile: Profile) -> Setting
     }
 }
 
-/// Builds the units of a valid draft.
+/// Builds the units of a valid draft, whose files have these rows.
 fn listed_units(
     alloc: Global,
-    index: &Index,
+    rows: &[usize],
     profile: Profile,
     units: Sequence<DraftUnit>,
 ) -> Result<Units, Memory>
-    requires { spec.commands_fit units ≡ true }
-    ensures { IfOk result (λ us. us ≡ map (spec.listed_unit profile index.now.names) units) }
+    requires rows { length rows.now ≡ length units }
+    requires fits { spec.commands_fit units ≡ true }
+    ensures { (names : ListOf (ListOf ℕ)) → rows.now ≡ map (spec.file_row names) units → IfOk result (λ us. us ≡ map (spec.listed_unit profile names) units) }
 {
     let mut listed = Vec::new(alloc);
     for unit in units.into_vec() {
-        let unit = listed_unit(alloc, index, profile, unit)?;
+        let row = rows[listed.len()];
+        let unit = listed_unit(alloc, row, profile, unit)?;
         let Ok(()) = listed.push(unit) else {
             return Err(Memory);
         };
@@ -274,30 +282,18 @@ fn listed_units(
     Ok(Units::new(listed))
 }
 
-/// Whether the file of each unit is among the names.
-fn files_are_known(index: &Index, units: &[DraftUnit]) -> bool
-    ensures { result ≡ spec.are_known index.now.names units.now }
-{
-    units.iter().all(|unit| index.row_of(unit.file.as_str().as_bytes()).is_some())
-}
-
 /// Builds a unit of a valid draft.
-fn listed_unit(
-    alloc: Global,
-    index: &Index,
-    profile: Profile,
-    unit: DraftUnit,
-) -> Result<Unit, Memory>
+fn listed_unit(alloc: Global, row: usize, profile: Profile, unit: DraftUnit) -> Result<Unit, Memory>
     requires { length (command_text unit.defines) ≤ longest }
-    ensures { IfOk result (λ u. u ≡ spec.listed_unit profile index.now.names unit) }
+    ensures { IfOk result (λ u. u ≡ spec.unit_in profile row unit) }
 {
     let DraftUnit {
-        file,
+        file: _,
         defines,
         search,
     } = unit;
     Ok(Unit {
-        file: index.row_of(file.as_str().as_bytes()).unwrap_or(0),
+        file: row,
         defines: Definitions::read(alloc, defines, profile)?,
         search,
     })
