@@ -123,14 +123,14 @@ pub(crate) fn parameter_of(shape: &Parameters, token: &Token) -> Option<usize>
     }
 }
 
-/// Whether a macro is function-like.
+/// Returns whether a macro is function-like.
 pub(crate) fn is_function_like(shape: &Shape) -> bool
     ensures { result ≡ is_function_like shape.now }
 {
     matches!(shape, Shape::FunctionLike { .. })
 }
 
-/// Whether a token is the operator `#`. In an object-like macro `#` is no operator.
+/// Returns whether a token is the operator `#`. In an object-like macro `#` is no operator.
 pub(crate) fn is_operator_hash(shape: &Parameters, token: &Token) -> bool
     ensures { result ≡ is_operator_hash shape.now token.now }
 {

@@ -95,14 +95,14 @@ impl HideSets {
         let _nodes = &self.nodes;
     }
 
-    /// Whether there is a set with this number.
+    /// Returns whether there is a set with this number.
     pub fn knows(&self, hide: Set) -> bool
         ensures { IsTrue result ↔ IsKnown self.now hide }
     {
         (hide.number as usize) < self.nodes.len()
     }
 
-    /// Whether a set contains a name.
+    /// Returns whether a set contains a name.
     pub fn has(&self, hide: Set, name: &[u8]) -> bool
         requires { IsKnown self.now hide }
         ensures { result ≡ set.contains (set_at self.now hide) name.now }

@@ -87,7 +87,7 @@ impl<'a> Default for Operand<'a> {
     }
 }
 
-/// Whether an operand is the token `,`.
+/// Returns whether an operand is the token `,`.
 fn is_comma(operand: &Operand) -> bool
     ensures { result ≡ is_comma operand.now }
 {
@@ -97,7 +97,7 @@ fn is_comma(operand: &Operand) -> bool
     }
 }
 
-/// Whether the last operand is this parameter and follows a comma.
+/// Returns whether the last operand is this parameter and follows a comma.
 fn is_rest(before: &Operand, last: &Operand, index: usize) -> bool
     ensures { rest_behind index before.now last.now ≡ (if result then Rest index else last.now) }
 {
@@ -197,14 +197,14 @@ pub struct Chain<'a> {
 /// A list of chains. Contracts see the list.
 pub type Chains<'a> = Sequence<Chain<'a>>;
 
-/// Whether a macro is object-like. Predefined macros aren't.
+/// Returns whether a macro is object-like. Predefined macros aren't.
 fn is_object_like(shape: &Shape) -> bool
     ensures { result ≡ is_object_like shape.now }
 {
     matches!(shape, Shape::ObjectLike)
 }
 
-/// Whether the tokens contain `##`.
+/// Returns whether the tokens contain `##`.
 fn has_paste(tokens: &[Token]) -> bool
     ensures { result ≡ list_any is_paste tokens.now }
 {

@@ -29,7 +29,7 @@ pub enum Pattern<'a> {
     Joined(Chains<'a>),
 }
 
-/// Whether a token is `#` or `##`.
+/// Returns whether a token is `#` or `##`.
 fn is_operator(token: &Token) -> bool
     ensures { result ≡ is_operator token.now }
 {
@@ -44,7 +44,7 @@ fn is_operator(token: &Token) -> bool
     }
 }
 
-/// Whether the tokens contain `#` or `##`.
+/// Returns whether the tokens contain `#` or `##`.
 fn has_operator(tokens: &[Token]) -> bool
     ensures { result ≡ list_any is_operator tokens.now }
 {

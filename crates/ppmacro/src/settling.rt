@@ -8,7 +8,7 @@ use crate::hide_sets::{HideSets, Set};
 use pptext::Memory;
 
 impl HideSets {
-    /// Whether a token's spelling is in its hide set.
+    /// Returns whether a token's spelling is in its hide set.
     pub fn hides(&self, hidden: &Hidden) -> bool
         requires { HasSets self.now hidden.now }
         ensures { result ≡ set.contains (hide_of self.now hidden.now) hidden.now.token.text }

@@ -4,14 +4,14 @@ ghost use Rattle.ppmacro.specs.Spellings.{is_hash, is_paste};
 
 use pptext::Token;
 
-/// Whether a token is `#` or its digraph `%:`.
+/// Returns whether a token is `#` or its digraph `%:`.
 pub(crate) fn is_hash(token: &Token) -> bool
     ensures { result ≡ is_hash token.now }
 {
     token.is_punct(b"#") || token.is_punct(b"%:")
 }
 
-/// Whether a token is `##` or its digraph `%:%:`.
+/// Returns whether a token is `##` or its digraph `%:%:`.
 pub(crate) fn is_paste(token: &Token) -> bool
     ensures { result ≡ is_paste token.now }
 {

@@ -29,7 +29,7 @@ use crate::macros::{Chain, Operand};
 use pptext::{Fault, Memory, Place, Stop, Token, settled};
 use std::alloc::{AllocError, Global};
 
-/// Whether there are at least two operands, so that `##` joins them.
+/// Returns whether there are at least two operands, so that `##` joins them.
 fn is_joined(operands: &[Operand]) -> bool
     ensures { result ≡ is_joined operands.now }
 {

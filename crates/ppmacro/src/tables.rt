@@ -50,7 +50,7 @@ impl<'a> Model for Table<'a> {
     ghost invariant = { λ t. AreMarked t.marks (table.from_entries t.macros.entries) };
 }
 
-/// Whether a macro is predefined and can't be redefined. In GNU C `__STDC_VERSION__` can.
+/// Returns whether a macro is predefined and can't be redefined. In GNU C `__STDC_VERSION__` can.
 fn is_fixed_shape(gnu: bool, shape: &Shape) -> bool
     ensures { result ≡ is_fixed_shape gnu shape.now }
 {
@@ -61,7 +61,7 @@ fn is_fixed_shape(gnu: bool, shape: &Shape) -> bool
     }
 }
 
-/// Whether a macro was found that can't be redefined.
+/// Returns whether a macro was found that can't be redefined.
 fn is_fixed(gnu: bool, found: Option<&Definition>) -> bool
     ensures { result ≡ is_fixed gnu (option_copied found.entry) }
 {
@@ -71,7 +71,7 @@ fn is_fixed(gnu: bool, found: Option<&Definition>) -> bool
     }
 }
 
-/// Whether a name can never be a macro (6.10.8p2, 6.10.3p5).
+/// Returns whether a name can never be a macro (6.10.8p2, 6.10.3p5).
 pub(crate) fn is_barred(name: &[u8]) -> bool
     ensures { result ≡ is_barred name.now }
 {
@@ -183,7 +183,7 @@ impl<'a> Table<'a> {
         }
     }
 
-    /// Whether a name must not be defined or undefined by a directive (6.10.8p2, 6.10.3p5).
+    /// Returns whether a name must not be defined or undefined by a directive (6.10.8p2, 6.10.3p5).
     pub(crate) fn is_reserved(&self, profile: Profile, name: &[u8]) -> bool
         ensures { result ≡ is_reserved profile self.now.macros name.now }
     {

@@ -54,19 +54,19 @@ fn run_list<'l, R: Threads + AllocGlobal + Sync>(
 /// The status and the message of a run whose writer failed.
 const WRITE_FAILED: (u8, &str) = (5, "cppunits: write failed");
 
-/// Whether an allocation failed in a run or in its writer.
+/// Returns whether an allocation failed in a run or in its writer.
 fn wants_memory(run: &RunEnd) -> bool {
     matches!(run.outcome, Err(RunFault::Memory)) || run.writer.wants_memory()
 }
 
-/// Whether a run wrote a prefix of `want`. It must be empty if an allocation of the run failed.
+/// Returns whether a run wrote a prefix of `want`. It must be empty if an allocation of the run failed.
 fn writes_beginning(run: &RunEnd, want: &[u8]) -> bool {
     let went = run.writer.bytes();
     want.starts_with(went) && (went.is_empty() || !matches!(run.outcome, Err(RunFault::Memory)))
 }
 
-/// Whether a run ended with this status and message, its streams failed only if these say so, and nothing was written
-/// after a failed write.
+/// Returns whether a run ended with this status and message, its streams failed only if these say so, and nothing was
+/// written after a failed write.
 fn ends_so(run: &RunEnd, (code, said): (u8, &str)) -> bool {
     let says_so = match &run.outcome {
         Ok(_) => said.is_empty(),

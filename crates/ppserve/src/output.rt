@@ -408,7 +408,7 @@ fn put_byte<W: Sink>(page: &mut Page, writer: &mut W, byte: u8)
     }
 }
 
-/// Whether a byte is printed as it is: 32 to 126 except `%`.
+/// Returns whether a byte is printed as it is: 32 to 126 except `%`.
 pub(crate) fn is_plain(byte: u8) -> bool
     ensures { result ≡ plain byte }
 {

@@ -287,7 +287,7 @@ fn hand_out<W: Sink>(
     Ok(any_fault(outs))
 }
 
-/// Whether a unit has a fault.
+/// Returns whether a unit has a fault.
 fn any_fault(outs: &[UnitOut]) -> bool
     ensures { result ≡ some_fault outs.now }
 {

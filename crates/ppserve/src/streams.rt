@@ -24,7 +24,7 @@ pub trait Feed {
         ensures bytes { ReadConsumes (rest self.old) (rest self.new) result buf.new }
         ensures fails { has_failed self.new ≡ (has_failed self.old || is_err result) };
 
-    /// Whether a read has failed.
+    /// Returns whether a read has failed.
     fn failed(&self) -> bool
         ensures { result ≡ has_failed self.now };
 }
@@ -44,7 +44,7 @@ pub trait Sink {
         ensures bytes { WriteAppends (written self.old) (written self.new) result bytes.now }
         ensures fails { has_failed self.new ≡ (has_failed self.old || is_err result) };
 
-    /// Whether a write has failed.
+    /// Returns whether a write has failed.
     fn failed(&self) -> bool
         ensures { result ≡ has_failed self.now };
 }

@@ -173,7 +173,7 @@ impl<D: Disk> Loaded<D> {
         }
     }
 
-    /// Whether the content is that of this row and name, read by this profile.
+    /// Returns whether the content is that of this row and name, read by this profile.
     pub(crate) fn is_of(&self, profile: Profile, row: usize, name: &str) -> bool
         ensures same { IsTrue result ↔ IsPlaced profile row name.now self.now }
         ensures lawful { Lawful D.may self.now.name self.now.content }

@@ -6,29 +6,29 @@ ghost use Rattle.ppshelf.specs.Names as spec;
 /// The maximum length of a name, in bytes.
 pub(crate) const LONGEST_NAME: usize = 1024;
 
-/// Whether the text is a file's name in normal form: 1 to 1,024 bytes without control characters, in segments between
-/// `/`, none of which is empty, `.` or `..`.
+/// Returns whether the text is a file's name in normal form: 1 to 1,024 bytes without control characters, in segments
+/// between `/`, none of which is empty, `.` or `..`.
 pub fn is_name(text: &[u8]) -> bool
     ensures { result ≡ spec.is_name text.now }
 {
     text.len() <= LONGEST_NAME && has_name_bytes(text) && has_segments(text)
 }
 
-/// Whether the text is a directory: `.` for the root, or a name in normal form.
+/// Returns whether the text is a directory: `.` for the root, or a name in normal form.
 pub fn is_folder(text: &[u8]) -> bool
     ensures { result ≡ spec.is_folder text.now }
 {
     text == b".".as_slice() || is_name(text)
 }
 
-/// Whether each byte is allowed in a name.
+/// Returns whether each byte is allowed in a name.
 fn has_name_bytes(text: &[u8]) -> bool
     ensures { result ≡ list_all spec.is_name_byte text.now }
 {
     text.iter().all(|byte| is_name_byte(*byte))
 }
 
-/// Whether each segment is allowed in a name.
+/// Returns whether each segment is allowed in a name.
 fn has_segments(text: &[u8]) -> bool
     ensures { result ≡ list_all spec.is_segment (spec.segments text.now) }
 {
@@ -36,22 +36,22 @@ fn has_segments(text: &[u8]) -> bool
         .all(|segment| is_segment(segment))
 }
 
-/// Whether the byte is allowed in a name: no control character of ASCII.
+/// Returns whether the byte is allowed in a name: no control character of ASCII.
 fn is_name_byte(byte: u8) -> bool
     ensures { result ≡ spec.is_name_byte byte }
 {
     byte >= b' ' && byte != 127
 }
 
-/// Whether the segment is allowed in a name: not empty, `.` or `..`.
+/// Returns whether the segment is allowed in a name: not empty, `.` or `..`.
 fn is_segment(segment: &[u8]) -> bool
     ensures { result ≡ spec.is_segment segment.now }
 {
     !segment.is_empty() && segment != b".".as_slice() && segment != b"..".as_slice()
 }
 
-/// Whether each segment of the text has a first byte that is no `.`. If so, the text has no segment that is dropped or
-/// leads up, so it spells its own path.
+/// Returns whether each segment of the text has a first byte that is no `.`. If so, the text has no segment that is
+/// dropped or leads up, so it spells its own path.
 pub(crate) fn is_plain(text: &[u8]) -> bool
     ensures { result ≡ list_all spec.is_plain_segment (spec.segments text.now) }
 {
@@ -59,7 +59,7 @@ pub(crate) fn is_plain(text: &[u8]) -> bool
         .all(|segment| is_plain_segment(segment))
 }
 
-/// Whether the segment has a first byte that is no `.`.
+/// Returns whether the segment has a first byte that is no `.`.
 fn is_plain_segment(segment: &[u8]) -> bool
     ensures { result ≡ spec.is_plain_segment segment.now }
 {

@@ -157,7 +157,7 @@ fn assert_lines<D: Disk>(
     Ok(())
 }
 
-/// Whether these are the bytes of a text.
+/// Returns whether these are the bytes of a text.
 fn are_bytes(found: Option<&[u8]>, wanted: Option<&str>) -> bool {
     match (found, wanted) {
         (Some(found), Some(wanted)) => found == wanted.as_bytes(),

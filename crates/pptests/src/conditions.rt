@@ -27,7 +27,7 @@ fn condition_of(
     evaluate(alloc, &table, &env(0), left, HASH, tokens)
 }
 
-/// Whether a result is this condition, or a fault with this number.
+/// Returns whether a result is this condition, or a fault with this number.
 fn is_wanted(found: &Result<bool, Fault>, wanted: Result<bool, u8>) -> bool {
     match (found, wanted) {
         (Ok(found), Ok(wanted)) => *found == wanted,

@@ -41,7 +41,7 @@ fn push_parts(text: &mut Vec<u8>, run: &Run) -> Result<(), AllocError> {
     push_made(text, singles)
 }
 
-/// Whether a token of a run is equal to this one.
+/// Returns whether a token of a run is equal to this one.
 fn is_same(found: &TokenRef, token: &Token) -> Result<bool, AllocError> {
     let marks = found.kind() == token.kind && found.space() == token.space;
     let places = found.at() == token.at && found.used() == token.used;
@@ -49,7 +49,7 @@ fn is_same(found: &TokenRef, token: &Token) -> Result<bool, AllocError> {
     Ok(marks && places && is_spelled && found.to_token()? == *token)
 }
 
-/// Whether the tokens of a run, one by one, are those of its list.
+/// Returns whether the tokens of a run, one by one, are those of its list.
 fn yields_all(alloc: Global, run: &Run) -> Result<bool, AllocError> {
     let tokens = run.to_vec(alloc)?;
     let mut found = run.iter();

@@ -58,7 +58,7 @@ fn set_of(rt: &impl Abort, sets: &mut HideSets, names: &[u8]) -> Result<Set, Mem
     Ok(set)
 }
 
-/// Whether a hide set contains a name.
+/// Returns whether a hide set contains a name.
 fn has(rt: &impl Abort, sets: &HideSets, set: Set, name: &[u8]) -> bool {
     assert!(rt; sets.knows(set));
     sets.has(set, name)
@@ -75,7 +75,7 @@ fn assert_names(rt: &impl Abort, sets: &HideSets, set: Set, names: &[u8]) {
     }
 }
 
-/// Whether a name is in the hide set of a token.
+/// Returns whether a name is in the hide set of a token.
 fn is_hidden_by(rt: &impl Abort, sets: &HideSets, hidden: &Hidden, name: &[u8]) -> bool {
     if has(rt, sets, hidden.hide(), name) {
         return true;

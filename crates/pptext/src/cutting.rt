@@ -59,14 +59,14 @@ impl Model for Found {
     ] };
 }
 
-/// Whether a block comment begins the text.
+/// Returns whether a block comment begins the text.
 fn opens_block(text: &[u8]) -> bool
     ensures { IsTrue result ↔ OpensBlock text.now }
 {
     text.len() >= 2 && text[0] == b'/' && text[1] == b'*'
 }
 
-/// Whether a line comment begins the text.
+/// Returns whether a line comment begins the text.
 fn opens_line(text: &[u8]) -> bool
     ensures { IsTrue result ↔ OpensLine text.now }
 {

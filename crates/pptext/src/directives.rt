@@ -70,14 +70,14 @@ impl Directive {
         }
     }
 
-    /// Whether the directive opens an if-section: `#if`, `#ifdef`, `#ifndef` (6.10.1).
+    /// Returns whether the directive opens an if-section: `#if`, `#ifdef`, `#ifndef` (6.10.1).
     pub fn opens_section(self) -> bool
         ensures { result ≡ opens_section self }
     {
         matches!(self.class(), Class::Opens(_))
     }
 
-    /// Whether the directive is a branch with a condition: `#elif` (6.10.1), `#elifdef`, `#elifndef` (ISO/IEC
+    /// Returns whether the directive is a branch with a condition: `#elif` (6.10.1), `#elifdef`, `#elifndef` (ISO/IEC
     /// 9899:2024, 6.10.2).
     pub fn has_condition(self) -> bool
         ensures { result ≡ has_condition self }
@@ -85,7 +85,7 @@ impl Directive {
         matches!(self.class(), Class::Elifs(_))
     }
 
-    /// Whether a group ends before the directive: `#elif`, `#elifdef`, `#elifndef`, `#else`, `#endif` (6.10.1).
+    /// Returns whether a group ends before the directive: `#elif`, `#elifdef`, `#elifndef`, `#else`, `#endif` (6.10.1).
     pub fn ends_group(self) -> bool
         ensures { result ≡ ends_group self }
     {
@@ -225,7 +225,7 @@ fn directive_named(profile: Profile, name: &[u8]) -> Directive
     }
 }
 
-/// Whether the token is `#` or its digraph `%:`.
+/// Returns whether the token is `#` or its digraph `%:`.
 pub(crate) fn is_hash(text: &[u8]) -> bool
     ensures { result ≡ (bytes_eq text.now (codes "#") || bytes_eq text.now (codes "%:")) }
 {

@@ -4,7 +4,7 @@ ghost use Rattle.pptext.specs.Spellings.{is_punct1, is_punct2, is_punct3, is_pun
 ghost use Rattle.pptext.specs.Languages.{LongestOrNone};
 ghost use Rattle.pptext.specs.Finds.{is_closed};
 
-/// Whether the byte is a punctuator by itself.
+/// Returns whether the byte is a punctuator by itself.
 fn is_punct1(c: u8) -> bool
     ensures { result ≡ is_punct1 c }
 {
@@ -37,7 +37,7 @@ fn is_punct1(c: u8) -> bool
     )
 }
 
-/// Whether the byte is a punctuator by itself, and begins no longer token and no header name.
+/// Returns whether the byte is a punctuator by itself, and begins no longer token and no header name.
 pub(crate) fn is_closed(c: u8) -> bool
     ensures is { result ≡ is_closed c }
     ensures punct { IsTrue result → IsTrue (is_punct1 c) }
@@ -45,7 +45,7 @@ pub(crate) fn is_closed(c: u8) -> bool
     matches!(c, b'(' | b')' | b',' | b';' | b'[' | b']' | b'{' | b'}')
 }
 
-/// Whether the two bytes are a punctuator.
+/// Returns whether the two bytes are a punctuator.
 fn is_punct2(a: u8, b: u8) -> bool
     ensures { result ≡ is_punct2 a b }
 {
@@ -64,7 +64,7 @@ fn is_punct2(a: u8, b: u8) -> bool
     }
 }
 
-/// Whether the three bytes are a punctuator.
+/// Returns whether the three bytes are a punctuator.
 fn is_punct3(a: u8, b: u8, c: u8) -> bool
     ensures { result ≡ is_punct3 a b c }
 {
@@ -76,14 +76,14 @@ fn is_punct3(a: u8, b: u8, c: u8) -> bool
     }
 }
 
-/// Whether the four bytes are a punctuator.
+/// Returns whether the four bytes are a punctuator.
 fn is_punct4(a: u8, b: u8, c: u8, d: u8) -> bool
     ensures { result ≡ is_punctuator (a ∷ b ∷ c ∷ d ∷ []) }
 {
     a == b'%' && b == b':' && c == b'%' && d == b':'
 }
 
-/// Whether a punctuator of n bytes begins the text.
+/// Returns whether a punctuator of n bytes begins the text.
 fn begins_with_punct(text: &[u8], n: usize) -> bool
     requires { n ≤ 4 }
     ensures { IsTrue result ↔ (n ≤ length text.now) × IsTrue (is_punctuator (take n text.now)) }

@@ -116,7 +116,7 @@ impl Source {
     }
 }
 
-/// Whether the text is `'` or `"` alone.
+/// Returns whether the text is `'` or `"` alone.
 fn is_lone_quote(text: &[u8]) -> bool
     ensures { IsTrue result ↔ IsLoneQuote text.now }
 {

@@ -11,28 +11,28 @@ pub(crate) mod headers;
 pub(crate) mod literals;
 pub(crate) mod numbers;
 
-/// Whether the byte is a digit.
+/// Returns whether the byte is a digit.
 fn is_digit(c: u8) -> bool
     ensures { result ≡ is_digit c }
 {
     b'0' <= c && c <= b'9'
 }
 
-/// Whether the byte is a hexadecimal digit.
+/// Returns whether the byte is a hexadecimal digit.
 fn is_hex(c: u8) -> bool
     ensures { result ≡ is_hex c }
 {
     is_digit(c) || b'A' <= c && c <= b'F' || b'a' <= c && c <= b'f'
 }
 
-/// Whether the byte is a letter, `_`, `$` or 128 or higher.
+/// Returns whether the byte is a letter, `_`, `$` or 128 or higher.
 pub(crate) fn is_nondigit(c: u8) -> bool
     ensures { result ≡ is_nondigit c }
 {
     b'A' <= c && c <= b'Z' || b'a' <= c && c <= b'z' || c == b'_' || c == b'$' || c >= 128
 }
 
-/// Whether n hexadecimal digits begin the text.
+/// Returns whether n hexadecimal digits begin the text.
 fn begins_with_hexes(text: &[u8], n: usize) -> bool
     ensures { IsTrue result ↔ (n ≤ length text.now) × AllPass is_hex (take n text.now) }
 {
@@ -98,7 +98,7 @@ static WORD_STARTS: [u8; 256] = *b"\
     11111111111111111111111111111111\
     11111111111111111111111111111111";
 
-/// Whether the byte begins an identifier and can't begin a literal.
+/// Returns whether the byte begins an identifier and can't begin a literal.
 pub(crate) fn starts_word(c: u8) -> bool
     ensures { result ≡ starts_word c }
 {
@@ -116,7 +116,7 @@ static IDENT_BYTES: [u8; 256] = *b"\
     11111111111111111111111111111111\
     11111111111111111111111111111111";
 
-/// Whether the byte is a nondigit or a digit.
+/// Returns whether the byte is a nondigit or a digit.
 fn is_ident_byte(c: u8) -> bool
     ensures { result ≡ is_ident_byte c }
 {
@@ -169,7 +169,7 @@ pub(crate) fn ident_len(text: &[u8]) -> usize
     first + ident_rest_len(&text[first..])
 }
 
-/// Whether the byte is white space other than new-line.
+/// Returns whether the byte is white space other than new-line.
 pub(crate) fn is_blank(c: u8) -> bool
     ensures { result ≡ is_blank c }
 {

@@ -22,14 +22,14 @@ pub enum Profile {
 }
 
 impl Profile {
-    /// Whether the profile has the directives that ISO/IEC 9899:2024 added, and `#pragma once`.
+    /// Returns whether the profile has the directives that ISO/IEC 9899:2024 added, and `#pragma once`.
     pub fn has_later(self) -> bool
         ensures { result ≡ has_later self }
     {
         matches!(self, Profile::Later | Profile::Gnu)
     }
 
-    /// Whether the profile has the rules of GNU C.
+    /// Returns whether the profile has the rules of GNU C.
     pub fn is_gnu(self) -> bool
         ensures { result ≡ is_gnu self }
     {

@@ -15,14 +15,14 @@ use crate::scanning::numbers::number_len;
 use crate::sources::Profile;
 use crate::tokens::{Kind, Token, is_spelled};
 
-/// Whether a header name may follow this directive's name: `include` (6.10.2), and in GNU C `include_next`.
+/// Returns whether a header name may follow this directive's name: `include` (6.10.2), and in GNU C `include_next`.
 fn awaits(profile: Profile, name: &[u8]) -> bool
     ensures { result ≡ awaits profile name.now }
 {
     is_spelled(name, b"include") || (profile.is_gnu() && is_spelled(name, b"include_next"))
 }
 
-/// Whether a header name may follow these tokens of a line (6.4.7).
+/// Returns whether a header name may follow these tokens of a line (6.4.7).
 fn awaits_header(profile: Profile, line: &[Token]) -> bool
     ensures { IsTrue result ↔ AwaitsHeader profile (spelled line.now) }
 {

@@ -224,7 +224,7 @@ impl Eq for Spelling {
     ghost laws = { nat_list_eq_equiv };
 }
 
-/// Whether the bytes are equal to this text.
+/// Returns whether the bytes are equal to this text.
 #[inline]
 pub(crate) fn is_spelled(bytes: &[u8], text: &[u8]) -> bool
     ensures { result ≡ bytes_eq bytes.now text.now }
@@ -248,28 +248,28 @@ pub struct Token {
 }
 
 impl Token {
-    /// Whether it is an identifier.
+    /// Returns whether it is an identifier.
     pub fn is_identifier(&self) -> bool
         ensures { result ≡ is_identifier self.now }
     {
         matches!(self.kind, Kind::Ident)
     }
 
-    /// Whether it is the identifier with this spelling.
+    /// Returns whether it is the identifier with this spelling.
     pub fn is_name(&self, text: &[u8]) -> bool
         ensures { result ≡ is_name text.now self.now }
     {
         self.is_identifier() && self.text.as_bytes() == text
     }
 
-    /// Whether it is the punctuator with this spelling.
+    /// Returns whether it is the punctuator with this spelling.
     pub fn is_punct(&self, text: &[u8]) -> bool
         ensures { result ≡ is_punct text.now self.now }
     {
         matches!(self.kind, Kind::Punct) && self.text.as_bytes() == text
     }
 
-    /// Whether it is an unmatched `'` or `"` (6.4p3).
+    /// Returns whether it is an unmatched `'` or `"` (6.4p3).
     pub fn is_lone_quote(&self) -> bool
         ensures { result ≡ is_lone_quote self.now }
     {

@@ -42,7 +42,7 @@ pub(crate) fn decide<D: Disk>(
     }
 }
 
-/// Whether the macro table has the line's name, compared with `wanted`. Fault 9 unless the operand is one identifier.
+/// Returns whether the macro table has the line's name, compared with `wanted`. Fault 9 unless the operand is one identifier.
 fn by_name(alloc: Global, wanted: bool, macros: &Table, line: &[Token]) -> Result<bool, Stop>
     ensures { IfSettled result (λ taken. taken ≡ spec.by_name wanted macros.now.macros line.now (spec_lines.one_identifier (spec_lines.operands line.now))) }
 {

@@ -61,8 +61,8 @@ pub(crate) fn error(alloc: Global, line: &[Token]) -> Result<Fault, AllocError>
     line_fault(alloc, 34, line, text.as_slice())
 }
 
-/// Whether the tokens after `#pragma` are `once`, in a profile that has it: a pragma with an implementation-defined
-/// meaning (6.10.6).
+/// Returns whether the tokens after `#pragma` are `once`, in a profile that has it: a pragma with an
+/// implementation-defined meaning (6.10.6).
 fn is_once(profile: Profile, tokens: &[Token]) -> bool
     ensures { result ≡ spec.is_once profile tokens.now }
 {

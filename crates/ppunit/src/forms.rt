@@ -10,7 +10,7 @@ use crate::units::{Setting, Unit};
 use ppshelf::{Disk, LONGEST, Shelf};
 use pptext::Profile;
 
-/// Whether the text has the format of `__DATE__` (6.10.8.1): `Mmm dd yyyy`, with a space before a day below 10.
+/// Returns whether the text has the format of `__DATE__` (6.10.8.1): `Mmm dd yyyy`, with a space before a day below 10.
 pub fn is_date(text: &[u8]) -> bool
     ensures { result ≡ spec.is_date text.now }
 {
@@ -22,7 +22,7 @@ pub fn is_date(text: &[u8]) -> bool
         && is_digits(&text[7..])
 }
 
-/// Whether the text abbreviates the name of a month.
+/// Returns whether the text abbreviates the name of a month.
 fn is_month(text: &[u8]) -> bool
     ensures { result ≡ spec.is_month text.now }
 {
@@ -32,14 +32,14 @@ fn is_month(text: &[u8]) -> bool
     }
 }
 
-/// Whether the text abbreviates the name of a month from July on.
+/// Returns whether the text abbreviates the name of a month from July on.
 fn is_late_month(text: &[u8]) -> bool
     ensures { result ≡ spec.is_late_month text.now }
 {
     matches!(text, b"Jul" | b"Aug" | b"Sep" | b"Oct" | b"Nov" | b"Dec")
 }
 
-/// Whether the two bytes spell a day of a month: 1 to 9 after a space, or 10 to 31.
+/// Returns whether the two bytes spell a day of a month: 1 to 9 after a space, or 10 to 31.
 fn is_day(first: u8, second: u8) -> bool
     ensures { result ≡ spec.is_day first second }
 {
@@ -47,7 +47,7 @@ fn is_day(first: u8, second: u8) -> bool
         || (first >= b'1' && is_pair(31, first, second))
 }
 
-/// Whether all bytes are digits.
+/// Returns whether all bytes are digits.
 fn is_digits(text: &[u8]) -> bool
     ensures { result ≡ list_all spec.is_digit text.now }
 {
@@ -59,21 +59,21 @@ fn is_digits(text: &[u8]) -> bool
     true
 }
 
-/// Whether the byte is a decimal digit.
+/// Returns whether the byte is a decimal digit.
 pub(crate) fn is_digit(byte: u8) -> bool
     ensures { result ≡ spec.is_digit byte }
 {
     matches!(byte, b'0'..=b'9')
 }
 
-/// Whether the two bytes are digits that spell a number of at most `most`.
+/// Returns whether the two bytes are digits that spell a number of at most `most`.
 fn is_pair(most: u8, first: u8, second: u8) -> bool
     ensures { result ≡ spec.is_pair most first second }
 {
     is_digit(first) && is_digit(second) && (first - b'0') * 10 + (second - b'0') <= most
 }
 
-/// Whether the text has the format of `__TIME__` (6.10.8.1): `hh:mm:ss`, where the second may be 60, a leap second.
+/// Returns whether the text has the format of `__TIME__` (6.10.8.1): `hh:mm:ss`, where the second may be 60, a leap second.
 pub fn is_time(text: &[u8]) -> bool
     ensures { result ≡ spec.is_time text.now }
 {
@@ -85,8 +85,8 @@ pub fn is_time(text: &[u8]) -> bool
         && is_pair(60, text[6], text[7])
 }
 
-/// Whether the text has no carriage return and no line feed, so that its definition is one physical line. A `\` at its
-/// end still joins that line to the next one (5.1.1.2p1, phase 2).
+/// Returns whether the text has no carriage return and no line feed, so that its definition is one physical line. A `\`
+/// at its end still joins that line to the next one (5.1.1.2p1, phase 2).
 pub fn is_one_line(text: &[u8]) -> bool
     ensures { result ≡ spec.is_one_line text.now }
 {
@@ -98,7 +98,7 @@ pub fn is_one_line(text: &[u8]) -> bool
     true
 }
 
-/// Whether the byte is neither a carriage return nor a line feed.
+/// Returns whether the byte is neither a carriage return nor a line feed.
 fn is_in_line(byte: u8) -> bool
     ensures { result ≡ spec.is_in_line byte }
 {
@@ -108,8 +108,8 @@ fn is_in_line(byte: u8) -> bool
 /// The number of bytes in the line of a definition without its text: `#define ` and a new-line.
 const AROUND: usize = 9;
 
-/// Whether the file that holds the definitions has at most `LONGEST` bytes. It has a line `#define `, text, new-line
-/// for each.
+/// Returns whether the file that holds the definitions has at most `LONGEST` bytes. It has a line `#define `, text,
+/// new-line for each.
 pub fn fits_command(defines: &[String]) -> bool
     ensures { result ≡ nat_le (length (command_text (map string_bytes defines.now))) longest }
 {
@@ -123,21 +123,21 @@ pub fn fits_command(defines: &[String]) -> bool
     true
 }
 
-/// Whether date and time have the formats of `__DATE__` and `__TIME__` (6.10.8.1).
+/// Returns whether date and time have the formats of `__DATE__` and `__TIME__` (6.10.8.1).
 pub fn setting_ok(setting: &Setting) -> bool
     ensures { result ≡ spec.is_setting setting.now }
 {
     is_date(setting.date.as_str().as_bytes()) && is_time(setting.time.as_str().as_bytes())
 }
 
-/// Whether the profiles are equal.
+/// Returns whether the profiles are equal.
 fn is_same(one: Profile, other: Profile) -> bool
     ensures { result ≡ spec.is_same one other }
 {
     one == other
 }
 
-/// Whether each text is one line.
+/// Returns whether each text is one line.
 fn are_lines(texts: &[String]) -> bool
     ensures { result ≡ list_all spec.is_one_line (map string_bytes texts.now) }
 {
@@ -149,8 +149,8 @@ fn are_lines(texts: &[String]) -> bool
     true
 }
 
-/// Whether the unit's file is in the file table, the definitions have the table's profile, each of them is one line,
-/// and the file that holds them has at most `LONGEST` bytes.
+/// Returns whether the unit's file is in the file table, the definitions have the table's profile, each of them is one
+/// line, and the file that holds them has at most `LONGEST` bytes.
 pub fn unit_ok<D: Disk>(shelf: &Shelf<D>, unit: &Unit) -> bool
     ensures { result ≡ spec.is_unit (length shelf.now.names) shelf.now.profile unit.now }
 {

@@ -8,7 +8,7 @@ use ppexpr::one_condition;
 use ppshelf::one_row;
 use pptext::{Source, one_reading, one_tree};
 
-/// Whether the file is one if-section under a guard, and the guard is defined. Such a file has no effect.
+/// Returns whether the file is one if-section under a guard, and the guard is defined. Such a file has no effect.
 pub(crate) fn is_left_out(state: &State, source: &Source) -> bool
     ensures { IsTrue result ↔ IsLeftOut state.now source.now }
 {

@@ -136,7 +136,7 @@ fn asked_or_fault(alloc: Global, line: &[Token], asked: Option<Asked>) -> Result
     }
 }
 
-/// Whether no file can have the name: it is empty or begins with `/`.
+/// Returns whether no file can have the name: it is empty or begins with `/`.
 fn is_nowhere(name: &[u8]) -> bool
     ensures { result ≡ spec.is_nowhere name.now }
 {

@@ -35,7 +35,7 @@ impl Model for Presumed {
     ghost view = { λ p. record { number = p.number; name = p.name } };
 }
 
-/// Whether the token is a string literal without prefix.
+/// Returns whether the token is a string literal without prefix.
 pub(crate) fn is_plain_string(token: &Token) -> bool
     ensures { result ≡ spec.is_plain_string token.now }
 {

@@ -102,7 +102,7 @@ impl Rows {
         }
     }
 
-    /// Whether the set has the index.
+    /// Returns whether the set has the index.
     pub(crate) fn contains(&self, row: usize) -> bool
         ensures { result ≡ is_among row self.now }
     {

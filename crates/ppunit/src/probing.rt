@@ -14,28 +14,28 @@ use ppshelf::Disk;
 use pptext::{Kind, Memory, Profile, Spelling, Token};
 use std::alloc::{AllocError, Global};
 
-/// Whether the token is the name `__has_include`.
+/// Returns whether the token is the name `__has_include`.
 fn is_has_include(token: &Token) -> bool
     ensures { result ≡ spec.is_has_include token.now }
 {
     token.is_name(b"__has_include")
 }
 
-/// Whether a token is the name `__has_include`.
+/// Returns whether a token is the name `__has_include`.
 fn has_a_use(tokens: &[Token]) -> bool
     ensures { result ≡ list_any spec.is_has_include tokens.now }
 {
     tokens.iter().any(|token| is_has_include(token))
 }
 
-/// Whether the operands have an `__has_include` that must be replaced before the condition is evaluated.
+/// Returns whether the operands have an `__has_include` that must be replaced before the condition is evaluated.
 pub(crate) fn is_probed(profile: Profile, operands: &[Token]) -> bool
     ensures { result ≡ (is_gnu profile && list_any spec.is_has_include operands.now) }
 {
     profile.is_gnu() && has_a_use(operands)
 }
 
-/// Whether the first token is `(`.
+/// Returns whether the first token is `(`.
 fn opens(tokens: &[Token]) -> bool
     ensures { result ≡ spec.opens tokens.now }
 {
@@ -45,7 +45,7 @@ fn opens(tokens: &[Token]) -> bool
     }
 }
 
-/// Whether the token is `__has_include` and the tokens after it begin with `(`.
+/// Returns whether the token is `__has_include` and the tokens after it begin with `(`.
 fn asks(token: &Token, behind: &[Token]) -> bool
     ensures { result ≡ (spec.opens behind.now && spec.is_has_include token.now) }
 {
@@ -70,7 +70,7 @@ fn behind_first(tokens: &[Token]) -> &[Token]
     }
 }
 
-/// Whether an `#include` of this header in the file at index `row` finds a file. The file isn't opened.
+/// Returns whether an `#include` of this header in the file at index `row` finds a file. The file isn't opened.
 fn has_file<D: Disk>(around: &Around<'_, '_, D>, row: usize, asked: &Asked) -> Result<bool, Memory>
     requires { 0 < length around.now.shelf.names }
     ensures { IfOk result (λ found. found ≡ spec.has_file (search_in around.now) row asked.now) }

@@ -117,7 +117,7 @@ impl<'x> State<'x> {
         self.items.push_pragma(at, tokens)
     }
 
-    /// Whether there is a budget and it is exhausted.
+    /// Returns whether there is a budget and it is exhausted.
     pub(crate) fn is_spent(&self) -> bool
         ensures { result ≡ is_spent self.now.left }
     {

@@ -48,8 +48,8 @@ fn run_end(source: &Source, start: usize) -> usize
     end
 }
 
-/// Whether processing continues after a branch line of the file at index `row`. Changes nothing in `state` but the
-/// remaining budget.
+/// Returns whether processing continues after a branch line of the file at index `row`. Changes nothing in `state` but
+/// the remaining budget.
 fn enters<D: Disk>(
     around: &Around<'_, '_, D>,
     state: &mut State,

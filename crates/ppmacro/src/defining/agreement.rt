@@ -8,14 +8,14 @@ use crate::macros::{Definition, Shape};
 use crate::tables::Table;
 use pptext::Token;
 
-/// Whether two tokens have the same spelling and the same leading-space flag.
+/// Returns whether two tokens have the same spelling and the same leading-space flag.
 fn same_token(left: &Token, right: &Token) -> bool
     ensures { result ≡ same_token left.now right.now }
 {
     left.text.as_bytes() == right.text.as_bytes() && left.space == right.space
 }
 
-/// Whether two lists have equal tokens.
+/// Returns whether two lists have equal tokens.
 fn same_tokens(left: &[Token], right: &[Token]) -> bool
     ensures { result ≡ pointwise same_token left.now right.now }
 {
@@ -30,7 +30,7 @@ fn same_tokens(left: &[Token], right: &[Token]) -> bool
     true
 }
 
-/// Whether two replacement lists are identical. The flag of the first token doesn't count.
+/// Returns whether two replacement lists are identical. The flag of the first token doesn't count.
 fn same_body(left: &[Token], right: &[Token]) -> bool
     ensures { result ≡ same_body left.now right.now }
 {
@@ -46,7 +46,7 @@ fn same_body(left: &[Token], right: &[Token]) -> bool
     same_tokens(&left[1..], &right[1..])
 }
 
-/// Whether two macros have the same kind and the same parameters. The names show whether there is a `...`.
+/// Returns whether two macros have the same kind and the same parameters. The names show whether there is a `...`.
 fn same_shape(left: &Shape, right: &Shape) -> bool
     ensures { result ≡ same_shape left.now right.now }
 {
@@ -66,7 +66,7 @@ fn same_shape(left: &Shape, right: &Shape) -> bool
     }
 }
 
-/// Whether a name has a different definition.
+/// Returns whether a name has a different definition.
 pub(crate) fn clashes(table: &Table, name: &[u8], definition: &Definition) -> bool
     ensures { result ≡ clashes (finite_map.get table.now.macros name.now) definition.now }
 {

@@ -11,21 +11,21 @@ use crate::spellings::{is_hash, is_paste};
 use pptext::{Hashing, Token};
 use std::alloc::{AllocError, Global};
 
-/// Whether a replacement list contains `__VA_ARGS__`.
+/// Returns whether a replacement list contains `__VA_ARGS__`.
 fn says_variable_arguments(body: &[Token]) -> bool
     ensures { result ≡ list_any (is_name (codes "__VA_ARGS__")) body.now }
 {
     body.iter().any(|t| t.is_name(b"__VA_ARGS__"))
 }
 
-/// Whether a replacement list contains `__VA_ARGS__`, but the parameter list has no `...`.
+/// Returns whether a replacement list contains `__VA_ARGS__`, but the parameter list has no `...`.
 pub(crate) fn misplaces_variable_arguments(shape: &Shape, body: &[Token]) -> bool
     ensures { result ≡ misplaces_variable_arguments shape.now body.now }
 {
     says_variable_arguments(body) && !has_variable_arguments(names_in(shape))
 }
 
-/// Whether `##` is the first or the last token, or follows another `##`.
+/// Returns whether `##` is the first or the last token, or follows another `##`.
 pub(crate) fn misplaces_paste(body: &[Token]) -> bool
     ensures { result ≡ misplaces_paste true body.now }
 {
@@ -43,7 +43,7 @@ pub(crate) fn misplaces_paste(body: &[Token]) -> bool
     false
 }
 
-/// Whether the first token is a parameter.
+/// Returns whether the first token is a parameter.
 fn begins_with_parameter(shape: &Parameters, body: &[Token]) -> bool
     ensures { result ≡ begins_with_parameter shape.now body.now }
 {
@@ -53,7 +53,7 @@ fn begins_with_parameter(shape: &Parameters, body: &[Token]) -> bool
     }
 }
 
-/// Whether there is a `#` without one of these parameters directly after it.
+/// Returns whether there is a `#` without one of these parameters directly after it.
 fn misplaces_hash_before(shape: &Parameters, body: &[Token]) -> bool
     ensures { result ≡ misplaces_hash shape.now body.now }
 {
@@ -65,7 +65,7 @@ fn misplaces_hash_before(shape: &Parameters, body: &[Token]) -> bool
     false
 }
 
-/// Whether there is a `#` without a parameter directly after it. Many parameters are indexed with hash function `hashing`.
+/// Returns whether there is a `#` without a parameter directly after it. Many parameters are indexed with hash function `hashing`.
 pub(crate) fn misplaces_hash(
     alloc: Global,
     shape: &Shape,

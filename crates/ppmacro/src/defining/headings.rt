@@ -117,14 +117,14 @@ pub(crate) fn read_heading<'a>(
     parameters(alloc, profile.is_gnu(), line)
 }
 
-/// Whether `names` contains a name.
+/// Returns whether `names` contains a name.
 fn is_among(names: &[Spelling], name: &[u8]) -> bool
     ensures { result ≡ list_any (λ n. bytes_eq n name.now) names.now }
 {
     names.iter().any(|n| n.as_bytes() == name)
 }
 
-/// Whether a name occurs twice. Compares each name with each other.
+/// Returns whether a name occurs twice. Compares each name with each other.
 fn repeats_few(names: &[Spelling]) -> bool
     ensures { result ≡ repeats names.now }
 {
@@ -136,7 +136,7 @@ fn repeats_few(names: &[Spelling]) -> bool
     false
 }
 
-/// Whether a name occurs twice. Many names are indexed with hash function `hashing`.
+/// Returns whether a name occurs twice. Many names are indexed with hash function `hashing`.
 pub(crate) fn repeats(
     alloc: Global,
     names: &[Spelling],
@@ -150,7 +150,7 @@ pub(crate) fn repeats(
     Ok(index_of_each(alloc, names, hashing)?.is_none())
 }
 
-/// Whether `__VA_ARGS__` is among the names.
+/// Returns whether `__VA_ARGS__` is among the names.
 pub(crate) fn has_variable_arguments(names: &[Spelling]) -> bool
     ensures { result ≡ has_variable_arguments names.now }
 {

@@ -183,7 +183,7 @@ fn word_of(nodes: &IndexSet<Node, Hashing>, set: u32, index: usize) -> u64
     read(nodes, at).here
 }
 
-/// Whether a set contains a number.
+/// Returns whether a set contains a number.
 pub(crate) fn has(nodes: &IndexSet<Node, Hashing>, set: u32, number: usize) -> bool
     requires pool { IsPool nodes.now.keys }
     requires known { set < length nodes.now.keys }

@@ -10,7 +10,7 @@ use crate::flying::Hidden;
 use crate::hide_sets::{HideSets, Set};
 use pptext::{Memory, Place};
 
-/// Whether a set is known to be a subset of the names to hide, `gain`, which are the names of `base` and one more.
+/// Returns whether a set is known to be a subset of the names to hide, `gain`, which are the names of `base` and one more.
 fn is_within(set: Set, base: Set, gain: Set) -> bool
     ensures { result ≡ true → (sets : Numbered) → IsWithin sets gain base → IsWithin sets gain set }
 {

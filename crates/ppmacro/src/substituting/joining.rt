@@ -34,7 +34,7 @@ fn push_joined<'a>(
     push_all(tokens, more)
 }
 
-/// Whether these bytes continue the last token, whose kind is the kind of its spelling if `whole`.
+/// Returns whether these bytes continue the last token, whose kind is the kind of its spelling if `whole`.
 fn is_carried_on(last: &Hidden, whole: bool, more: &[u8]) -> bool
     ensures whole { IsTrue result → IsTrue whole }
     ensures more { IsTrue result → CarriesOn last.now.token.kind last.now.token.text more.now }

@@ -134,7 +134,7 @@ fn by_four<'a, R: Threads + Sync>(
     Ok(together(shelf, one?, two?))
 }
 
-/// Whether two units have one content of the header, either one, and each unit its own file.
+/// Returns whether two units have one content of the header, either one, and each unit its own file.
 fn is_of_three_files(text: &[u8]) -> bool {
     text.len() == 32 && text[0] == text[16] && text[2] != text[18]
 }

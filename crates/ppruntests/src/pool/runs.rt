@@ -213,7 +213,7 @@ const TWO: Crew = Crew {
     keep: Keep::Whole,
 };
 
-/// Whether two workers meet at a place.
+/// Returns whether two workers meet at a place.
 fn two_meet<R: Threads + Sync + Abort>(
     rt: &R,
     alloc: Global,

@@ -27,7 +27,7 @@ fn list_of_unit(alloc: Global, members: &str) -> Result<List, ListFault> {
     read_list(alloc, text.as_bytes(), false, Hashing::fixed())
 }
 
-/// Whether a list of one unit has this budget and this profile.
+/// Returns whether a list of one unit has this budget and this profile.
 fn has_setting(list: &List, budget: Option<u64>, profile: Profile) -> bool {
     list.setting.budget == budget
         && list.setting.profile == profile
@@ -87,7 +87,7 @@ fn reads_a_list_and_prints_its_unit(rt: HostRuntime) -> Result<(), Fail> {
     Ok(())
 }
 
-/// Whether the contents are those of one file, `x`.
+/// Returns whether the contents are those of one file, `x`.
 fn are_x(contents: &[Vec<u8>]) -> bool {
     matches!(contents, [text] if text.as_slice() == b"x".as_slice())
 }

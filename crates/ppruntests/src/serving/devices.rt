@@ -88,12 +88,12 @@ impl Writer {
         self.bytes.bytes()
     }
 
-    /// Whether an allocation of the writer failed.
+    /// Returns whether an allocation of the writer failed.
     pub(crate) fn wants_memory(&self) -> bool {
         self.bytes.failed()
     }
 
-    /// Whether no call came after one that failed.
+    /// Returns whether no call came after one that failed.
     pub(crate) fn is_let_alone(&self) -> bool {
         self.calls <= self.limits.fails_at
     }

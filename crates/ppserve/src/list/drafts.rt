@@ -242,7 +242,7 @@ fn file_from(alloc: Global, value: &Value, inline: bool) -> Result<DraftFile, Li
     Ok(DraftFile { name, content })
 }
 
-/// Whether the value is an object that has only members of a file.
+/// Returns whether the value is an object that has only members of a file.
 fn is_file_object(value: &Value, inline: bool) -> bool
     ensures { result ≡ shape.is_object_of (shape.file_members inline) (view value.now) }
 {
@@ -376,7 +376,7 @@ fn texts_from(alloc: Global, items: &[Value]) -> Result<Texts, ListFault>
     Ok(Texts::new(texts))
 }
 
-/// Whether the value is an object that has no members but these.
+/// Returns whether the value is an object that has no members but these.
 fn is_object_of(value: &Value, names: &[&str]) -> bool
     ensures { result ≡ shape.is_object_of (map (λ n. n.now) names.now) (view value.now) }
 {
@@ -386,14 +386,14 @@ fn is_object_of(value: &Value, names: &[&str]) -> bool
     }
 }
 
-/// Whether the names of all members are among `names`.
+/// Returns whether the names of all members are among `names`.
 fn has_only(members: &Map<String, Value>, names: &[&str]) -> bool
     ensures { result ≡ shape.has_only (map (λ n. n.now) names.now) (members_view members.now.entries) }
 {
     members.keys().all(|key| is_among(key.as_str(), names))
 }
 
-/// Whether the text is one of `names`.
+/// Returns whether the text is one of `names`.
 fn is_among(text: &str, names: &[&str]) -> bool
     ensures { result ≡ shape.has_text text.now (map (λ n. n.now) names.now) }
 {

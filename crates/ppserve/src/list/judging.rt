@@ -142,7 +142,7 @@ fn file_rows(alloc: Global, index: &Index, units: &[DraftUnit]) -> Result<Vec<us
     Ok(rows)
 }
 
-/// Whether there are at most 65,535 files and units, and no content or definitions are too large.
+/// Returns whether there are at most 65,535 files and units, and no content or definitions are too large.
 fn sizes_hold(draft: &Draft) -> bool
     ensures { result ≡ spec.sizes_hold draft.now }
 {
@@ -154,7 +154,7 @@ fn sizes_hold(draft: &Draft) -> bool
         && commands_fit(units)
 }
 
-/// Whether no content is too large.
+/// Returns whether no content is too large.
 fn contents_fit(files: &[DraftFile]) -> bool
     ensures { result ≡ spec.contents_fit files.now }
 {
@@ -163,14 +163,14 @@ fn contents_fit(files: &[DraftFile]) -> bool
         .all(|file| file.content.as_slice().len() <= LONGEST)
 }
 
-/// Whether the definitions of no unit are too large.
+/// Returns whether the definitions of no unit are too large.
 fn commands_fit(units: &[DraftUnit]) -> bool
     ensures { result ≡ spec.commands_fit units.now }
 {
     units.iter().all(|unit| command_fits(&unit.defines))
 }
 
-/// Whether the definitions of a unit aren't too large.
+/// Returns whether the definitions of a unit aren't too large.
 fn command_fits(defines: &Texts) -> bool
     ensures { result ≡ nat_le (length (command_text defines.now)) longest }
 {
@@ -189,7 +189,7 @@ fn profile_named(text: &str) -> Option<Profile>
     }
 }
 
-/// Whether a list may have this budget: none, or an integer of at most 32 bits.
+/// Returns whether a list may have this budget: none, or an integer of at most 32 bits.
 fn is_budget(budget: &DraftBudget) -> bool
     ensures { result ≡ spec.is_budget budget.now }
 {
@@ -320,21 +320,21 @@ fn split_files(
     Ok((Texts::new(names), Contents::new(contents)))
 }
 
-/// Whether date and time have their formats.
+/// Returns whether date and time have their formats.
 fn times_hold(setting: &DraftSetting) -> bool
     ensures { result ≡ spec.times_hold setting.now }
 {
     is_date(setting.date.as_str().as_bytes()) && is_time(setting.time.as_str().as_bytes())
 }
 
-/// Whether each definition of each unit is one line.
+/// Returns whether each definition of each unit is one line.
 fn lines_hold(units: &[DraftUnit]) -> bool
     ensures { result ≡ spec.lines_hold units.now }
 {
     units.iter().all(|unit| are_lines(&unit.defines))
 }
 
-/// Whether each text is one line.
+/// Returns whether each text is one line.
 fn are_lines(texts: &Texts) -> bool
     ensures { result ≡ list_all form.is_one_line texts.now }
 {
@@ -344,21 +344,21 @@ fn are_lines(texts: &Texts) -> bool
         .all(|text| is_one_line(text.as_bytes()))
 }
 
-/// Whether all search paths are directory names.
+/// Returns whether all search paths are directory names.
 fn folders_hold(draft: &Draft) -> bool
     ensures { result ≡ spec.folders_hold draft.now }
 {
     are_folders(&draft.setting.search) && units_search_folders(draft.units.as_slice())
 }
 
-/// Whether the search paths of all units are directory names.
+/// Returns whether the search paths of all units are directory names.
 fn units_search_folders(units: &[DraftUnit]) -> bool
     ensures { result ≡ list_all (λ u. list_all shelf_spec.is_folder u.search) units.now }
 {
     units.iter().all(|unit| are_folders(&unit.search))
 }
 
-/// Whether all texts are directory names.
+/// Returns whether all texts are directory names.
 fn are_folders(texts: &Texts) -> bool
     ensures { result ≡ list_all shelf_spec.is_folder texts.now }
 {

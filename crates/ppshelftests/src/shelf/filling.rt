@@ -32,7 +32,7 @@ fn a_fill_reads_what_a_look_has_kept(rt: HostRuntime) -> Result<(), Fail> {
     Ok(assert_new(&rt, &shelf, &disk, &[(0, Some("1\n"))])?)
 }
 
-/// Whether each content is short enough for a row.
+/// Returns whether each content is short enough for a row.
 fn are_short(contents: &[Vec<u8>]) -> bool
     ensures { result ≡ true → (row : ℕ) → row < length contents.now → length (bytes_at contents.now row) ≤ longest }
 {

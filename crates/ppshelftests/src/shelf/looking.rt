@@ -115,12 +115,12 @@ fn all_open<'a>(
     Ok(open)
 }
 
-/// Whether a content has these bytes, a number and its new-line.
+/// Returns whether a content has these bytes, a number and its new-line.
 fn is_number(loaded: &Loaded<Counting>, text: &str) -> bool {
     lines_in(loaded) == Some(Ok((1, None))) && loaded.bytes() == Some(text.as_bytes())
 }
 
-/// Whether three contents are the first numbers.
+/// Returns whether three contents are the first numbers.
 fn are_numbers(open: &[&Loaded<Counting>]) -> bool {
     match open {
         [one, two, three] => {
@@ -145,7 +145,7 @@ fn contents_outlive_later_looks(rt: HostRuntime) -> Result<(), Fail> {
     Ok(assert_outlive(&rt, alloc, &shelf)?)
 }
 
-/// Whether two passes observe the same content of the first row.
+/// Returns whether two passes observe the same content of the first row.
 fn share_first<'a>(
     shelf: &'a Shelf<Counting>,
     one: &mut Pass<'a, Counting>,

@@ -23,7 +23,7 @@ fn direct_again<'a>(
     Ok(answer)
 }
 
-/// Whether a line gives a name this definition, or returns the fault with this number and leaves the definition.
+/// Returns whether a line gives a name this definition, or returns the fault with this number and leaves the definition.
 fn is_wanted(
     answer: &Result<(), Fault>,
     name: &str,

@@ -174,7 +174,7 @@ fn replaced<'x, 'a: 'x>(
     }
 }
 
-/// Whether a token's expansion location is that of the macro name, and its hide set contains the added names `b` and `f`.
+/// Returns whether a token's expansion location is that of the macro name, and its hide set contains the added names `b` and `f`.
 fn is_gained(rt: &impl Abort, sets: &HideSets, hidden: &Hidden) -> bool {
     is_hidden_by(rt, sets, hidden, b"f")
         && is_hidden_by(rt, sets, hidden, b"b")

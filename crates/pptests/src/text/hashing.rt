@@ -4,7 +4,7 @@ use pptext::{Hashing, half_word};
 use std::hash::BuildHasher;
 use std::test::Fail;
 
-/// Whether two hash functions agree on a text of `len` bytes.
+/// Returns whether two hash functions agree on a text of `len` bytes.
 fn agree(left: Hashing, right: Hashing, len: usize) -> bool {
     let text = &b"a name that is longer than four words"[..len.min(37)];
     left.hash_one(text) == right.hash_one(text)

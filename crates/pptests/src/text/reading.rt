@@ -285,7 +285,7 @@ const LEXED: &[(&[u8], Option<Kind>, usize)] = &[
     (b"\x00", Some(Kind::Other), 1),
 ];
 
-/// Whether the first `len` bytes of a text are one token of this kind, or none, and no longer prefix is one.
+/// Returns whether the first `len` bytes of a text are one token of this kind, or none, and no longer prefix is one.
 fn is_longest(text: &[u8], kind: Option<Kind>, len: usize) -> bool {
     for longer in len..text.len() {
         if relex(&text[..=longer]).is_some() {

@@ -59,7 +59,7 @@ fn tells_what_tokens_are(rt: HostRuntime) -> Result<(), Fail> {
     Ok(())
 }
 
-/// Whether a fault has this text and the location of the tests.
+/// Returns whether a fault has this text and the location of the tests.
 fn is_fault(fault: &Fault, text: &[u8]) -> bool {
     fault.number == 8 && fault.at == AT && fault.text.as_bytes() == text
 }
@@ -83,7 +83,7 @@ fn makes_lists_faults_and_outcomes(rt: HostRuntime) -> Result<(), Fail> {
     Ok(())
 }
 
-/// Whether a spelling of these bytes is stored in the value itself, without an allocation.
+/// Returns whether a spelling of these bytes is stored in the value itself, without an allocation.
 fn stands_in_place(spelling: &Spelling, bytes: &[u8]) -> bool {
     match spelling.in_place() {
         Some((room, len)) => &room[..len] == bytes,

@@ -7,7 +7,7 @@ use ppunit::{is_date, is_one_line, is_time, setting_ok, unit_ok};
 use std::alloc::Global;
 use std::test::Fail;
 
-/// Whether a unit for this file is valid, and has the profile that it was made with.
+/// Returns whether a unit for this file is valid, and has the profile that it was made with.
 fn is_good_unit(
     alloc: Global,
     shelf: &Shelf<MemoryDisk>,

@@ -52,7 +52,7 @@ fn pass_newline<'a>(place: &mut Place, bytes: &'a [u8]) -> &'a [u8]
     }
 }
 
-/// Whether a line ends among the bytes.
+/// Returns whether a line ends among the bytes.
 #[inline(always)]
 fn has_newline(bytes: &[u8]) -> bool
     ensures { result ≡ false → (k : ℕ) → k < length bytes.now → slice_index bytes.now k ≢ 10 }

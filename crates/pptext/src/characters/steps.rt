@@ -24,7 +24,7 @@ pub(crate) fn unmarked(bytes: &[u8]) -> &[u8]
     }
 }
 
-/// Whether the bytes end in a line without an LF.
+/// Returns whether the bytes end in a line without an LF.
 pub(crate) fn has_open_end(bytes: &[u8]) -> bool
     ensures { result ≡ open_end bytes.now }
 {

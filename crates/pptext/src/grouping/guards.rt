@@ -12,21 +12,21 @@ use crate::directives::{Role, role_of};
 use crate::sources::Line;
 use crate::tokens::Token;
 
-/// Whether the token has this spelling.
+/// Returns whether the token has this spelling.
 fn is_named(token: &Token, text: &[u8]) -> bool
     ensures { result ≡ bytes_eq token.now.text text.now }
 {
     token.text.as_bytes() == text
 }
 
-/// Whether the tokens are `if ! defined`.
+/// Returns whether the tokens are `if ! defined`.
 fn is_not_defined(name: &Token, not: &Token, defined: &Token) -> bool
     ensures { result ≡ is_not_defined name.now not.now defined.now }
 {
     is_named(name, b"if") && is_named(not, b"!") && is_named(defined, b"defined")
 }
 
-/// Whether the tokens are `(` and `)`.
+/// Returns whether the tokens are `(` and `)`.
 fn are_parentheses(left: &Token, right: &Token) -> bool
     ensures { result ≡ are_parentheses left.now right.now }
 {
@@ -73,7 +73,7 @@ fn guard_index(tokens: &[Token], line: Line) -> Option<usize>
     Some(line.start + index)
 }
 
-/// Whether the line at this index is an `#endif` and no token of the file follows it.
+/// Returns whether the line at this index is an `#endif` and no token of the file follows it.
 fn ends_file(tokens: &[Token], lines: &[Line], last: usize) -> bool
     requires { last < length lines.now }
     ensures { (d : Line) → IsTrue result ↔ (line_role (slice_index_or lines.now last d) ≡ Closes) × ((slice_index_or lines.now last d).end ≡ length tokens.now) }
@@ -85,7 +85,7 @@ fn ends_file(tokens: &[Token], lines: &[Line], last: usize) -> bool
     }
 }
 
-/// Whether the if-section that the line at this index opens has no other branch, and no token follows it.
+/// Returns whether the if-section that the line at this index opens has no other branch, and no token follows it.
 fn closes_file(tokens: &[Token], lines: &[Line], at: usize) -> bool
     requires are_lines { AreLines tokens.now lines.now }
     requires within { at < length lines.now }

@@ -37,14 +37,14 @@ pub(crate) enum Quoted {
     Lone(usize),
 }
 
-/// Whether the byte is a prefix of one letter: u, U or L.
+/// Returns whether the byte is a prefix of one letter: u, U or L.
 fn is_prefix(c: u8) -> bool
     ensures { IsTrue result ↔ (c ≡ 117) ⊎ ((c ≡ 85) ⊎ (c ≡ 76)) }
 {
     c == b'u' || c == b'U' || c == b'L'
 }
 
-/// Whether the byte may begin a literal: a quote, or the letter of a prefix.
+/// Returns whether the byte may begin a literal: a quote, or the letter of a prefix.
 pub(crate) fn may_open_literal(c: u8) -> bool
     ensures { IsTrue result ↔ (c ≡ 39) ⊎ ((c ≡ 34) ⊎ ((c ≡ 117) ⊎ ((c ≡ 85) ⊎ (c ≡ 76)))) }
 {
@@ -98,7 +98,7 @@ fn str_opening_len(text: &[u8]) -> usize
     0
 }
 
-/// Whether `u8` and a quote open the text.
+/// Returns whether `u8` and a quote open the text.
 fn opens_u8(text: &[u8]) -> bool
     ensures { IsTrue result
         ↔ (3 ≤ length text.now)
@@ -179,7 +179,7 @@ fn literal_len(text: &[u8], opening: usize, quote: u8, left: &mut usize) -> usiz
     }
 }
 
-/// Whether this byte begins the text.
+/// Returns whether this byte begins the text.
 fn begins_with_byte(text: &[u8], c: u8) -> bool
     ensures { IsTrue result ↔ (0 < length text.now) × (slice_index text.now 0 ≡ c) }
 {

@@ -5,28 +5,28 @@ ghost use Rattle.pptext.specs.Spellings.{is_digit, is_exponent, is_sign, IsNumbe
 
 use super::{is_digit, nondigit_len};
 
-/// Whether the byte is e, E, p or P.
+/// Returns whether the byte is e, E, p or P.
 pub(super) fn is_exponent(c: u8) -> bool
     ensures { result ≡ is_exponent c }
 {
     c == b'e' || c == b'E' || c == b'p' || c == b'P'
 }
 
-/// Whether the byte is a sign.
+/// Returns whether the byte is a sign.
 pub(super) fn is_sign(c: u8) -> bool
     ensures { result ≡ is_sign c }
 {
     c == b'+' || c == b'-'
 }
 
-/// Whether the byte is a digit or a period.
+/// Returns whether the byte is a digit or a period.
 fn is_digit_or_period(c: u8) -> bool
     ensures { result ≡ (is_digit c || c == 46) }
 {
     is_digit(c) || c == b'.'
 }
 
-/// Whether an exponent's letter and a sign begin the text.
+/// Returns whether an exponent's letter and a sign begin the text.
 fn begins_with_exponent(text: &[u8]) -> bool
     ensures { IsTrue result
         ↔ (2 ≤ length text.now)
@@ -36,7 +36,7 @@ fn begins_with_exponent(text: &[u8]) -> bool
     text.len() >= 2 && is_exponent(text[0]) && is_sign(text[1])
 }
 
-/// Whether a period and a digit begin the text.
+/// Returns whether a period and a digit begin the text.
 fn begins_with_fraction(text: &[u8]) -> bool
     ensures { IsTrue result
         ↔ (2 ≤ length text.now)
