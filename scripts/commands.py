@@ -79,7 +79,7 @@ class Command:
                 yield option, next(words, "") if tail is None else tail
             elif kind == "asked":
                 self.ask(word)
-            elif kind == "word behind":
+            elif kind == "skips a word":
                 self.ask(word, next(words, ""))
             elif kind == "not read":
                 self.said.add("%s: %s isn't read" % (self.file, word))
@@ -152,7 +152,7 @@ class Command:
 
 @functools.lru_cache(maxsize=65536)
 def option_of(word):
-    """What is done with a command's word; of an option that is read, its name and what stands behind it, None where that is the next word."""
+    """What is done with a command's word, the option's name, and its value if it has one; None if the value is the next word."""
     head, sign, tail = word.partition("=")
     if head in LONG:
         return "read", LONG[head], tail if sign else None
@@ -161,7 +161,7 @@ def option_of(word):
     if word.startswith(NOT_READ):
         return "not read", word, None
     if word in WORD_BEHIND:
-        return "word behind", word, None
+        return "skips a word", word, None
     if ASKING.fullmatch(word):
         return "asked", word, None
     option = max((option for option in READ if word.startswith(option)), key=len, default=None)
