@@ -79,7 +79,7 @@ class Command:
                 yield option, next(words, "") if tail is None else tail
             elif kind == "asked":
                 self.ask(word)
-            elif kind == "word behind":
+            elif kind == "skips a word":
                 self.ask(word, next(words, ""))
             elif kind == "not read":
                 self.said.add("%s: %s isn't read" % (self.file, word))
@@ -100,7 +100,7 @@ class Command:
     def take(self, option, word):
         if option in FOLDERS:
             folder = at(self.directory, word)
-            if os.path.isdir(folder):
+            if is_folder(folder):
                 self.said.same(os.path.join(self.directory, word), folder)
                 self.folders[FOLDERS[option]].append(folder)
                 if not os.path.isabs(word):
@@ -152,7 +152,7 @@ class Command:
 
 @functools.lru_cache(maxsize=65536)
 def option_of(word):
-    """What is done with a command's word; of an option that is read, its name and what stands behind it, None where that is the next word."""
+    """What is done with a command's word, the option's name, and its value if it has one; None if the value is the next word."""
     head, sign, tail = word.partition("=")
     if head in LONG:
         return "read", LONG[head], tail if sign else None
@@ -161,7 +161,7 @@ def option_of(word):
     if word.startswith(NOT_READ):
         return "not read", word, None
     if word in WORD_BEHIND:
-        return "word behind", word, None
+        return "skips a word", word, None
     if ASKING.fullmatch(word):
         return "asked", word, None
     option = max((option for option in READ if word.startswith(option)), key=len, default=None)
@@ -188,12 +188,17 @@ def once(folders):
 
 
 @functools.lru_cache(maxsize=None)
-def place(folder):
-    """What tells a folder from others, whatever its name."""
+def is_folder(path):
+    return os.path.isdir(path)
+
+
+@functools.lru_cache(maxsize=None)
+def place(path):
+    """What tells a folder or a file from others, whatever its name."""
     try:
-        found = os.stat(folder)
+        found = os.stat(path)
     except OSError:
-        return folder
+        return path
     return found.st_dev, found.st_ino
 
 
@@ -239,6 +244,7 @@ def defined_name(text):
     return re.match(r"[^\s(=]*", text)[0]
 
 
+@functools.lru_cache(maxsize=65536)
 def at(directory, word):
     return os.path.normpath(os.path.join(directory, word))
 
@@ -300,5 +306,5 @@ class Said:
 
     def same(self, asked, taken):
         """`..` goes back by names here, and by folders on a disk: they differ behind a symbolic link."""
-        if ".." in asked and os.path.realpath(asked) != os.path.realpath(taken):
+        if ".." in asked and place(asked) != place(taken) and os.path.realpath(asked) != os.path.realpath(taken):
             self.add("%s: behind a symbolic link; %s is taken" % (asked, taken))

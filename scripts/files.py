@@ -2,13 +2,13 @@
 import os
 import re
 
-from commands import at, unique
+from commands import PREDEFINED, at, unique
 
 HEADERS = (".h", ".hh", ".hpp", ".hxx", ".inc", ".inl", ".def", ".tbl", ".ipp", ".x")
 COMMENT = rb"/\*[^*]*\*+(?:[^/*][^*]*\*+)*/"
 BLANK = rb"(?:[ \t\v\f\r]|" + COMMENT + rb")*"
 INCLUDE = re.compile(rb"[#%]:?" + BLANK + rb"include(_next)?(?![\w$])" + BLANK
-                     + rb"(?:\"([^\"\n]+)\"|<([^>\n]+)>|([A-Za-z_$\\\x80-\xff]))")
+                     + rb"(?:\"([^\"\n]+)\"|<([^>\n]+)>|([A-Za-z_$\\\x80-\xff][\w$\\\x80-\xff]*))")
 ASKED = re.compile(rb"\b__has_include" + BLANK + rb"\(" + BLANK + rb"(?:\"([^\"\n]+)\"|<([^>\n]+)>)")
 NEXT = re.compile(rb"\b__has_include_next" + BLANK + rb"\(" + BLANK + rb"(?:\"([^\"\n]+)\"|<([^>\n]+)>)")
 # what stands before it in a condition that is false wherever none of some names is a macro
@@ -33,7 +33,7 @@ class Files:
     def __init__(self, said, gnu, every=False):
         self.said, self.gnu, self.every = said, gnu, every
         self.lines, self.there, self.below, self.operators, self.nexts = {}, {}, {}, {}, {}
-        self.missing, self.settled, self.shadows = set(), {}, {}
+        self.missing, self.settled, self.shadows, self.defines = set(), {}, {}, {}
 
     def is_file(self, path):
         if path not in self.there:
@@ -43,13 +43,12 @@ class Files:
     def includes(self, path):
         """The include lines of a file: each its form and its name."""
         if path not in self.lines:
-            text = content(path)
-            if b"\\\n" in text or b"\\\r\n" in text or b"??" in text:
-                text = SPLICE.sub(b"", text).replace(b"??=", b"#")
+            text = joined_lines(content(path))
             found = include_lines(text, self.gnu) if b"include" in text else []
-            if (COMPUTED, "") in found and (COMPUTED, "") not in include_lines(PASSED.sub(uncommented, text), self.gnu):
-                # it stands in a comment, which takes longer to see
-                found.remove((COMPUTED, ""))
+            if any(form == COMPUTED for form, _ in found):
+                # it may stand in a comment, which takes longer to see
+                seen = include_lines(PASSED.sub(uncommented, text), self.gnu)
+                found = [pair for pair in found if pair[0] != COMPUTED or pair in seen]
             if self.gnu and b"__has_include" in text:
                 found += [(EACH, os.fsdecode(asked[1] or asked[2])) for asked in ASKED.finditer(text)]
             self.lines[path] = unique(found)
@@ -58,9 +57,21 @@ class Files:
                 self.nexts[path] = unique((os.fsdecode(asked[1] or asked[2]), names_before(text, asked.start())) for asked in NEXT.finditer(text))
         return self.lines[path]
 
-    def computes(self, path):
-        """Whether a macro makes the name of an include line of this file."""
-        return (COMPUTED, "") in self.includes(path)
+    def computed_by(self, path):
+        """The macros that make the names of include lines of this file."""
+        return {name for form, name in self.includes(path) if form == COMPUTED}
+
+    def defined_of(self, names, paths):
+        """Those of some names that these files define, with those that are always macros and those that are written in another way."""
+        found = {name for name in names if name in PREDEFINED or not name.isascii() or "\\" in name}
+        words = [os.fsencode(name) for name in sorted(names)]
+        word = re.compile(rb"\bdefine" + BLANK + b"(%s)(?![\\w$])" % b"|".join(map(re.escape, words)))
+        for path in paths:
+            if (path, word) not in self.defines:
+                text = joined_lines(content(path))
+                self.defines[path, word] = {os.fsdecode(name) for name in word.findall(text)} if any(name in text for name in words) else set()
+            found |= self.defines[path, word]
+        return found
 
     def next_answers(self, paths, search, defined):
         """What `__has_include_next` is where these files ask it: whether a folder after the file's has the name.
@@ -107,16 +118,28 @@ class Files:
                 found.append(path)
         return found
 
-    def reach(self, starts, search, quotes):
-        """The files that some files reach over these folders, with themselves, in the order of finding."""
-        reached, looked = dict.fromkeys(starts), Looked(self, search, quotes)
+    def reach(self, starts, looked):
+        """The files that some files reach over a search, with themselves, in the order of finding."""
+        reached, passed = dict.fromkeys(starts), set()
         waiting = list(reversed(list(reached)))
         while waiting:
             path = waiting.pop()
-            fresh = [found for found in unique(looked.asked_for(path)) if found not in reached]
+            fresh = [found for found in unique(looked.asked_for(path, passed)) if found not in reached]
             reached.update(dict.fromkeys(fresh))
             waiting += reversed(fresh)
         return list(reached)
+
+    def above(self, paths, wanted, looked):
+        """Those of some files from which one of the wanted is reached, and these."""
+        includers, reached, waiting = {}, set(wanted), list(wanted)
+        for path in paths if waiting else ():
+            for found in looked.asked_for(path):
+                includers.setdefault(found, []).append(path)
+        while waiting:
+            fresh = [path for path in includers.get(waiting.pop(), ()) if path not in reached]
+            reached.update(fresh)
+            waiting += fresh
+        return reached
 
     def say_shadow(self, path, name, found):
         """A name in angle brackets is looked for in -iquote folders, too, as a list has one kind of folder."""
@@ -145,18 +168,20 @@ class Looked:
     """What names are found as over one search: each name looked for once, and beside each folder of an includer once."""
 
     def __init__(self, files, search, quotes):
-        self.files, self.search, self.quotes, self.done, self.said = files, search, quotes, set(), files.said
+        self.files, self.search, self.quotes, self.known, self.said = files, search, quotes, {}, files.said
 
-    def asked_for(self, path):
-        """The files that a file's include lines can ask for, but for those that the same lines of others gave."""
+    def asked_for(self, path, passed=None):
+        """The files that a file's include lines can ask for, but for those of lines that were passed."""
         own = os.path.dirname(path)
         for form, name in self.files.includes(path):
-            key = (form, name) if form == ANGLE else (form, name, own)
-            if form == COMPUTED:
-                yield from self.computed(path, own)
-            elif key not in self.done:
-                self.done.add(key)
-                yield from self.named(path, own, form, name)
+            key = (form, name) if form == ANGLE else (form, path) if form == COMPUTED else (form, name, own)
+            if passed is not None:
+                if key in passed:
+                    continue
+                passed.add(key)
+            if key not in self.known:
+                self.known[key] = list(self.computed(path, own) if form == COMPUTED else self.named(path, own, form, name))
+            yield from self.known[key]
 
     def computed(self, path, own):
         """The files of a name that a macro makes: every header, or those of the names that are known."""
@@ -207,6 +232,13 @@ def content(path):
         return b""
 
 
+def joined_lines(text):
+    """A text whose lines that end in a backslash are joined with the next, and whose trigraphs for # are replaced."""
+    if b"\\\n" in text or b"\\\r\n" in text or b"??" in text:
+        return SPLICE.sub(b"", text).replace(b"??=", b"#")
+    return text
+
+
 def joined(folder, name):
     """The path of a name below a folder, in normal form."""
     return at(folder, name) if "//" in name or "./" in name or folder == "/" else "%s/%s" % (folder, name)
@@ -223,15 +255,15 @@ def include_lines(text, gnu):
 
 
 def form_and_name(found, gnu):
-    """An include line's form and name; a name that a macro makes is empty.  `#include_next` may find each file of its name."""
-    following, quoted, angled, _ = found.groups()
+    """An include line's form and name, or the macro that makes the name.  `#include_next` may find each file of its name."""
+    following, quoted, angled, macro = found.groups()
     if following is not None:
         if not gnu:
             return None
-        return (COMPUTED, "") if quoted is None and angled is None else (EACH, os.fsdecode(quoted or angled))
+        return (COMPUTED, os.fsdecode(macro)) if macro is not None else (EACH, os.fsdecode(quoted or angled))
     if quoted is not None:
         return QUOTE, os.fsdecode(quoted)
-    return (ANGLE, os.fsdecode(angled)) if angled is not None else (COMPUTED, "")
+    return (ANGLE, os.fsdecode(angled)) if angled is not None else (COMPUTED, os.fsdecode(macro))
 
 
 def names_before(text, start):

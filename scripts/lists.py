@@ -4,7 +4,7 @@ import time
 
 from commands import defined_name, is_name, unique
 from common import GENERATED, Refused, compact, written
-from files import Files
+from files import Files, Looked
 
 MOST_NAMES, MOST_INPUT, MOST_FILE = 65535, 268435456, 16777216
 MONTHS = "Jan Feb Mar Apr May Jun Jul Aug Sep Oct Nov Dec".split()
@@ -32,12 +32,14 @@ class Builder:
         self.asked, self.said, self.given = asked, said, given
         self.files = Files(said, asked.profile == "gnu", every)
         self.made, self.root, self.paths, self.computing, self.searches, self.nexts = {}, None, [], set(), {}, {}
+        # the names of each search's folders below the root
+        self.folders = {}
         # units whose files may say different things of `__has_include_next`, and what is taken for those that were run
         self.several, self.taken = [], {}
 
     def build(self, all_commands):
         """The rows of all files that were gathered, and these commands with their units."""
-        self.made = {}
+        self.made, self.folders = {}, {}
         self.root = os.path.abspath(self.asked.root) if self.asked.root else self.common(self.paths, all_commands)
         names = {path: name for path in self.paths if (name := self.name(path)) is not None}
         pairs = [(command, unit) for command in all_commands if (unit := self.unit(command, names)) is not None]
@@ -56,27 +58,38 @@ class Builder:
             groups.setdefault(self.search(command), []).append(command)
         self.computing = set()
         for (search, quotes), members in groups.items():
-            found = self.files.reach([path for command in members for path in self.starts(command)], search, quotes)
+            looked = Looked(self.files, search, quotes)
+            found = self.files.reach([path for command in members for path in self.starts(command)], looked)
             reached.update(dict.fromkeys(found))
-            if any(map(self.files.computes, found)):
-                self.computing.update(members)
             if self.files.every:
-                self.note_next(members, found, search, quotes)
+                self.computing.update(self.computing_of(members, found, looked))
+                self.note_next(members, found, looked)
         self.files.say_shadows(reached)
         self.paths = list(reached)
+
+    def computing_of(self, members, found, looked):
+        """The units that reach an include line whose name is made by a macro that some file or command defines."""
+        macros = {path: names for path in found if (names := self.files.computed_by(path))}
+        if not macros:
+            return []
+        names = set().union(*macros.values())
+        defined = self.files.defined_of(names, found).union(*(names & self.macros(command) for command in members))
+        above = self.files.above(found, [path for path, own in macros.items() if own & defined], looked)
+        return [command for command in members if not above.isdisjoint(self.starts(command))]
 
     def starts(self, command):
         """A unit's file, and those that are included first."""
         return [command.file, *(path for word in command.includes if (path := self.first_of(command, word)) is not None)]
 
-    def note_next(self, members, found, search, quotes):
+    def note_next(self, members, found, looked):
         """Notes what `__has_include_next` is for units over one search, for each by itself where files differ."""
         if not self.files.nexts:
             return
+        search = looked.search
         answers = self.files.next_answers(found, search, set().union(*map(self.macros, members)))
         for command in members:
             if len(answers) > 1:
-                own = self.files.next_answers(self.files.reach(self.starts(command), search, quotes), search, self.macros(command))
+                own = self.files.next_answers(self.files.reach(self.starts(command), looked), search, self.macros(command))
             else:
                 own = answers
             self.nexts[command] = next(iter(own)) if len(own) == 1 else self.taken.get(command)
@@ -130,10 +143,12 @@ class Builder:
             return None
         first = [self.included_first(command, word, names) for word in command.includes]
         first = [name for name in first if name is not None]
-        folders = [self.folder(folder) for folder in self.search(command)[0]]
+        search = self.search(command)[0]
+        if search not in self.folders:
+            self.folders[search] = [name for folder in search if (name := self.folder(folder)) is not None]
         return {"file": self.made_of(file, tuple(first), command) if first else file,
                 "define": self.defined(command),
-                "search": [folder for folder in folders if folder is not None]}
+                "search": self.folders[search]}
 
     def defined(self, command):
         """A command's definitions, and before them those for all units, but for names of which the command says more."""

@@ -165,7 +165,7 @@ class Lacking:
 
     def asked(self, command, found):
         """What was found may not be what is first: each file that was read may be of a name that a macro made."""
-        includers = [path for path in found if path in self.files.lines and self.files.computes(path)]
+        includers = [path for path in found if path in self.files.lines and self.files.computed_by(path)]
         if not includers:
             return []
         search = self.builder.search(command)[0]

@@ -287,6 +287,25 @@ class Lists(Builds):
         self.check(commands, [["first", "second%d" % n, "third%d" % (n // 2)] for n in range(3)],
                    ["a.c", "both.h", "inc/first.h", "inc/second0.h", "inc/second1.h", "inc/second2.h", "inc/third0.h", "inc/third1.h"])
 
+    def test_units_that_are_run_for_names_that_macros_make(self):
+        """Those that reach such a line alone, and none where nothing defines its macro."""
+        self.compiler("bin/cppunits", "#!/bin/sh\ncat > %(top)s/given\necho $(grep -o '\"file\":\"[^\"]*' %(top)s/given) >> %(top)s/runs\n"
+                                      "exec '" + program() + "' \"$@\" < %(top)s/given\n")
+        write(self.top, {"a.c": "#include <one.h>\n", "b.c": "#include <two.h>\n", "inc/one.h": "#include \"low.h\"\n", "inc/two.h": "two\n",
+                         "inc/low.h": "#ifdef LOW\n#include LOW\n#endif\n", "inc/named.h": "named\n"})
+        both = [("gcc -Iinc %s-c a.c", "a.c"), ("gcc -Iinc %s-c b.c", "b.c")]
+        define = "#if 0\n#define /* */ \\\n LOW <named.h>\n#endif\n"
+        for text, option, wanted, runs in (("", "", ["one.h"], []), ("", "'-DLOW=<named.h>' ", ["named"], ["a.c", "a.c"]),
+                                           (define[6:-7], "", ["named"], ["a.c", "a.c"]), (define, "", [], ["a.c"]),
+                                           ("#define LOWER 1\n", "", [], [])):
+            write(self.top, {"a.c": text + "#include <one.h>\n"})
+            found, _ = self.tokens([(command % option, file) for command, file in both], "--program", self.path("bin/cppunits"))
+            self.assertEqual(found, [[word for word in wanted if word != "one.h"], ["two"]])
+            with open(self.path("runs")) as file:
+                lines = [re.findall(r'/(\w\.c)', line) for line in file.read().splitlines()]
+            os.unlink(self.path("runs"))
+            self.assertEqual(lines, [[name] for name in runs] + [["a.c", "b.c"]], text)
+
     def test_rounds_end(self):
         """A unit that asks for ever more."""
         files = {"inc/%d.h" % n: "#define N <%d.h>\n#include N\n#undef N\n" % (n + 1) for n in range(70)}
