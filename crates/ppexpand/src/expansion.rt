@@ -31,7 +31,7 @@ use ppmacro::{Definition, Expansion, Hidden, HideSets, Pattern, Table};
 use pptext::{Fault, Memory, Token};
 use std::alloc::{AllocError, Global};
 
-/// The deepest level of lists. A run of text is at level 0, an argument one level deeper than its invocation.
+/// The deepest level of a token list. A list given to `expand` is at level 0, an argument one level deeper than its invocation.
 ///
 /// Each level takes stack. So the functions on the way to the next level return small values and write results to their caller's variables,
 /// and the functions that do not lead there are not inlined into them.
@@ -40,7 +40,8 @@ const DEEPEST: u32 = 256;
 /// The initial capacity for tokens that are emitted one by one. It suffices for most runs of text.
 const ROOM: usize = 32;
 
-/// Emits the next tokens with hide sets up to one that may be replaced. Returns the macro that this token names, if it has a hide set.
+/// Emits the tokens that replacements pushed, up to the first that names a macro or is an unmatched quote. Returns the macro that this
+/// token names: `None` at a quote, or if no pushed token is left.
 fn skip_flying<'t, 'x, 'a>(
     table: &'t Table<'a>,
     list: &mut Cursor<'x>,
@@ -76,7 +77,7 @@ fn skip<'t, 'x, 'a>(
     Ok(named)
 }
 
-/// Returns whether each token is emitted unchanged, whatever its hide set is.
+/// Returns true only if each token is emitted unchanged, whatever its hide set is.
 #[inline(never)]
 fn all_pass(table: &Table, tokens: &[Hidden]) -> bool
     ensures { result ≡ true → ArePlain table.now.macros tokens.now }
@@ -101,7 +102,7 @@ fn raise_depth<'x>(
     Ok(None)
 }
 
-/// Returns the vectors of an invocation's arguments to the pool.
+/// Gives the vectors of an invocation's arguments back to the pool.
 #[inline(never)]
 fn keep_arguments<'x>(
     supply: &mut Supply<'x>,
@@ -145,14 +146,15 @@ fn argument_of<'c, 'x>(arguments: &'c [Vec<Hidden<'x>>], parameter: usize) -> &'
 struct Expander<'x> {
     /// The state of replacement.
     replacer: Replacer<'x>,
-    /// The rest of the budget; `None` means no budget.
+    /// The rest of the budget; `None` means no limit.
     left: Option<u64>,
     /// The fault that ended a list, if any.
     fault: Option<Fault>,
 }
 
 impl<'x> Expander<'x> {
-    /// Makes one expansion step of a list, whose next token names the macro `named`. Returns whether the list goes on.
+    /// Begins an expansion step of a list. `named` is the macro that the next token names, if any. Returns whether the expansion of the
+    /// list goes on.
     ///
     /// Appends emitted tokens to `passed` and removes what is done from `list`. An invocation of a function-like macro is only put in
     /// `call`: its arguments are still to be expanded. A fault that ends the list is stored.
@@ -328,7 +330,8 @@ impl<'x> Expander<'x> {
             .finish(call, &pattern, expanded, list, &mut self.fault)
     }
 
-    /// Makes one whole expansion step of a list, whose next token names the macro `named`. Returns whether the list goes on.
+    /// Makes one expansion step of a list, including the arguments of an invocation. `named` is the macro that the next token names, if
+    /// any. Returns whether the expansion of the list goes on.
     ///
     /// Appends emitted tokens to `passed` and removes what is done from `list`. A fault that ends the list is stored. `call` is storage for
     /// an invocation, so that it lies in the caller's frame.
@@ -402,7 +405,7 @@ pub struct Expanded<'a> {
     pub tokens: Run<'a>,
     /// The fault that ended the list, if any.
     pub fault: Option<Fault>,
-    /// The rest of the budget of replacements and file openings; `None` means no budget.
+    /// The rest of the budget of replacements and file openings; `None` means no limit.
     pub left: Option<u64>,
 }
 
@@ -474,7 +477,7 @@ fn expand_rest<'x, 'a: 'x>(
 /// location of the macro name:
 ///
 /// - 17: an invocation without its `)`;
-/// - 18: a wrong number of arguments, but a variable argument that may be absent is not counted;
+/// - 18: a wrong number of arguments (a variable argument that may be absent need not be given);
 /// - 19: `##` of two tokens that do not form a token;
 /// - 20: `#` of an argument that does not form a string literal;
 /// - 21: an argument to be expanded that is nested more than 256 levels deep.

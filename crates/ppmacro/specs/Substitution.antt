@@ -84,8 +84,9 @@ join_all left (right ∷ rest) used = after_ok (join left right used) (λ ts. jo
 
 -- ---- operands and chains
 
--- The arguments of an invocation, and the expansions of those that are used away from `#` and `##`. A variable argument that is
--- absent (gcc's manual, "Variadic Macros") isn't in `given`, so there is one argument fewer than parameters.
+-- The arguments of an invocation, and for each parameter its argument's expansion, or `None` if the replacement list uses it only
+-- next to `#` or `##`. A variable argument that is absent (gcc's manual, "Variadic Macros") isn't in `given`, which is then one
+-- shorter than the list of parameters.
 pub record Arguments : Type 0 where
   pub given : List (List Hiding)
   pub expanded : List (Option (List Hiding))
@@ -115,13 +116,13 @@ abbrev pub is_joined : List Operand → Bool
 is_joined (o ∷ p ∷ os) = true
 is_joined _ = false
 
--- The operands that `##` joins: all but a rest at the end.
+-- The operands that `##` joins: all but a variable argument after a comma at the end, which may be absent (`Rest`).
 abbrev pub before_rest : List Operand → List Operand
 before_rest [] = []
 before_rest (Rest i ∷ []) = []
 before_rest (o ∷ os) = o ∷ before_rest os
 
--- The argument index of the rest at the end.
+-- The index of this argument, if there is one at the end.
 abbrev pub rest_of : List Operand → Option ℕ
 rest_of [] = None
 rest_of (Rest i ∷ []) = Some i
@@ -140,7 +141,7 @@ abbrev pub with_rest_tokens : {X : Type 0} → List (List X) → Option ℕ → 
 with_rest_tokens given None ts = ts
 with_rest_tokens given (Some i) ts = rest_behind_comma (slice_get given i) ts
 
--- The tokens of a chain: each `#` first, then `##` from the left, then the rest.
+-- The tokens of a chain: first each `#`, then each `##` from the left, and last the variable argument after a comma at its end.
 abbrev pub chain_tokens : Arguments → Place → Chain → Result (List Hiding) Fault
 chain_tokens args used c =
     after_ok (operands_tokens (is_joined c.operands) args used (before_rest c.operands)) (λ lists.
@@ -161,7 +162,8 @@ abbrev pub mark_first : Bool → List Hiding → Marked
 mark_first mark [] = record { tokens = []; pending = mark }
 mark_first mark (t ∷ ts) = record { tokens = with_mark mark t ∷ ts; pending = false }
 
--- The tokens of chains. `first`: the next chain is the first of the replacement list, whose own flag doesn't count.
+-- The tokens of chains. `first`: the next chain is the first of the replacement list. White space before it isn't part of the list
+-- (6.10.3), so its own flag doesn't count.
 abbrev pub chains_tokens : Arguments → Place → Bool → Bool → List Chain → Result Marked Fault
 chains_tokens args used pending first [] = Ok (record { tokens = []; pending = pending })
 chains_tokens args used pending first (c ∷ cs) =
@@ -174,7 +176,7 @@ chains_tokens args used pending first (c ∷ cs) =
 abbrev pub gained : HideSet → Place → Hiding → Hiding
 gained gain used t = record { token = record t.token { used = used }; hide = set.union t.hide gain }
 
--- The replacement by these chains with the pending flag, or the first of the faults 19 and 20.
+-- The replacement by these chains with the pending flag, or its first fault, 19 or 20.
 abbrev pub substituted_by : List Chain → Arguments → HideSet → Place → Bool → Result Marked Fault
 substituted_by cs args gain used space = after_ok (chains_tokens args used space true cs) (λ m. Ok (record m { tokens = map (gained gain used) m.tokens }))
 

@@ -70,7 +70,7 @@ pub struct List {
 /// The error of reading a list.
 #[derive(Debug, Drop, Error)]
 pub enum ListFault {
-    /// The bytes are refused, with the least number of a refusal that applies.
+    /// The bytes are refused, with the lowest refusal number that applies.
     #[error("list refused L{0}")]
     Bad(u8),
     /// An allocation failed.

@@ -1,4 +1,4 @@
-//! Serves a run: from the bytes of a list to the bytes of its output.
+//! Runs cppunits: reads the bytes of a list and writes the bytes of its output.
 ghost use Rattle.std.specs.Prelude.{◌≡◌, ◌⊎◌, ◌≤◌, ◌≢◌, ℕ, List as ListOf, Option, IfOk, IfErr, IsErrOf, length, true, false};
 ghost use Rattle.ppserve.specs.Contents.{StandIn, MayBe};
 ghost use Rattle.ppserve.specs.Listing.{IsRunnable};
@@ -23,7 +23,7 @@ use thiserror::Error;
 /// The error of a run: no output was written, or only a prefix of it.
 #[derive(Debug, Drop, Error)]
 pub enum RunFault {
-    /// The list is refused, with the least number of a refusal that applies.
+    /// The list is refused, with the lowest refusal number that applies.
     #[error("list refused L{0}")]
     List(u8),
     /// An allocation failed.
@@ -70,13 +70,13 @@ impl From<ListFault> for RunFault {
 const CHUNK: usize = 65_536;
 
 /// Reads a list that holds its files, runs translation phases 1 to 4 (5.1.1.2) of its units, and writes their output
-/// once all are done. Returns whether a unit has a fault. If the list has a budget, the output of a unit is a prefix of
-/// its output without one, and the whole of it exactly if the budget suffices.
+/// once all are done. Returns whether any unit has a fault. If the list has a budget, a unit's tokens, pragmas and
+/// dependencies are prefixes of those without one, and a unit for which it doesn't suffice ends in fault 35.
 /// `options.at_end` says whether the memory of files and outputs is freed.
 ///
 /// # Errors
 ///
-/// `List` with the least number of a refusal that applies, `Read` if the reader fails, and `Memory` if an allocation
+/// `List` with the lowest refusal number that applies, `Read` if the reader fails, and `Memory` if an allocation
 /// fails: nothing was written. `Write` if the writer fails: a prefix of the output was written.
 pub fn serve<T: Threads + Sync, R: Feed, W: Sink>(
     threads: &T,
@@ -147,8 +147,9 @@ fn hand_out_held<T: Threads + Sync, W: Sink>(
     answer
 }
 
-/// Reads a list of names and does what `serve` does. Workers read a file from the disk when it is first needed, and the
-/// content that is recorded first is the file's content for all units. Errors are those of `serve`.
+/// Does what `serve` does, for a list that names its files without holding them. Workers read a file from the disk when
+/// it is first needed, and the content that is recorded first is the file's content for all units. Errors are those of
+/// `serve`.
 pub fn serve_from<T: Threads + Sync, R: Feed, W: Sink, D: Disk + Send + Sync>(
     threads: &T,
     alloc: Global,

@@ -1,4 +1,4 @@
--- Translation phase 3 (5.1.1.2, 6.4): a text is tokenized into comments, white space, new-lines and tokens.
+-- Translation phase 3 (5.1.1.2, 6.4): a text is divided into lexemes: comments, white space, new-lines and preprocessing tokens.
 use Rattle.std.specs.Prelude.{◌≡◌, ℕ, ◌+◌, ◌≤◌, List, [], ◌∷◌, ◌++◌, Bool, ◌&&◌, ◌||◌, IsTrue, length, take, drop, ◌⊎◌, codes, Option, None, Some, unwrap_or}
 use Rattle.std.specs.List.{flat_map}
 use Rattle.std.specs.Str.{bytes_eq}
@@ -28,18 +28,18 @@ pub record Piece : Type 0 where
 abbrev pub laid : List Piece → List Char
 laid ps = flat_map (λ p. p.chars) ps
 
--- the spellings of the tokens of a line, up to and including this lexeme
+-- the spellings of the tokens of the current line after this lexeme, if they were `line` before it; a new-line begins an empty line
 abbrev pub with_piece : List (List ℕ) → Piece → Sort → List (List ℕ)
 with_piece line p NewLine = []
 with_piece line p Blank = line
 with_piece line p Comment = line
 with_piece line p (Spelled k) = line ++ codes_of p.chars ∷ []
 
--- the names of directives that a header name may follow: `include` (6.10.2), and in GNU C `include_next` (gcc's manual, "Wrapper Headers")
+-- the names of the directives whose operand may be a header name: `include` (6.10.2), and in GNU C `include_next` (gcc's manual, "Wrapper Headers")
 abbrev pub awaits : Profile → List ℕ → Bool
 awaits profile name = bytes_eq name (codes "include") || (is_gnu profile && bytes_eq name (codes "include_next"))
 
--- a header name may follow: the line so far is `#` or `%:`, and such a name (6.4.7)
+-- a header name may follow: the line so far is `#` or `%:` and then the name of such a directive (6.4.7)
 abbrev pub AwaitsHeader : Profile → List (List ℕ) → Type 0
 AwaitsHeader profile (hash ∷ name ∷ []) = IsTrue ((bytes_eq hash (codes "#") || bytes_eq hash (codes "%:")) && awaits profile name)
 AwaitsHeader profile line = ⊥
@@ -57,7 +57,7 @@ OpensLine text = BeginsWith text (codes "//")
 abbrev pub ClosesAt : List ℕ → Option ℕ → Type 0
 ClosesAt text r = FindsNeedle (drop 2 text) (codes "*/") 0 r
 
--- a comment of n characters: up to the next `*/`, or up to the new-line (6.4.9)
+-- a comment of n characters: from `/*` through the next `*/`, or from `//` to before the next new-line or to the end of the text (6.4.9)
 abbrev pub CommentAt : List ℕ → ℕ → Type 0
 CommentAt text n =
     (OpensBlock text × (k : ℕ) × ClosesAt text (Some k) × (n ≡ k + 4)) ⊎ (OpensLine text × (r : Option ℕ) × IsFirstByte (is_byte 10) text r × (n ≡ unwrap_or r (length text)))
@@ -68,7 +68,7 @@ pub record HeaderAt (profile : Profile) (line : List (List ℕ)) (text : List �
   pub fits : n ≤ length text
   pub spelled : IsHeader (take n text)
 
--- another token of n characters: the longest prefix that some kind spells
+-- any other token, of n characters: the longest prefix that is a spelling of some kind
 pub record PlainTokenAt (profile : Profile) (line : List (List ℕ)) (text : List ℕ) (n : ℕ) (kind : Kind) : Type 0 where
   pub no_comment : ¬ (OpensBlock text ⊎ OpensLine text)
   pub no_header : (m : ℕ) → ¬ HeaderAt profile line text m

@@ -1,4 +1,5 @@
 -- Phase 4 of a group (6.10), by cases on group trees; an included file is a group tree one level deeper (6.10.2).
+-- docs/FAULTS.md has the numbers of faults.
 use Rattle.std.specs.Prelude.{◌≡◌, ◌≢◌, ℕ, suc, ◌<◌, ◌≤◌, List, [], Bool, true, false, if◌then◌else◌, Option, None, Some, Ok, Err}
 use Rattle.pptext.specs.declared.tokens.Place.{Place}
 use Rattle.pptext.specs.declared.tokens.Fault.{Fault}
@@ -74,8 +75,8 @@ mutual
         → Decides (search_of around) row s line after (Err f)
         → Branched around depth row s (Branch line ps bs) (stopped (with_left s after) f)
 
-  -- a control line; the search of `#include_next` begins after the directory in which the file was found, if that has a
-  -- number
+  -- A control line. `#include_next` searches the directories after the one in which the file of this line was found, or
+  -- all of them if that is the unit's own file.
   pub data Controls (around : Surroundings) : ℕ → ℕ → State → LogicalLine → Reached → Type 0 where
     error : {depth row : ℕ} {s : State} {line : LogicalLine}
         → class_by line.directive ≡ Some class.Error
@@ -97,9 +98,9 @@ mutual
         → Includes around depth row (if next then s.folder else None) s line m
         → Controls around depth row s line m
 
-  -- An include line without unmatched quotes (6.10.2), whose search begins after the directory with a number, or with
-  -- the first: its operands have a fault, or no file is found for the header, or the file that is found is opened one
-  -- level deeper.
+  -- An include line without unmatched quotes (6.10.2): its operands have a fault, or no file is found for the header, or
+  -- the file that is found is opened one level deeper. The search begins after the directory with the number `behind`, or
+  -- at the first directory if there is none.
   pub data Includes (around : Surroundings) : ℕ → ℕ → Option ℕ → State → LogicalLine → Reached → Type 0 where
     misnamed : {depth row : ℕ} {behind : Option ℕ} {s : State} {line : LogicalLine} {after : Option ℕ} {f : Fault}
         → Asks s line.tokens after (Err f)
@@ -115,8 +116,9 @@ mutual
         → Includes around depth row behind s line m
 
   -- The file at index `row` is opened for the line at location `at`, if the budget isn't exhausted. The number is that
-  -- of the directory in which it was found; a unit's own file has none. A file that is read once and was read only adds
-  -- a dependency and spends one of the budget.
+  -- of the directory in which it was found; a unit's own file has none. If the file has `#pragma once` and was already
+  -- read in this unit, its lines aren't processed again: it only becomes a dependency and costs one of the budget. If the
+  -- content of the file isn't known, no case applies.
   pub data Opened (around : Surroundings) : ℕ → Place → State → ℕ → Option ℕ → Reached → Type 0 where
     too_deep : {depth row : ℕ} {folder : Option ℕ} {at : Place} {s : State}
         → deepest < depth

@@ -48,8 +48,8 @@ fn run_end(source: &Source, start: usize) -> usize
     end
 }
 
-/// Returns whether processing continues after a branch line of the file at index `row`. Changes nothing in `state` but
-/// the remaining budget.
+/// Returns whether processing continues at the line after this `#elif`, `#else` or `#endif` of the file at index `row`: its
+/// group is taken, or the if-section ends. Changes nothing in `state` but the remaining budget.
 fn enters<D: Disk>(
     around: &Around<'_, '_, D>,
     state: &mut State,
@@ -71,8 +71,8 @@ fn enters<D: Disk>(
     decide(around, state, row, directive, tokens_at(source, index))
 }
 
-/// Finds the line at which processing continues if the group after line `start` isn't taken: the first line of the
-/// branch that is taken, or the line after `#endif`.
+/// Finds the line at which processing continues if the group after line `start` isn't taken: the line after the first
+/// `#elif` or `#else` whose group is taken, or the line after `#endif`.
 fn find_branch<D: Disk>(
     around: &Around<'_, '_, D>,
     state: &mut State,
@@ -155,8 +155,8 @@ fn do_run<'x>(
     Ok(end)
 }
 
-/// Executes an include line: opens the file that it names, one level deeper. The search begins after the directory with
-/// the number in `from`, or with the first directory.
+/// Executes an include line: opens the file that it names, one level deeper. The search begins after the directory
+/// `from.folder`, or at the first if there is none.
 fn include<'x, 'a: 'x, D: Disk>(
     around: &Around<'a, '_, D>,
     pass: &mut Pass<'a, D>,
@@ -188,8 +188,8 @@ fn include<'x, 'a: 'x, D: Disk>(
     open(around, pass, state, depth + 1, sign(line), opening)
 }
 
-/// Returns the number of the directory after which the search of an include line begins, if it doesn't begin with the first:
-/// at `#include_next`, that of the file.
+/// For `#include_next`, returns the number of the directory in which the current file was found: the search begins after it.
+/// Otherwise returns `None`: the search begins at the first directory.
 fn folder_before(next: bool, state: &State) -> Option<usize>
     ensures { result ≡ (if next then state.now.folder else None) }
 {
@@ -255,7 +255,7 @@ impl<'a> Model for Next<'a> {
     ghost view = { λ n. (n.line, n.entered) };
 }
 
-/// Returns the action for a line that opened no file.
+/// Returns what comes next after a line that opened no file: the line at index `line`.
 fn to_line<'a>(line: usize) -> Next<'a>
     ensures { result ≡ (line, None) }
 {
@@ -308,7 +308,7 @@ fn step<'x, 'a: 'x, D: Disk>(
     })
 }
 
-/// Executes phase 4 of a file's lines and of all that they include, up to the first fault.
+/// Executes phase 4 on the lines of a file and of all files that they include, up to the first fault.
 pub(crate) fn walk<'s, 'a: 's, D: Disk>(
     around: &Around<'a, '_, D>,
     pass: &mut Pass<'a, D>,
