@@ -28,7 +28,7 @@ pub record Surroundings : Type 0 where
   pub unit_folders : List (List ℕ)
   pub setting_folders : List (List ℕ)
 
--- what a search for a file depends on: the surroundings without the contents of files
+-- what a search for a file depends on: the context of a unit without the contents of files
 pub record Search : Type 0 where
   pub names : List (List ℕ)
   pub profile : Profile
@@ -44,7 +44,7 @@ search_of around =
       setting_folders = around.setting_folders;
     }
 
--- the search in a library
+-- the search of a unit
 abbrev pub search_in : Library → Search
 search_in library =
     record {
@@ -54,7 +54,7 @@ search_in library =
       setting_folders = library.setting_folders;
     }
 
--- the surroundings with a library and these contents
+-- the context of a unit over these contents
 abbrev pub surroundings_of : Library → Files → Surroundings
 surroundings_of library files =
     record {
