@@ -5,7 +5,7 @@ use Rattle.pptext.specs.declared.tokens.Place.{Place}
 use Rattle.pptext.specs.declared.tokens.Token.{Token}
 use Rattle.pptext.specs.declared.tokens.Fault.{Fault}
 use Rattle.pptext.specs.declared.tokens.Kind.{Kind}
-use Rattle.pptext.specs.Tokens.{is_lone_quote, fault}
+use Rattle.pptext.specs.Tokens.{is_unmatched_quote, fault}
 use Rattle.ppmacro.specs.Names.{Name, HideSet, Macros}
 use Rattle.ppmacro.specs.Hiding.{Hiding}
 use Rattle.ppmacro.specs.Chains.{chains_of}
@@ -130,7 +130,7 @@ below_turn : (macros : Macros) (env : Env) (list : List Hiding) → IsTurnBelow 
 unfolding turn
 below_turn macros env [] = tt
 below_turn macros env (t ∷ rest) =
-    turn_either (is_lone_quote t.token) (Refused (quote_fault t)) (if set.contains t.hide t.token.text then Passes t rest else named_turn env t rest (macro_of macros t.token)) (omega arith)
+    turn_either (is_unmatched_quote t.token) (Refused (quote_fault t)) (if set.contains t.hide t.token.text then Passes t rest else named_turn env t rest (macro_of macros t.token)) (omega arith)
     (turn_either (set.contains t.hide t.token.text) (Passes t rest) (named_turn env t rest (macro_of macros t.token)) tt (below_named env t rest (macro_of macros t.token)))
 
 below_finished : (call : Call) (expanded : List (Option (List Hiding))) → IsTurnBelow (finished call expanded)

@@ -5,7 +5,7 @@ use Rattle.std.proofs.lemmas.List.Elements.{All-cons, All-nil}
 use Rattle.std.specs.List.{AllPass}
 use Rattle.std.specs.FinSet as set
 use Rattle.pptext.specs.declared.tokens.Fault.{Fault}
-use Rattle.pptext.specs.Tokens.{is_lone_quote}
+use Rattle.pptext.specs.Tokens.{is_unmatched_quote}
 use Rattle.ppmacro.specs.Names.{Name, Macros}
 use Rattle.ppmacro.specs.Hiding.{Hiding}
 use Rattle.ppmacro.specs.Chains.{is_function_like}
@@ -28,7 +28,7 @@ module _ (macros : Macros) (env : Env) where
   Settles _ = Unit {0}
 
   -- a name that is not always replaced
-  by_name : (t : Hiding) → is_lone_quote t.token ≡ false → is_always_replaced (macro_of macros t.token) ≡ false → is_settled macros t ≡ true
+  by_name : (t : Hiding) → is_unmatched_quote t.token ≡ false → is_always_replaced (macro_of macros t.token) ≡ false → is_settled macros t ≡ true
   by_name t unquoted spared = rw (unquoted, spared) (or_right (set.contains t.hide t.token.text) true refl)
 
   replaced_settles : (r : Result Marked Fault) (rest : List Hiding) → Settles (replaced_by r rest)
@@ -57,7 +57,7 @@ module _ (macros : Macros) (env : Env) where
   macro_settles t rest d ObjectLike settled = replaced_settles _ rest
   macro_settles t rest d (FunctionLike names variadic) settled = function_settles t rest d names variadic (settled refl)
 
-  named_settles : (t : Hiding) (rest : List Hiding) → is_lone_quote t.token ≡ false → (o : Option Definition) → macro_of macros t.token ≡ o → Settles (named_turn env t rest o)
+  named_settles : (t : Hiding) (rest : List Hiding) → is_unmatched_quote t.token ≡ false → (o : Option Definition) → macro_of macros t.token ≡ o → Settles (named_turn env t rest o)
   named_settles t rest unquoted None is = by_name t unquoted (ap is_always_replaced is)
   named_settles t rest unquoted (Some d) is = macro_settles t rest d d.shape (λ function. by_name t unquoted (ap is_always_replaced is ∙ ap not function))
 
@@ -65,7 +65,7 @@ module _ (macros : Macros) (env : Env) where
   unfolding turn
   turn_settles [] = tt
   turn_settles (t ∷ rest) =
-      elim (is_lone_quote t.token) as (λ b. is_lone_quote t.token ≡ b → Settles (if b then Refused (quote_fault t) else (if set.contains t.hide t.token.text then Passes t rest else named_turn env t rest (macro_of macros t.token)))) [
+      elim (is_unmatched_quote t.token) as (λ b. is_unmatched_quote t.token ≡ b → Settles (if b then Refused (quote_fault t) else (if set.contains t.hide t.token.text then Passes t rest else named_turn env t rest (macro_of macros t.token)))) [
         | true ↦ λ _. tt
         | false ↦ λ unquoted. elim (set.contains t.hide t.token.text) as (λ b. set.contains t.hide t.token.text ≡ b → Settles (if b then Passes t rest else named_turn env t rest (macro_of macros t.token))) [
           | true ↦ λ hidden. rw (unquoted, hidden) refl

@@ -5,7 +5,7 @@ use Rattle.std.specs.FinSet as set
 use Rattle.std.specs.List.{AllByRecursion}
 use Rattle.std.proofs.lemmas.List.{map-append}
 use Rattle.pptext.specs.declared.tokens.Token.{Token}
-use Rattle.pptext.specs.Tokens.{is_lone_quote}
+use Rattle.pptext.specs.Tokens.{is_unmatched_quote}
 use Rattle.ppmacro.specs.Names.{Macros}
 use Rattle.ppmacro.specs.Numbered.{Numbered}
 use Rattle.ppmacro.specs.Hiding.{Hiding}
@@ -41,7 +41,7 @@ none_by (Some a) h = absurd (true≢false h)
 
 turn-plain : (macros : Macros) (env : Env) (left : Option ℕ) (t : Hiding) (rest : List Hiding) → is_plain macros t.token ≡ true → turn_within macros env left (t ∷ rest) ≡ Passes t rest
 turn-plain macros env left t rest h =
-    let parts = both_false (is_lone_quote t.token) (is_some (macro_of macros t.token)) h in
+    let parts = both_false (is_unmatched_quote t.token) (is_some (macro_of macros t.token)) h in
     let none : macro_of macros t.token ≡ None = none_by (macro_of macros t.token) parts.1 in
     ap (within left (t ∷ rest)) (turn-unnamed macros env t rest parts.0 none) ∙ passes-within left (t ∷ rest) t rest
 

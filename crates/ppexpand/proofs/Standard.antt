@@ -3,7 +3,7 @@ use Rattle.std.proofs.Common.{◌≡◌, ◌↔◌, ℕ, suc, Bool, true, false,
 use Rattle.std.specs.FinSet as set
 use Rattle.pptext.specs.declared.tokens.Token.{Token}
 use Rattle.pptext.specs.declared.tokens.Fault.{Fault}
-use Rattle.pptext.specs.Tokens.{is_lone_quote}
+use Rattle.pptext.specs.Tokens.{is_unmatched_quote}
 use Rattle.ppmacro.specs.Names.{Name, Macros}
 use Rattle.ppmacro.specs.Hiding.{Hiding}
 use Rattle.ppmacro.specs.Substitution.{Marked}
@@ -36,9 +36,9 @@ module _ (macros : Macros) (env : Env) where
   -- the expansion step of a list, by the standard's rules
   data Means : List Hiding → Turn → Type 0 where
     nothing_left : Means [] Done
-    lone_quote : {t : Hiding} {rest : List Hiding} → is_lone_quote t.token ≡ true → Means (t ∷ rest) (Refused (quote_fault t))
-    no_macro : {t : Hiding} {rest : List Hiding} → is_lone_quote t.token ≡ false → macro_of macros t.token ≡ None → Means (t ∷ rest) (Passes t rest)
-    hidden : {t : Hiding} {rest : List Hiding} → is_lone_quote t.token ≡ false → set.contains t.hide t.token.text ≡ true → Means (t ∷ rest) (Passes t rest)
+    lone_quote : {t : Hiding} {rest : List Hiding} → is_unmatched_quote t.token ≡ true → Means (t ∷ rest) (Refused (quote_fault t))
+    no_macro : {t : Hiding} {rest : List Hiding} → is_unmatched_quote t.token ≡ false → macro_of macros t.token ≡ None → Means (t ∷ rest) (Passes t rest)
+    hidden : {t : Hiding} {rest : List Hiding} → is_unmatched_quote t.token ≡ false → set.contains t.hide t.token.text ≡ true → Means (t ∷ rest) (Passes t rest)
     predefined : {t : Hiding} {rest : List Hiding} {d : Definition} {b : Builtin} → NamesMacro macros t d → d.shape ≡ Predefined b → Means (t ∷ rest) (Replaced (predefined_value b env t (set.insert t.hide t.token.text) ∷ rest))
     object_like : {t : Hiding} {rest : List Hiding} {d : Definition} {m : Marked} → NamesMacro macros t d → d.shape ≡ ObjectLike → object_result t d ≡ Ok m → Means (t ∷ rest) (Replaced (followed_by rest m))
     object_refused : {t : Hiding} {rest : List Hiding} {d : Definition} {f : Fault} → NamesMacro macros t d → d.shape ≡ ObjectLike → object_result t d ≡ Err f → Means (t ∷ rest) (Failed f)
@@ -99,21 +99,21 @@ module _ (macros : Macros) (env : Env) where
   by_shape t rest d c ObjectLike e = by_result t rest d c e (object_result t d) refl
   by_shape t rest d c (FunctionLike names variadic) e = by_next t rest d names variadic c e
 
-  by_name : (t : Hiding) (rest : List Hiding) → is_lone_quote t.token ≡ false → set.contains t.hide t.token.text ≡ false → (o : Option Definition) → macro_of macros t.token ≡ o → Means (t ∷ rest) (named_turn env t rest o)
+  by_name : (t : Hiding) (rest : List Hiding) → is_unmatched_quote t.token ≡ false → set.contains t.hide t.token.text ≡ false → (o : Option Definition) → macro_of macros t.token ≡ o → Means (t ∷ rest) (named_turn env t rest o)
   by_name t rest q h None e = Means.no_macro q e
   by_name t rest q h (Some d) e = by_shape t rest d (record { no_quote = q; not_hidden = h; named = e }) d.shape refl
 
-  by_hiding : (t : Hiding) (rest : List Hiding) → is_lone_quote t.token ≡ false → (b : Bool) → set.contains t.hide t.token.text ≡ b → Means (t ∷ rest) (turn macros env (t ∷ rest))
+  by_hiding : (t : Hiding) (rest : List Hiding) → is_unmatched_quote t.token ≡ false → (b : Bool) → set.contains t.hide t.token.text ≡ b → Means (t ∷ rest) (turn macros env (t ∷ rest))
   by_hiding t rest q true h = subst (Means (t ∷ rest)) (sym (turn-hidden macros env t rest q h)) (Means.hidden q h)
   by_hiding t rest q false h = subst (Means (t ∷ rest)) (sym (turn-named macros env t rest q h)) (by_name t rest q h (macro_of macros t.token) refl)
 
-  by_quote : (t : Hiding) (rest : List Hiding) (b : Bool) → is_lone_quote t.token ≡ b → Means (t ∷ rest) (turn macros env (t ∷ rest))
+  by_quote : (t : Hiding) (rest : List Hiding) (b : Bool) → is_unmatched_quote t.token ≡ b → Means (t ∷ rest) (turn macros env (t ∷ rest))
   by_quote t rest true q = subst (Means (t ∷ rest)) (sym (turn-quote macros env t rest q)) (Means.lone_quote q)
   by_quote t rest false q = by_hiding t rest q (set.contains t.hide t.token.text) refl
 
   means : (list : List Hiding) → Means list (turn macros env list)
   means [] = subst (Means []) (sym (turn-nothing macros env)) Means.nothing_left
-  means (t ∷ rest) = by_quote t rest (is_lone_quote t.token) refl
+  means (t ∷ rest) = by_quote t rest (is_unmatched_quote t.token) refl
 
   -- ---- and each rule is the step of its lists
 

@@ -9,7 +9,7 @@ use Rattle.std.proofs.lemmas.Cmp.{eq_by_cmp_equiv, nat_list_cmp_total}
 use Rattle.pptext.specs.declared.tokens.Token.{Token}
 use Rattle.pptext.specs.declared.tokens.Fault.{Fault}
 use Rattle.pptext.specs.declared.tokens.Place.{Place}
-use Rattle.pptext.specs.Tokens.{is_identifier, is_lone_quote}
+use Rattle.pptext.specs.Tokens.{is_identifier, is_unmatched_quote}
 use Rattle.ppmacro.specs.Names.{Name, HideSet, Macros}
 use Rattle.ppmacro.specs.Hiding.{Hiding}
 use Rattle.ppmacro.specs.Members.{same_name}
@@ -210,7 +210,7 @@ module _ (macros : Macros) (env : Env) where
   unfolding turn
   turn_steps [] = tt
   turn_steps (t ∷ rest) =
-      elim (is_lone_quote t.token) as (λ b. StepsTo (t ∷ rest) (if b then Refused (quote_fault t) else (if set.contains t.hide t.token.text then Passes t rest else named_turn env t rest (macro_of macros t.token)))) [
+      elim (is_unmatched_quote t.token) as (λ b. StepsTo (t ∷ rest) (if b then Refused (quote_fault t) else (if set.contains t.hide t.token.text then Passes t rest else named_turn env t rest (macro_of macros t.token)))) [
         | true ↦ tt
         | false ↦ elim (set.contains t.hide t.token.text) as (λ b. set.contains t.hide t.token.text ≡ b → StepsTo (t ∷ rest) (if b then Passes t rest else named_turn env t rest (macro_of macros t.token))) [
           | true ↦ λ _. refl

@@ -1,7 +1,7 @@
 -- The arguments of an invocation: the lists between `(` and its matching `)` (6.10.3, paragraphs 4, 10 to 12).
 use Rattle.std.specs.Prelude.{ℕ, zero, suc, nat_le, ◌-◌, Bool, true, false, ◌&&◌, List, [], ◌∷◌, length, Option, Some, None, codes, if◌then◌else◌}
 use Rattle.pptext.specs.declared.tokens.Token.{Token}
-use Rattle.pptext.specs.Tokens.{is_punct, is_lone_quote}
+use Rattle.pptext.specs.Tokens.{is_punct, is_unmatched_quote}
 use Rattle.ppmacro.specs.Names.{Name}
 use Rattle.ppmacro.specs.Hiding.{Hiding}
 use Rattle.ppmacro.specs.declared.macros.Variadic.{Variadic}
@@ -20,7 +20,7 @@ pub data ArgumentRole : Type 0 where
 
 abbrev pub argument_role : Token → ArgumentRole
 argument_role t =
-    if is_lone_quote t then Quote else (
+    if is_unmatched_quote t then Quote else (
     if is_open t then Open else (
     if is_punct (codes ")") t then Close else (
     if is_punct (codes ",") t then Comma else Inner)))

@@ -3,7 +3,7 @@ use Rattle.std.specs.Prelude.{◌≡◌, ◌≢◌, ℕ, suc, ◌+◌, ◌-◌, 
 use Rattle.std.specs.FinSet as set
 use Rattle.pptext.specs.declared.tokens.Token.{Token}
 use Rattle.pptext.specs.declared.tokens.Fault.{Fault}
-use Rattle.pptext.specs.Tokens.{is_lone_quote}
+use Rattle.pptext.specs.Tokens.{is_unmatched_quote}
 use Rattle.ppmacro.specs.Names.{Macros}
 use Rattle.ppmacro.specs.Hiding.{Hiding}
 use Rattle.ppmacro.specs.Chains.{is_function_like}
@@ -99,7 +99,7 @@ is_always_replaced (Some d) = not (is_function_like d.shape)
 
 -- a token that may be left after expansion: no unmatched quote, and no object-like or predefined macro's name unless its hide set has the name
 abbrev pub is_settled : Macros → Hiding → Bool
-is_settled macros t = not (is_lone_quote t.token) && (set.contains t.hide t.token.text || not (is_always_replaced (macro_of macros t.token)))
+is_settled macros t = not (is_unmatched_quote t.token) && (set.contains t.hide t.token.text || not (is_always_replaced (macro_of macros t.token)))
 
 -- ---- the syntax of an invocation (6.10.3, paragraphs 10 and 11)
 

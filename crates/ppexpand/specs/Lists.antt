@@ -2,7 +2,7 @@
 use Rattle.std.specs.Prelude.{◌≡◌, ℕ, Bool, true, false, not, ◌&&◌, List, [], ◌∷◌, Option, None, is_some}
 use Rattle.std.specs.List.{AllByRecursion}
 use Rattle.pptext.specs.declared.tokens.Token.{Token}
-use Rattle.pptext.specs.Tokens.{is_lone_quote}
+use Rattle.pptext.specs.Tokens.{is_unmatched_quote}
 use Rattle.ppmacro.specs.Names.{Macros}
 use Rattle.ppmacro.specs.declared.flying.Hidden.{Hidden}
 use Rattle.ppmacro.specs.declared.macros.Definition.{Definition}
@@ -20,7 +20,7 @@ marked false hs = hs
 
 -- a token that is emitted unchanged, whatever its hide set is
 abbrev pub is_plain : Macros → Token → Bool
-is_plain macros t = not (is_lone_quote t) && not (is_some (macro_of macros t))
+is_plain macros t = not (is_unmatched_quote t) && not (is_some (macro_of macros t))
 
 -- each token is emitted unchanged
 pub record ArePlain (macros : Macros) (hs : List Hidden) : Type 0 where

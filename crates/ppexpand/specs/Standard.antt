@@ -4,7 +4,7 @@ use Rattle.std.specs.Prelude.{◌≡◌, ℕ, suc, ◌<◌, ◌≤◌, Bool, tru
 use Rattle.std.specs.FinSet as set
 use Rattle.pptext.specs.declared.tokens.Token.{Token}
 use Rattle.pptext.specs.declared.tokens.Fault.{Fault}
-use Rattle.pptext.specs.Tokens.{is_lone_quote}
+use Rattle.pptext.specs.Tokens.{is_unmatched_quote}
 use Rattle.ppmacro.specs.Names.{Name, Macros}
 use Rattle.ppmacro.specs.Hiding.{Hiding}
 use Rattle.ppmacro.specs.Substitution.{plain, Marked, substituted}
@@ -19,7 +19,7 @@ use Rattle.ppexpand.specs.Turn.{ExpandedArguments, with_expanded}
 
 -- a token names this macro, and its hide set does not have the name (6.10.3, paragraph 9; 6.10.3.4, paragraph 2)
 pub record NamesMacro (macros : Macros) (t : Hiding) (d : Definition) : Type 0 where
-  pub no_quote : is_lone_quote t.token ≡ false
+  pub no_quote : is_unmatched_quote t.token ≡ false
   pub not_hidden : set.contains t.hide t.token.text ≡ false
   pub named : macro_of macros t.token ≡ Some d
 
@@ -62,16 +62,16 @@ mutual
   pub data StandardExpands (macros : Macros) (env : Env) : ℕ → List Hiding → List Hiding → Option Fault → Type 0 where
     nothing_left : {level : ℕ} → StandardExpands macros env level [] [] None
     lone_quote : {level : ℕ} {t : Hiding} {rest : List Hiding}
-        → is_lone_quote t.token ≡ true
+        → is_unmatched_quote t.token ≡ true
         → StandardExpands macros env level (t ∷ rest) [] (Some (quote_fault t))
     no_macro : {level : ℕ} {t : Hiding} {rest tokens : List Hiding} {fault : Option Fault}
-        → is_lone_quote t.token ≡ false
+        → is_unmatched_quote t.token ≡ false
         → macro_of macros t.token ≡ None
         → StandardExpands macros env level rest tokens fault
         → StandardExpands macros env level (t ∷ rest) (t ∷ tokens) fault
     -- a name is not replaced again in its own replacement (6.10.3.4, paragraph 2)
     hidden : {level : ℕ} {t : Hiding} {rest tokens : List Hiding} {fault : Option Fault}
-        → is_lone_quote t.token ≡ false
+        → is_unmatched_quote t.token ≡ false
         → set.contains t.hide t.token.text ≡ true
         → StandardExpands macros env level rest tokens fault
         → StandardExpands macros env level (t ∷ rest) (t ∷ tokens) fault

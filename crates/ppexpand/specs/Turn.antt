@@ -10,7 +10,7 @@ use Rattle.pptext.specs.declared.tokens.Fault.{Fault}
 use Rattle.pptext.specs.declared.tokens.Place.{Place}
 use Rattle.pptext.specs.declared.tokens.Kind.{Kind}
 use Rattle.pptext.specs.declared.tokens.Kind.TheVariants.{Number, Str as StringLiteral}
-use Rattle.pptext.specs.Tokens.{is_identifier, is_lone_quote, fault}
+use Rattle.pptext.specs.Tokens.{is_identifier, is_unmatched_quote, fault}
 use Rattle.ppmacro.specs.Names.{Name, HideSet, Macros}
 use Rattle.ppmacro.specs.Hiding.{Hiding}
 use Rattle.ppmacro.specs.Chains.{names_in, chains_of}
@@ -140,7 +140,7 @@ macro_of macros t = if is_identifier t then table.get macros t.text else None
 unfoldable pub turn : Macros → Env → List Hiding → Turn
 turn macros env [] = Done
 turn macros env (t ∷ rest) =
-    if is_lone_quote t.token then Refused (quote_fault t) else (
+    if is_unmatched_quote t.token then Refused (quote_fault t) else (
     if set.contains t.hide t.token.text then Passes t rest else named_turn env t rest (macro_of macros t.token))
 
 -- ---- the arguments that are expanded (6.10.3.1)

@@ -142,7 +142,7 @@ impl<'a> Cursor<'a> {
         if let Some(named) = macro_at(table, token) {
             return Ahead::Names(named);
         }
-        if token.is_lone_quote() {
+        if token.is_unmatched_quote() {
             return Ahead::Unknown;
         }
         match self.behind.pop() {

@@ -1,6 +1,6 @@
 //! The roles of tokens in an invocation, and the faults at them.
 ghost use Rattle.std.specs.Prelude.{◌≡◌, IfOk, []};
-ghost use Rattle.pptext.specs.Tokens.{is_lone_quote, fault};
+ghost use Rattle.pptext.specs.Tokens.{is_unmatched_quote, fault};
 ghost use Rattle.ppexpand.specs.Arguments.{is_open, argument_role, Quote, Open, Close, Comma, Inner};
 
 use ppmacro::Hidden;
@@ -32,7 +32,7 @@ pub(crate) fn argument_role(hidden: &Hidden) -> ArgumentRole
 {
     let token = hidden.word();
     let Kind::Punct = token.kind else {
-        return if token.is_lone_quote() {
+        return if token.is_unmatched_quote() {
             ArgumentRole::Quote
         } else {
             ArgumentRole::Inner
@@ -51,9 +51,9 @@ pub(crate) fn argument_role(hidden: &Hidden) -> ArgumentRole
 
 /// Returns whether a token is an unmatched `'` or `"`.
 pub(crate) fn is_quote(hidden: &Hidden) -> bool
-    ensures { result ≡ is_lone_quote hidden.now.token }
+    ensures { result ≡ is_unmatched_quote hidden.now.token }
 {
-    hidden.word().is_lone_quote()
+    hidden.word().is_unmatched_quote()
 }
 
 /// Returns a fault at the expansion location of a token.

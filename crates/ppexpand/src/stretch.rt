@@ -32,7 +32,7 @@ impl<'a> Model for Stretch<'a> {
 pub(crate) fn is_plain(table: &Table, token: &Token) -> bool
     ensures { result ≡ is_plain table.now.macros token.now }
 {
-    !token.is_lone_quote() && macro_at(table, token).is_none()
+    !token.is_unmatched_quote() && macro_at(table, token).is_none()
 }
 
 /// Returns how many of the first tokens are emitted unchanged, and the macro that the token after them names.
@@ -43,7 +43,7 @@ fn plain_len<'t, 'b>(table: &'t Table<'b>, tokens: &[Token]) -> (usize, Option<&
 {
     for (count, token) in tokens.iter().enumerate() {
         let named = macro_at(table, token);
-        if named.is_some() || token.is_lone_quote() {
+        if named.is_some() || token.is_unmatched_quote() {
             return (count, named);
         }
     }

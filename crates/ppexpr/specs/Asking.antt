@@ -3,11 +3,11 @@ use Rattle.std.specs.Prelude.{◌≡◌, ◌&&◌, Bool, true, false, List, [], 
 use Rattle.std.specs.FinMap as table
 use Rattle.pptext.specs.declared.tokens.Token.{Token}
 use Rattle.pptext.specs.declared.tokens.Kind.TheVariants.{Number}
-use Rattle.pptext.specs.Tokens.{is_identifier, is_name, is_punct}
+use Rattle.pptext.specs.Tokens.{is_identifier, is_identifier_named, is_punct}
 use Rattle.ppmacro.specs.Names.{Macros}
 
 abbrev pub is_defined : Token → Bool
-is_defined t = is_name (codes "defined") t
+is_defined t = is_identifier_named (codes "defined") t
 
 -- the operand of `defined`: the name, and the tokens after the operand
 pub record Operand : Type 0 where

@@ -12,7 +12,7 @@ use std::alloc::{AllocError, Global};
 pub(crate) fn is_defined(token: &Token) -> bool
     ensures { result ≡ is_defined token.now }
 {
-    token.is_name(b"defined")
+    token.is_identifier_named(b"defined")
 }
 
 /// Reads `( X )`. Returns X and the tokens after the `)`.

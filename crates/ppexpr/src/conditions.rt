@@ -1,7 +1,7 @@
 //! Evaluates the controlling expression of `#if` or `#elif` (6.10.1).
 ghost use Rattle.std.specs.Prelude.{◌≡◌, IfOk, Ok};
 ghost use Rattle.std.specs.List.{list_any};
-ghost use Rattle.pptext.specs.Stops.{IfSettled, settled};
+ghost use Rattle.pptext.specs.Errors.{UnlessOutOfMemory, split_memory};
 ghost use Rattle.ppexpr.specs.Asking.{is_defined};
 ghost use Rattle.ppexpr.specs.Conditions.{failure_fault, taken, Evaluates, Judges, Decides, IsCondition};
 
@@ -13,7 +13,7 @@ use crate::symbols::{Failure, FailureKind, Symbol, Value};
 use crate::tokens::symbols_of;
 use ppexpand::{Env, Expanded, Run, expand};
 use ppmacro::Table;
-use pptext::{Fault, Memory, Place, Stop, Token, settled};
+use pptext::{Fault, Memory, Place, Error, Token, split_memory};
 use std::alloc::{AllocError, Global};
 
 /// Returns the fault of an expression without a value.
@@ -29,31 +29,31 @@ fn failure_fault(alloc: Global, at: Place, failure: Failure) -> Result<Fault, Al
 }
 
 /// Returns whether the value is not 0.
-fn taken(alloc: Global, at: Place, value: Result<Value, Failure>) -> Result<bool, Stop>
-    ensures { IfSettled result (λ c. c ≡ taken at value) }
+fn taken(alloc: Global, at: Place, value: Result<Value, Failure>) -> Result<bool, Error>
+    ensures { UnlessOutOfMemory result (λ c. c ≡ taken at value) }
 {
     match value {
         Ok(value) => Ok(!value.is_zero()),
-        Err(failure) => Err(Stop::Fault(failure_fault(alloc, at, failure)?)),
+        Err(failure) => Err(Error::Fault(failure_fault(alloc, at, failure)?)),
     }
 }
 
 /// Evaluates symbols that are not nested too deep.
-fn evaluate_symbols(alloc: Global, at: Place, symbols: &[Symbol]) -> Result<bool, Stop>
-    ensures { IfSettled result (λ c. Evaluates at symbols.now c) }
+fn evaluate_symbols(alloc: Global, at: Place, symbols: &[Symbol]) -> Result<bool, Error>
+    ensures { UnlessOutOfMemory result (λ c. Evaluates at symbols.now c) }
 {
     let Some(outcome) = parse(alloc, symbols)? else {
-        return Err(Stop::Fault(Fault::bare(23, at)));
+        return Err(Error::Fault(Fault::bare(23, at)));
     };
     taken(alloc, at, outcome.value)
 }
 
 /// Evaluates symbols.
-fn judge(alloc: Global, at: Place, symbols: &[Symbol]) -> Result<bool, Stop>
-    ensures { IfSettled result (λ c. Judges at symbols.now c) }
+fn judge(alloc: Global, at: Place, symbols: &[Symbol]) -> Result<bool, Error>
+    ensures { UnlessOutOfMemory result (λ c. Judges at symbols.now c) }
 {
     if is_too_nested(symbols) {
-        return Err(Stop::Fault(Fault::bare(29, at)));
+        return Err(Error::Fault(Fault::bare(29, at)));
     }
     evaluate_symbols(alloc, at, symbols)
 }
@@ -66,19 +66,19 @@ fn has_defined(tokens: &[Token]) -> bool
 }
 
 /// Evaluates tokens after macro replacement.
-fn decide(alloc: Global, at: Place, tokens: &[Token]) -> Result<bool, Stop>
-    ensures { IfSettled result (λ c. Decides at tokens.now c) }
+fn decide(alloc: Global, at: Place, tokens: &[Token]) -> Result<bool, Error>
+    ensures { UnlessOutOfMemory result (λ c. Decides at tokens.now c) }
 {
     if has_defined(tokens) {
-        return Err(Stop::Fault(Fault::bare(22, at)));
+        return Err(Error::Fault(Fault::bare(22, at)));
     }
     let symbols = symbols_of(alloc, at, tokens)?;
     judge(alloc, at, symbols.as_slice())
 }
 
 /// Evaluates an expanded list. Copies the tokens only if macros were replaced.
-fn decide_run(alloc: Global, at: Place, run: &Run) -> Result<bool, Stop>
-    ensures { IfSettled result (λ c. Decides at run.now c) }
+fn decide_run(alloc: Global, at: Place, run: &Run) -> Result<bool, Error>
+    ensures { UnlessOutOfMemory result (λ c. Decides at run.now c) }
 {
     if let Some(tokens) = run.unchanged() {
         return decide(alloc, at, tokens);
@@ -89,12 +89,12 @@ fn decide_run(alloc: Global, at: Place, run: &Run) -> Result<bool, Stop>
 
 /// Returns the result together with the rest of the budget.
 fn beside(
-    decided: Result<bool, Stop>,
+    decided: Result<bool, Error>,
     left: Option<u64>,
 ) -> Result<(Result<bool, Fault>, Option<u64>), Memory>
-    ensures { IfOk result (λ r. (Ok r.0 ≡ settled decided) × (r.1 ≡ left)) }
+    ensures { IfOk result (λ r. (Ok r.0 ≡ split_memory decided) × (r.1 ≡ left)) }
 {
-    Ok((settled(decided)?, left))
+    Ok((split_memory(decided)?, left))
 }
 
 /// Replaces macros and evaluates the result. Also returns the rest of the budget.

@@ -1,13 +1,13 @@
 //! Converts the tokens of a controlling expression to symbols.
 ghost use Rattle.std.specs.Prelude.{◌≡◌, ◌++◌, ◌∷◌, OnOk, []};
-ghost use Rattle.pptext.specs.Stops.{Answers, IfSettled};
+ghost use Rattle.pptext.specs.Errors.{Returns, UnlessOutOfMemory};
 ghost use Rattle.ppexpr.specs.Tokens.{operators, punctuator_among, symbol_of, symbols_of};
 
 use crate::characters::character_of;
 use crate::integers::integer_of;
 use crate::operators::{Operator, OperatorKind};
 use crate::symbols::{Symbol, SymbolKind, Value};
-use pptext::{Fault, Kind, Place, Stop, Token};
+use pptext::{Fault, Kind, Place, Error, Token};
 use std::alloc::{AllocError, Global};
 
 /// Returns the symbol of a punctuator.
@@ -46,8 +46,8 @@ pub(crate) fn punctuator(text: &[u8]) -> Symbol
 }
 
 /// Returns the symbol of a token, or the fault of a constant without a value (24 or 25).
-pub(crate) fn symbol_of(alloc: Global, at: Place, token: &Token) -> Result<Symbol, Stop>
-    ensures { IfSettled result (λ s. s ≡ symbol_of at token.now) }
+pub(crate) fn symbol_of(alloc: Global, at: Place, token: &Token) -> Result<Symbol, Error>
+    ensures { UnlessOutOfMemory result (λ s. s ≡ symbol_of at token.now) }
 {
     let text = token.text.as_bytes();
     let (number, constant) = match token.kind {
@@ -59,7 +59,7 @@ pub(crate) fn symbol_of(alloc: Global, at: Place, token: &Token) -> Result<Symbo
     };
     match constant {
         Some(value) => Ok(Symbol::constant(value)),
-        None => Err(Stop::Fault(Fault::new(alloc, number, at, text)?)),
+        None => Err(Error::Fault(Fault::new(alloc, number, at, text)?)),
     }
 }
 
@@ -72,8 +72,8 @@ fn push_symbol(symbols: &mut Vec<Symbol>, symbol: Symbol) -> Result<(), AllocErr
 }
 
 /// Returns the symbols of tokens, or the first fault from the left.
-pub(crate) fn symbols_of(alloc: Global, at: Place, tokens: &[Token]) -> Result<Vec<Symbol>, Stop>
-    ensures { Answers result (λ v. v.items) (symbols_of at tokens.now) }
+pub(crate) fn symbols_of(alloc: Global, at: Place, tokens: &[Token]) -> Result<Vec<Symbol>, Error>
+    ensures { Returns result (λ v. v.items) (symbols_of at tokens.now) }
 {
     let mut symbols = Vec::new(alloc);
     for token in tokens {

@@ -5,9 +5,9 @@ use Rattle.std.specs.FinSet as set
 use Rattle.pptext.specs.declared.tokens.Kind.{Kind}
 use Rattle.pptext.specs.declared.tokens.Place.{Place}
 use Rattle.pptext.specs.declared.tokens.Fault.{Fault}
-use Rattle.pptext.specs.Carrying.{CarriesOn}
+use Rattle.pptext.specs.Continuations.{ContinuesToken}
 use Rattle.pptext.specs.Lexing.{Lexes}
-use Rattle.pptext.proofs.Lexer.{one_lexing}
+use Rattle.pptext.proofs.OneLexer.{one_lexing}
 use Rattle.pptext.proofs.Carried.{carried_on}
 use Rattle.ppmacro.specs.Numbered.{Numbered}
 use Rattle.ppmacro.specs.Hiding.{Hiding}
@@ -16,22 +16,22 @@ use Rattle.ppmacro.specs.Flying.{extended}
 use Rattle.ppmacro.specs.Lexing.{kind_of}
 use Rattle.ppmacro.specs.Substitution.{pasted, pasted_as}
 use Rattle.ppmacro.specs.Substituting.{IsWhole, EndsWhole}
-use Rattle.pptext.specs.Stops.{Answers}
+use Rattle.pptext.specs.Errors.{Returns}
 use Rattle.ppmacro.specs.declared.flying.Hidden.{Hidden}
-use Rattle.pptext.specs.declared.stops.Stop.{Stop}
+use Rattle.pptext.specs.declared.error.Error.{Error}
 use Rattle.ppmacro.proofs.LexerLemmas.{kind_of_is}
 
 ok-same : {x y : Hiding} → ◌≡◌ {A = Result Hiding Fault} (Ok x) (Ok y) → x ≡ y
 ok-same e = cc e
 
-carried_kind : (text more : List ℕ) (k : Kind) → kind_of text ≡ Some k → CarriesOn k text more → kind_of (text ++ more) ≡ Some k
+carried_kind : (text more : List ℕ) (k : Kind) → kind_of text ≡ Some k → ContinuesToken k text more → kind_of (text ++ more) ≡ Some k
 carried_kind text more k e rest =
     let one : Lexes text (Some k) = subst (Lexes text) e (kind_of_is.each text) in
     one_lexing (text ++ more) (kind_of (text ++ more)) (Some k) (kind_of_is.each (text ++ more)) (carried_on text more k one.0 rest)
 
 -- A text that continues a token is pasted to it.
 module _ (last first grown turned : Hidden) (n : ℕ) (used : Place) (whole : IsWhole last)
-    (rest : CarriesOn last.token.kind last.token.text first.token.text) (is_grown : grown ≡ extended last first.token.text)
+    (rest : ContinuesToken last.token.kind last.token.text first.token.text) (is_grown : grown ≡ extended last first.token.text)
     (is_turned : turned ≡ record { token = record grown.token { used = used }; hide = n; also = None }) where
   still-whole : kind_of (last.token.text ++ first.token.text) ≡ Some last.token.kind
   still-whole = carried_kind last.token.text first.token.text last.token.kind whole rest
@@ -52,7 +52,7 @@ pasted-whole : (k : Option Kind) (l r h : Hiding) (used : Place) → k ≡ kind_
 pasted-whole None l r h used is e = absurd (cc e)
 pasted-whole (Some k) l r h used is e = subst (λ t. kind_of t.token.text ≡ Some t.token.kind) (sym (ok-same e)) (sym is)
 
-pub paste-whole : (s t : Numbered) (l r : Hidden) (used : Place) (m : Result Hidden Stop) → Answers m (hiding t) (pasted (hiding s l) (hiding s r) used) → IfOk m IsWhole
+pub paste-whole : (s t : Numbered) (l r : Hidden) (used : Place) (m : Result Hidden Error) → Returns m (hiding t) (pasted (hiding s l) (hiding s r) used) → IfOk m IsWhole
 paste-whole s t l r used (Ok h) e = pasted-whole _ (hiding s l) (hiding s r) (hiding t h) used refl e
 paste-whole s t l r used (Err m) e = tt
 

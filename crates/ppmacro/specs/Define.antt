@@ -11,7 +11,7 @@ use Rattle.pptext.specs.Profiles.{is_gnu}
 use Rattle.pptext.specs.declared.tokens.Place.{Place}
 use Rattle.pptext.specs.declared.tokens.Token.{Token}
 use Rattle.pptext.specs.declared.tokens.Fault.{Fault}
-use Rattle.pptext.specs.Tokens.{is_identifier, is_name, is_punct, fault}
+use Rattle.pptext.specs.Tokens.{is_identifier, is_identifier_named, is_punct, fault}
 use Rattle.ppmacro.specs.Names.{Name, Macros}
 use Rattle.ppmacro.specs.Spellings.{is_hash, is_paste}
 use Rattle.ppmacro.specs.Headings.{Heading}
@@ -109,7 +109,7 @@ read_definition profile (t ∷ ts) =
 
 -- Whether there is a `__VA_ARGS__`, but no `...` in the parameter list (6.10.3p5).
 abbrev pub misplaces_variable_arguments : Shape → List Token → Bool
-misplaces_variable_arguments shape ts = list_any (is_name (codes "__VA_ARGS__")) ts && not (has_variable_arguments (names_in shape))
+misplaces_variable_arguments shape ts = list_any (is_identifier_named (codes "__VA_ARGS__")) ts && not (has_variable_arguments (names_in shape))
 
 abbrev pub is_empty : List Token → Bool
 is_empty [] = true

@@ -243,7 +243,7 @@ impl<'a> Hidden<'a> {
         self.word.space()
     }
 
-    /// Returns the hide set, or the first of two. See `HideSets::settled` for their union.
+    /// Returns the hide set, or the first of two. See `HideSets::split_memory` for their union.
     pub fn hide(&self) -> Set
         ensures { result ≡ self.now.hide }
     {

@@ -3,7 +3,7 @@
 ghost use Rattle.std.specs.Prelude.{◌≡◌, ◌+◌, ◌<◌, ℕ, List, length, min};
 ghost use Rattle.ppmacro.specs.Marks.{mark_of, short_mark, at};
 
-use pptext::half_word;
+use pptext::u32_at;
 use std::alloc::{AllocError, Global};
 use std::marker::Model;
 
@@ -21,8 +21,8 @@ fn mark_of(name: &[u8]) -> usize
         return short_mark(name);
     }
     let rest = length - 4;
-    let sum = half_word(name, rest / 2) * 506_952_113
-        + half_word(name, rest) * 625_341_585
+    let sum = u32_at(name, rest / 2) * 506_952_113
+        + u32_at(name, rest) * 625_341_585
         + (length % 64) as u64 * 461_845_907;
     (sum / 16_777_216 % 32_768) as usize
 }

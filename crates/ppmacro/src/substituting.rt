@@ -4,7 +4,7 @@ ghost use Rattle.std.specs.FinSet as set;
 ghost use Rattle.ppmacro.specs.Numbered.{Numbered};
 ghost use Rattle.ppmacro.specs.HideSets.{set_at, IsKnown, hidings, AllKnown, Keeps};
 ghost use Rattle.ppmacro.specs.Substitution.{is_joined, before_rest, rest_of, with_rest_tokens, chain_tokens, mark_first, with_mark, plain, chains_tokens, substituted_by};
-ghost use Rattle.pptext.specs.Stops.{Answers};
+ghost use Rattle.pptext.specs.Errors.{Returns};
 ghost use Rattle.ppmacro.specs.Substituting.{lists_of, ArgumentsKnown, arguments_in, marked_in, pushed, left_with};
 
 mod entries;
@@ -26,7 +26,7 @@ use crate::flying::Hidden;
 use crate::hide_sets::HideSets;
 use crate::invoked::{Arguments, MacroName};
 use crate::macros::{Chain, Operand};
-use pptext::{Fault, Memory, Place, Stop, Token, settled};
+use pptext::{Fault, Memory, Place, Error, Token, split_memory};
 use std::alloc::{AllocError, Global};
 
 /// Returns whether there are at least two operands, so that `##` joins them.
@@ -77,9 +77,9 @@ fn chain_tokens<'x, 'a: 'x>(
     arguments: Arguments<'_, 'x>,
     used: Place,
     chain: &Chain<'a>,
-) -> Result<Vec<Hidden<'x>>, Stop>
+) -> Result<Vec<Hidden<'x>>, Error>
     requires { ArgumentsKnown sets.old arguments.given.now arguments.expanded.now }
-    ensures is { Answers result (λ v. hidings sets.new v.items) (chain_tokens (arguments_in sets.old arguments.entry.given.now arguments.entry.expanded.now) used chain.now) }
+    ensures is { Returns result (λ v. hidings sets.new v.items) (chain_tokens (arguments_in sets.old arguments.entry.given.now arguments.entry.expanded.now) used chain.now) }
     ensures known { IfOk result (λ v. AllKnown sets.new v.items) }
     ensures keeps { Keeps sets.old sets.new }
 {
@@ -144,10 +144,10 @@ fn push_chain_tokens<'x, 'a: 'x>(
     mark: bool,
     chain: &Chain<'a>,
     tokens: &mut Vec<Hidden<'x>>,
-) -> Result<bool, Stop>
+) -> Result<bool, Error>
     requires arguments { ArgumentsKnown sets.old arguments.given.now arguments.expanded.now }
     requires tokens { AllKnown sets.old tokens.old.items }
-    ensures is { Answers result (left_with sets.new tokens.new.items)
+    ensures is { Returns result (left_with sets.new tokens.new.items)
         (pushed (hidings sets.old tokens.old.items) mark (chain_tokens (arguments_in sets.old arguments.entry.given.now arguments.entry.expanded.now) used chain.now)) }
     ensures known { OnOk result (AllKnown sets.new tokens.new.items) }
     ensures keeps { Keeps sets.old sets.new }
@@ -191,9 +191,9 @@ fn chains_tokens<'x, 'a: 'x>(
     used: Place,
     space: bool,
     chains: &[Chain<'a>],
-) -> Result<(Vec<Hidden<'x>>, bool), Stop>
+) -> Result<(Vec<Hidden<'x>>, bool), Error>
     requires { ArgumentsKnown sets.old arguments.given.now arguments.expanded.now }
-    ensures is { Answers result (λ m. left_with sets.new m.0.items m.1)
+    ensures is { Returns result (λ m. left_with sets.new m.0.items m.1)
         (chains_tokens (arguments_in sets.old arguments.entry.given.now arguments.entry.expanded.now) used space true chains.now) }
     ensures known { IfOk result (λ m. AllKnown sets.new m.0.items) }
     ensures keeps { Keeps sets.old sets.new }
@@ -225,10 +225,10 @@ fn substituted_by<'x, 'a: 'x>(
     chains: &[Chain<'a>],
     arguments: Arguments<'_, 'x>,
     head: &MacroName,
-) -> Result<(Vec<Hidden<'x>>, bool), Stop>
+) -> Result<(Vec<Hidden<'x>>, bool), Error>
     requires arguments { ArgumentsKnown sets.old arguments.given.now arguments.expanded.now }
     requires base { IsKnown sets.old head.now.base }
-    ensures is { Answers result (λ m. left_with sets.new m.0.items m.1)
+    ensures is { Returns result (λ m. left_with sets.new m.0.items m.1)
         (substituted_by chains.now (arguments_in sets.old arguments.entry.given.now arguments.entry.expanded.now) (set.insert (set_at sets.old head.now.base) head.now.name.now) head.now.used head.now.space) }
     ensures known { IfOk result (λ m. AllKnown sets.new m.0.items) }
     ensures keeps { Keeps sets.old sets.new }
@@ -262,5 +262,5 @@ pub fn substitute<'x, 'a: 'x>(
     ensures known { IfOk result (λ r. IfOk r (λ m. AllKnown sets.new m.0.items)) }
     ensures keeps { Keeps sets.old sets.new }
 {
-    settled(substituted_by(alloc, sets, chains, arguments, head))
+    split_memory(substituted_by(alloc, sets, chains, arguments, head))
 }

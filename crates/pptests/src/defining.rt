@@ -40,7 +40,7 @@ pub(crate) fn direct<'a>(
     let [hash, name, rest @ ..] = line else {
         return Ok(Ok(()));
     };
-    if name.is_name(b"undef") {
+    if name.is_identifier_named(b"undef") {
         return undef(alloc, table, profile, hash.at, rest);
     }
     define(alloc, table, profile, hash.at, rest)

@@ -4,9 +4,9 @@ use Rattle.std.proofs.lemmas.List.{at_drop_more, take_more, set_at, get_or_at, l
 use Rattle.pptext.specs.declared.tokens.Token.{Token}
 use Rattle.pptext.specs.declared.sources.Line.{Line}
 use Rattle.pptext.specs.Lines.{LogicalLine}
-use Rattle.pptext.specs.Tree.{Role, TextLine, ControlLine, Opens, Elses, Closes, role, branch_behind}
+use Rattle.pptext.specs.Tree.{Role, TextLine, ControlLine, Opens, Elses, Closes, role, branch_after}
 use Rattle.pptext.specs.Sources.{next_branch, spans, tokens_of, lines_from}
-use Rattle.pptext.specs.Grouping.{drafts, AreDirected, AreDrafts, AreLines, line_role, branch_of, linked, first, step_back}
+use Rattle.pptext.specs.code.Grouping.{line_spans, AreDirected, AreLineSpans, AreLines, line_role, branch_of, linked, first, step_back}
 use Rattle.pptext.proofs.Spans.{line_from}
 
 -- the next branch line of each section that is open before these lines, the innermost first
@@ -18,7 +18,7 @@ drop_one_more : (j : ℕ) (ks : List ℕ) → drop j (drop 1 ks) ≡ drop (suc j
 drop_one_more j [] = drop_all j [] (omega arith)
 drop_one_more j (k ∷ ks) = refl
 
-branch_is : (j k : ℕ) (ss : List Role) → branch_behind j k ss ≡ first (drop j (branches k ss))
+branch_is : (j k : ℕ) (ss : List Role) → branch_after j k ss ≡ first (drop j (branches k ss))
 branch_is j k [] = ap first (sym (drop_all j [] (omega arith)))
 branch_is j k (Opens ∷ ss) = branch_is (suc j) (k + 1) ss ∙ ap first (sym (drop_one_more j (branches (k + 1) ss)))
 branch_is zero k (Closes ∷ ss) = refl
@@ -93,16 +93,16 @@ branch_next k Closes rs = refl
 branch_next k TextLine rs = refl
 branch_next k ControlLine rs = refl
 
-draft_roles : (start : ℕ) (rs : List LogicalLine) → map line_role (drafts start rs) ≡ map role rs
+draft_roles : (start : ℕ) (rs : List LogicalLine) → map line_role (line_spans start rs) ≡ map role rs
 draft_roles start [] = refl
 draft_roles start (r ∷ rs) = ap (λ (z : List Role). role r ∷ z) (draft_roles (start + length r.tokens) rs)
 
-pub linked_drafts : (k start : ℕ) (rs : List LogicalLine) → linked k (drafts start rs) ≡ spans k start rs
+pub linked_drafts : (k start : ℕ) (rs : List LogicalLine) → linked k (line_spans start rs) ≡ spans k start rs
 linked_drafts k start [] = refl
 linked_drafts k start (r ∷ rs) =
     let stop = start + length r.tokens in
-    let next : branch_of k (role r) (map line_role (drafts stop rs)) ≡ next_branch k (role r) rs = ap (branch_of k (role r)) (draft_roles stop rs) ∙ branch_next k (role r) rs in
-    ap (λ (z : Option ℕ). record { start = start; end = stop; number = r.number; directive = r.directive; next_branch = z } ∷ linked (k + 1) (drafts stop rs))
+    let next : branch_of k (role r) (map line_role (line_spans stop rs)) ≡ next_branch k (role r) rs = ap (branch_of k (role r)) (draft_roles stop rs) ∙ branch_next k (role r) rs in
+    ap (λ (z : Option ℕ). record { start = start; end = stop; number = r.number; directive = r.directive; next_branch = z } ∷ linked (k + 1) (line_spans stop rs))
     next
     ∙ ap (λ (z : List Line). record { start = start; end = stop; number = r.number; directive = r.directive; next_branch = next_branch k (role r) rs } ∷ z)
     (linked_drafts (k + 1) stop rs)
@@ -112,7 +112,7 @@ lines_of_linked : (ts : List Token) (k : ℕ) (ls : List Line) → lines_from ts
 lines_of_linked ts k [] = refl
 lines_of_linked ts k (l ∷ ls) = ap (λ (z : List LogicalLine). line_from ts l ∷ z) (lines_of_linked ts (k + 1) ls)
 
-pub linked_are : (ts : List Token) (ls now : List Line) → AreDrafts ts ls → now ≡ linked 0 ls → (lines_from ts now ≡ lines_from ts ls) × AreLines ts now
+pub linked_are : (ts : List Token) (ls now : List Line) → AreLineSpans ts ls → now ≡ linked 0 ls → (lines_from ts now ≡ lines_from ts ls) × AreLines ts now
 linked_are ts ls now are is =
     let same : lines_from ts now ≡ lines_from ts ls = ap (lines_from ts) is ∙ lines_of_linked ts 0 ls in
     let spans_are : spans 0 0 (lines_from ts ls) ≡ now = sym (linked_drafts 0 0 (lines_from ts ls)) ∙ ap (linked 0) are.1 ∙ sym is in

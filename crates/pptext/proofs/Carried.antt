@@ -8,13 +8,13 @@ use Rattle.pptext.specs.declared.tokens.Kind.{Kind}
 use Rattle.pptext.specs.declared.tokens.Kind.TheVariants.{Ident, Number, CharConst, Str, Punct, Header, Other}
 use Rattle.pptext.specs.Languages.{Then, Repeated}
 use Rattle.pptext.specs.Spellings.{is_digit, is_exponent, is_sign, IsNumberPart, Spells}
-use Rattle.pptext.specs.Carrying.{IsNumberRest, last_of, EndsInExponent, CarriesOn}
-use Rattle.pptext.specs.Cut.{OpensBlock, OpensLine}
-use Rattle.pptext.specs.Sources.{IsOneToken, IsLoneQuote}
+use Rattle.pptext.specs.Continuations.{IsNumberRest, last_of, EndsInExponent, ContinuesToken}
+use Rattle.pptext.specs.Lexemes.{OpensBlock, OpensLine}
+use Rattle.pptext.specs.Sources.{IsOneToken, IsUnmatchedQuote}
 use Rattle.pptext.proofs.OneKind.{begins, begins_apart, begins_also, is_ident_head, is_number_head, ident_begins, number_begins, number_head}
 use Rattle.pptext.proofs.OnePiece.{opening_begins}
 use Rattle.pptext.proofs.Numbers.{NumberStart}
-use Rattle.pptext.proofs.Lexer.{plain_token, spelled_whole}
+use Rattle.pptext.proofs.OneLexer.{plain_token, spelled_whole}
 
 -- parts after parts
 more_parts : (P : List ℕ → Type 0) (ps : List (List ℕ)) (b : List ℕ) → AllByRecursion P ps → Repeated P b → Repeated P (flat_map (λ p. p) ps ++ b)
@@ -30,10 +30,10 @@ carried P Q text more (a, b, e, x, (ps, all, f)) rest =
 -- ---- a sign after an exponent's letter
 
 -- the last character is that of what follows
-pub last_behind : (front : List ℕ) (c : ℕ) (cs : List ℕ) → last_of (front ++ c ∷ cs) ≡ last_of (c ∷ cs)
+pub last_behind : (prefix : List ℕ) (c : ℕ) (cs : List ℕ) → last_of (prefix ++ c ∷ cs) ≡ last_of (c ∷ cs)
 last_behind [] c cs = refl
 last_behind (d ∷ []) c cs = refl
-last_behind (d ∷ e ∷ front) c cs = last_behind (e ∷ front) c cs
+last_behind (d ∷ e ∷ prefix) c cs = last_behind (e ∷ prefix) c cs
 
 digit_apart : (c : ℕ) → is_exponent c ≡ true → is_digit c || c == 46 ≡ true → ⊥
 digit_apart c e t = grind (arith, nat_tests)
@@ -63,10 +63,10 @@ part_signed p s rest (inr (inr (a, b, is, (c, is_a, h), (d, is_b, g)))) ends t m
     absurd (sign_apart d (subst (λ z. is_exponent (last_of z) ≡ true) whole ends.0) g)
 
 -- what ends a text ends what follows its prefix
-ends_behind : (front : List ℕ) (c : ℕ) (cs : List ℕ) → EndsInExponent (front ++ c ∷ cs) → EndsInExponent (c ∷ cs)
-ends_behind front c cs ends = (
-  subst (λ z. is_exponent z ≡ true) (last_behind front c cs) ends.0,
-  λ u. ends.1 (front ++ u.0, u.1, ap (λ z. front ++ z) u.2 ∙ sym (append_assoc front u.0 u.1), u.3),
+ends_behind : (prefix : List ℕ) (c : ℕ) (cs : List ℕ) → EndsInExponent (prefix ++ c ∷ cs) → EndsInExponent (c ∷ cs)
+ends_behind prefix c cs ends = (
+  subst (λ z. is_exponent z ≡ true) (last_behind prefix c cs) ends.0,
+  λ u. ends.1 (prefix ++ u.0, u.1, ap (λ z. prefix ++ z) u.2 ∙ sym (append_assoc prefix u.0 u.1), u.3),
 )
 
 parts_signed : (ps : List (List ℕ)) (s : ℕ) (rest : List ℕ) → AllByRecursion IsNumberPart ps → EndsInExponent (flat_map (λ p. p) ps) → is_sign s ≡ true → Repeated IsNumberPart rest
@@ -103,7 +103,7 @@ number_signed text s rest (a, b, e, x, (ps, all, f)) ends t more = go b refl
         let signed = parts_signed ps s rest all (subst EndsInExponent f behind) t more in
         (a, b ++ s ∷ rest, ap (λ z. z ++ s ∷ rest) e ∙ append_assoc a b (s ∷ rest), x, subst (λ z. Repeated IsNumberPart (z ++ s ∷ rest)) (sym f) signed)
 
-carried_spelling : (text more : List ℕ) (k : Kind) → Spells k text → CarriesOn k text more → Spells k (text ++ more)
+carried_spelling : (text more : List ℕ) (k : Kind) → Spells k text → ContinuesToken k text more → Spells k (text ++ more)
 carried_spelling text more Ident h rest = carried _ _ text more h rest
 carried_spelling text more Number h (inl rest) = carried _ IsNumberPart text more h rest
 carried_spelling text more Number h (inr (ends, (a, b, e, (s, is, t), rest))) =
@@ -115,7 +115,7 @@ carried_spelling text more Punct h none = absurd none
 carried_spelling text more Header h none = absurd none
 carried_spelling text more Other h none = absurd none
 
-word_of : (text more : List ℕ) (k : Kind) → CarriesOn k text more → (k ≡ Ident) ⊎ (k ≡ Number)
+word_of : (text more : List ℕ) (k : Kind) → ContinuesToken k text more → (k ≡ Ident) ⊎ (k ≡ Number)
 word_of text more Ident rest = inl refl
 word_of text more Number rest = inr refl
 word_of text more CharConst none = absurd none
@@ -145,7 +145,7 @@ slash_apart c e f = grind (arith, nat_tests)
 no_comment : (s : List ℕ) → begins is_word_head s ≡ true → ¬ (OpensBlock s ⊎ OpensLine s)
 no_comment s t opens = begins_apart (λ c. c == 47) is_word_head slash_apart s (opening_begins (λ c. c == 47) refl s opens) t
 
-no_quote : (s : List ℕ) → begins is_word_head s ≡ true → ¬ IsLoneQuote s
+no_quote : (s : List ℕ) → begins is_word_head s ≡ true → ¬ IsUnmatchedQuote s
 no_quote s t (inl e) = false≢true (subst (λ z. begins is_word_head z ≡ true) e t)
 no_quote s t (inr e) = false≢true (subst (λ z. begins is_word_head z ≡ true) e t)
 
@@ -154,8 +154,8 @@ no_quote s t (inr e) = false≢true (subst (λ z. begins is_word_head z ≡ true
 spelled_by : (text : List ℕ) (k : Kind) → IsOneToken text k → Spells k text
 spelled_by text k one = subst (Spells k) (take_all (length text) text (omega arith)) (plain_token text k one).spelled
 
-pub carried_on : (text more : List ℕ) (k : Kind) → IsOneToken text k → CarriesOn k text more → IsOneToken (text ++ more) k × (¬ IsLoneQuote (text ++ more))
-carried_on text more k one rest =
+pub continued_token : (text more : List ℕ) (k : Kind) → IsOneToken text k → ContinuesToken k text more → IsOneToken (text ++ more) k × (¬ IsUnmatchedQuote (text ++ more))
+continued_token text more k one rest =
     let whole : Spells k (text ++ more) = carried_spelling text more k (spelled_by text k one) rest in
     let head : begins is_word_head (text ++ more) ≡ true = begins_word (text ++ more) k (word_of text more k rest) whole in
     (spelled_whole (text ++ more) k (no_comment (text ++ more) head) whole, no_quote (text ++ more) head)

@@ -7,7 +7,7 @@ use Rattle.std.proofs.lemmas.Bool.Decides.{nat_tests}
 use Rattle.std.proofs.lemmas.List.{take_all, drop_at, take-append-drop}
 use Rattle.pptext.specs.Languages.{OnlyPart}
 use Rattle.pptext.specs.Spellings.{is_sign, is_exponent, IsUniversal}
-use Rattle.pptext.specs.Carrying.{IsNumberRest, IsSignedRest, last_of, EndsInUniversal, EndsInExponent}
+use Rattle.pptext.specs.Continuations.{IsNumberRest, IsSignedRest, last_of, EndsInUniversal, EndsInExponent}
 
 abbrev pub Iff : Type 0 → Type 0 → Type 0
 Iff A B = (A → B) × (B → A)
@@ -59,18 +59,18 @@ name_length s (inr (a, b, e, is, (l, all))) =
 pub ends_by : (text : List ℕ) (len : ℕ) → EndsInNameOf text len → EndsInUniversal text
 ends_by text len (fits, u) = (take (length text - len) text, drop (length text - len) text, sym (take-append-drop (length text - len) text), u)
 
-name_behind : (text front name : List ℕ) (len : ℕ) → text ≡ front ++ name → length name ≡ len → IsUniversal name → EndsInNameOf text len
-name_behind text front name len e l u =
-    let both : length text ≡ length front + length name = ap length e ∙ length-append front name in
-    let behind : drop (length text - len) text ≡ name = ap (drop (length text - len)) e ∙ drop_at front name (length text - len) (omega arith) in
+name_behind : (text prefix name : List ℕ) (len : ℕ) → text ≡ prefix ++ name → length name ≡ len → IsUniversal name → EndsInNameOf text len
+name_behind text prefix name len e l u =
+    let both : length text ≡ length prefix + length name = ap length e ∙ length-append prefix name in
+    let behind : drop (length text - len) text ≡ name = ap (drop (length text - len)) e ∙ drop_at prefix name (length text - len) (omega arith) in
     (omega arith, subst IsUniversal (sym behind) u)
 
 pub ends_as : (text : List ℕ) → EndsInUniversal text → EndsInNameOf text 6 ⊎ EndsInNameOf text 10
-ends_as text (front, name, e, u) = go (name_length name u)
+ends_as text (prefix, name, e, u) = go (name_length name u)
   where
     go : (length name ≡ 6) ⊎ (length name ≡ 10) → EndsInNameOf text 6 ⊎ EndsInNameOf text 10
-    go (inl l) = inl (name_behind text front name 6 e l u)
-    go (inr l) = inr (name_behind text front name 10 e l u)
+    go (inl l) = inl (name_behind text prefix name 6 e l u)
+    go (inr l) = inr (name_behind text prefix name 10 e l u)
 
 pub ends_first : (text : List ℕ) (first : Bool) → first ≡ true → Iff (IsTrue first) (EndsInNameOf text 6) → Iff (IsTrue first) (EndsInUniversal text)
 ends_first text first t six = (λ e. ends_by text 6 (six.0 e), λ u. t)

@@ -7,9 +7,9 @@ use Rattle.std.proofs.lemmas.Bool.Decides.{nat_tests}
 use Rattle.std.proofs.lemmas.List.{drop-map, drop-drop, drop_all, length-map}
 use Rattle.pptext.specs.declared.tokens.Place.{Place}
 use Rattle.pptext.specs.declared.characters.Char.{Char}
-use Rattle.pptext.specs.Clean.{codes_of, head_code, is_return_at, without_returns, trigraph, trigraph_at, trigraphs_behind, trigraphs, splices, splice_at_end}
-use Rattle.pptext.specs.Steps.{Step, Code, Removed, open_end, trigraph_front, return_front, newline_front, spliced, coded, step_of}
-use Rattle.pptext.specs.Texts.{supply, logical}
+use Rattle.pptext.specs.Clean.{codes_of, head_code, is_return_at, without_returns, trigraph, trigraph_at, trigraphs_after, trigraphs, splices, splice_at_end}
+use Rattle.pptext.specs.code.Steps.{CharStep, Code, Removed, lacks_newline, trigraph_front, return_front, newline_front, spliced, coded, step_of}
+use Rattle.pptext.specs.code.CleanedText.{supply, logical}
 
 -- The tests on bytes are those on characters.
 pub return_same : (cs : List Char) → return_front (codes_of cs) ≡ is_return_at cs
@@ -145,7 +145,7 @@ record NewLine (s : Bool) (e : Place) (cs : List Char) (m : ℕ) : Type 0 where
   fits : m ≤ length cs
   more : 0 < m → (nl : Char) × (nl.code ≡ 10) × (logical s e cs ≡ nl ∷ logical s e (drop m cs))
   none : m ≡ 0 → (cs ≡ []) × (s ≡ true)
-  last : 0 < m → m ≡ length cs → open_end (codes_of cs) ≡ false
+  last : 0 < m → m ≡ length cs → lacks_newline (codes_of cs) ≡ false
 
 some_is : (m n : ℕ) → Some m ≡ Some n → m ≡ n
 some_is m n e = cc
@@ -158,7 +158,7 @@ plain_lf s e c cs h = own_step s e c cs (lf_kept c cs h) (no_mark c cs (λ q. cc
     no_mark a (b ∷ []) k = refl
     no_mark a (b ∷ x ∷ xs) k = rw (ne_eqb a.code 63 k) refl
 
-last_lf : (y : Char) (ys : List Char) → y.code ≡ 10 → length ys ≡ 0 → open_end (codes_of (y ∷ ys)) ≡ false
+last_lf : (y : Char) (ys : List Char) → y.code ≡ 10 → length ys ≡ 0 → lacks_newline (codes_of (y ∷ ys)) ≡ false
 last_lf y [] p l0 = rw p refl
 last_lf y (w ∷ ys) p l0 = absurd (omega arith)
 
@@ -278,9 +278,9 @@ pub record RemovedStep (s : Bool) (e : Place) (c : Char) (cs : List Char) (n : �
   pub fits : n ≤ suc (length cs)
   pub text : n < suc (length cs) → splices (logical s e (c ∷ cs)) ≡ splices (logical s e (drop n (c ∷ cs)))
   pub ends : n < suc (length cs) → splice_at_end (logical s e (c ∷ cs)) ≡ splice_at_end (logical s e (drop n (c ∷ cs)))
-  pub last : n ≡ suc (length cs) → s ≡ open_end (codes_of (c ∷ cs)) → splice_at_end (logical s e (c ∷ cs)) ≡ Some c.at
+  pub last : n ≡ suc (length cs) → s ≡ lacks_newline (codes_of (c ∷ cs)) → splice_at_end (logical s e (c ∷ cs)) ≡ Some c.at
 
-abbrev pub Outcome : Bool → Place → Char → List Char → Step → Type 0
+abbrev pub Outcome : Bool → Place → Char → List Char → CharStep → Type 0
 Outcome s e c cs (Code code n) = CodeStep s e c cs code n
 Outcome s e c cs (Removed n) = RemovedStep s e c cs n
 
@@ -296,7 +296,7 @@ returns_some (c ∷ cs) lt = by (λ k. returns_some cs k) (is_return_at (c ∷ c
 trigraphs_some : (cs : List Char) → 0 < length cs → 0 < length (trigraphs cs)
 trigraphs_some [] lt = absurd (omega arith)
 trigraphs_some (c ∷ cs) lt =
-    elim (trigraph_at (c ∷ cs) == 0) as (λ t. 0 < length (if t then c ∷ trigraphs_behind 0 cs else record { code = trigraph_at (c ∷ cs); at = c.at } ∷ trigraphs_behind 2 cs)) [ true ↦ omega arith | false ↦ omega arith ]
+    elim (trigraph_at (c ∷ cs) == 0) as (λ t. 0 < length (if t then c ∷ trigraphs_after 0 cs else record { code = trigraph_at (c ∷ cs); at = c.at } ∷ trigraphs_after 2 cs)) [ true ↦ omega arith | false ↦ omega arith ]
 
 logical_some : (s : Bool) (e : Place) (cs : List Char) → 0 < length cs → 0 < length (logical s e cs)
 logical_some s e cs lt =
@@ -304,7 +304,7 @@ logical_some s e cs lt =
     trigraphs_some (without_returns cs ++ supply s e) (omega (arith, length-append (without_returns cs) (supply s e)))
 
 -- the same end for each rest
-pub open_end_drop : (n : ℕ) (bs : List ℕ) → n < length bs → open_end (drop n bs) ≡ open_end bs
+pub open_end_drop : (n : ℕ) (bs : List ℕ) → n < length bs → lacks_newline (drop n bs) ≡ lacks_newline bs
 open_end_drop n [] lt = absurd (omega arith)
 open_end_drop zero (b ∷ bs) lt = refl
 open_end_drop (suc n) (b ∷ []) lt = absurd (omega arith)
@@ -359,7 +359,7 @@ splice_last : (s : Bool) (e : Place) (c : Char) (cs : List Char) (code k m : ℕ
     → code ≡ 92
     → NewLine s e (drop k (c ∷ cs)) m
     → k + m ≡ suc (length cs)
-    → s ≡ open_end (codes_of (c ∷ cs))
+    → s ≡ lacks_newline (codes_of (c ∷ cs))
     → splice_at_end (logical s e (c ∷ cs)) ≡ Some c.at
 splice_last s e c cs code k zero fits is p line lt o =
     let x : Char = record { code = code; at = c.at } in
@@ -373,7 +373,7 @@ splice_last s e c cs code k (suc m) fits is p line lt o =
     let f = line.more (omega arith) in
     let lf = line.last (omega arith) (omega arith) in
     let room : k < length (codes_of (c ∷ cs)) = rw (length-map (c ∷ cs) (λ (y : Char). y.code)) (omega arith) in
-    let closed : s ≡ false = o ∙ sym (open_end_drop k (codes_of (c ∷ cs)) room) ∙ ap open_end (drop-map (λ (y : Char). y.code) k (c ∷ cs)) ∙ lf in
+    let closed : s ≡ false = o ∙ sym (open_end_drop k (codes_of (c ∷ cs)) room) ∙ ap lacks_newline (drop-map (λ (y : Char). y.code) k (c ∷ cs)) ∙ lf in
     let none = drop_all (suc m) rest (omega arith) in
     ap splice_at_end (is ∙ ap (λ z. x ∷ z) f.2 ∙ ap (λ z. x ∷ f.0 ∷ logical s e z) none ∙ ap (λ t. x ∷ f.0 ∷ logical t e []) closed) ∙ end_here x f.0 p f.1
 

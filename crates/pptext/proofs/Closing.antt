@@ -5,7 +5,7 @@ use Rattle.std.specs.List.{flat_map}
 use Rattle.std.proofs.lemmas.List.{drop-drop}
 use Rattle.std.proofs.Math.Seq.{take-add}
 use Rattle.std.proofs.lemmas.Bool.Decides.{nat_tests}
-use Rattle.pptext.specs.Languages.{Exactly, One, Then, Repeated, NoFront, IsOnly, OnlyPart}
+use Rattle.pptext.specs.Languages.{Exactly, One, Then, Repeated, NoPrefix, IsOnly, OnlyPart}
 use Rattle.pptext.specs.Spellings.{IsBetween, IsHeader}
 use Rattle.pptext.proofs.Parts.{front_of, front_length, behind_front}
 use Rattle.pptext.proofs.Fronts.{one_here, one_lacks, one_empty, only_zero, exactly_then, either_left, either_right, only_some}
@@ -35,7 +35,7 @@ closed_front P q text m fits (a, b, e, (y ∷ ys, all, ea), eb) =
     let l : length y + length rest ≡ m = front_length text y rest m fits e' in
     inr (length y, omega arith, subst P (front_of text y rest m fits e') all.0, (flat_map (λ p. p) ys, b, sym (behind_front text y rest m fits e'), (ys, all.1, refl), eb))
 
-pub closes_here : (P : List ℕ → Type 0) (q : ℕ) (text : List ℕ) → 0 < length text → get_or text 0 0 ≡ q → NoFront P text → IsOnly (Closed P q) text 1
+pub closes_here : (P : List ℕ → Type 0) (q : ℕ) (text : List ℕ) → 0 < length text → get_or text 0 0 ≡ q → NoPrefix P text → IsOnly (Closed P q) text 1
 closes_here P q text l h none = record {
   positive = omega arith;
   fits = omega arith;
@@ -47,7 +47,7 @@ closes_here P q text l h none = record {
     cases m fits (inl a) = a.0
     cases m fits (inr (j, le, p, t)) = absurd (none j (omega arith) p)
 
-pub closes_nowhere : (P : List ℕ → Type 0) (q : ℕ) (text : List ℕ) → ((0 < length text) × (get_or text 0 0 ≡ q) → ⊥) → NoFront P text → NoFront (Closed P q) text
+pub closes_nowhere : (P : List ℕ → Type 0) (q : ℕ) (text : List ℕ) → ((0 < length text) × (get_or text 0 0 ≡ q) → ⊥) → NoPrefix P text → NoPrefix (Closed P q) text
 closes_nowhere P q text h none m fits t = cases (closed_front P q text m fits t)
   where
     cases : ((m ≡ 1) × (0 < length text) × (get_or text 0 0 ≡ q)) ⊎ ((j : ℕ) × (j ≤ m) × P (take j text) × Closed P q (take (m - j) (drop j text))) → ⊥
@@ -89,7 +89,7 @@ closes_later P q text n k h p c =
     same : (m : ℕ) → (n ≤ m) × (m - n ≤ length (drop n text)) × Closed P q (take (m - n) (drop n text)) → m ≡ n + k
     same m (le, fits, t) = let e : m - n ≡ k = c.only (m - n) fits t in omega arith
 
-pub lacks_later : (P : List ℕ → Type 0) (q : ℕ) (text : List ℕ) (n : ℕ) → (get_or text 0 0 ≡ q → ⊥) → IsOnly P text n → NoFront (Closed P q) (drop n text) → NoFront (Closed P q) text
+pub lacks_later : (P : List ℕ → Type 0) (q : ℕ) (text : List ℕ) (n : ℕ) → (get_or text 0 0 ≡ q → ⊥) → IsOnly P text n → NoPrefix (Closed P q) (drop n text) → NoPrefix (Closed P q) text
 lacks_later P q text n h p none m fits t = let c = closed_behind P q text n h p m fits t in none (m - n) c.1 c.2
 
 -- one more part, in the form of a loop
@@ -98,8 +98,8 @@ pub one_more : (P : List ℕ → Type 0) (q : ℕ) (text : List ℕ) (at n : ℕ
     → (get_or (drop at text) 0 0 ≡ q → ⊥)
     → IsOnly P (drop at text) n
     → ((k : ℕ) → IsOnly (Closed P q) (drop at text) k → IsOnly (Closed P q) text (at + k))
-    → (NoFront (Closed P q) (drop at text) → NoFront (Closed P q) text)
-    → (at + n ≤ length text) × ((k : ℕ) → IsOnly (Closed P q) (drop (at + n) text) k → IsOnly (Closed P q) text ((at + n) + k)) × (NoFront (Closed P q) (drop (at + n) text) → NoFront (Closed P q) text)
+    → (NoPrefix (Closed P q) (drop at text) → NoPrefix (Closed P q) text)
+    → (at + n ≤ length text) × ((k : ℕ) → IsOnly (Closed P q) (drop (at + n) text) k → IsOnly (Closed P q) text ((at + n) + k)) × (NoPrefix (Closed P q) (drop (at + n) text) → NoPrefix (Closed P q) text)
 one_more P q text at n within h p closes lacks =
     let d = length-drop at text in (
       omega (arith, p.fits, d),
@@ -121,16 +121,16 @@ inner-no_newline q c e = grind (arith, nat_tests)
 inner-other : (q c : ℕ) → (c ≡ q → ⊥) → (c ≡ 10 → ⊥) → inner q c ≡ true
 inner-other q c h g = grind (arith, nat_tests)
 
-pub closing_lacks : (q : ℕ) (text : List ℕ) → get_or text 0 0 ≡ q → NoFront (Inner q) text
+pub closing_lacks : (q : ℕ) (text : List ℕ) → get_or text 0 0 ≡ q → NoPrefix (Inner q) text
 closing_lacks q text e = one_lacks (inner q) text (inner-no_closing q (get_or text 0 0) e)
 
-pub newline_lacks : (q : ℕ) (text : List ℕ) → get_or text 0 0 ≡ 10 → NoFront (Inner q) text
+pub newline_lacks : (q : ℕ) (text : List ℕ) → get_or text 0 0 ≡ 10 → NoPrefix (Inner q) text
 newline_lacks q text e = one_lacks (inner q) text (inner-no_newline q (get_or text 0 0) e)
 
 pub inner_here : (q : ℕ) (text : List ℕ) → 0 < length text → (get_or text 0 0 ≡ q → ⊥) → (get_or text 0 0 ≡ 10 → ⊥) → IsOnly (Inner q) text 1
 inner_here q text l h g = one_here (inner q) text l (inner-other q (get_or text 0 0) h g)
 
-pub inner_empty : (q : ℕ) (text : List ℕ) → length text ≡ 0 → NoFront (Inner q) text
+pub inner_empty : (q : ℕ) (text : List ℕ) → length text ≡ 0 → NoPrefix (Inner q) text
 inner_empty q text l = one_empty (inner q) text l
 
 -- one character that opens, one between, and then the rest
@@ -162,7 +162,7 @@ pub between_none : (p q : ℕ) (text : List ℕ) (k : ℕ)
     → OnlyPart (Between p q) text 0
 between_none p q text k l e h g c z =
     let o = opens_between p q text l e h g in
-    let none : NoFront (Closed (Inner q) q) (drop 1 (drop 1 text)) = subst (λ t. NoFront (Closed (Inner q) q) t) (sym (twice text)) (c.0 z) in
+    let none : NoPrefix (Closed (Inner q) q) (drop 1 (drop 1 text)) = subst (λ t. NoPrefix (Closed (Inner q) q) t) (sym (twice text)) (c.0 z) in
     only_zero (Between p q) text (then_lacks_rest (Exactly (p ∷ [])) (Then (Inner q) (Closed (Inner q) q)) text 1 o.0 (then_lacks_rest (Inner q) (Closed (Inner q) q) (drop 1 text) 1 o.1 none))
 
 pub between_some : (p q : ℕ) (text : List ℕ) (k : ℕ)

@@ -3,7 +3,7 @@ use Rattle.std.proofs.Common.{ℕ, suc, ◌+◌, ◌<◌, ◌≤◌, true, false
 use Rattle.std.specs.List.{All}
 use Rattle.std.proofs.lemmas.List.Elements.{All-cons, All-nil}
 use Rattle.pptext.specs.declared.characters.Char.{Char}
-use Rattle.pptext.specs.Clean.{placed, place, unmarked, without_returns, is_return_at, newline}
+use Rattle.pptext.specs.Clean.{with_locations, place, without_bom, without_returns, is_return_at, newline}
 
 abbrev pub Narrow : ℕ → List Char → Type 0
 Narrow n cs = All (λ c. c.at.col < n) cs
@@ -11,10 +11,10 @@ Narrow n cs = All (λ c. c.at.col < n) cs
 narrow_tail : (n : ℕ) (c : Char) (cs : List Char) → Narrow n (c ∷ cs) → Narrow n cs
 narrow_tail n c cs h = λ k d lt. h (suc k) d (omega arith)
 
-pub placed_narrow : (n file line col : ℕ) (bs : List ℕ) → 1 ≤ col → col + length bs < n → Narrow n (placed file line col bs)
+pub placed_narrow : (n file line col : ℕ) (bs : List ℕ) → 1 ≤ col → col + length bs < n → Narrow n (with_locations file line col bs)
 placed_narrow n file line col [] one h = All-nil (λ (c : Char). c.at.col < n)
 placed_narrow n file line col (b ∷ bs) one h = All-cons (λ (c : Char). c.at.col < n) (record { code = b; at = place file line col }) _ (omega arith) (
-    elim (b == newline) as (λ t. Narrow n (if t then placed file (line + 1) 1 bs else placed file line (col + 1) bs)) [
+    elim (b == newline) as (λ t. Narrow n (if t then with_locations file (line + 1) 1 bs else with_locations file line (col + 1) bs)) [
       | true ↦ placed_narrow n file (line + 1) 1 bs (omega arith) (omega arith)
       | false ↦ placed_narrow n file line (col + 1) bs (omega arith) (omega arith)
     ])
@@ -29,7 +29,7 @@ returns_narrow n (c ∷ cs) h =
       | false ↦ All-cons (λ (x : Char). x.at.col < n) c _ here more
     ]
 
-pub unmarked_length : (bs : List ℕ) → length (unmarked bs) ≤ length bs
+pub unmarked_length : (bs : List ℕ) → length (without_bom bs) ≤ length bs
 unmarked_length [] = omega arith
 unmarked_length (a ∷ []) = omega arith
 unmarked_length (a ∷ b ∷ []) = omega arith

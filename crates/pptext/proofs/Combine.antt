@@ -2,12 +2,12 @@
 use Rattle.std.proofs.Common.{◌≡◌, ℕ, zero, suc, ◌+◌, ◌-◌, ◌<◌, ◌≤◌, Bool, true, List, [], ◌∷◌, ◌++◌, length, take, drop, refl, sym, ap, ◌∙◌, subst, arith, length-drop, append_assoc, get_or}
 use Rattle.std.proofs.Math.Seq.{take-add}
 use Rattle.std.proofs.lemmas.List.{append-nil, drop-drop, get_or-drop}
-use Rattle.pptext.specs.Languages.{Exactly, One, Then, Repeated, Longest, LongestOrNone, NoFront, IsNext, NextPart, IsOnly, OnlyPart}
-use Rattle.pptext.specs.Cut.{BeginsWith}
+use Rattle.pptext.specs.Languages.{Exactly, One, Then, Repeated, Longest, LongestOrNone, NoPrefix, IsNext, NextPart, IsOnly, OnlyPart}
+use Rattle.pptext.specs.Lexemes.{BeginsWith}
 use Rattle.pptext.proofs.Parts.{front_of, front_length, behind_front, then_longest, more_repeated, none_repeated}
 use Rattle.pptext.proofs.Fronts.{one_here, only_zero}
 
-pub then_lacks : (P Q : List ℕ → Type 0) (text : List ℕ) → NoFront P text → NoFront (Then P Q) text
+pub then_lacks : (P Q : List ℕ → Type 0) (text : List ℕ) → NoPrefix P text → NoPrefix (Then P Q) text
 then_lacks P Q text none m fits (a, b, e, pa, qb) =
     let l = front_length text a b m fits e in
     none (length a) (omega (arith, l)) (subst P (front_of text a b m fits e) pa)
@@ -33,14 +33,14 @@ then_only P Q text n k p q =
     same : (m : ℕ) → (n ≤ m) × (m - n ≤ length (drop n text)) × Q (take (m - n) (drop n text)) → m ≡ n + k
     same m (le, fits, t) = let e : m - n ≡ k = q.only (m - n) fits t in omega arith
 
-pub then_lacks_rest : (P Q : List ℕ → Type 0) (text : List ℕ) (n : ℕ) → IsOnly P text n → NoFront Q (drop n text) → NoFront (Then P Q) text
+pub then_lacks_rest : (P Q : List ℕ → Type 0) (text : List ℕ) (n : ℕ) → IsOnly P text n → NoPrefix Q (drop n text) → NoPrefix (Then P Q) text
 then_lacks_rest P Q text n p none m fits t = let h = after_only P Q text n p m fits t in none (m - n) h.1 h.2
 
 pub next_some : (P : List ℕ → Type 0) (text : List ℕ) (n : ℕ) → IsNext P text n → NextPart P text n
 next_some P text n p = (λ z. absurd (omega (arith, p.positive)), λ _. p)
 
 -- two languages with the same words
-pub lacks_along : (P Q : List ℕ → Type 0) (text : List ℕ) → ((s : List ℕ) → Q s → P s) → NoFront P text → NoFront Q text
+pub lacks_along : (P Q : List ℕ → Type 0) (text : List ℕ) → ((s : List ℕ) → Q s → P s) → NoPrefix P text → NoPrefix Q text
 lacks_along P Q text back none m fits q = none m fits (back (take m text) q)
 
 pub only_along : (P Q : List ℕ → Type 0) (text : List ℕ) (n : ℕ) → ((s : List ℕ) → P s → Q s) → ((s : List ℕ) → Q s → P s) → IsOnly P text n → IsOnly Q text n
@@ -116,7 +116,7 @@ first_longest P Q text n k p some q =
     let s : 0 < n = grind arith in
     (λ z. absurd (omega arith), λ _. then_longest P Q text n k (p.1 s) q)
 
-pub first_lacks : (P Q : List ℕ → Type 0) (text : List ℕ) → NoFront P text → LongestOrNone (Then P Q) text 0
+pub first_lacks : (P Q : List ℕ → Type 0) (text : List ℕ) → NoPrefix P text → LongestOrNone (Then P Q) text 0
 first_lacks P Q text none = (λ _. then_lacks P Q text none, λ s. absurd (omega arith))
 
 -- one more part, where whatever is longest from here on completes the longest
@@ -140,10 +140,10 @@ pub completed_next : (P : List ℕ → Type 0) (text : List ℕ) (at n : ℕ)
 completed_next P text at n within h p some = let s : 0 < n = grind arith in completed P text at n within h (p.1 s)
 
 -- nothing more where no part begins
-pub completed_all : (P : List ℕ → Type 0) (text : List ℕ) (at : ℕ) → ((k : ℕ) → Longest (Repeated P) (drop at text) k → Longest (Repeated P) text (at + k)) → NoFront P (drop at text) → Longest (Repeated P) text at
+pub completed_all : (P : List ℕ → Type 0) (text : List ℕ) (at : ℕ) → ((k : ℕ) → Longest (Repeated P) (drop at text) k → Longest (Repeated P) text (at + k)) → NoPrefix P (drop at text) → Longest (Repeated P) text at
 completed_all P text at h none = let e : at + 0 ≡ at = omega arith in rw e at (h 0 (none_repeated P (drop at text) none))
 
-pub lacks_nothing : (P : List ℕ → Type 0) (text : List ℕ) → (P [] → ⊥) → length text ≡ 0 → NoFront P text
+pub lacks_nothing : (P : List ℕ → Type 0) (text : List ℕ) → (P [] → ⊥) → length text ≡ 0 → NoPrefix P text
 lacks_nothing P [] none l zero fits p = none p
 lacks_nothing P [] none l (suc m) fits p = absurd (omega arith)
 lacks_nothing P (x ∷ text) none l m fits p = absurd (omega arith)
@@ -165,7 +165,7 @@ then_none_first P Q text n p z = only_zero (Then P Q) text (then_lacks P Q text 
 pub part_along : (P Q : List ℕ → Type 0) (text : List ℕ) (n : ℕ) → ((s : List ℕ) → P s → Q s) → ((s : List ℕ) → Q s → P s) → OnlyPart P text n → OnlyPart Q text n
 part_along P Q text n forth back p = (λ z. lacks_along P Q text back (p.0 z), λ s. only_along P Q text n forth back (p.1 s))
 
-pub exactly_lacks : (c : ℕ) (w text : List ℕ) → (get_or text 0 0 ≡ c → ⊥) → NoFront (Exactly (c ∷ w)) text
+pub exactly_lacks : (c : ℕ) (w text : List ℕ) → (get_or text 0 0 ≡ c → ⊥) → NoPrefix (Exactly (c ∷ w)) text
 exactly_lacks c w text h m fits e =
     h (begins_one text c w (sym (front_of text (c ∷ w) [] m fits (e ∙ sym (append-nil (c ∷ w)))))).1
 
@@ -173,7 +173,7 @@ exactly_lacks c w text h m fits e =
 pub then_found : (P Q : List ℕ → Type 0) (text : List ℕ) (n k : ℕ)
     → OnlyPart P text n
     → (n ≡ 0 → ⊥)
-    → (k ≡ 0 → NoFront Q (drop n text))
+    → (k ≡ 0 → NoPrefix Q (drop n text))
     → (0 < k → (n < k) × IsOnly Q (drop n text) (k - n))
     → OnlyPart (Then P Q) text k
 then_found P Q text n k p some none found = (λ z. then_lacks_rest P Q text n first (none z), λ s. whole (found s))

@@ -3,33 +3,33 @@ use Rattle.std.proofs.Common.{◌≡◌, ℕ, suc, ◌+◌, ◌-◌, ◌<◌, �
 use Rattle.std.proofs.lemmas.List.{drop-drop, drop-map, get_or-drop, get_or-take, take_all, length-take-le}
 use Rattle.pptext.specs.declared.tokens.Place.{Place}
 use Rattle.pptext.specs.declared.characters.Char.{Char}
-use Rattle.pptext.specs.declared.texts.Cursor.TheInside.{Inside}
+use Rattle.pptext.specs.declared.cleaned_text.TextCursor.TheInside.{Inside}
 use Rattle.pptext.specs.Clean.{codes_of, place, splices}
-use Rattle.pptext.specs.Breaks.{IsTable, Stretch, behind_break, step_len}
-use Rattle.pptext.specs.Steps.{Code, Removed, open_end, step_of, place_behind}
-use Rattle.pptext.specs.Texts.{InLine, Cursor, supply, start, end_from, text_from, Stands}
+use Rattle.pptext.specs.code.LineNotes.{IsTable, PlainRun, after_note, step_len}
+use Rattle.pptext.specs.code.Steps.{Code, Removed, lacks_newline, step_of, place_after}
+use Rattle.pptext.specs.code.CleanedText.{InLine, TextCursor, supply, start, end_from, text_from, IsCursorAt}
 use Rattle.pptext.proofs.PlaceLines.{no_line_passed}
 use Rattle.pptext.proofs.Offsets.{behind_append, behind_bounds, take_add}
-use Rattle.pptext.proofs.Breaks.{behind_at, own_less, stretch_rest, table_next}
+use Rattle.pptext.proofs.LineNoteLemmas.{behind_at, own_less, stretch_rest, table_next}
 use Rattle.pptext.proofs.Copies.{code_at, removed_at, removed_inside, at_end, own_at, own_from}
 
 -- the fields of the code's cursor are those that contracts see
-pub record Opened (a : Inside) (c : Cursor) : Type 0 where
+pub record Opened (a : Inside) (c : TextCursor) : Type 0 where
   pub passed : a.passed ≡ c.passed
   pub offset : a.offset ≡ c.offset
   pub plain : a.plain ≡ c.plain
 
-pub opened : (a : Inside) (c : Cursor) → record { passed = a.passed; offset = a.offset; plain = a.plain; next = a.next; at = a.at } ≡ c → Opened a c
-opened a c e = record { passed = ap (λ (x : Cursor). x.passed) e; offset = ap (λ (x : Cursor). x.offset) e; plain = ap (λ (x : Cursor). x.plain) e }
+pub after_line : (a : Inside) (c : TextCursor) → record { passed = a.passed; offset = a.offset; plain = a.plain; next = a.next; at = a.at } ≡ c → Opened a c
+after_line a c e = record { passed = ap (λ (x : TextCursor). x.passed) e; offset = ap (λ (x : TextCursor). x.offset) e; plain = ap (λ (x : TextCursor). x.plain) e }
 
 -- the bounds of a cursor's place
-pub record Bounds (file : ℕ) (c : Cursor) : Type 0 where
+pub record Bounds (file : ℕ) (c : TextCursor) : Type 0 where
   pub same_file : c.at.file ≡ file
   pub line : c.at.line ≤ c.offset + 1
   pub col : c.at.col ≤ c.offset + 1
 
-pub bounds : (file : ℕ) (raw breaks : List ℕ) (c : Cursor) → Stands file raw breaks c → Bounds file c
-bounds file raw breaks c s =
+pub bounds : (file : ℕ) (raw line_notes : List ℕ) (c : TextCursor) → IsCursorAt file raw line_notes c → Bounds file c
+bounds file raw line_notes c s =
     let b = behind_bounds (take c.offset raw) (start file) (omega arith) in
     let l = length-take-le c.offset raw s.within in
     let f = ap (λ (p : Place). p.file) s.at in
@@ -37,51 +37,51 @@ bounds file raw breaks c s =
     let n = ap (λ (p : Place). p.col) s.at in
     record { same_file = f ∙ b.file; line = omega (arith, b.line); col = omega (arith, b.col) }
 
-moved : (file : ℕ) (raw breaks : List ℕ) (c : Cursor) (n : ℕ) → Stands file raw breaks c → place_behind c.at (take n (drop c.offset raw)) ≡ place_behind (start file) (take (c.offset + n) raw)
-moved file raw breaks c n s = ap (λ p. place_behind p (take n (drop c.offset raw))) s.at
+moved : (file : ℕ) (raw line_notes : List ℕ) (c : TextCursor) (n : ℕ) → IsCursorAt file raw line_notes c → place_after c.at (take n (drop c.offset raw)) ≡ place_after (start file) (take (c.offset + n) raw)
+moved file raw line_notes c n s = ap (λ p. place_after p (take n (drop c.offset raw))) s.at
     ∙ sym (behind_append (take c.offset raw) (take n (drop c.offset raw)) (start file))
-    ∙ ap (place_behind (start file)) (sym (take_add c.offset n raw))
+    ∙ ap (place_after (start file)) (sym (take_add c.offset n raw))
 
 -- a cursor at a line note, whose bytes it passes
-abbrev pub behind : List ℕ → List ℕ → Cursor → ℕ → ℕ → Cursor
-behind raw breaks c passed n = record { passed = passed; offset = c.offset + n; plain = get_or breaks c.next (length raw - (c.offset + n)); next = c.next + 1; at = place_behind c.at (take n (drop c.offset raw)) }
+abbrev pub behind : List ℕ → List ℕ → TextCursor → ℕ → ℕ → TextCursor
+behind raw line_notes c passed n = record { passed = passed; offset = c.offset + n; plain = get_or line_notes c.next (length raw - (c.offset + n)); next = c.next + 1; at = place_after c.at (take n (drop c.offset raw)) }
 
 -- the stretch after a line note, and what follows in the table
-pub record Onward (raw breaks : List ℕ) (offset next n : ℕ) : Type 0 where
-  pub stretch : Stretch (open_end raw) (drop (offset + n) raw) (get_or breaks next (length raw - (offset + n)))
-  pub table : IsTable (open_end raw) (behind_break (open_end raw) (drop (offset + n + get_or breaks next (length raw - (offset + n))) raw)) (drop (next + 1) breaks)
+pub record Onward (raw line_notes : List ℕ) (offset next n : ℕ) : Type 0 where
+  pub stretch : PlainRun (lacks_newline raw) (drop (offset + n) raw) (get_or line_notes next (length raw - (offset + n)))
+  pub table : IsTable (lacks_newline raw) (after_note (lacks_newline raw) (drop (offset + n + get_or line_notes next (length raw - (offset + n))) raw)) (drop (next + 1) line_notes)
 
 abbrev Reads : List ℕ → List ℕ → ℕ → ℕ → ℕ → Type 0
-Reads raw breaks offset next last = Stretch (open_end raw) (drop offset raw) (get_or breaks next last) × IsTable (open_end raw) (behind_break (open_end raw) (drop (get_or breaks next last) (drop offset raw))) (drop (next + 1) breaks)
+Reads raw line_notes offset next last = PlainRun (lacks_newline raw) (drop offset raw) (get_or line_notes next last) × IsTable (lacks_newline raw) (after_note (lacks_newline raw) (drop (get_or line_notes next last) (drop offset raw))) (drop (next + 1) line_notes)
 
-onward : (file : ℕ) (raw breaks : List ℕ) (c : Cursor) (n : ℕ) → Stands file raw breaks c → c.plain ≡ 0 → step_len (step_of (open_end raw) (drop c.offset raw)) ≡ n → Onward raw breaks c.offset c.next n
-onward file raw breaks c n s none is = record { stretch = read.0; table = subst (λ z. IsTable (open_end raw) (behind_break (open_end raw) z) (drop (c.next + 1) breaks)) (drop-drop _ (c.offset + n) raw) read.1 }
+onward : (file : ℕ) (raw line_notes : List ℕ) (c : TextCursor) (n : ℕ) → IsCursorAt file raw line_notes c → c.plain ≡ 0 → step_len (step_of (lacks_newline raw) (drop c.offset raw)) ≡ n → Onward raw line_notes c.offset c.next n
+onward file raw line_notes c n s none is = record { stretch = read.0; table = subst (λ z. IsTable (lacks_newline raw) (after_note (lacks_newline raw) z) (drop (c.next + 1) line_notes)) (drop-drop _ (c.offset + n) raw) read.1 }
   where
     here : drop (c.offset + c.plain) raw ≡ drop c.offset raw
     here = ap (λ k. drop k raw) (omega arith)
 
-    rest : IsTable (open_end raw) (drop (c.offset + n) raw) (drop c.next breaks)
-    rest = subst (λ z. IsTable (open_end raw) z (drop c.next breaks)) (ap (behind_break (open_end raw)) here ∙ behind_at (open_end raw) raw c.offset n is) s.table
+    rest : IsTable (lacks_newline raw) (drop (c.offset + n) raw) (drop c.next line_notes)
+    rest = subst (λ z. IsTable (lacks_newline raw) z (drop c.next line_notes)) (ap (after_note (lacks_newline raw)) here ∙ behind_at (lacks_newline raw) raw c.offset n is) s.table
 
-    read : Reads raw breaks (c.offset + n) c.next (length raw - (c.offset + n))
-    read = subst (Reads raw breaks (c.offset + n) c.next) (length-drop (c.offset + n) raw) (table_next (open_end raw) (drop (c.offset + n) raw) breaks c.next rest)
+    read : Reads raw line_notes (c.offset + n) c.next (length raw - (c.offset + n))
+    read = subst (Reads raw line_notes (c.offset + n) c.next) (length-drop (c.offset + n) raw) (table_next (lacks_newline raw) (drop (c.offset + n) raw) line_notes c.next rest)
 
-pub skip_removed : (file : ℕ) (raw breaks : List ℕ) (c : Cursor) (n : ℕ)
-    → Stands file raw breaks c
+pub skip_removed : (file : ℕ) (raw line_notes : List ℕ) (c : TextCursor) (n : ℕ)
+    → IsCursorAt file raw line_notes c
     → c.plain ≡ 0
     → c.offset < length raw
-    → step_of (open_end raw) (drop c.offset raw) ≡ Removed n
-    → (c.offset < c.offset + n) × (c.offset + n ≤ length raw) × Stands file raw breaks (behind raw breaks c c.passed n)
-skip_removed file raw breaks c n s none lt is =
+    → step_of (lacks_newline raw) (drop c.offset raw) ≡ Removed n
+    → (c.offset < c.offset + n) × (c.offset + n ≤ length raw) × IsCursorAt file raw line_notes (behind raw line_notes c c.passed n)
+skip_removed file raw line_notes c n s none lt is =
     let r = removed_at file raw c.offset n lt is in
     let inner = removed_inside file raw c.offset n lt is s.ends in
-    let o = onward file raw breaks c n s none (ap step_len is) in
+    let o = onward file raw line_notes c n s none (ap step_len is) in
     let before = s.next in (
       omega (arith, r.some),
       r.fits,
       record {
         within = r.fits;
-        at = moved file raw breaks c n s;
+        at = moved file raw line_notes c n s;
         rest = s.rest ∙ r.text inner;
         ends = sym (r.ends inner) ∙ s.ends;
         stretch = o.stretch;
@@ -90,21 +90,21 @@ skip_removed file raw breaks c n s none lt is =
       },
     )
 
-pub pass_code : (file : ℕ) (raw breaks : List ℕ) (c : Cursor) (code n : ℕ)
-    → Stands file raw breaks c
+pub pass_code : (file : ℕ) (raw line_notes : List ℕ) (c : TextCursor) (code n : ℕ)
+    → IsCursorAt file raw line_notes c
     → c.plain ≡ 0
     → c.offset < length raw
-    → step_of (open_end raw) (drop c.offset raw) ≡ Code code n
-    → (c.offset < c.offset + n) × (c.offset + n ≤ length raw) × Stands file raw breaks (behind raw breaks c (c.passed + 1) n)
-pass_code file raw breaks c code n s none lt is =
+    → step_of (lacks_newline raw) (drop c.offset raw) ≡ Code code n
+    → (c.offset < c.offset + n) × (c.offset + n ≤ length raw) × IsCursorAt file raw line_notes (behind raw line_notes c (c.passed + 1) n)
+pass_code file raw line_notes c code n s none lt is =
     let r = code_at file raw c.offset code n lt is in
-    let o = onward file raw breaks c n s none (ap step_len is) in
+    let o = onward file raw line_notes c n s none (ap step_len is) in
     let before = s.next in (
       omega (arith, r.some),
       r.fits,
       record {
         within = r.fits;
-        at = moved file raw breaks c n s;
+        at = moved file raw line_notes c n s;
         rest = sym (drop-drop 1 c.passed (text_from file raw 0)) ∙ ap (drop 1) (s.rest ∙ r.text);
         ends = sym r.ends ∙ s.ends;
         stretch = o.stretch;
@@ -113,76 +113,76 @@ pass_code file raw breaks c code n s none lt is =
       },
     )
 
-pub pass_plain : (file : ℕ) (raw breaks : List ℕ) (c : Cursor) (n : ℕ)
-    → Stands file raw breaks c
+pub pass_plain : (file : ℕ) (raw line_notes : List ℕ) (c : TextCursor) (n : ℕ)
+    → IsCursorAt file raw line_notes c
     → n ≤ c.plain
     → (c.offset + n ≤ length raw)
-    × Stands file raw breaks
-    (record { passed = c.passed + n; offset = c.offset + n; plain = c.plain - n; next = c.next; at = place_behind c.at (take n (drop c.offset raw)) })
-pass_plain file raw breaks c n s le =
-    let front = own_less (open_end raw) (drop c.offset raw) n c.plain le s.stretch.front in
-    let p = own_from n file raw c.offset front in
+    × IsCursorAt file raw line_notes
+    (record { passed = c.passed + n; offset = c.offset + n; plain = c.plain - n; next = c.next; at = place_after c.at (take n (drop c.offset raw)) })
+pass_plain file raw line_notes c n s le =
+    let prefix = own_less (lacks_newline raw) (drop c.offset raw) n c.plain le s.stretch.prefix in
+    let p = own_from n file raw c.offset prefix in
     let l = length-drop c.offset raw in
     let w = s.within in
     let before = s.next in
-    let fits : c.offset + n ≤ length raw = omega (arith, front.fits) in
+    let fits : c.offset + n ≤ length raw = omega (arith, prefix.fits) in
     let same : c.offset + c.plain ≡ c.offset + n + (c.plain - n) = omega arith in (
       fits,
       record {
         within = fits;
-        at = moved file raw breaks c n s;
+        at = moved file raw line_notes c n s;
         rest = sym (drop-drop n c.passed (text_from file raw 0)) ∙ ap (drop n) s.rest ∙ p.0;
         ends = sym p.1 ∙ s.ends;
-        stretch = stretch_rest (open_end raw) raw c.offset n c.plain le s.stretch;
+        stretch = stretch_rest (lacks_newline raw) raw c.offset n c.plain le s.stretch;
         next = omega arith;
-        table = subst (λ k. IsTable (open_end raw) (behind_break (open_end raw) (drop k raw)) (drop c.next breaks)) same s.table;
+        table = subst (λ k. IsTable (lacks_newline raw) (after_note (lacks_newline raw) (drop k raw)) (drop c.next line_notes)) same s.table;
       },
     )
 
-pub stands_first : (file : ℕ) (raw breaks : List ℕ)
+pub stands_first : (file : ℕ) (raw line_notes : List ℕ)
     → end_from file raw 0 ≡ None
-    → IsTable (open_end raw) raw breaks
-    → Stands file raw breaks (record { passed = 0; offset = 0; plain = get_or breaks 0 (length raw); next = 1; at = start file })
-stands_first file raw breaks ends table =
-    let read = table_next (open_end raw) raw breaks 0 table in
+    → IsTable (lacks_newline raw) raw line_notes
+    → IsCursorAt file raw line_notes (record { passed = 0; offset = 0; plain = get_or line_notes 0 (length raw); next = 1; at = start file })
+stands_first file raw line_notes ends table =
+    let read = table_next (lacks_newline raw) raw line_notes 0 table in
     record { within = omega arith; at = refl; rest = refl; ends = ends; stretch = read.0; next = omega arith; table = rw zero-add read.1 }
 
 head_at : (cs : List Char) (n : ℕ) (d x : Char) (xs : List Char) → drop n cs ≡ x ∷ xs → get_or cs n d ≡ x
 head_at cs n d x xs e = sym (get_or-drop n cs 0 d ∙ ap (λ k. get_or cs k d) (add-zero n)) ∙ ap (λ z. get_or z 0 d) e
 
-pub stands_at_code : (file : ℕ) (raw breaks : List ℕ) (c : Cursor) (code n : ℕ) (d : Char)
-    → Stands file raw breaks c
+pub stands_at_code : (file : ℕ) (raw line_notes : List ℕ) (c : TextCursor) (code n : ℕ) (d : Char)
+    → IsCursorAt file raw line_notes c
     → c.offset < length raw
-    → step_of (open_end raw) (drop c.offset raw) ≡ Code code n
+    → step_of (lacks_newline raw) (drop c.offset raw) ≡ Code code n
     → c.at ≡ (get_or (text_from file raw 0) c.passed d).at
-stands_at_code file raw breaks c code n d s lt is =
+stands_at_code file raw line_notes c code n d s lt is =
     let r = code_at file raw c.offset code n lt is in
     s.at ∙ sym (ap (λ (x : Char). x.at) (head_at (text_from file raw 0) c.passed d _ _ (s.rest ∙ r.text)))
 
 -- a plain byte is the character that is sought
-stands_at_plain : (file : ℕ) (raw breaks : List ℕ) (c : Cursor) (d : Char) → Stands file raw breaks c → 0 < c.plain → c.at ≡ (get_or (text_from file raw 0) c.passed d).at
-stands_at_plain file raw breaks c d s some =
-    let one = own_at raw c.offset (c.plain - 1) (own_less (open_end raw) (drop c.offset raw) (suc (c.plain - 1)) c.plain (omega arith) s.stretch.front) in
-    stands_at_code file raw breaks c (get_or raw c.offset 0) 1 d s one.room one.step
+stands_at_plain : (file : ℕ) (raw line_notes : List ℕ) (c : TextCursor) (d : Char) → IsCursorAt file raw line_notes c → 0 < c.plain → c.at ≡ (get_or (text_from file raw 0) c.passed d).at
+stands_at_plain file raw line_notes c d s some =
+    let one = own_at raw c.offset (c.plain - 1) (own_less (lacks_newline raw) (drop c.offset raw) (suc (c.plain - 1)) c.plain (omega arith) s.stretch.prefix) in
+    stands_at_code file raw line_notes c (get_or raw c.offset 0) 1 d s one.room one.step
 
 -- a cursor before the character sought
-pub record InFront (file : ℕ) (raw breaks : List ℕ) (to : ℕ) (c : Cursor) : Type 0 where
-  pub stands : Stands file raw breaks c
+pub record InFront (file : ℕ) (raw line_notes : List ℕ) (to : ℕ) (c : TextCursor) : Type 0 where
+  pub stands : IsCursorAt file raw line_notes c
   pub passed : c.passed ≡ to
   pub same_file : c.at.file ≡ file
   pub place : (d : Char) → c.at ≡ (get_or (text_from file raw 0) to d).at
 
-in_front : (file : ℕ) (raw breaks : List ℕ) (to : ℕ) (c : Cursor) → Stands file raw breaks c → 0 < c.plain → c.passed ≡ to → InFront file raw breaks to c
-in_front file raw breaks to c stands some passed = record {
+in_front : (file : ℕ) (raw line_notes : List ℕ) (to : ℕ) (c : TextCursor) → IsCursorAt file raw line_notes c → 0 < c.plain → c.passed ≡ to → InFront file raw line_notes to c
+in_front file raw line_notes to c stands some passed = record {
   stands = stands;
   passed = passed;
-  same_file = (bounds file raw breaks c stands).same_file;
-  place = λ d. stands_at_plain file raw breaks c d stands some ∙ ap (λ k. (get_or (text_from file raw 0) k d).at) passed;
+  same_file = (bounds file raw line_notes c stands).same_file;
+  place = λ d. stands_at_plain file raw line_notes c d stands some ∙ ap (λ k. (get_or (text_from file raw 0) k d).at) passed;
 }
 
 -- a cursor that is moved to the character sought, over this many plain bytes
-pub arrives : (file : ℕ) (raw breaks : List ℕ) (c after : Cursor) (to : ℕ)
-    → Stands file raw breaks c
+pub arrives : (file : ℕ) (raw line_notes : List ℕ) (c after : TextCursor) (to : ℕ)
+    → IsCursorAt file raw line_notes c
     → c.passed ≤ to
     → to - c.passed < c.plain
     → after ≡ record {
@@ -190,14 +190,14 @@ pub arrives : (file : ℕ) (raw breaks : List ℕ) (c after : Cursor) (to : ℕ)
       offset = c.offset + (to - c.passed);
       plain = c.plain - (to - c.passed);
       next = c.next;
-      at = place_behind c.at (take (to - c.passed) (drop c.offset raw));
+      at = place_after c.at (take (to - c.passed) (drop c.offset raw));
     }
-    → InFront file raw breaks to after
-arrives file raw breaks c after to stands forward near is =
-    let s = pass_plain file raw breaks c (to - c.passed) stands (omega arith) in
-    let some : after.plain ≡ c.plain - (to - c.passed) = ap (λ (x : Cursor). x.plain) is in
-    let passed : after.passed ≡ c.passed + (to - c.passed) = ap (λ (x : Cursor). x.passed) is in
-    in_front file raw breaks to after (subst (Stands file raw breaks) (sym is) s.1) (omega arith) (omega arith)
+    → InFront file raw line_notes to after
+arrives file raw line_notes c after to stands forward near is =
+    let s = pass_plain file raw line_notes c (to - c.passed) stands (omega arith) in
+    let some : after.plain ≡ c.plain - (to - c.passed) = ap (λ (x : TextCursor). x.plain) is in
+    let passed : after.passed ≡ c.passed + (to - c.passed) = ap (λ (x : TextCursor). x.passed) is in
+    in_front file raw line_notes to after (subst (IsCursorAt file raw line_notes) (sym is) s.1) (omega arith) (omega arith)
 
 code_of_head : (cs : List Char) (n : ℕ) (x : Char) (xs : List Char) → drop n cs ≡ x ∷ xs → get_or (codes_of cs) n 0 ≡ x.code
 code_of_head cs n x xs e =
@@ -205,29 +205,29 @@ code_of_head cs n x xs e =
     ∙ ap (λ (z : List ℕ). get_or z 0 0) (drop-map (λ (c : Char). c.code) n cs ∙ ap codes_of e)
 
 -- and it is the byte that stands there
-code_at_plain : (file : ℕ) (raw breaks : List ℕ) (c : Cursor) → Stands file raw breaks c → 0 < c.plain → get_or (codes_of (text_from file raw 0)) c.passed 0 ≡ get_or raw c.offset 0
-code_at_plain file raw breaks c s some =
-    let one = own_at raw c.offset (c.plain - 1) (own_less (open_end raw) (drop c.offset raw) (suc (c.plain - 1)) c.plain (omega arith) s.stretch.front) in
+code_at_plain : (file : ℕ) (raw line_notes : List ℕ) (c : TextCursor) → IsCursorAt file raw line_notes c → 0 < c.plain → get_or (codes_of (text_from file raw 0)) c.passed 0 ≡ get_or raw c.offset 0
+code_at_plain file raw line_notes c s some =
+    let one = own_at raw c.offset (c.plain - 1) (own_less (lacks_newline raw) (drop c.offset raw) (suc (c.plain - 1)) c.plain (omega arith) s.stretch.prefix) in
     let r = code_at file raw c.offset (get_or raw c.offset 0) 1 one.room one.step in
     code_of_head (text_from file raw 0) c.passed _ _ (s.rest ∙ r.text)
 
 -- the bytes that a cursor passes are no new-lines where those characters aren't
-bytes_in_line : (file : ℕ) (raw breaks : List ℕ) (c : Cursor) (line to k : ℕ)
-    → Stands file raw breaks c
+bytes_in_line : (file : ℕ) (raw line_notes : List ℕ) (c : TextCursor) (line to k : ℕ)
+    → IsCursorAt file raw line_notes c
     → to - c.passed < c.plain
     → line ≤ c.passed
     → InLine (codes_of (text_from file raw 0)) line to
     → k < to - c.passed
     → get_or (take (to - c.passed) (drop c.offset raw)) k 0 ≡ 10 → ⊥
-bytes_in_line file raw breaks c line to k s near behind in_line lt e =
-    let there = pass_plain file raw breaks c k s (omega arith) in
-    let code = code_at_plain file raw breaks (record { passed = c.passed + k; offset = c.offset + k; plain = c.plain - k; next = c.next; at = place_behind c.at (take k (drop c.offset raw)) }) there.1 (omega arith) in
+bytes_in_line file raw line_notes c line to k s near behind in_line lt e =
+    let there = pass_plain file raw line_notes c k s (omega arith) in
+    let code = code_at_plain file raw line_notes (record { passed = c.passed + k; offset = c.offset + k; plain = c.plain - k; next = c.next; at = place_after c.at (take k (drop c.offset raw)) }) there.1 (omega arith) in
     in_line (c.passed + k) (omega arith) (omega arith)
     (code ∙ sym (get_or-drop c.offset raw k 0) ∙ sym (get_or-take (to - c.passed) (drop c.offset raw) k 0 lt) ∙ e)
 
 -- a cursor that is moved so, where no line ends among those bytes
-pub arrives_along : (file : ℕ) (raw breaks : List ℕ) (c after : Cursor) (to line : ℕ)
-    → Stands file raw breaks c
+pub arrives_along : (file : ℕ) (raw line_notes : List ℕ) (c after : TextCursor) (to line : ℕ)
+    → IsCursorAt file raw line_notes c
     → c.passed ≤ to
     → to - c.passed < c.plain
     → line ≤ c.passed
@@ -239,37 +239,37 @@ pub arrives_along : (file : ℕ) (raw breaks : List ℕ) (c after : Cursor) (to 
       next = c.next;
       at = place c.at.file c.at.line (c.at.col + (to - c.passed));
     }
-    → InFront file raw breaks to after
-arrives_along file raw breaks c after to line s forward near behind in_line is =
+    → InFront file raw line_notes to after
+arrives_along file raw line_notes c after to line s forward near behind in_line is =
     let n = to - c.passed in
     let bytes = take n (drop c.offset raw) in
-    let room = (pass_plain file raw breaks c n s (omega arith)).0 in
+    let room = (pass_plain file raw line_notes c n s (omega arith)).0 in
     let l = length-drop c.offset raw in
     let long : length bytes ≡ n = length-take-le n (drop c.offset raw) (omega arith) in
-    let moved : place_behind c.at bytes ≡ place c.at.file c.at.line (c.at.col + n) =
-    no_line_passed bytes c.at (λ k lt. bytes_in_line file raw breaks c line to k s near behind in_line (omega (arith, long)))
+    let moved : place_after c.at bytes ≡ place c.at.file c.at.line (c.at.col + n) =
+    no_line_passed bytes c.at (λ k lt. bytes_in_line file raw line_notes c line to k s near behind in_line (omega (arith, long)))
     ∙ ap (λ m. place c.at.file c.at.line (c.at.col + m)) long in
-    arrives file raw breaks c after to s forward near
+    arrives file raw line_notes c after to s forward near
     (is ∙ ap (λ (p : Place). record { passed = c.passed + n; offset = c.offset + n; plain = c.plain - n; next = c.next; at = p }) (sym moved))
 
 -- At the end stands the supplied new-line.
 abbrev end_text : ℕ → List ℕ → Bool → List Char
-end_text file raw t = splices (supply t (place_behind (start file) raw))
+end_text file raw t = splices (supply t (place_after (start file) raw))
 
-pub stands_at_end : (file : ℕ) (raw breaks : List ℕ) (c : Cursor) (to : ℕ)
-    → Stands file raw breaks c
+pub stands_at_end : (file : ℕ) (raw line_notes : List ℕ) (c : TextCursor) (to : ℕ)
+    → IsCursorAt file raw line_notes c
     → length raw ≤ c.offset
     → c.passed ≤ to
     → to < length (text_from file raw 0)
     → (c.passed ≡ to) × ((d : Char) → c.at ≡ (get_or (text_from file raw 0) to d).at)
-stands_at_end file raw breaks c to s past forward within =
+stands_at_end file raw line_notes c to s past forward within =
     let w = s.within in
     let e : c.offset ≡ length raw = omega arith in
-    let rest : drop c.passed (text_from file raw 0) ≡ end_text file raw (open_end raw) = s.rest ∙ ap (text_from file raw) e ∙ ap splices (at_end file raw) in
-    let at : c.at ≡ place_behind (start file) raw = s.at ∙ ap (λ k. place_behind (start file) (take k raw)) e ∙ ap (place_behind (start file)) (take_all (length raw) raw (omega arith)) in
-    by (open_end raw) rest at
+    let rest : drop c.passed (text_from file raw 0) ≡ end_text file raw (lacks_newline raw) = s.rest ∙ ap (text_from file raw) e ∙ ap splices (at_end file raw) in
+    let at : c.at ≡ place_after (start file) raw = s.at ∙ ap (λ k. place_after (start file) (take k raw)) e ∙ ap (place_after (start file)) (take_all (length raw) raw (omega arith)) in
+    by (lacks_newline raw) rest at
   where
-    by : (t : Bool) → drop c.passed (text_from file raw 0) ≡ end_text file raw t → c.at ≡ place_behind (start file) raw → (c.passed ≡ to) × ((d : Char) → c.at ≡ (get_or (text_from file raw 0) to d).at)
+    by : (t : Bool) → drop c.passed (text_from file raw 0) ≡ end_text file raw t → c.at ≡ place_after (start file) raw → (c.passed ≡ to) × ((d : Char) → c.at ≡ (get_or (text_from file raw 0) to d).at)
     by false rest at =
         let l = length-drop c.passed (text_from file raw 0) in
         let z : length (drop c.passed (text_from file raw 0)) ≡ 0 = ap length rest in
@@ -278,4 +278,4 @@ stands_at_end file raw breaks c to s past forward within =
         let l = length-drop c.passed (text_from file raw 0) in
         let z : length (drop c.passed (text_from file raw 0)) ≡ 1 = ap length rest in
         let same : c.passed ≡ to = omega arith in
-        (same, λ d. at ∙ sym (ap (λ (x : Char). x.at) (ap (λ k. get_or (text_from file raw 0) k d) (sym same) ∙ head_at (text_from file raw 0) c.passed d (record { code = 10; at = place_behind (start file) raw }) [] rest)))
+        (same, λ d. at ∙ sym (ap (λ (x : Char). x.at) (ap (λ k. get_or (text_from file raw 0) k d) (sym same) ∙ head_at (text_from file raw 0) c.passed d (record { code = 10; at = place_after (start file) raw }) [] rest)))

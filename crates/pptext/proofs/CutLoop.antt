@@ -9,15 +9,15 @@ use Rattle.pptext.specs.declared.characters.Char.{Char}
 use Rattle.pptext.specs.declared.sources.Line.{Line}
 use Rattle.pptext.specs.declared.sources.Profile.{Profile}
 use Rattle.pptext.specs.Clean.{codes_of}
-use Rattle.pptext.specs.Cut.{Piece, Sort, NewLine, Blank, Comment, Spelled, with_piece, StandsAt, CutUpTo, head_place, Unclosed, OpensBlock, ClosesAt, BeginsWith}
+use Rattle.pptext.specs.Lexemes.{Lexeme, LexemeKind, NewLine, Blank, Comment, Spelled, with_lexeme, IsLexemeAt, TokenizesPrefix, head_place, Unclosed, OpensBlock, ClosesAt, BeginsWith}
 use Rattle.std.specs.List.{AllByRecursion}
 use Rattle.pptext.specs.Lines.{LogicalLine, line_of, lines_ended, leaves_space, tokens_after, token_of, IsDirected}
 use Rattle.pptext.specs.Tokens.{spelled}
 use Rattle.pptext.specs.Spellings.{is_blank}
 use Rattle.pptext.specs.Sources.{tokens_of}
-use Rattle.pptext.specs.Grouping.{draft, drafts}
-use Rattle.pptext.specs.Finds.{CutsInto}
-use Rattle.pptext.proofs.Spans.{drafts_are, drafts-append, tokens_of-append}
+use Rattle.pptext.specs.code.Grouping.{line_span, line_spans}
+use Rattle.pptext.specs.code.FoundLexemes.{TokenizesInto}
+use Rattle.pptext.proofs.Spans.{drafts_are, line_spans-append, tokens_of-append}
 use Rattle.pptext.proofs.Directed.{pieces_are_directed}
 use Rattle.pptext.proofs.CutSteps.{cut_more, no_piece, line_after, line_after-append, LinesSoFar, lines_start, lines_more, lines_all}
 
@@ -30,26 +30,26 @@ pub record State (profile : Profile) (chars : List Char) (at start : ℕ) (space
   pub within : at ≤ length chars
   pub started : start ≤ length ts
   pub few : length ls ≤ at
-  pub pieces : List Piece
-  pub cut : CutUpTo profile chars pieces (drop at chars)
+  pub lexemes : List Lexeme
+  pub tokenized : TokenizesPrefix profile chars lexemes (drop at chars)
   pub lines : List LogicalLine
   pub tokens : tokens_of lines ≡ take start ts
-  pub spans : ls ≡ drafts 0 lines
-  pub sofar : LinesSoFar profile pieces lines space (drop start ts)
-  pub line : line_after [] pieces ≡ spelled (drop start ts)
+  pub spans : ls ≡ line_spans 0 lines
+  pub sofar : LinesSoFar profile lexemes lines space (drop start ts)
+  pub line : line_after [] lexemes ≡ spelled (drop start ts)
 
 pub state_start : (profile : Profile) (chars : List Char) → State profile chars 0 0 true [] []
-state_start profile chars = record { within = omega arith; started = omega arith; few = omega arith; pieces = []; cut = no_piece profile chars; lines = []; tokens = refl; spans = refl; sofar = lines_start profile; line = refl }
+state_start profile chars = record { within = omega arith; started = omega arith; few = omega arith; lexemes = []; tokenized = no_piece profile chars; lines = []; tokens = refl; spans = refl; sofar = lines_start profile; line = refl }
 
-abbrev pub piece_at : List Char → ℕ → ℕ → Sort → Piece
-piece_at chars at n s = record { sort = s; chars = take n (drop at chars) }
+abbrev pub lexeme_at : List Char → ℕ → ℕ → LexemeKind → Lexeme
+lexeme_at chars at n s = record { kind = s; chars = take n (drop at chars) }
 
 -- one more lexeme of any kind
-pub record Grown (profile : Profile) (chars : List Char) (at n : ℕ) (s : Sort) (space : Bool) (done : List LogicalLine) (open_tokens : List Token) (pieces : List Piece) : Type 0 where
+pub record Grown (profile : Profile) (chars : List Char) (at n : ℕ) (s : LexemeKind) (space : Bool) (done : List LogicalLine) (open_tokens : List Token) (lexemes : List Lexeme) : Type 0 where
   pub room : at + n ≤ length chars
-  pub cut : CutUpTo profile chars (pieces ++ piece_at chars at n s ∷ []) (drop (at + n) chars)
-  pub sofar : LinesSoFar profile (pieces ++ piece_at chars at n s ∷ []) (done ++ lines_ended profile open_tokens (take n (drop at chars)) s) (leaves_space s) (tokens_after space open_tokens (take n (drop at chars)) s)
-  pub line : line_after [] (pieces ++ piece_at chars at n s ∷ []) ≡ with_piece (spelled open_tokens) (piece_at chars at n s) s
+  pub tokenized : TokenizesPrefix profile chars (lexemes ++ lexeme_at chars at n s ∷ []) (drop (at + n) chars)
+  pub sofar : LinesSoFar profile (lexemes ++ lexeme_at chars at n s ∷ []) (done ++ lines_ended profile open_tokens (take n (drop at chars)) s) (leaves_space s) (tokens_after space open_tokens (take n (drop at chars)) s)
+  pub line : line_after [] (lexemes ++ lexeme_at chars at n s ∷ []) ≡ with_lexeme (spelled open_tokens) (lexeme_at chars at n s) s
 
 pub head_of_drop : (chars : List Char) (at : ℕ) (d : Char) → at < length chars → (get_or chars at d).at ≡ head_place (drop at chars)
 head_of_drop chars at d lt = rw (drop_more chars at d lt) refl
@@ -71,23 +71,23 @@ pub codes_length : (chars : List Char) → length (codes_of chars) ≡ length ch
 codes_length chars = length-map chars (λ (c : Char). c.code)
 
 module _ (profile : Profile) (chars : List Char) where
-  pub grown : (at start n : ℕ) (space : Bool) (ts : List Token) (ls : List Line) (s : Sort) (st : State profile chars at start space ts ls)
+  pub grown : (at start n : ℕ) (space : Bool) (ts : List Token) (ls : List Line) (s : LexemeKind) (st : State profile chars at start space ts ls)
       → n ≤ length (drop at (codes_of chars))
-      → StandsAt profile (spelled (drop start ts)) (drop at (codes_of chars)) n s
-      → Grown profile chars at n s space st.lines (drop start ts) st.pieces
+      → IsLexemeAt profile (spelled (drop start ts)) (drop at (codes_of chars)) n s
+      → Grown profile chars at n s space st.lines (drop start ts) st.lexemes
   grown at start n space ts ls s st fits here =
-      let p = piece_at chars at n s in
+      let p = lexeme_at chars at n s in
       let l = codes_length chars in
       let dc : length (drop at (codes_of chars)) ≡ length (codes_of chars) - at = length-drop at (codes_of chars) in
       let dd : length (drop at chars) ≡ length chars - at = length-drop at chars in
       let split : take n (drop at chars) ++ drop (at + n) chars ≡ drop at chars = ap (λ z. take n (drop at chars) ++ z) (sym (drop-drop n at chars)) ∙ take-append-drop n (drop at chars) in
       let len : length (take n (drop at chars)) ≡ n = length-take-le n (drop at chars) (omega (arith, st.within)) in
-      let standing : StandsAt profile (line_after [] st.pieces) (codes_of (take n (drop at chars) ++ drop (at + n) chars)) (length (take n (drop at chars))) s = rw (split, codes_from chars at, len, st.line) here in
+      let standing : IsLexemeAt profile (line_after [] st.lexemes) (codes_of (take n (drop at chars) ++ drop (at + n) chars)) (length (take n (drop at chars))) s = rw (split, codes_from chars at, len, st.line) here in
       record {
         room = omega (arith, st.within);
-        cut = cut_more profile chars st.pieces p (drop (at + n) chars) (subst (CutUpTo profile chars st.pieces) (sym split) st.cut) standing;
-        sofar = lines_more profile st.pieces st.lines space (drop start ts) p st.sofar;
-        line = line_after-append [] st.pieces p ∙ ap (λ z. with_piece z p s) st.line;
+        tokenized = cut_more profile chars st.lexemes p (drop (at + n) chars) (subst (TokenizesPrefix profile chars st.lexemes) (sym split) st.tokenized) standing;
+        sofar = lines_more profile st.lexemes st.lines space (drop start ts) p st.sofar;
+        line = line_after-append [] st.lexemes p ∙ ap (λ z. with_lexeme z p s) st.line;
       }
 
   -- one blank
@@ -105,12 +105,12 @@ module _ (profile : Profile) (chars : List Char) where
         within = g.room;
         started = st.started;
         few = omega (arith, st.few);
-        pieces = st.pieces ++ piece_at chars at 1 Blank ∷ [];
-        cut = g.cut;
+        lexemes = st.lexemes ++ lexeme_at chars at 1 Blank ∷ [];
+        tokenized = g.tokenized;
         lines = st.lines;
         tokens = st.tokens;
         spans = st.spans;
-        sofar = subst (λ (z : List LogicalLine). LinesSoFar profile (st.pieces ++ piece_at chars at 1 Blank ∷ []) z true (drop start ts))
+        sofar = subst (λ (z : List LogicalLine). LinesSoFar profile (st.lexemes ++ lexeme_at chars at 1 Blank ∷ []) z true (drop start ts))
             (append-nil st.lines) g.sofar;
         line = g.line;
       }
@@ -135,7 +135,7 @@ module _ (profile : Profile) (chars : List Char) where
   pub skip_comment : (at start n : ℕ) (space : Bool) (ts : List Token) (ls : List Line)
       → State profile chars at start space ts ls
       → n ≤ length (drop at (codes_of chars))
-      → StandsAt profile (spelled (drop start ts)) (drop at (codes_of chars)) n Comment
+      → IsLexemeAt profile (spelled (drop start ts)) (drop at (codes_of chars)) n Comment
       → State profile chars (at + n) start true ts ls
   skip_comment at start n space ts ls st fits here =
       let g = grown at start n space ts ls Comment st fits here in
@@ -143,12 +143,12 @@ module _ (profile : Profile) (chars : List Char) where
         within = g.room;
         started = st.started;
         few = omega (arith, st.few);
-        pieces = st.pieces ++ piece_at chars at n Comment ∷ [];
-        cut = g.cut;
+        lexemes = st.lexemes ++ lexeme_at chars at n Comment ∷ [];
+        tokenized = g.tokenized;
         lines = st.lines;
         tokens = st.tokens;
         spans = st.spans;
-        sofar = subst (λ (z : List LogicalLine). LinesSoFar profile (st.pieces ++ piece_at chars at n Comment ∷ []) z true (drop start ts))
+        sofar = subst (λ (z : List LogicalLine). LinesSoFar profile (st.lexemes ++ lexeme_at chars at n Comment ∷ []) z true (drop start ts))
             (append-nil st.lines) g.sofar;
         line = g.line;
       }
@@ -159,8 +159,8 @@ module _ (profile : Profile) (chars : List Char) where
       → stop ≡ length ts
       → number ≡ (head_place (take 1 (drop at chars))).line
       → 1 ≤ length (drop at (codes_of chars))
-      → StandsAt profile (spelled (drop start ts)) (drop at (codes_of chars)) 1 NewLine
-      → State profile chars (at + 1) stop true ts (ls ++ draft start (line_of profile (drop start ts) number) ∷ [])
+      → IsLexemeAt profile (spelled (drop start ts)) (drop at (codes_of chars)) 1 NewLine
+      → State profile chars (at + 1) stop true ts (ls ++ line_span start (line_of profile (drop start ts) number) ∷ [])
   end_line at start stop space ts ls number st stop_is number_is fits here =
       let g = grown at start 1 space ts ls NewLine st fits here in
       let line : LogicalLine = line_of profile (drop start ts) number in
@@ -170,12 +170,12 @@ module _ (profile : Profile) (chars : List Char) where
       record {
         within = g.room;
         started = omega arith;
-        few = omega (arith, st.few, length_push ls (draft start (line_of profile (drop start ts) number)));
-        pieces = st.pieces ++ piece_at chars at 1 NewLine ∷ [];
-        cut = g.cut;
+        few = omega (arith, st.few, length_push ls (line_span start (line_of profile (drop start ts) number)));
+        lexemes = st.lexemes ++ lexeme_at chars at 1 NewLine ∷ [];
+        tokenized = g.tokenized;
         lines = st.lines ++ line ∷ [];
         tokens = tokens_of-append st.lines line ∙ ap (λ (z : List Token). z ++ drop start ts) st.tokens ∙ take-append-drop start ts ∙ sym (take_all stop ts (omega arith));
-        spans = ap (λ (z : List Line). z ++ draft start (line_of profile (drop start ts) number) ∷ []) st.spans ∙ ap (λ (n : ℕ). drafts 0 st.lines ++ draft n line ∷ []) (sym before) ∙ sym (drafts-append 0 st.lines line);
+        spans = ap (λ (z : List Line). z ++ line_span start (line_of profile (drop start ts) number) ∷ []) st.spans ∙ ap (λ (n : ℕ). line_spans 0 st.lines ++ line_span n line ∷ []) (sym before) ∙ sym (line_spans-append 0 st.lines line);
         sofar = rw (none, sym done) g.sofar;
         line = rw none g.line;
       }
@@ -185,40 +185,40 @@ module _ (profile : Profile) (chars : List Char) where
       → State profile chars at start space ts ls
       → t ≡ token_of k space (take n (drop at chars))
       → n ≤ length (drop at (codes_of chars))
-      → StandsAt profile (spelled (drop start ts)) (drop at (codes_of chars)) n (Spelled k)
+      → IsLexemeAt profile (spelled (drop start ts)) (drop at (codes_of chars)) n (Spelled k)
       → State profile chars (at + n) start false (ts ++ t ∷ []) ls
   add_token at start n space ts ls k t st is fits here =
       let g = grown at start n space ts ls (Spelled k) st fits here in
       let wider : length (ts ++ t ∷ []) ≡ length ts + 1 = length_push ts t in
       let more : drop start (ts ++ t ∷ []) ≡ drop start ts ++ t ∷ [] = drop-append-le start ts (t ∷ []) st.started in
-      let opened : tokens_after space (drop start ts) (take n (drop at chars)) (Spelled k) ≡ drop start ts ++ t ∷ [] = ap (λ (z : Token). drop start ts ++ z ∷ []) (sym is) in
+      let after_line : tokens_after space (drop start ts) (take n (drop at chars)) (Spelled k) ≡ drop start ts ++ t ∷ [] = ap (λ (z : Token). drop start ts ++ z ∷ []) (sym is) in
       record {
         within = g.room;
         started = omega (arith, st.started);
         few = omega (arith, st.few);
-        pieces = st.pieces ++ piece_at chars at n (Spelled k) ∷ [];
-        cut = g.cut;
+        lexemes = st.lexemes ++ lexeme_at chars at n (Spelled k) ∷ [];
+        tokenized = g.tokenized;
         lines = st.lines;
         tokens = st.tokens ∙ sym (take-append-le start ts (t ∷ []) st.started);
         spans = st.spans;
-        sofar = subst (λ (z : List Token). LinesSoFar profile (st.pieces ++ piece_at chars at n (Spelled k) ∷ []) st.lines false z) (opened ∙ sym more)
-            (subst (λ (z : List LogicalLine). LinesSoFar profile (st.pieces ++ piece_at chars at n (Spelled k) ∷ []) z false
+        sofar = subst (λ (z : List Token). LinesSoFar profile (st.lexemes ++ lexeme_at chars at n (Spelled k) ∷ []) st.lines false z) (after_line ∙ sym more)
+            (subst (λ (z : List LogicalLine). LinesSoFar profile (st.lexemes ++ lexeme_at chars at n (Spelled k) ∷ []) z false
             (tokens_after space (drop start ts) (take n (drop at chars)) (Spelled k))) (append-nil st.lines) g.sofar);
         line = g.line ∙ ap (λ (z : List ℕ). spelled (drop start ts) ++ z ∷ []) (sym (ap (λ (u : Token). u.text) is)) ∙ sym (ap spelled more ∙ spelled-append (drop start ts) t);
       }
 
   -- the end, where the tokens after the last new-line are dropped
-  pub cut_all : (at start : ℕ) (space : Bool) (ts : List Token) (ls : List Line) → State profile chars at start space ts ls → length (codes_of chars) ≤ at → CutsInto profile chars (take start ts) ls (Ok tt)
+  pub cut_all : (at start : ℕ) (space : Bool) (ts : List Token) (ls : List Line) → State profile chars at start space ts ls → length (codes_of chars) ≤ at → TokenizesInto profile chars (take start ts) ls (Ok tt)
   cut_all at start space ts ls st past =
       let l = codes_length chars in
       let none : drop at chars ≡ [] = drop_all at chars (omega arith) in
-      let all = lines_all profile st.pieces st.lines space (drop start ts) st.sofar in
-      let are = drafts_are (take start ts) ls st.lines st.tokens st.spans (profile, subst (AllByRecursion (IsDirected profile)) all (pieces_are_directed profile st.pieces)) in
-      (st.pieces, subst (CutUpTo profile chars st.pieces) none st.cut, all ∙ sym are.0, are.1, omega (arith, st.few, st.within))
+      let all = lines_all profile st.lexemes st.lines space (drop start ts) st.sofar in
+      let are = drafts_are (take start ts) ls st.lines st.tokens st.spans (profile, subst (AllByRecursion (IsDirected profile)) all (pieces_are_directed profile st.lexemes)) in
+      (st.lexemes, subst (TokenizesPrefix profile chars st.lexemes) none st.tokenized, all ∙ sym are.0, are.1, omega (arith, st.few, st.within))
 
   pub left_unclosed : (at start : ℕ) (space : Bool) (ts : List Token) (ls : List Line) (p : Place)
       → State profile chars at start space ts ls
       → p ≡ head_place (drop at chars)
       → OpensBlock (drop at (codes_of chars)) × ClosesAt (drop at (codes_of chars)) None
       → Unclosed profile chars p
-  left_unclosed at start space ts ls p st is open_block = record { pieces = st.pieces; rest = drop at chars; cut = st.cut; opens = rw (codes_from chars at) open_block.0; never = rw (codes_from chars at) open_block.1; here = is }
+  left_unclosed at start space ts ls p st is open_block = record { lexemes = st.lexemes; rest = drop at chars; tokenized = st.tokenized; opens = rw (codes_from chars at) open_block.0; never = rw (codes_from chars at) open_block.1; here = is }

@@ -5,66 +5,66 @@ use Rattle.pptext.specs.declared.tokens.Token.{Token}
 use Rattle.pptext.specs.declared.characters.Char.{Char}
 use Rattle.pptext.specs.declared.sources.Profile.{Profile}
 use Rattle.pptext.specs.Clean.{codes_of}
-use Rattle.pptext.specs.Cut.{Piece, laid, with_piece, StandsAt, EachStands, CutUpTo}
-use Rattle.pptext.specs.Lines.{LogicalLine, lines_behind, lines_ended, leaves_space, tokens_after}
+use Rattle.pptext.specs.Lexemes.{Lexeme, characters_of, with_lexeme, IsLexemeAt, AreLexemes, TokenizesPrefix}
+use Rattle.pptext.specs.Lines.{LogicalLine, lines_after, lines_ended, leaves_space, tokens_after}
 
 -- the line that is open after the lexemes
-abbrev pub line_after : List (List ℕ) → List Piece → List (List ℕ)
+abbrev pub line_after : List (List ℕ) → List Lexeme → List (List ℕ)
 line_after line [] = line
-line_after line (p ∷ ps) = line_after (with_piece line p p.sort) ps
+line_after line (p ∷ ps) = line_after (with_lexeme line p p.kind) ps
 
-laid-append : (ps qs : List Piece) → laid (ps ++ qs) ≡ laid ps ++ laid qs
-laid-append [] qs = refl
-laid-append (p ∷ ps) qs = ap (λ z. p.chars ++ z) (laid-append ps qs) ∙ sym (append_assoc p.chars (laid ps) (laid qs))
+characters_of-append : (ps qs : List Lexeme) → characters_of (ps ++ qs) ≡ characters_of ps ++ characters_of qs
+characters_of-append [] qs = refl
+characters_of-append (p ∷ ps) qs = ap (λ z. p.chars ++ z) (characters_of-append ps qs) ∙ sym (append_assoc p.chars (characters_of ps) (characters_of qs))
 
-laid_one : (p : Piece) (ps : List Piece) (rest : List Char) → laid (ps ++ p ∷ []) ++ rest ≡ laid ps ++ (p.chars ++ rest)
+laid_one : (p : Lexeme) (ps : List Lexeme) (rest : List Char) → characters_of (ps ++ p ∷ []) ++ rest ≡ characters_of ps ++ (p.chars ++ rest)
 laid_one p ps rest =
-    ap (λ z. z ++ rest) (laid-append ps (p ∷ []) ∙ ap (λ z. laid ps ++ z) (append-nil p.chars)) ∙ append_assoc (laid ps) p.chars rest
+    ap (λ z. z ++ rest) (characters_of-append ps (p ∷ []) ∙ ap (λ z. characters_of ps ++ z) (append-nil p.chars)) ∙ append_assoc (characters_of ps) p.chars rest
 
-each_more : (profile : Profile) (line : List (List ℕ)) (ps : List Piece) (p : Piece) (rest : List Char)
-    → EachStands profile line ps (p.chars ++ rest)
-    → StandsAt profile (line_after line ps) (codes_of (p.chars ++ rest)) (length p.chars) p.sort
-    → EachStands profile line (ps ++ p ∷ []) rest
+each_more : (profile : Profile) (line : List (List ℕ)) (ps : List Lexeme) (p : Lexeme) (rest : List Char)
+    → AreLexemes profile line ps (p.chars ++ rest)
+    → IsLexemeAt profile (line_after line ps) (codes_of (p.chars ++ rest)) (length p.chars) p.kind
+    → AreLexemes profile line (ps ++ p ∷ []) rest
 each_more profile line [] p rest each here = (here, tt)
 each_more profile line (q ∷ qs) p rest each here =
-    (subst (λ z. StandsAt profile line (codes_of (q.chars ++ z)) (length q.chars) q.sort) (sym (laid_one p qs rest)) each.0, each_more profile (with_piece line q q.sort) qs p rest each.1 here)
+    (subst (λ z. IsLexemeAt profile line (codes_of (q.chars ++ z)) (length q.chars) q.kind) (sym (laid_one p qs rest)) each.0, each_more profile (with_lexeme line q q.kind) qs p rest each.1 here)
 
 -- one more lexeme
-pub cut_more : (profile : Profile) (chars : List Char) (ps : List Piece) (p : Piece) (rest : List Char)
-    → CutUpTo profile chars ps (p.chars ++ rest)
-    → StandsAt profile (line_after [] ps) (codes_of (p.chars ++ rest)) (length p.chars) p.sort
-    → CutUpTo profile chars (ps ++ p ∷ []) rest
-cut_more profile chars ps p rest cut here = record {
-  whole = laid_one p ps rest ∙ cut.whole;
-  each = each_more profile [] ps p rest cut.each here;
+pub cut_more : (profile : Profile) (chars : List Char) (ps : List Lexeme) (p : Lexeme) (rest : List Char)
+    → TokenizesPrefix profile chars ps (p.chars ++ rest)
+    → IsLexemeAt profile (line_after [] ps) (codes_of (p.chars ++ rest)) (length p.chars) p.kind
+    → TokenizesPrefix profile chars (ps ++ p ∷ []) rest
+cut_more profile chars ps p rest tokenized here = record {
+  whole = laid_one p ps rest ∙ tokenized.whole;
+  each = each_more profile [] ps p rest tokenized.each here;
 }
 
-pub no_piece : (profile : Profile) (chars : List Char) → CutUpTo profile chars [] chars
+pub no_piece : (profile : Profile) (chars : List Char) → TokenizesPrefix profile chars [] chars
 no_piece profile chars = record { whole = refl; each = tt }
 
-pub line_after-append : (line : List (List ℕ)) (ps : List Piece) (p : Piece) → line_after line (ps ++ p ∷ []) ≡ with_piece (line_after line ps) p p.sort
+pub line_after-append : (line : List (List ℕ)) (ps : List Lexeme) (p : Lexeme) → line_after line (ps ++ p ∷ []) ≡ with_lexeme (line_after line ps) p p.kind
 line_after-append line [] p = refl
-line_after-append line (q ∷ qs) p = line_after-append (with_piece line q q.sort) qs p
+line_after-append line (q ∷ qs) p = line_after-append (with_lexeme line q q.kind) qs p
 
 -- What the lines are, as far as the lexemes go: whatever lexemes follow give the rest.
-pub LinesSoFar : Profile → List Piece → List LogicalLine → Bool → List Token → Type 0
+pub LinesSoFar : Profile → List Lexeme → List LogicalLine → Bool → List Token → Type 0
 LinesSoFar profile ps done space open_tokens =
-    (more : List Piece) → lines_behind profile true [] (ps ++ more) ≡ done ++ lines_behind profile space open_tokens more
+    (more : List Lexeme) → lines_after profile true [] (ps ++ more) ≡ done ++ lines_after profile space open_tokens more
 
 pub lines_start : (profile : Profile) → LinesSoFar profile [] [] true []
 unfolding LinesSoFar
 lines_start profile more = refl
 
-pub lines_more : (profile : Profile) (ps : List Piece) (done : List LogicalLine) (space : Bool) (ts : List Token) (p : Piece)
+pub lines_more : (profile : Profile) (ps : List Lexeme) (done : List LogicalLine) (space : Bool) (ts : List Token) (p : Lexeme)
     → LinesSoFar profile ps done space ts
-    → LinesSoFar profile (ps ++ p ∷ []) (done ++ lines_ended profile ts p.chars p.sort) (leaves_space p.sort) (tokens_after space ts p.chars p.sort)
+    → LinesSoFar profile (ps ++ p ∷ []) (done ++ lines_ended profile ts p.chars p.kind) (leaves_space p.kind) (tokens_after space ts p.chars p.kind)
 unfolding LinesSoFar
 lines_more profile ps done space ts p sofar more =
-    ap (lines_behind profile true []) (append_assoc ps (p ∷ []) more)
+    ap (lines_after profile true []) (append_assoc ps (p ∷ []) more)
     ∙ sofar (p ∷ more)
     ∙ sym
-    (append_assoc done (lines_ended profile ts p.chars p.sort) (lines_behind profile (leaves_space p.sort) (tokens_after space ts p.chars p.sort) more))
+    (append_assoc done (lines_ended profile ts p.chars p.kind) (lines_after profile (leaves_space p.kind) (tokens_after space ts p.chars p.kind) more))
 
-pub lines_all : (profile : Profile) (ps : List Piece) (done : List LogicalLine) (space : Bool) (ts : List Token) → LinesSoFar profile ps done space ts → lines_behind profile true [] ps ≡ done
+pub lines_all : (profile : Profile) (ps : List Lexeme) (done : List LogicalLine) (space : Bool) (ts : List Token) → LinesSoFar profile ps done space ts → lines_after profile true [] ps ≡ done
 unfolding LinesSoFar
-lines_all profile ps done space ts sofar = ap (lines_behind profile true []) (sym (append-nil ps)) ∙ sofar [] ∙ append-nil done
+lines_all profile ps done space ts sofar = ap (lines_after profile true []) (sym (append-nil ps)) ∙ sofar [] ∙ append-nil done

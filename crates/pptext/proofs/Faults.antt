@@ -13,9 +13,9 @@ use Rattle.pptext.specs.declared.tokens.Kind.TheVariants.{Ident}
 use Rattle.pptext.specs.declared.sources.Profile.{Profile}
 use Rattle.pptext.specs.Clean.{place}
 use Rattle.pptext.specs.Lines.{LogicalLine, directive_of}
-use Rattle.pptext.specs.Tree.{Role, TextLine, ControlLine, Opens, Elses, Closes, role, role_by, Open, opened, fault_at, fault_at_end, fault_or, group_fault, sign_place, name_of}
+use Rattle.pptext.specs.Tree.{Role, TextLine, ControlLine, Opens, Elses, Closes, role, role_by, Open, after_line, fault_at, fault_at_end, fault_or, group_fault, sign_place, name_of}
 use Rattle.pptext.specs.Sources.{lines_from}
-use Rattle.pptext.specs.Grouping.{AreLines, line_role, IsBranching}
+use Rattle.pptext.specs.code.Grouping.{AreLines, line_role, IsBranching}
 use Rattle.pptext.proofs.Spans.{line_at, line_from}
 
 pub no_token : Token
@@ -24,21 +24,21 @@ no_token = record { kind = Ident; text = []; space = false; at = place 0 0 0; us
 pub blank_line : LogicalLine
 blank_line = record { tokens = []; number = 0; directive = None }
 
-lone : (b : Bool) → IsBranching (role_by (if b then Some Null else None)) → ⊥
-lone true h = h
-lone false h = h
+unmatched : (b : Bool) → IsBranching (role_by (if b then Some Null else None)) → ⊥
+unmatched true h = h
+unmatched false h = h
 
 -- a line of a directive's name has two tokens
 pub two_tokens : (profile : Profile) (ts : List Token) → IsBranching (role_by (directive_of profile ts)) → 2 ≤ length ts
 two_tokens profile [] h = absurd h
-two_tokens profile (a ∷ []) h = absurd (lone (bytes_eq a.text (codes "#") || bytes_eq a.text (codes "%:")) h)
+two_tokens profile (a ∷ []) h = absurd (unmatched (bytes_eq a.text (codes "#") || bytes_eq a.text (codes "%:")) h)
 two_tokens profile (a ∷ b ∷ ts) h = omega arith
 
 -- the open sections by their opening lines
 abbrev pub open_lines : List LogicalLine → List (ℕ × Bool) → List Open
 open_lines rs os = map (λ o. (get_or rs o.0 blank_line, o.1)) os
 
-opened_lines : (rs : List LogicalLine) (s : Role) (at : ℕ) (os : List (ℕ × Bool)) → opened s (get_or rs at blank_line) (open_lines rs os) ≡ ((opened s at os).0, open_lines rs (opened s at os).1)
+opened_lines : (rs : List LogicalLine) (s : Role) (at : ℕ) (os : List (ℕ × Bool)) → after_line s (get_or rs at blank_line) (open_lines rs os) ≡ ((after_line s at os).0, open_lines rs (after_line s at os).1)
 opened_lines rs Opens at os = refl
 opened_lines rs (Elses final) at [] = refl
 opened_lines rs (Elses final) at ((o, true) ∷ os) = refl
@@ -48,7 +48,7 @@ opened_lines rs Closes at (o ∷ os) = refl
 opened_lines rs TextLine at os = refl
 opened_lines rs ControlLine at os = refl
 
-opened_all : (Q : ℕ → Type 0) (s : Role) (at : ℕ) (os : List (ℕ × Bool)) → AllByRecursion (λ o. Q o.0) os → (s ≡ Opens → Q at) → AllByRecursion (λ o. Q o.0) (opened s at os).1
+opened_all : (Q : ℕ → Type 0) (s : Role) (at : ℕ) (os : List (ℕ × Bool)) → AllByRecursion (λ o. Q o.0) os → (s ≡ Opens → Q at) → AllByRecursion (λ o. Q o.0) (after_line s at os).1
 opened_all Q Opens at os all here = (here refl, all)
 opened_all Q (Elses final) at [] all here = tt
 opened_all Q (Elses final) at ((o, true) ∷ os) all here = tt
@@ -58,7 +58,7 @@ opened_all Q Closes at (o ∷ os) all here = all.1
 opened_all Q TextLine at os all here = all
 opened_all Q ControlLine at os all here = all
 
-faulty_branches : (s : Role) (at n : ℕ) (os : List (ℕ × Bool)) → (opened s at os).0 ≡ Some n → IsBranching s
+faulty_branches : (s : Role) (at n : ℕ) (os : List (ℕ × Bool)) → (after_line s at os).0 ≡ Some n → IsBranching s
 faulty_branches Opens at n os e = tt
 faulty_branches (Elses final) at n os e = tt
 faulty_branches Closes at n os e = tt
@@ -88,19 +88,19 @@ module _ (ts : List Token) (ls : List Line) (lines : AreLines ts ls) where
   step_at : (at : ℕ) (os : List (ℕ × Bool)) (d : Line)
       → at < length ls
       → FaultsSoFar ts ls at os
-      → fault_or (get_or (lines_from ts ls) at blank_line) (opened (line_role (get_or ls at d)) at os).0
-      (group_fault (open_lines (lines_from ts ls) (opened (line_role (get_or ls at d)) at os).1) (drop (at + 1) (lines_from ts ls)))
+      → fault_or (get_or (lines_from ts ls) at blank_line) (after_line (line_role (get_or ls at d)) at os).0
+      (group_fault (open_lines (lines_from ts ls) (after_line (line_role (get_or ls at d)) at os).1) (drop (at + 1) (lines_from ts ls)))
       ≡ group_fault [] (lines_from ts ls)
   step_at at os d l sofar =
       let rs = lines_from ts ls in
       let r = get_or rs at blank_line in
       let m : at < length rs = omega (arith, length-map ls (line_from ts)) in
-      let step : opened (role r) r (open_lines rs os)
-      ≡ ((opened (line_role (get_or ls at d)) at os).0, open_lines rs (opened (line_role (get_or ls at d)) at os).1) =
-      ap (λ (z : Role). opened z r (open_lines rs os)) (role_at at d l) ∙ opened_lines rs (line_role (get_or ls at d)) at os in
+      let step : after_line (role r) r (open_lines rs os)
+      ≡ ((after_line (line_role (get_or ls at d)) at os).0, open_lines rs (after_line (line_role (get_or ls at d)) at os).1) =
+      ap (λ (z : Role). after_line z r (open_lines rs os)) (role_at at d l) ∙ opened_lines rs (line_role (get_or ls at d)) at os in
       sym (ap (λ (z : Option ℕ × List Open). fault_or r z.0 (group_fault z.1 (drop (at + 1) rs))) step) ∙ sym (at_drop_more (group_fault (open_lines rs os)) rs at blank_line m) ∙ sofar.same
 
-  pub faults_step : (at : ℕ) (os after : List (ℕ × Bool)) (d : Line) → at < length ls → FaultsSoFar ts ls at os → opened (line_role (get_or ls at d)) at os ≡ (None, after) → FaultsSoFar ts ls (at + 1) after
+  pub faults_step : (at : ℕ) (os after : List (ℕ × Bool)) (d : Line) → at < length ls → FaultsSoFar ts ls at os → after_line (line_role (get_or ls at d)) at os ≡ (None, after) → FaultsSoFar ts ls (at + 1) after
   faults_step at os after d l sofar e =
       let rs = lines_from ts ls in
       let r = get_or rs at blank_line in
@@ -113,13 +113,13 @@ module _ (ts : List Token) (ls : List Line) (lines : AreLines ts ls) where
   pub fault_here : (at n : ℕ) (os : List (ℕ × Bool)) (d : Line)
       → at < length ls
       → FaultsSoFar ts ls at os
-      → (opened (line_role (get_or ls at d)) at os).0 ≡ Some n
+      → (after_line (line_role (get_or ls at d)) at os).0 ≡ Some n
       → Some (fault_at n (get_or (lines_from ts ls) at blank_line)) ≡ group_fault [] (lines_from ts ls)
   fault_here at n os d l sofar e =
       let rs = lines_from ts ls in
-      sym (ap (λ (z : Option ℕ). fault_or (get_or rs at blank_line) z (group_fault (open_lines rs (opened (line_role (get_or ls at d)) at os).1) (drop (at + 1) rs))) e) ∙ step_at at os d l sofar
+      sym (ap (λ (z : Option ℕ). fault_or (get_or rs at blank_line) z (group_fault (open_lines rs (after_line (line_role (get_or ls at d)) at os).1) (drop (at + 1) rs))) e) ∙ step_at at os d l sofar
 
-  pub branching_here : (at n : ℕ) (os : List (ℕ × Bool)) (d f : Line) → at < length ls → (opened (line_role (get_or ls at d)) at os).0 ≡ Some n → IsBranching (line_role (get_or ls at f))
+  pub branching_here : (at n : ℕ) (os : List (ℕ × Bool)) (d f : Line) → at < length ls → (after_line (line_role (get_or ls at d)) at os).0 ≡ Some n → IsBranching (line_role (get_or ls at f))
   branching_here at n os d f l e =
       subst (λ (z : Line). IsBranching (line_role z)) (get_or_default ls at d f l) (faulty_branches (line_role (get_or ls at d)) at n os e)
 

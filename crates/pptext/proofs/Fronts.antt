@@ -6,9 +6,9 @@ use Rattle.std.proofs.lemmas.List.{length-take-le}
 use Rattle.std.proofs.Math.Seq.{take-add}
 use Rattle.std.proofs.lemmas.Bool.{false≢true}
 use Rattle.std.proofs.lemmas.Bool.Decides.{nat_tests}
-use Rattle.pptext.specs.Languages.{Exactly, One, Then, Either, IsRun, NoFront, IsNext, IsOnly, OnlyPart}
+use Rattle.pptext.specs.Languages.{Exactly, One, Then, Either, IsRun, NoPrefix, IsNext, IsOnly, OnlyPart}
 use Rattle.pptext.specs.Spellings.{is_digit, is_hex, is_nondigit, IsUniversal, IsNondigit}
-use Rattle.pptext.specs.Cut.{BeginsWith}
+use Rattle.pptext.specs.Lexemes.{BeginsWith}
 use Rattle.pptext.proofs.Parts.{front_of, front_length, behind_front}
 
 -- where a test fails, nothing is so whose being so it passes
@@ -54,14 +54,14 @@ universal_fronts text m fits (inr t) =
     let eight : m - 2 ≡ 8 = sym l ∙ f.2.0 in
     inr (f.1, omega (arith, f.0), rw eight at f.2.1)
 
-pub no_universal : (text : List ℕ) → (¬ BeginsWith text (92 ∷ 117 ∷ [])) × (¬ BeginsWith text (92 ∷ 85 ∷ [])) → NoFront IsUniversal text
+pub no_universal : (text : List ℕ) → (¬ BeginsWith text (92 ∷ 117 ∷ [])) × (¬ BeginsWith text (92 ∷ 85 ∷ [])) → NoPrefix IsUniversal text
 no_universal text none m fits u = cases (universal_fronts text m fits u)
   where
     cases : (BeginsWith text (92 ∷ 117 ∷ []) × (m ≡ 6) × AllPass is_hex (take 4 (drop 2 text))) ⊎ (BeginsWith text (92 ∷ 85 ∷ []) × (m ≡ 10) × AllPass is_hex (take 8 (drop 2 text))) → ⊥
     cases (inl a) = none.0 a.0
     cases (inr b) = none.1 b.0
 
-pub only_zero : (P : List ℕ → Type 0) (text : List ℕ) → NoFront P text → OnlyPart P text 0
+pub only_zero : (P : List ℕ → Type 0) (text : List ℕ) → NoPrefix P text → OnlyPart P text 0
 only_zero P text none = (λ _. none, λ l. absurd (omega arith))
 
 -- what a text begins with, if it begins with two things of one length
@@ -95,7 +95,7 @@ universal_is text digits m b fits u = cases b.values (universal_fronts text m fi
 pub universal_unless : (text : List ℕ) (digits : ℕ) → Begun text digits → ((digits ≤ length (drop 2 text)) × AllPass is_hex (take digits (drop 2 text)) → ⊥) → OnlyPart IsUniversal text 0
 universal_unless text digits b lacks = only_zero IsUniversal text none
   where
-    none : NoFront IsUniversal text
+    none : NoPrefix IsUniversal text
     none m fits u =
         let k = universal_is text digits m b fits u in
         let d : length (drop 2 text) ≡ length text - 2 = length-drop 2 text in
@@ -141,41 +141,41 @@ one_here test text l t = record {
   only = λ m fits p. (one_front test text m fits p).0;
 }
 
-pub one_lacks : (test : ℕ → Bool) (text : List ℕ) → test (get_or text 0 0) ≡ false → NoFront (One test) text
+pub one_lacks : (test : ℕ → Bool) (text : List ℕ) → test (get_or text 0 0) ≡ false → NoPrefix (One test) text
 one_lacks test text f m fits p =
     let o = one_front test text m fits p in
     let e : get_or text 0 0 ≡ o.1 = begins_head text o.1 [] o.2 in
     false≢true (sym f ∙ ap test e ∙ o.3)
 
-pub one_empty : (test : ℕ → Bool) (text : List ℕ) → length text ≡ 0 → NoFront (One test) text
+pub one_empty : (test : ℕ → Bool) (text : List ℕ) → length text ≡ 0 → NoPrefix (One test) text
 one_empty test text l m fits p =
     let o = one_front test text m fits p in
     let k = begins_length text o.1 [] o.2 in
     omega arith
 
 -- what begins no universal character name
-pub universal_lacks : (text : List ℕ) → (get_or text 0 0 ≡ 92 → ⊥) → NoFront IsUniversal text
+pub universal_lacks : (text : List ℕ) → (get_or text 0 0 ≡ 92 → ⊥) → NoPrefix IsUniversal text
 universal_lacks text h = no_universal text (λ b. h (begins_head text 92 (117 ∷ []) b), λ b. h (begins_head text 92 (85 ∷ []) b))
 
-pub either_lacks : (P Q : List ℕ → Type 0) (text : List ℕ) → NoFront P text → NoFront Q text → NoFront (Either P Q) text
+pub either_lacks : (P Q : List ℕ → Type 0) (text : List ℕ) → NoPrefix P text → NoPrefix Q text → NoPrefix (Either P Q) text
 either_lacks P Q text p q m fits (inl a) = p m fits a
 either_lacks P Q text p q m fits (inr b) = q m fits b
 
-pub either_left : (P Q : List ℕ → Type 0) (text : List ℕ) (n : ℕ) → IsOnly P text n → NoFront Q text → IsOnly (Either P Q) text n
+pub either_left : (P Q : List ℕ → Type 0) (text : List ℕ) (n : ℕ) → IsOnly P text n → NoPrefix Q text → IsOnly (Either P Q) text n
 either_left P Q text n p q = record { positive = p.positive; fits = p.fits; part = inl p.part; only = λ m fits e. cases m fits e }
   where
     cases : (m : ℕ) → m ≤ length text → Either P Q (take m text) → m ≡ n
     cases m fits (inl a) = p.only m fits a
     cases m fits (inr b) = absurd (q m fits b)
 
-pub either_right : (P Q : List ℕ → Type 0) (text : List ℕ) (n : ℕ) → NoFront P text → OnlyPart Q text n → OnlyPart (Either P Q) text n
+pub either_right : (P Q : List ℕ → Type 0) (text : List ℕ) (n : ℕ) → NoPrefix P text → OnlyPart Q text n → OnlyPart (Either P Q) text n
 either_right P Q text n p q = (λ z. either_lacks P Q text p (q.0 z), λ s. record { positive = s; fits = (q.1 s).fits; part = inr (q.1 s).part; only = λ m fits e. cases s m fits e })
   where
     cases : 0 < n → (m : ℕ) → m ≤ length text → Either P Q (take m text) → m ≡ n
     cases s m fits (inl a) = absurd (p m fits a)
     cases s m fits (inr b) = (q.1 s).only m fits b
 
-pub either_left_part : (P Q : List ℕ → Type 0) (text : List ℕ) (n : ℕ) → OnlyPart P text n → NoFront Q text → OnlyPart (Either P Q) text n
+pub either_left_part : (P Q : List ℕ → Type 0) (text : List ℕ) (n : ℕ) → OnlyPart P text n → NoPrefix Q text → OnlyPart (Either P Q) text n
 either_left_part P Q text n p q = (λ z. either_lacks P Q text (p.0 z) q, λ s. either_left P Q text n (p.1 s) q)
 
 pub only_some : (P : List ℕ → Type 0) (text : List ℕ) (n : ℕ) → IsOnly P text n → OnlyPart P text n
@@ -201,7 +201,7 @@ digit_no_nondigit x t = grind (arith, nat_tests)
 digit_no_backslash : (x : ℕ) → is_digit x ≡ true → x ≡ 92 → ⊥
 digit_no_backslash x t e = false≢true (ap is_digit (sym e) ∙ t)
 
-digit_lacks_nondigit : (text : List ℕ) → is_digit (get_or text 0 0) ≡ true → NoFront IsNondigit text
+digit_lacks_nondigit : (text : List ℕ) → is_digit (get_or text 0 0) ≡ true → NoPrefix IsNondigit text
 digit_lacks_nondigit text t =
     either_lacks (One is_nondigit) IsUniversal text (one_lacks is_nondigit text (digit_no_nondigit (get_or text 0 0) t)) (universal_lacks text (digit_no_backslash (get_or text 0 0) t))
 

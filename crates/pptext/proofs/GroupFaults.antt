@@ -6,7 +6,7 @@ use Rattle.pptext.specs.declared.tokens.Fault.{Fault}
 use Rattle.pptext.specs.declared.sources.Directive.TheVariants.{Endif}
 use Rattle.pptext.specs.Lines.{LogicalLine}
 use Rattle.pptext.specs.Tree.{Role, TextLine, ControlLine, Opens, Elses, Closes, Parts, Done, Control, Section, Branches, End, Branch, part_lines}
-use Rattle.pptext.specs.Tree.{branch_lines, AreParts, AreBranches, role, Open, opened, fault_at, fault_or, group_fault}
+use Rattle.pptext.specs.Tree.{branch_lines, AreParts, AreBranches, role, Open, after_line, fault_at, fault_or, group_fault}
 use Rattle.pptext.specs.GroupFaults.{HasTree, BeginsTree, Innermost, FirstWrong, IsGroupFault, no_section, after_else, open_section}
 use Rattle.pptext.proofs.Trees.{a_tree, no_fault, parts_pass, one_line, with_text, section_lines}
 
@@ -15,13 +15,13 @@ use Rattle.pptext.proofs.Trees.{a_tree, no_fault, parts_pass, one_line, with_tex
 -- the lines without fault lead from these open sections to those
 data Walk : List Open → List LogicalLine → List Open → Type 0 where
   stay : {os : List Open} → Walk os [] os
-  over : {os next last : List Open} {r : LogicalLine} {rs : List LogicalLine} → opened (role r) r os ≡ (None, next) → Walk next rs last → Walk os (r ∷ rs) last
+  over : {os next last : List Open} {r : LogicalLine} {rs : List LogicalLine} → after_line (role r) r os ≡ (None, next) → Walk next rs last → Walk os (r ∷ rs) last
 
-walk_fault : {os last : List Open} {front : List LogicalLine} (rest : List LogicalLine) → Walk os front last → group_fault os (front ++ rest) ≡ group_fault last rest
+walk_fault : {os last : List Open} {prefix : List LogicalLine} (rest : List LogicalLine) → Walk os prefix last → group_fault os (prefix ++ rest) ≡ group_fault last rest
 walk_fault rest stay = refl
 walk_fault rest (over {os = os} {r = r} {rs = rs} e w) = ap (λ (z : Option ℕ × List Open). fault_or r z.0 (group_fault z.1 (rs ++ rest))) e ∙ walk_fault rest w
 
-walk_more : {os last next : List Open} {front : List LogicalLine} (r : LogicalLine) → Walk os front last → opened (role r) r last ≡ (None, next) → Walk os (front ++ r ∷ []) next
+walk_more : {os last next : List Open} {prefix : List LogicalLine} (r : LogicalLine) → Walk os prefix last → after_line (role r) r last ≡ (None, next) → Walk os (prefix ++ r ∷ []) next
 walk_more r stay e = over e stay
 walk_more r (over f w) e = over f (walk_more r w e)
 
@@ -33,14 +33,14 @@ record Stopped (os : List Open) (lines : List LogicalLine) : Type 0 where
   last : List Open
   number : ℕ
   whole : lines ≡ before ++ line ∷ rest
-  walk : Walk os before last
-  fault : (opened (role line) line last).0 ≡ Some number
+  advance_over_notes : Walk os before last
+  fault : (after_line (role line) line last).0 ≡ Some number
 
 outcome : (os : List Open) (lines : List LogicalLine) → ((last : List Open) × Walk os lines last) ⊎ Stopped os lines
 outcome os [] = inl (os, stay)
-outcome os (r ∷ rs) = cases (opened (role r) r os) refl (λ next. outcome next rs)
+outcome os (r ∷ rs) = cases (after_line (role r) r os) refl (λ next. outcome next rs)
   where
-    further : (next : List Open) → opened (role r) r os ≡ (None, next) → ((last : List Open) × Walk next rs last) ⊎ Stopped next rs → ((last : List Open) × Walk os (r ∷ rs) last) ⊎ Stopped os (r ∷ rs)
+    further : (next : List Open) → after_line (role r) r os ≡ (None, next) → ((last : List Open) × Walk next rs last) ⊎ Stopped next rs → ((last : List Open) × Walk os (r ∷ rs) last) ⊎ Stopped os (r ∷ rs)
     further next e (inl (last, w)) = inl (last, over e w)
     further next e (inr s) = inr (record {
       before = r ∷ s.before;
@@ -49,13 +49,13 @@ outcome os (r ∷ rs) = cases (opened (role r) r os) refl (λ next. outcome next
       last = s.last;
       number = s.number;
       whole = ap (λ (z : List LogicalLine). r ∷ z) s.whole;
-      walk = over e s.walk;
+      advance_over_notes = over e s.advance_over_notes;
       fault = s.fault;
     })
 
-    cases : (step : Option ℕ × List Open) → opened (role r) r os ≡ step → ((next : List Open) → ((last : List Open) × Walk next rs last) ⊎ Stopped next rs) → ((last : List Open) × Walk os (r ∷ rs) last) ⊎ Stopped os (r ∷ rs)
+    cases : (step : Option ℕ × List Open) → after_line (role r) r os ≡ step → ((next : List Open) → ((last : List Open) × Walk next rs last) ⊎ Stopped next rs) → ((last : List Open) × Walk os (r ∷ rs) last) ⊎ Stopped os (r ∷ rs)
     cases (None, next) e later = further next e (later next)
-    cases (Some n, next) e later = inr (record { before = []; line = r; rest = rs; last = os; number = n; whole = refl; walk = stay; fault = ap (λ (z : Option ℕ × List Open). z.0) e })
+    cases (Some n, next) e later = inr (record { before = []; line = r; rest = rs; last = os; number = n; whole = refl; advance_over_notes = stay; fault = ap (λ (z : Option ℕ × List Open). z.0) e })
 
 -- ---- what trees say of a walk
 
@@ -72,26 +72,26 @@ unfolding endings end_line
 all_closed [] = refl
 all_closed (o ∷ os) = all_closed os
 
-walk_begins : {last : List Open} {front : List LogicalLine} → Walk [] front last → BeginsTree front
-walk_begins {last} {front} w = (endings last, a_tree (front ++ endings last) (walk_fault (endings last) w ∙ all_closed last))
+walk_begins : {last : List Open} {prefix : List LogicalLine} → Walk [] prefix last → BeginsTree prefix
+walk_begins {last} {prefix} w = (endings last, a_tree (prefix ++ endings last) (walk_fault (endings last) w ∙ all_closed last))
 
 -- with a line that has a fault, the lines begin no list that has a tree
-stopped_wrong : (last : List Open) (front : List LogicalLine) (r : LogicalLine) (n : ℕ) → Walk [] front last → (opened (role r) r last).0 ≡ Some n → ¬ BeginsTree (front ++ r ∷ [])
-stopped_wrong last front r n w e (rest, (parts, tree)) =
-    let none : group_fault [] (front ++ (r ∷ rest)) ≡ None = ap (group_fault []) (sym (append_assoc front (r ∷ []) rest)) ∙ no_fault _ parts tree in
-    let later = group_fault (opened (role r) r last).1 rest in
-    let some : group_fault [] (front ++ (r ∷ rest)) ≡ Some (fault_at n r) = walk_fault (r ∷ rest) w ∙ ap (λ (z : Option ℕ). fault_or r z later) e in
+stopped_wrong : (last : List Open) (prefix : List LogicalLine) (r : LogicalLine) (n : ℕ) → Walk [] prefix last → (after_line (role r) r last).0 ≡ Some n → ¬ BeginsTree (prefix ++ r ∷ [])
+stopped_wrong last prefix r n w e (rest, (parts, tree)) =
+    let none : group_fault [] (prefix ++ (r ∷ rest)) ≡ None = ap (group_fault []) (sym (append_assoc prefix (r ∷ []) rest)) ∙ no_fault _ parts tree in
+    let later = group_fault (after_line (role r) r last).1 rest in
+    let some : group_fault [] (prefix ++ (r ∷ rest)) ≡ Some (fault_at n r) = walk_fault (r ∷ rest) w ∙ ap (λ (z : Option ℕ). fault_or r z later) e in
     cc
 
 -- lines that begin a list that has a tree have no fault on the way
-begins_walk : (front : List LogicalLine) → BeginsTree front → (last : List Open) × Walk [] front last
-begins_walk front begins = cases (outcome [] front) begins
+begins_walk : (prefix : List LogicalLine) → BeginsTree prefix → (last : List Open) × Walk [] prefix last
+begins_walk prefix begins = cases (outcome [] prefix) begins
   where
-    cases : ((last : List Open) × Walk [] front last) ⊎ Stopped [] front → BeginsTree front → (last : List Open) × Walk [] front last
+    cases : ((last : List Open) × Walk [] prefix last) ⊎ Stopped [] prefix → BeginsTree prefix → (last : List Open) × Walk [] prefix last
     cases (inl w) b = w
     cases (inr s) (rest, tree) =
-        let split : front ++ rest ≡ (s.before ++ s.line ∷ []) ++ (s.rest ++ rest) = ap (λ (z : List LogicalLine). z ++ rest) s.whole ∙ simp append_assoc in
-        absurd (stopped_wrong s.last s.before s.line s.number s.walk s.fault (s.rest ++ rest, subst HasTree split tree))
+        let split : prefix ++ rest ≡ (s.before ++ s.line ∷ []) ++ (s.rest ++ rest) = ap (λ (z : List LogicalLine). z ++ rest) s.whole ∙ simp append_assoc in
+        absurd (stopped_wrong s.last s.before s.line s.number s.advance_over_notes s.fault (s.rest ++ rest, subst HasTree split tree))
 
 tree_begins : (lines : List LogicalLine) → HasTree lines → BeginsTree lines
 tree_begins lines tree = ([], subst HasTree (sym (append-nil lines)) tree)
@@ -110,7 +110,7 @@ closed_tree {lines} w = a_tree lines (ap (group_fault []) (sym (append-nil lines
 -- ---- faults 3 and 4
 
 -- 3 where no section is open, 4 where one is
-which_number : (s : Role) (r : LogicalLine) (os : List Open) (n : ℕ) → (opened s r os).0 ≡ Some n → ((os ≡ []) × (n ≡ 3)) ⊎ ((os ≢ []) × (n ≡ 4))
+which_number : (s : Role) (r : LogicalLine) (os : List Open) (n : ℕ) → (after_line s r os).0 ≡ Some n → ((os ≡ []) × (n ≡ 3)) ⊎ ((os ≢ []) × (n ≡ 4))
 which_number Opens r os n e = cc
 which_number TextLine r os n e = cc
 which_number ControlLine r os n e = cc
@@ -123,20 +123,20 @@ which_number Closes r (o ∷ os) n e = cc
 stopped_fault : (lines : List LogicalLine) (s : Stopped [] lines) → group_fault [] lines ≡ Some (fault_at s.number s.line)
 stopped_fault lines s =
     ap (group_fault []) s.whole
-    ∙ walk_fault (s.line ∷ s.rest) s.walk
-    ∙ ap (λ (z : Option ℕ). fault_or s.line z (group_fault (opened (role s.line) s.line s.last).1 s.rest)) s.fault
+    ∙ walk_fault (s.line ∷ s.rest) s.advance_over_notes
+    ∙ ap (λ (z : Option ℕ). fault_or s.line z (group_fault (after_line (role s.line) s.line s.last).1 s.rest)) s.fault
 
 wrong_there : (lines : List LogicalLine) (s : Stopped [] lines) → FirstWrong lines s.before s.line
-wrong_there lines s = record { rest = s.rest; whole = s.whole; begins = walk_begins s.walk; wrong = stopped_wrong s.last s.before s.line s.number s.walk s.fault }
+wrong_there lines s = record { rest = s.rest; whole = s.whole; begins = walk_begins s.advance_over_notes; wrong = stopped_wrong s.last s.before s.line s.number s.advance_over_notes s.fault }
 
 stopped_is : (lines : List LogicalLine) (s : Stopped [] lines) → IsGroupFault lines (fault_at s.number s.line)
 stopped_is lines s = cases (which_number (role s.line) s.line s.last s.number s.fault)
   where
     cases : ((s.last ≡ []) × (s.number ≡ 3)) ⊎ ((s.last ≢ []) × (s.number ≡ 4)) → IsGroupFault lines (fault_at s.number s.line)
     cases (inl (none, three)) =
-        subst (λ n. IsGroupFault lines (fault_at n s.line)) (sym three) (no_section (wrong_there lines s) (closed_tree (subst (λ (z : List Open). Walk [] s.before z) none s.walk)))
+        subst (λ n. IsGroupFault lines (fault_at n s.line)) (sym three) (no_section (wrong_there lines s) (closed_tree (subst (λ (z : List Open). Walk [] s.before z) none s.advance_over_notes)))
     cases (inr (some, four)) =
-        subst (λ n. IsGroupFault lines (fault_at n s.line)) (sym four) (after_else (wrong_there lines s) (λ tree. some (tree_closed s.last s.before s.walk tree)))
+        subst (λ n. IsGroupFault lines (fault_at n s.line)) (sym four) (after_else (wrong_there lines s) (λ tree. some (tree_closed s.last s.before s.advance_over_notes tree)))
 
 -- ---- fault 5
 
@@ -226,7 +226,7 @@ lands_opening : (os : List Open) (rs : List LogicalLine) (o r : LogicalLine) →
 lands_opening os rs _ r is (here w) = inr (record { before = []; rest = rs; whole = refl; opens = is; within = w })
 lands_opening os _ o r is (past e {inner = inner} {rs = rs} w ends l) = inl (lands_section os rs inner o r e is w ends l)
 
-lands_over : (s : Role) (os next : List Open) (rs : List LogicalLine) (o r : LogicalLine) → role r ≡ s → opened s r os ≡ (None, next) → Lands next rs o → Lands os (r ∷ rs) o ⊎ Opening (r ∷ rs) o
+lands_over : (s : Role) (os next : List Open) (rs : List LogicalLine) (o r : LogicalLine) → role r ≡ s → after_line s r os ≡ (None, next) → Lands next rs o → Lands os (r ∷ rs) o ⊎ Opening (r ∷ rs) o
 lands_over TextLine os next rs o r is e l = let same : next ≡ os = sym (ap (λ (z : Option ℕ × List Open). z.1) e) in inl (lands_text r is (subst (λ (z : List Open). Lands z rs o) same l))
 lands_over ControlLine os next rs o r is e l = let same : next ≡ os = sym (ap (λ (z : Option ℕ × List Open). z.1) e) in inl (lands_control r is (subst (λ (z : List Open). Lands z rs o) same l))
 lands_over Opens os next rs o r is e l = let same : next ≡ (r, false) ∷ os = sym (ap (λ (z : Option ℕ × List Open). z.1) e) in lands_opening os rs o r is (subst (λ (z : List Open). Lands z rs o) same l)
@@ -355,13 +355,13 @@ wrong_fault : (lines before : List LogicalLine) (line : LogicalLine) (n : ℕ)
 wrong_fault lines before line n b number = of_walk (begins_walk before b.begins)
   where
     of_walk : (last : List Open) × Walk [] before last → group_fault [] lines ≡ Some (fault_at n line)
-    of_walk (last, w) = cases (opened (role line) line last) refl
+    of_walk (last, w) = cases (after_line (role line) line last) refl
       where
-        cases : (step : Option ℕ × List Open) → opened (role line) line last ≡ step → group_fault [] lines ≡ Some (fault_at n line)
+        cases : (step : Option ℕ × List Open) → after_line (role line) line last ≡ step → group_fault [] lines ≡ Some (fault_at n line)
         cases (None, next) e = absurd (b.wrong (walk_begins (walk_more line w e)))
         cases (Some m, next) e =
-            let fault : (opened (role line) line last).0 ≡ Some m = ap (λ (z : Option ℕ × List Open). z.0) e in
-            let s : Stopped [] lines = record { before = before; line = line; rest = b.rest; last = last; number = m; whole = b.whole; walk = w; fault = fault } in
+            let fault : (after_line (role line) line last).0 ≡ Some m = ap (λ (z : Option ℕ × List Open). z.0) e in
+            let s : Stopped [] lines = record { before = before; line = line; rest = b.rest; last = last; number = m; whole = b.whole; advance_over_notes = w; fault = fault } in
             stopped_fault lines s ∙ ap (λ z. Some (fault_at z line)) (number last w m (which_number (role line) line last m fault))
 
 has_fault : (lines : List LogicalLine) (fault : Fault) → IsGroupFault lines fault → group_fault [] lines ≡ Some fault

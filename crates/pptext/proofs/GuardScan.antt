@@ -6,16 +6,16 @@ use Rattle.std.proofs.lemmas.List.{drop_all, drop_more, drop-drop, length-append
 use Rattle.pptext.specs.declared.tokens.Token.{Token}
 use Rattle.pptext.specs.declared.sources.Line.{Line}
 use Rattle.pptext.specs.Lines.{LogicalLine}
-use Rattle.pptext.specs.Tree.{Role, TextLine, ControlLine, Opens, Elses, Closes, role, branch_behind, group_fault}
+use Rattle.pptext.specs.Tree.{Role, TextLine, ControlLine, Opens, Elses, Closes, role, branch_after, group_fault}
 use Rattle.pptext.specs.Sources.{next_branch, tokens_of, lines_from}
 use Rattle.pptext.specs.Guard.{IsBlankLine, GuardedBy, guard_name}
-use Rattle.pptext.specs.Grouping.{AreDirected, AreLines, line_role, ClosedAtOnce, FlatGuard}
+use Rattle.pptext.specs.code.Grouping.{AreDirected, AreLines, line_role, ClosedAtOnce, FlatGuard}
 use Rattle.pptext.proofs.Spans.{line_at, line_from, same_lines}
 use Rattle.pptext.proofs.Faults.{blank_line}
 use Rattle.pptext.proofs.Guards.{blank_role, guarded_by_flat, flat_by_guarded}
 
 -- a next branch line is a later line
-pub branch_within : (depth k : ℕ) (ss : List Role) (j : ℕ) → branch_behind depth k ss ≡ Some j → (k ≤ j) × (j < k + length ss)
+pub branch_within : (depth k : ℕ) (ss : List Role) (j : ℕ) → branch_after depth k ss ≡ Some j → (k ≤ j) × (j < k + length ss)
 branch_within depth k [] j e = absurd (cc)
 branch_within depth k (Opens ∷ ss) j e = let w = branch_within (suc depth) (k + 1) ss j e in (omega (arith, w.0), omega (arith, w.1))
 branch_within zero k (Closes ∷ ss) j e = let same : k ≡ j = cc in (omega arith, omega arith)
@@ -61,10 +61,10 @@ module _ (ts : List Token) (ls : List Line) (lines : AreLines ts ls) where
   rest_at at d l =
       drop_more (lines_from ts ls) at blank_line (omega (arith, length-map ls (line_from ts))) ∙ ap (λ (z : LogicalLine). z ∷ drop (at + 1) (lines_from ts ls)) ((line_at ts ls at d lines l).line blank_line)
 
-  next_is : (at : ℕ) (d : Line) → at < length ls → line_role (get_or ls at d) ≡ Opens → (get_or ls at d).next_branch ≡ branch_behind 0 (at + 1) (map role (drop (at + 1) (lines_from ts ls)))
+  next_is : (at : ℕ) (d : Line) → at < length ls → line_role (get_or ls at d) ≡ Opens → (get_or ls at d).next_branch ≡ branch_after 0 (at + 1) (map role (drop (at + 1) (lines_from ts ls)))
   next_is at d l opens =
       let n : suc at ≡ at + 1 = omega arith in
-      (line_at ts ls at d lines l).next ∙ ap (λ (z : Role). next_branch at z (drop (suc at) (lines_from ts ls))) (role_is at d l ∙ opens) ∙ ap (λ (z : ℕ). branch_behind 0 (at + 1) (map role (drop z (lines_from ts ls)))) n
+      (line_at ts ls at d lines l).next ∙ ap (λ (z : Role). next_branch at z (drop (suc at) (lines_from ts ls))) (role_is at d l ∙ opens) ∙ ap (λ (z : ℕ). branch_after 0 (at + 1) (map role (drop z (lines_from ts ls)))) n
 
   pub branch_in : (at last : ℕ) (d : Line) → at < length ls → line_role (get_or ls at d) ≡ Opens → (get_or ls at d).next_branch ≡ Some last → (at + 1 ≤ last) × (last < length ls)
   branch_in at last d l opens e =

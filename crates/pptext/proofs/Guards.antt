@@ -5,50 +5,50 @@ use Rattle.std.proofs.lemmas.List.{drop_at, length-append}
 use Rattle.pptext.specs.declared.tokens.Token.{Token}
 use Rattle.pptext.specs.declared.sources.Profile.{Profile}
 use Rattle.pptext.specs.Lines.{LogicalLine, directive_of, IsDirected}
-use Rattle.pptext.specs.Tree.{Role, TextLine, ControlLine, Opens, Elses, Closes, Parts, Done, Run, Control, Section, Branches, End, Branch, part_lines, branch_lines, AreParts, AreBranches, role, role_by, branch_behind, group_fault}
+use Rattle.pptext.specs.Tree.{Role, TextLine, ControlLine, Opens, Elses, Closes, Parts, Done, Run, Control, Section, Branches, End, Branch, part_lines, branch_lines, AreParts, AreBranches, role, role_by, branch_after, group_fault}
 use Rattle.pptext.specs.Guard.{IsBlankLine, AreBlank, guard_name, GuardedParts, GuardedBy}
-use Rattle.pptext.specs.Grouping.{AreDirected, ClosedAtOnce, FlatGuard}
+use Rattle.pptext.specs.code.Grouping.{AreDirected, ClosedAtOnce, FlatGuard}
 use Rattle.pptext.proofs.Trees.{section_lines, branch_line, a_tree, at_most_one}
 
 -- the next branch line after parts is after their lines
 
-one_role : (depth k : ℕ) (r : LogicalLine) (rs : List LogicalLine) (s : Role) → role r ≡ s → branch_behind depth k (map role (r ∷ rs)) ≡ branch_behind depth k (s ∷ map role rs)
-one_role depth k r rs s e = ap (λ (z : Role). branch_behind depth k (z ∷ map role rs)) e
+one_role : (depth k : ℕ) (r : LogicalLine) (rs : List LogicalLine) (s : Role) → role r ≡ s → branch_after depth k (map role (r ∷ rs)) ≡ branch_after depth k (s ∷ map role rs)
+one_role depth k r rs s e = ap (λ (z : Role). branch_after depth k (z ∷ map role rs)) e
 
-text_roles : (rs : List LogicalLine) (depth k : ℕ) (rest : List LogicalLine) → AllByRecursion (λ r. role r ≡ TextLine) rs → branch_behind depth k (map role (rs ++ rest)) ≡ branch_behind depth (k + length rs) (map role rest)
-text_roles [] depth k rest all = ap (λ (z : ℕ). branch_behind depth z (map role rest)) (omega arith)
+text_roles : (rs : List LogicalLine) (depth k : ℕ) (rest : List LogicalLine) → AllByRecursion (λ r. role r ≡ TextLine) rs → branch_after depth k (map role (rs ++ rest)) ≡ branch_after depth (k + length rs) (map role rest)
+text_roles [] depth k rest all = ap (λ (z : ℕ). branch_after depth z (map role rest)) (omega arith)
 text_roles (r ∷ rs) depth k rest all =
-    one_role depth k r (rs ++ rest) TextLine all.0 ∙ text_roles rs depth (k + 1) rest all.1 ∙ ap (λ (z : ℕ). branch_behind depth z (map role rest)) (omega arith)
+    one_role depth k r (rs ++ rest) TextLine all.0 ∙ text_roles rs depth (k + 1) rest all.1 ∙ ap (λ (z : ℕ). branch_after depth z (map role rest)) (omega arith)
 
 mutual
-  pub behind_parts : (ps : Parts) (depth k : ℕ) (rest : List LogicalLine) → AreParts ps → branch_behind depth k (map role (part_lines ps ++ rest)) ≡ branch_behind depth (k + length (part_lines ps)) (map role rest)
-  behind_parts Done depth k rest are = ap (λ (z : ℕ). branch_behind depth z (map role rest)) (omega arith)
+  pub behind_parts : (ps : Parts) (depth k : ℕ) (rest : List LogicalLine) → AreParts ps → branch_after depth k (map role (part_lines ps ++ rest)) ≡ branch_after depth (k + length (part_lines ps)) (map role rest)
+  behind_parts Done depth k rest are = ap (λ (z : ℕ). branch_after depth z (map role rest)) (omega arith)
   behind_parts (Run rs ps) depth k rest are =
-      ap (λ (z : List LogicalLine). branch_behind depth k (map role z)) (append_assoc rs (part_lines ps) rest)
+      ap (λ (z : List LogicalLine). branch_after depth k (map role z)) (append_assoc rs (part_lines ps) rest)
       ∙ text_roles rs depth k (part_lines ps ++ rest) are.1
       ∙ behind_parts ps depth (k + length rs) rest are.3
-      ∙ ap (λ (z : ℕ). branch_behind depth z (map role rest)) (omega (arith, length-append rs (part_lines ps)))
+      ∙ ap (λ (z : ℕ). branch_after depth z (map role rest)) (omega (arith, length-append rs (part_lines ps)))
   behind_parts (Control r ps) depth k rest are =
-      one_role depth k r (part_lines ps ++ rest) ControlLine are.0 ∙ behind_parts ps depth (k + 1) rest are.1 ∙ ap (λ (z : ℕ). branch_behind depth z (map role rest)) (omega arith)
+      one_role depth k r (part_lines ps ++ rest) ControlLine are.0 ∙ behind_parts ps depth (k + 1) rest are.1 ∙ ap (λ (z : ℕ). branch_after depth z (map role rest)) (omega arith)
   behind_parts (Section r ps bs qs) depth k rest are =
-      ap (λ (z : List LogicalLine). branch_behind depth k (map role z)) (section_lines r ps qs bs rest)
+      ap (λ (z : List LogicalLine). branch_after depth k (map role z)) (section_lines r ps qs bs rest)
       ∙ one_role depth k r (part_lines ps ++ (branch_lines bs ++ (part_lines qs ++ rest))) Opens are.0
       ∙ behind_parts ps (suc depth) (k + 1) (branch_lines bs ++ (part_lines qs ++ rest)) are.1
       ∙ behind_branches bs false depth (k + 1 + length (part_lines ps)) (part_lines qs ++ rest) are.2
       ∙ behind_parts qs depth (k + 1 + length (part_lines ps) + length (branch_lines bs)) rest are.3
-      ∙ ap (λ (z : ℕ). branch_behind depth z (map role rest))
+      ∙ ap (λ (z : ℕ). branch_after depth z (map role rest))
       (omega (arith, length-append (part_lines ps ++ branch_lines bs) (part_lines qs), length-append (part_lines ps) (branch_lines bs)))
 
   pub behind_branches : (bs : Branches) (last : Bool) (depth k : ℕ) (rest : List LogicalLine)
       → AreBranches last bs
-      → branch_behind (suc depth) k (map role (branch_lines bs ++ rest)) ≡ branch_behind depth (k + length (branch_lines bs)) (map role rest)
+      → branch_after (suc depth) k (map role (branch_lines bs ++ rest)) ≡ branch_after depth (k + length (branch_lines bs)) (map role rest)
   behind_branches (End r) last depth k rest are = one_role (suc depth) k r rest Closes are
   behind_branches (Branch r ps bs) last depth k rest (first, final, is, parts, more) =
-      ap (λ (z : List LogicalLine). branch_behind (suc depth) k (map role z)) (branch_line r ps bs rest)
+      ap (λ (z : List LogicalLine). branch_after (suc depth) k (map role z)) (branch_line r ps bs rest)
       ∙ one_role (suc depth) k r (part_lines ps ++ (branch_lines bs ++ rest)) (Elses final) is
       ∙ behind_parts ps (suc depth) (k + 1) (branch_lines bs ++ rest) parts
       ∙ behind_branches bs final depth (k + 1 + length (part_lines ps)) rest more
-      ∙ ap (λ (z : ℕ). branch_behind depth z (map role rest)) (omega (arith, length-append (part_lines ps) (branch_lines bs)))
+      ∙ ap (λ (z : ℕ). branch_after depth z (map role rest)) (omega (arith, length-append (part_lines ps) (branch_lines bs)))
 
 -- lines without tokens
 
@@ -120,7 +120,7 @@ text_front (r ∷ rs) rest k x all (inr here) = let opens = here.0 in let text =
 -- the first line after the parts of a section is its next branch line
 closed_first : (ps : Parts) (h : LogicalLine) (rest : List LogicalLine) (k : ℕ)
     → AreParts ps
-    → ((j : ℕ) → branch_behind 0 j (map role (h ∷ rest)) ≡ Some j)
+    → ((j : ℕ) → branch_after 0 j (map role (h ∷ rest)) ≡ Some j)
     → ClosedAtOnce k (part_lines ps ++ (h ∷ rest))
     → (role h ≡ Closes) × AllByRecursion IsBlankLine rest
 closed_first ps h rest k are here closed =

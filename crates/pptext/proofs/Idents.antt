@@ -1,7 +1,7 @@
 -- The parts of an identifier (6.4.2).
 use Rattle.std.proofs.Common.{◌≡◌, ℕ, ◌<◌, Bool, true, false, ◌||◌, List, length, refl, sym, arith, get_or}
 use Rattle.std.proofs.lemmas.Bool.{false≢true}
-use Rattle.pptext.specs.Languages.{One, Either, NoFront, IsNext, NextPart, IsOnly, OnlyPart}
+use Rattle.pptext.specs.Languages.{One, Either, NoPrefix, IsNext, NextPart, IsOnly, OnlyPart}
 use Rattle.pptext.specs.Spellings.{is_digit, is_nondigit, IsUniversal, IsNondigit}
 use Rattle.pptext.proofs.Fronts.{next_from_only, either_lacks, one_empty, nondigit_here, nondigit_later, nondigit_none, ident_part_here, ident_part_later}
 
@@ -30,5 +30,5 @@ ident_universal text n f u =
     (nondigit_later text n (or_left (is_nondigit (get_or text 0 0)) (is_digit (get_or text 0 0)) f) u) in
     (whole.0, λ some. next_from_only IdentPart text n (whole.1 some))
 
-pub ident_end : (text : List ℕ) → length text ≡ 0 → NoFront IdentPart text
+pub ident_end : (text : List ℕ) → length text ≡ 0 → NoPrefix IdentPart text
 ident_end text l = either_lacks IsNondigit (One is_digit) text ((nondigit_none text l).0 refl) (one_empty is_digit text l)

@@ -11,8 +11,8 @@ use Rattle.pptext.specs.declared.tokens.Kind.{Kind}
 use Rattle.pptext.specs.declared.tokens.Kind.TheVariants.{Ident, Number, CharConst, Str, Punct, Header, Other}
 use Rattle.pptext.specs.Languages.{Exactly, Then, Repeated}
 use Rattle.pptext.specs.Spellings.{is_blank, IsElement, char_prefixes, str_prefixes, IsCharConst, IsStr, IsPunct, IsBetween, IsHeader, Spells}
-use Rattle.pptext.specs.Cut.{Spelled, StandsAt}
-use Rattle.pptext.specs.Texts.{InLine}
+use Rattle.pptext.specs.Lexemes.{Spelled, IsLexemeAt}
+use Rattle.pptext.specs.code.CleanedText.{InLine}
 use Rattle.pptext.proofs.Throughout.{Throughout, one_passes, either_passes, then_passes, exactly_passes, repeated_passes, contains_passes, punct_passes}
 use Rattle.pptext.proofs.Throughout.{is_word_byte, ident_passes, number_passes}
 
@@ -91,7 +91,7 @@ spelling_along s Punct a = punct_along.at s a
 spelling_along s Header a = absurd a
 spelling_along s Other a = (one_passes visible_along).at s a.0
 
-token_along : (profile : Profile) (line : List (List ℕ)) (text : List ℕ) (n : ℕ) (k : Kind) → StandsAt profile line text n (Spelled k) → along (take n text) ≡ true
+token_along : (profile : Profile) (line : List (List ℕ)) (text : List ℕ) (n : ℕ) (k : Kind) → IsLexemeAt profile line text n (Spelled k) → along (take n text) ≡ true
 token_along profile line text n k (inl h) = header_along.at (take n text) h.0.spelled
 token_along profile line text n k (inr t) = spelling_along (take n text) k t.spelled
 
@@ -122,7 +122,7 @@ line_over_blanks codes line at n before blanks = line_on codes line at n before 
 pub line_over_token : (codes : List ℕ) (profile : Profile) (line : List (List ℕ)) (from at n : ℕ) (k : Kind)
     → InLine codes from at
     → n ≤ length (drop at codes)
-    → StandsAt profile line (drop at codes) n (Spelled k)
+    → IsLexemeAt profile line (drop at codes) n (Spelled k)
     → InLine codes from (at + n)
 line_over_token codes profile line from at n k before fits here =
     let text = drop at codes in

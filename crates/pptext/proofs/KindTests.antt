@@ -5,12 +5,12 @@ use Rattle.std.proofs.lemmas.List.{take_all}
 use Rattle.pptext.specs.declared.tokens.Kind.{Kind}
 use Rattle.pptext.specs.Spellings.{Spells, punctuators}
 use Rattle.pptext.specs.Kinds.{kind_of, spelled_kind}
-use Rattle.pptext.specs.Sources.{IsLoneQuote}
+use Rattle.pptext.specs.Sources.{IsUnmatchedQuote}
 use Rattle.pptext.specs.Lexing.{Lexes}
 use Rattle.pptext.specs.KindTests.{OpensComment, TestsAreLanguages}
 use Rattle.pptext.proofs.Decides as tests
 use Rattle.pptext.proofs.OneKind.{one_kind}
-use Rattle.pptext.proofs.Lexer.{lexer_is, one_lexing, plain_token, spelled_whole}
+use Rattle.pptext.proofs.OneLexer.{lexer_is, one_lexing, plain_token, spelled_whole}
 
 one_spelling : (text : List ℕ) (k : Kind) (o : Option Kind) → tests.HasKind text o → Spells k text → o ≡ Some k
 one_spelling text k None none h = absurd (none k h)
@@ -28,19 +28,19 @@ tests_are_languages = record {
   nondigit = tests.nondigit.at;
   number_part = tests.number_part.at;
   element = λ quote. (tests.element quote).at;
-  lone_quote = (tests.either (tests.exactly (39 ∷ [])) (tests.exactly (34 ∷ []))).at;
+  unmatched_quote = (tests.either (tests.exactly (39 ∷ [])) (tests.exactly (34 ∷ []))).at;
   comment = λ text. (tests.either (tests.exactly (codes "/*")) (tests.exactly (codes "//"))).at (take 2 text);
   kind = λ text k. (λ e. subst (tests.HasKind text) e (tests.spelled_kind_is text), λ h. one_spelling text k (spelled_kind text) (tests.spelled_kind_is text) h);
 }
 
 abbrev IsPlain : List ℕ → Kind → Type 0
-IsPlain text k = Spells k text × (¬ IsLoneQuote text) × (¬ OpensComment text)
+IsPlain text k = Spells k text × (¬ IsUnmatchedQuote text) × (¬ OpensComment text)
 
 lexed_plain : (text : List ℕ) (k : Kind) → Lexes text (Some k) → IsPlain text k
 lexed_plain text k h =
     let plain = plain_token text k h.0 in
     (subst (Spells k) (take_all (length text) text (omega arith)) plain.spelled, h.1, plain.no_comment)
 
-pub kind_by_language : (text : List ℕ) (k : Kind) → (kind_of text ≡ Some k) ↔ (Spells k text × (¬ IsLoneQuote text) × (¬ OpensComment text))
+pub kind_by_language : (text : List ℕ) (k : Kind) → (kind_of text ≡ Some k) ↔ (Spells k text × (¬ IsUnmatchedQuote text) × (¬ OpensComment text))
 kind_by_language text k =
     (λ e. lexed_plain text k (subst (Lexes text) e (lexer_is.each text)), λ h. one_lexing text (kind_of text) (Some k) (lexer_is.each text) (spelled_whole text k h.2 h.0, h.1))

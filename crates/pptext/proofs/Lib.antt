@@ -13,7 +13,7 @@ pub mod CleanSteps
 -- A file's characters from an offset on, and where they stand.
 pub mod Offsets
 -- Stretches of bytes that are characters of their own, and tables of the line notes between them.
-pub mod Breaks
+pub mod LineNoteLemmas
 -- A file's text from an offset on, one step of the reading after another, and the copy made of it.
 pub mod Copies
 -- A cursor over a file's bytes, which stands before one character after another.
@@ -57,7 +57,7 @@ pub mod LongestOf
 -- A cleaned text ends in a new-line, so that each token stands on a line.
 pub mod LastLine
 -- Quotes that nothing closes in their line: what the search for one closing quote says of the others.
-pub mod LoneQuotes
+pub mod UnmatchedQuoteLemmas
 -- Lines as spans of tokens: each span at its index, and the lines that the spans cut the tokens into.
 pub mod Spans
 -- Steps that fail: how a fault or a failed allocation is returned, also by a public call.
@@ -81,7 +81,7 @@ pub mod GuardScan
 -- Each test of `Kinds` passes the texts of its language (6.4), and no others.
 pub mod Decides
 -- Each text's kind can be told, and in one way.
-pub mod Lexer
+pub mod OneLexer
 -- What carries on an identifier or a number.
 pub mod Carried
 -- How a text ends: in a universal character name, or in an exponent's letter; and what a sign begins.

@@ -3,7 +3,7 @@ use Rattle.std.proofs.Common.{◌≡◌, ℕ, zero, suc, ◌+◌, ◌-◌, ◌<�
 use Rattle.std.proofs.Common.{take, drop, refl, sym, ap, ◌∙◌, inl, inr, ◌⊎◌, arith, length-drop, get_or, Contains}
 use Rattle.std.proofs.lemmas.List.{append-nil}
 use Rattle.std.proofs.lemmas.Bool.Decides.{nat_tests}
-use Rattle.pptext.specs.Languages.{Exactly, One, Then, Repeated, NoFront, IsOnly, OnlyPart}
+use Rattle.pptext.specs.Languages.{Exactly, One, Then, Repeated, NoPrefix, IsOnly, OnlyPart}
 use Rattle.pptext.specs.Spellings.{IsElement, IsCharConst, IsStr, char_prefixes, str_prefixes}
 use Rattle.pptext.proofs.Parts.{front_of, front_length}
 use Rattle.pptext.proofs.Fronts.{one_here, one_lacks, either_lacks, either_right, only_zero, only_some}
@@ -21,7 +21,7 @@ Escape = Then (Exactly (92 ∷ [])) (One escaped)
 pub plain-no_quote : (quote c : ℕ) → c ≡ quote → plain quote c ≡ false
 plain-no_quote quote c e = grind (arith, nat_tests)
 
-pub quote_lacks : (quote : ℕ) (text : List ℕ) → (quote ≡ 92 → ⊥) → get_or text 0 0 ≡ quote → NoFront (IsElement quote) text
+pub quote_lacks : (quote : ℕ) (text : List ℕ) → (quote ≡ 92 → ⊥) → get_or text 0 0 ≡ quote → NoPrefix (IsElement quote) text
 quote_lacks quote text h e =
     either_lacks (One (plain quote)) Escape text (one_lacks (plain quote) text (plain-no_quote quote (get_or text 0 0) e)) (then_lacks (Exactly (92 ∷ [])) (One escaped) text (exactly_lacks 92 [] text (λ f. h (sym e ∙ f))))
 

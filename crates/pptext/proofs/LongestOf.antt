@@ -5,9 +5,9 @@ use Rattle.std.proofs.lemmas.Bool.{false≢true}
 use Rattle.std.proofs.lemmas.Bool.Decides.{nat_tests}
 use Rattle.pptext.specs.declared.tokens.Kind.{Kind}
 use Rattle.pptext.specs.declared.tokens.Kind.TheVariants.{Ident, Number, CharConst, Str, Punct, Header, Other}
-use Rattle.pptext.specs.Languages.{Exactly, One, Then, Repeated, Longest, NoFront, IsNext, IsOnly}
+use Rattle.pptext.specs.Languages.{Exactly, One, Then, Repeated, Longest, NoPrefix, IsNext, IsOnly}
 use Rattle.pptext.specs.Spellings.{is_digit, is_nondigit, is_blank, IsNondigit, IsIdent, IsNumber, IsNumberPart, IsCharConst, IsStr, IsPunct, IsOther, Spells, IsSpelling, punctuators, char_prefixes, str_prefixes}
-use Rattle.pptext.specs.Lone.{IsQuoted}
+use Rattle.pptext.specs.code.UnmatchedQuotes.{IsQuoted}
 use Rattle.pptext.proofs.Parts.{front_of, front_length, none_repeated, more_repeated, then_longest}
 use Rattle.pptext.proofs.Fronts.{one_front, one_lacks, either_lacks, nondigit_here}
 use Rattle.pptext.proofs.Table.{any_passes}
@@ -15,14 +15,14 @@ use Rattle.pptext.proofs.OneKind.{is_ident_head, is_number_head}
 use Rattle.pptext.proofs.Combine.{then_lacks, exactly_lacks, head_behind, then_left, one_begins, begins_one}
 use Rattle.pptext.proofs.Numbers.{lacks_nondigit, Fraction, NumberStart, period_front}
 use Rattle.pptext.proofs.Idents.{IdentPart, ident_byte}
-use Rattle.pptext.proofs.LoneQuotes.{CharRest}
+use Rattle.pptext.proofs.UnmatchedQuoteLemmas.{CharRest}
 use Rattle.pptext.proofs.Literals.{CharOpening, StrOpening, CharOpens, StrOpens, IsLetter, char_opens, str_opens, letter-no_quote}
 
 -- nothing longer begins the text
 abbrev pub NoLonger : (List ℕ → Type 0) → List ℕ → ℕ → Type 0
 NoLonger P text n = (m : ℕ) → n < m → m ≤ length text → P (take m text) → ⊥
 
-pub none_longer : (P : List ℕ → Type 0) (text : List ℕ) (n : ℕ) → NoFront P text → NoLonger P text n
+pub none_longer : (P : List ℕ → Type 0) (text : List ℕ) (n : ℕ) → NoPrefix P text → NoLonger P text n
 none_longer P text n none m more fits p = none m fits p
 
 pub only_longer : (P : List ℕ → Type 0) (text : List ℕ) (n : ℕ) → IsOnly P text n → NoLonger P text n
@@ -42,7 +42,7 @@ pub record NoneLonger (text : List ℕ) (n : ℕ) : Type 0 where
 pub longest_spelling : (text : List ℕ) (n : ℕ) (k : Kind) → 0 < n → n ≤ length text → Spells k (take n text) → NoneLonger text n → Longest IsSpelling text n
 longest_spelling text n k some fits spelled none = record {
   fits = fits;
-  front = (k, spelled);
+  prefix = (k, spelled);
   longest = λ m more within s. longer m more within s.0 s.1;
 }
   where
@@ -65,7 +65,7 @@ ident_head-nondigit c e = grind (arith, nat_tests)
 ident_head-backslash : (c : ℕ) → is_ident_head c ≡ false → c ≡ 92 → ⊥
 ident_head-backslash c e f = grind (arith, nat_tests)
 
-pub ident_lacks : (text : List ℕ) → is_ident_head (get_or text 0 0) ≡ false → NoFront IsIdent text
+pub ident_lacks : (text : List ℕ) → is_ident_head (get_or text 0 0) ≡ false → NoPrefix IsIdent text
 ident_lacks text e =
     then_lacks IsNondigit (Repeated IdentPart) text (lacks_nondigit text (ident_head-nondigit (get_or text 0 0) e) (ident_head-backslash (get_or text 0 0) e))
 
@@ -75,7 +75,7 @@ number_head-digit c e = grind (arith, nat_tests)
 number_head-period : (c : ℕ) → is_number_head c ≡ false → c ≡ 46 → ⊥
 number_head-period c e f = grind (arith, nat_tests)
 
-pub number_lacks : (text : List ℕ) → is_number_head (get_or text 0 0) ≡ false → NoFront IsNumber text
+pub number_lacks : (text : List ℕ) → is_number_head (get_or text 0 0) ≡ false → NoPrefix IsNumber text
 number_lacks text e =
     then_lacks NumberStart (Repeated IsNumberPart) text
     (either_lacks (One is_digit) Fraction text (one_lacks is_digit text (number_head-digit (get_or text 0 0) e))
@@ -92,7 +92,7 @@ begins_sign (c ∷ cs) = not (begins_word c)
 word-no_sign : (c : ℕ) → begins_word c ≡ true → not (begins_word c) ≡ true → ⊥
 word-no_sign c e f = grind (arith, nat_tests)
 
-pub punct_lacks : (text : List ℕ) → begins_word (get_or text 0 0) ≡ true → NoFront IsPunct text
+pub punct_lacks : (text : List ℕ) → begins_word (get_or text 0 0) ≡ true → NoPrefix IsPunct text
 punct_lacks text e m fits p = cases text m e (any_passes begins_sign punctuators (take m text) refl p)
   where
     cases : (cs : List ℕ) (j : ℕ) → begins_word (get_or cs 0 0) ≡ true → begins_sign (take j cs) ≡ true → ⊥
@@ -104,7 +104,7 @@ punct_lacks text e m fits p = cases text m e (any_passes begins_sign punctuators
 word-no_number : (c : ℕ) → begins_word c ≡ true → is_number_head c ≡ false
 word-no_number c e = grind (arith, nat_tests)
 
-pub word_lacks_number : (text : List ℕ) → begins_word (get_or text 0 0) ≡ true → NoFront IsNumber text
+pub word_lacks_number : (text : List ℕ) → begins_word (get_or text 0 0) ≡ true → NoPrefix IsNumber text
 word_lacks_number text e = number_lacks text (word-no_number (get_or text 0 0) e)
 
 -- an identifier
@@ -118,10 +118,10 @@ ident_head text n fits p = cases (is_ident_head (get_or text 0 0)) refl
     cases true e = e
     cases false e = absurd (ident_lacks text e n fits p)
 
-pub ident_longest : (text : List ℕ) (n : ℕ) → 0 < n → Longest IsIdent text n → NoFront IsCharConst text → NoFront IsStr text → Longest IsSpelling text n
+pub ident_longest : (text : List ℕ) (n : ℕ) → 0 < n → Longest IsIdent text n → NoPrefix IsCharConst text → NoPrefix IsStr text → Longest IsSpelling text n
 ident_longest text n some p char_const string =
-    let word : begins_word (get_or text 0 0) ≡ true = ident_head-word (get_or text 0 0) (ident_head text n p.fits p.front) in
-    longest_spelling text n Ident some p.fits p.front (record {
+    let word : begins_word (get_or text 0 0) ≡ true = ident_head-word (get_or text 0 0) (ident_head text n p.fits p.prefix) in
+    longest_spelling text n Ident some p.fits p.prefix (record {
       ident = p.longest;
       number = none_longer IsNumber text n (word_lacks_number text word);
       char_const = none_longer IsCharConst text n char_const;
@@ -167,19 +167,19 @@ number_punct text n some head m more fits p = cases text m (omega arith) fits he
     cases (c ∷ d ∷ cs) (suc (suc j)) two fits (inl e) f = digit_begins c d e f
     cases (c ∷ d ∷ cs) (suc (suc j)) two fits (inr e) f = period_begins c d e.1 e.2 f
 
-pub number_longest : (text : List ℕ) (n : ℕ) → 0 < n → Longest IsNumber text n → NoFront IsCharConst text → NoFront IsStr text → NoFront IsIdent text → Longest IsSpelling text n
+pub number_longest : (text : List ℕ) (n : ℕ) → 0 < n → Longest IsNumber text n → NoPrefix IsCharConst text → NoPrefix IsStr text → NoPrefix IsIdent text → Longest IsSpelling text n
 number_longest text n some p char_const string ident =
-    longest_spelling text n Number some p.fits p.front (record {
+    longest_spelling text n Number some p.fits p.prefix (record {
       ident = none_longer IsIdent text n ident;
       number = p.longest;
       char_const = none_longer IsCharConst text n char_const;
       string = none_longer IsStr text n string;
-      punct = number_punct text n some (number_begins text n p.fits p.front);
+      punct = number_punct text n some (number_begins text n p.fits p.prefix);
     })
 
-pub punct_longest : (text : List ℕ) (n : ℕ) → 0 < n → Longest IsPunct text n → NoFront IsCharConst text → NoFront IsStr text → NoFront IsIdent text → NoFront IsNumber text → Longest IsSpelling text n
+pub punct_longest : (text : List ℕ) (n : ℕ) → 0 < n → Longest IsPunct text n → NoPrefix IsCharConst text → NoPrefix IsStr text → NoPrefix IsIdent text → NoPrefix IsNumber text → Longest IsSpelling text n
 punct_longest text n some p char_const string ident number =
-    longest_spelling text n Punct some p.fits p.front (record {
+    longest_spelling text n Punct some p.fits p.prefix (record {
       ident = none_longer IsIdent text n ident;
       number = none_longer IsNumber text n number;
       char_const = none_longer IsCharConst text n char_const;
@@ -191,18 +191,18 @@ punct_longest text n some p char_const string ident number =
 visible : (c : ℕ) → is_blank c ≡ false → (c ≡ 10 → ⊥) → not (is_blank c || c == 10) ≡ true
 visible c e f = grind (arith, nat_tests)
 
-pub other_here : (text : List ℕ) → 0 < length text → is_blank (get_or text 0 0) ≡ false → (get_or text 0 0 ≡ 10 → ⊥) → NoFront IsIdent text → NoFront IsNumber text → NoFront IsPunct text → IsOther (take 1 text)
+pub other_here : (text : List ℕ) → 0 < length text → is_blank (get_or text 0 0) ≡ false → (get_or text 0 0 ≡ 10 → ⊥) → NoPrefix IsIdent text → NoPrefix IsNumber text → NoPrefix IsPunct text → IsOther (take 1 text)
 other_here text l e f ident number punct =
     ((get_or text 0 0, one_begins text (get_or text 0 0) l refl, visible (get_or text 0 0) e f), ident 1 (omega arith), number 1 (omega arith), punct 1 (omega arith))
 
 pub other_longest : (text : List ℕ)
     → 0 < length text
     → IsOther (take 1 text)
-    → NoFront IsCharConst text
-    → NoFront IsStr text
-    → NoFront IsIdent text
-    → NoFront IsNumber text
-    → NoFront IsPunct text
+    → NoPrefix IsCharConst text
+    → NoPrefix IsStr text
+    → NoPrefix IsIdent text
+    → NoPrefix IsNumber text
+    → NoPrefix IsPunct text
     → Longest IsSpelling text 1
 other_longest text l p char_const string ident number punct =
     longest_spelling text 1 Other (omega arith) (omega arith) p (record {
@@ -233,7 +233,7 @@ letter-word c (inl e) = ap begins_word e
 letter-word c (inr (inl e)) = ap begins_word e
 letter-word c (inr (inr e)) = ap begins_word e
 
-quote_ends_ident : (text : List ℕ) → is_quote (get_or text 0 0) ≡ true → NoFront IdentPart text
+quote_ends_ident : (text : List ℕ) → is_quote (get_or text 0 0) ≡ true → NoPrefix IdentPart text
 quote_ends_ident text e =
     let c : ℕ = get_or text 0 0 in
     either_lacks IsNondigit (One is_digit) text (lacks_nondigit text (quote-no_nondigit c e) (quote-no_backslash c e)) (one_lacks is_digit text (quote-no_digit c e))
@@ -246,7 +246,7 @@ ident_two : (text : List ℕ) → 3 ≤ length text → is_nondigit (get_or text
 ident_two text l e g f =
     let d : length (drop 1 text) ≡ length text - 1 = length-drop 1 text in
     let second : IsNext IdentPart (drop 1 text) 1 = ident_byte (drop 1 text) (omega arith) (ap (λ c. is_nondigit c || is_digit c) (head_behind text) ∙ g) in
-    let none : NoFront IdentPart (drop 1 (drop 1 text)) = quote_ends_ident (drop 1 (drop 1 text)) (ap is_quote (head_behind_two text) ∙ f) in
+    let none : NoPrefix IdentPart (drop 1 (drop 1 text)) = quote_ends_ident (drop 1 (drop 1 text)) (ap is_quote (head_behind_two text) ∙ f) in
     then_longest IsNondigit (Repeated IdentPart) text 1 1 ((nondigit_here text (omega arith) e).1 (omega arith)) (more_repeated IdentPart (drop 1 text) 1 0 second (none_repeated IdentPart (drop 1 (drop 1 text)) none))
   where
     head_behind_two : (cs : List ℕ) → get_or (drop 1 (drop 1 cs)) 0 0 ≡ get_or cs 2 0
@@ -286,7 +286,7 @@ str_head text o (inl a) = inr (inl a.1)
 str_head text o (inr (inl a)) = inr (inr a.1)
 str_head text o (inr (inr a)) = inr (inr (inl a.1))
 
-pub literal_lacks : (text : List ℕ) → (LiteralHead (get_or text 0 0) → ⊥) → NoFront IsCharConst text × NoFront IsStr text
+pub literal_lacks : (text : List ℕ) → (LiteralHead (get_or text 0 0) → ⊥) → NoPrefix IsCharConst text × NoPrefix IsStr text
 literal_lacks text h = (
   λ m fits p. let o = char_opened text m fits p in h (char_head text o.0 o.2),
   λ m fits p. let o = str_opened text m fits p in h (str_head text o.0 o.2),
@@ -330,7 +330,7 @@ char_longest text n p =
       punct = none_longer IsPunct text n (punct_lacks text word);
     })
 
-pub str_longest : (text : List ℕ) (n : ℕ) → IsOnly IsStr text n → NoFront IsCharConst text → Longest IsSpelling text n
+pub str_longest : (text : List ℕ) (n : ℕ) → IsOnly IsStr text n → NoPrefix IsCharConst text → Longest IsSpelling text n
 str_longest text n p char_const =
     let o = str_opened text n p.fits p.part in
     let word = str_word text o.0 o.2 in

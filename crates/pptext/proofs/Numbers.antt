@@ -2,7 +2,7 @@
 use Rattle.std.proofs.Common.{◌≡◌, ℕ, ◌-◌, ◌<◌, ◌≤◌, true, false, List, [], ◌∷◌, ◌++◌, length, take, drop, sym, ap, ◌∙◌, inl, inr, ◌⊎◌, arith, length-drop, get_or}
 use Rattle.std.proofs.lemmas.Bool.{false≢true}
 use Rattle.std.proofs.lemmas.Bool.Decides.{nat_tests}
-use Rattle.pptext.specs.Languages.{Exactly, One, Then, Either, NoFront, NextPart, IsOnly, OnlyPart}
+use Rattle.pptext.specs.Languages.{Exactly, One, Then, Either, NoPrefix, NextPart, IsOnly, OnlyPart}
 use Rattle.pptext.specs.Spellings.{is_digit, is_nondigit, is_exponent, is_sign, IsUniversal, IsNondigit, IsNumberPart}
 use Rattle.pptext.proofs.Fronts.{next_from_only, one_here, one_lacks, universal_lacks, either_lacks, either_left, either_right, either_left_part, nondigit_here, only_zero, only_some}
 use Rattle.pptext.proofs.Parts.{front_of}
@@ -12,7 +12,7 @@ use Rattle.pptext.proofs.Combine.{begins_two, then_lacks, then_only, next_some, 
 abbrev Exponent : List ℕ → Type 0
 Exponent = Then (One is_exponent) (One is_sign)
 
-pub lacks_nondigit : (text : List ℕ) → is_nondigit (get_or text 0 0) ≡ false → (get_or text 0 0 ≡ 92 → ⊥) → NoFront IsNondigit text
+pub lacks_nondigit : (text : List ℕ) → is_nondigit (get_or text 0 0) ≡ false → (get_or text 0 0 ≡ 92 → ⊥) → NoPrefix IsNondigit text
 lacks_nondigit text f g = either_lacks (One is_nondigit) IsUniversal text (one_lacks is_nondigit text f) (universal_lacks text g)
 
 number_head-no_nondigit : (x : ℕ) → is_number_head x ≡ true → is_nondigit x ≡ false
@@ -43,7 +43,7 @@ sign-no_exponent : (x : ℕ) → is_sign x ≡ true → is_exponent x ≡ false
 sign-no_exponent x t = grind (arith, nat_tests)
 
 -- a sign begins no part
-sign_begins_none : (text : List ℕ) → is_sign (get_or text 0 0) ≡ true → NoFront IsNumberPart text
+sign_begins_none : (text : List ℕ) → is_sign (get_or text 0 0) ≡ true → NoPrefix IsNumberPart text
 sign_begins_none text t =
     let x : ℕ = get_or text 0 0 in
     either_lacks IsNondigit (Either (One is_number_head) Exponent) text
@@ -67,10 +67,10 @@ exponent_others : (text : List ℕ)
     → (m : ℕ)
     → m ≤ length text
     → IsNumberPart (take m text)
-    → (m ≡ 2) ⊎ ((m < 2) × NoFront IsNumberPart (drop m text))
+    → (m ≡ 2) ⊎ ((m < 2) × NoPrefix IsNumberPart (drop m text))
 exponent_others text l t s m fits (inl nondigit) =
     let one : m ≡ 1 = ((nondigit_here text (omega arith) (exponent-nondigit (get_or text 0 0) t)).1 (omega arith)).only m fits nondigit in
-    let none : NoFront IsNumberPart (drop 1 text) = sign_begins_none (drop 1 text) (ap is_sign (head_behind text) ∙ s) in
+    let none : NoPrefix IsNumberPart (drop 1 text) = sign_begins_none (drop 1 text) (ap is_sign (head_behind text) ∙ s) in
     inr (omega arith, rw one none)
 exponent_others text l t s m fits (inr (inl digit)) = absurd (one_lacks is_number_head text (exponent-no_digit (get_or text 0 0) t) m fits digit)
 exponent_others text l t s m fits (inr (inr both)) = inl (two_front is_exponent is_sign text m fits both).0
@@ -90,7 +90,7 @@ pub nondigit_part : (text : List ℕ) (n : ℕ)
     → OnlyPart IsNondigit text n
     → NextPart IsNumberPart text n
 nondigit_part text n f g p =
-    let lacks : NoFront (Either (One is_number_head) Exponent) text =
+    let lacks : NoPrefix (Either (One is_number_head) Exponent) text =
     either_lacks (One is_number_head) Exponent text (one_lacks is_number_head text f)
     (λ m fits e. let h = two_front is_exponent is_sign text m fits e in g (h.1, h.2, h.3)) in
     let whole : OnlyPart IsNumberPart text n = either_left_part IsNondigit (Either (One is_number_head) Exponent) text n p lacks in

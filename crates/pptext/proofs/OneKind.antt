@@ -7,7 +7,7 @@ use Rattle.std.proofs.lemmas.Bool.Decides.{nat_tests}
 use Rattle.std.proofs.lemmas.List.{drop_at}
 use Rattle.pptext.specs.declared.tokens.Kind.{Kind}
 use Rattle.pptext.specs.declared.tokens.Kind.TheVariants.{Ident, Number, CharConst, Str, Punct, Header, Other}
-use Rattle.pptext.specs.Carrying.{last_of}
+use Rattle.pptext.specs.Continuations.{last_of}
 use Rattle.pptext.specs.Languages.{One}
 use Rattle.pptext.specs.Spellings.{is_digit, is_nondigit, is_blank, IsUniversal, IsNondigit, IsIdent, IsNumber, IsCharConst, IsStr, IsPunct, Spells}
 use Rattle.pptext.specs.Spellings.{char_prefixes, str_prefixes}

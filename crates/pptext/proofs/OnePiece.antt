@@ -12,7 +12,7 @@ use Rattle.pptext.specs.declared.tokens.Kind.{Kind}
 use Rattle.pptext.specs.declared.tokens.Kind.TheVariants.{Header}
 use Rattle.pptext.specs.Languages.{One, Repeated, Longest}
 use Rattle.pptext.specs.Spellings.{is_blank, IsBetween, IsHeader, Spells, IsSpelling}
-use Rattle.pptext.specs.Cut.{Sort, NewLine, Blank, Comment, Spelled, StandsAt, CommentAt, HeaderAt, PlainTokenAt, BeginsWith, OpensBlock, OpensLine, ClosesAt}
+use Rattle.pptext.specs.Lexemes.{LexemeKind, NewLine, Blank, Comment, Spelled, IsLexemeAt, CommentAt, HeaderAt, PlainTokenAt, BeginsWith, OpensBlock, OpensLine, ClosesAt}
 use Rattle.pptext.proofs.Throughout.{Throughout, one_passes, repeated_passes}
 use Rattle.pptext.proofs.OneKind.{begins, begins_apart, is_visible, one_kind, spelling_visible}
 
@@ -21,8 +21,8 @@ longest_one : (P : List ℕ → Type 0) (text : List ℕ) (m n : ℕ) → Longes
 longest_one P text m n a b = cases (cases_lt m n) (cases_lt n m)
   where
     cases : (m < n) ⊎ (n ≤ m) → (n < m) ⊎ (m ≤ n) → m ≡ n
-    cases (inl l) r = absurd (a.longest n l b.fits b.front)
-    cases (inr l) (inl r) = absurd (b.longest m r a.fits a.front)
+    cases (inl l) r = absurd (a.longest n l b.fits b.prefix)
+    cases (inr l) (inl r) = absurd (b.longest m r a.fits a.prefix)
     cases (inr l) (inr r) = omega arith
 
 -- the first place is one
@@ -117,8 +117,8 @@ begins_front test zero text e = absurd (false≢true e)
 begins_front test (suc n) [] e = absurd (false≢true e)
 begins_front test (suc n) (c ∷ cs) e = e
 
-begins_with : (test : ℕ → Bool) (text front : List ℕ) → BeginsWith text front → begins test front ≡ true → begins test text ≡ true
-begins_with test text front b e = begins_front test (length front) text (subst (λ z. begins test z ≡ true) (sym b) e)
+begins_with : (test : ℕ → Bool) (text prefix : List ℕ) → BeginsWith text prefix → begins test prefix ≡ true → begins test text ≡ true
+begins_with test text prefix b e = begins_front test (length prefix) text (subst (λ z. begins test z ≡ true) (sym b) e)
 
 between_begins : (test : ℕ → Bool) (open_code close_code n : ℕ) (text : List ℕ) → IsBetween open_code close_code (take n text) → test open_code ≡ true → begins test text ≡ true
 between_begins test open_code close_code n text b t =
@@ -193,7 +193,7 @@ one_token profile line text m n k l (inr p) (inr q) =
     (same, one_kind (take n text) k l (subst (λ z. Spells k (take z text)) same p.spelled) q.spelled)
 
 -- one lexeme can stand at a place
-pub one_piece : (profile : Profile) (line : List (List ℕ)) (text : List ℕ) (m n : ℕ) (s t : Sort) → StandsAt profile line text m s → StandsAt profile line text n t → (m ≡ n) × (s ≡ t)
+pub one_piece : (profile : Profile) (line : List (List ℕ)) (text : List ℕ) (m n : ℕ) (s t : LexemeKind) → IsLexemeAt profile line text m s → IsLexemeAt profile line text n t → (m ≡ n) × (s ≡ t)
 one_piece profile line text m n NewLine NewLine a b = (a.0 ∙ sym b.0, refl)
 one_piece profile line text m n NewLine Blank a b = absurd (begins_apart is_newline is_blank newline_blank text (newline_begins text a.1) (blank_begins text n b))
 one_piece profile line text m n NewLine Comment a b = absurd (begins_apart is_newline is_visible newline_visible text (newline_begins text a.1) (comment_visible text n b))
@@ -227,7 +227,7 @@ comment_some (c ∷ cs) n (inr (o, Some zero, f, e)) =
 comment_some (c ∷ cs) n (inr (o, Some (suc k), f, e)) = omega arith
 
 -- a lexeme isn't empty
-pub some_piece : (profile : Profile) (line : List (List ℕ)) (text : List ℕ) (n : ℕ) (s : Sort) → StandsAt profile line text n s → 0 < n
+pub some_piece : (profile : Profile) (line : List (List ℕ)) (text : List ℕ) (n : ℕ) (s : LexemeKind) → IsLexemeAt profile line text n s → 0 < n
 some_piece profile line text n NewLine a = omega arith
 some_piece profile line text n Blank a = omega arith
 some_piece profile line text n Comment a = comment_some text n a
@@ -239,7 +239,7 @@ some_piece profile line text n (Spelled k) (inl (h, e)) = header_some h.spelled
 some_piece profile line text n (Spelled k) (inr p) = not_empty is_visible n text (spelling_visible (take n text) k p.spelled)
 
 -- where a comment opens that is not closed, no lexeme can stand
-pub no_piece_open : (profile : Profile) (line : List (List ℕ)) (text : List ℕ) (n : ℕ) (s : Sort) → OpensBlock text → ClosesAt text None → StandsAt profile line text n s → ⊥
+pub no_piece_open : (profile : Profile) (line : List (List ℕ)) (text : List ℕ) (n : ℕ) (s : LexemeKind) → OpensBlock text → ClosesAt text None → IsLexemeAt profile line text n s → ⊥
 no_piece_open profile line text n NewLine o never a =
     begins_apart is_newline is_visible newline_visible text (newline_begins text a.1) (opening_begins is_visible refl text (inl o))
 no_piece_open profile line text n Blank o never a =

@@ -15,10 +15,10 @@ use Rattle.pptext.specs.declared.tokens.Kind.TheVariants.{Ident, Number, Punct, 
 use Rattle.pptext.specs.declared.characters.Char.{Char}
 use Rattle.pptext.specs.declared.sources.Profile.{Profile}
 use Rattle.pptext.specs.Clean.{cleaned, codes_of}
-use Rattle.pptext.specs.Languages.{Longest, NoFront}
+use Rattle.pptext.specs.Languages.{Longest, NoPrefix}
 use Rattle.pptext.specs.Kinds.{spelled_kind}
 use Rattle.pptext.specs.Spellings.{is_blank, IsBetween, IsHeader, IsSpelling}
-use Rattle.pptext.specs.Cut.{Sort, NewLine, Blank, Comment, Spelled, Piece, laid, with_piece, awaits, AwaitsHeader, OpensBlock, OpensLine, ClosesAt, HeaderAt, StandsAt, EachStands, Cut, CutUpTo, Unclosed, head_place}
+use Rattle.pptext.specs.Lexemes.{LexemeKind, NewLine, Blank, Comment, Spelled, Lexeme, characters_of, with_lexeme, awaits, AwaitsHeader, OpensBlock, OpensLine, ClosesAt, HeaderAt, IsLexemeAt, AreLexemes, Tokenizes, TokenizesPrefix, Unclosed, head_place}
 use Rattle.pptext.specs.Lines.{LogicalLine, lines_of}
 use Rattle.pptext.specs.Tree.{group_fault}
 use Rattle.pptext.specs.Sources.{spliced_end, open_comment, bad_groups, Reads, file_fault}
@@ -66,13 +66,13 @@ first_from P tell (suc n) i j e = cases (tell i) (first_from P tell n (i + 1) j 
 -- ---- the longest front
 
 abbrev LongestOrNo : (List ℕ → Type 0) → List ℕ → Type 0
-LongestOrNo P text = ((n : ℕ) × Longest P text n) ⊎ NoFront P text
+LongestOrNo P text = ((n : ℕ) × Longest P text n) ⊎ NoPrefix P text
 
 longest_below : (P : List ℕ → Type 0) → ((s : List ℕ) → Told (P s)) → (text : List ℕ) (n : ℕ) → n ≤ length text → ((m : ℕ) → n < m → m ≤ length text → P (take m text) → ⊥) → LongestOrNo P text
 longest_below P tell text zero fits none = cases (tell (take 0 text))
   where
     cases : Told (P (take 0 text)) → LongestOrNo P text
-    cases (inl p) = inl (0, record { fits = fits; front = p; longest = none })
+    cases (inl p) = inl (0, record { fits = fits; prefix = p; longest = none })
     cases (inr n) = inr (λ m within p. here m within p (cases_lt 0 m))
       where
         here : (m : ℕ) → m ≤ length text → P (take m text) → (0 < m) ⊎ (m ≤ 0) → ⊥
@@ -85,7 +85,7 @@ longest_below P tell text (suc n) fits none = cases (tell (take (suc n) text)) (
     here lacks m lt within p (inr le) = let e : m ≡ suc n = omega arith in lacks (subst (λ z. P (take z text)) e p)
 
     cases : Told (P (take (suc n) text)) → (((m : ℕ) → n < m → m ≤ length text → P (take m text) → ⊥) → LongestOrNo P text) → LongestOrNo P text
-    cases (inl p) below = inl (suc n, record { fits = fits; front = p; longest = none })
+    cases (inl p) below = inl (suc n, record { fits = fits; prefix = p; longest = none })
     cases (inr lacks) below = below (λ m lt within p. here lacks m lt within p (cases_lt (suc n) m))
 
 longest_front : (P : List ℕ → Type 0) → ((s : List ℕ) → Told (P s)) → (text : List ℕ) → LongestOrNo P text
@@ -108,8 +108,8 @@ between open_code close_code s =
 header_told : (s : List ℕ) → Told (IsHeader s)
 header_told s = told_either (between 60 62 s) (between 34 34 s)
 
-begins_told : (text front : List ℕ) → Told (take (length front) text ≡ front)
-begins_told text front = told (bytes_eq (take (length front) text) front) (bytes_eq-Decides (take (length front) text) front)
+begins_told : (text prefix : List ℕ) → Told (take (length prefix) text ≡ prefix)
+begins_told text prefix = told (bytes_eq (take (length prefix) text) prefix) (bytes_eq-Decides (take (length prefix) text) prefix)
 
 passes_told : (b : Bool) → Told (b ≡ true)
 passes_told true = inl refl
@@ -140,7 +140,7 @@ closes_told hay k = cases (cases_lt (length hay) (k + 2)) (cases_eq (get_or hay 
 
 -- a lexeme stands here, or a comment that is not closed opens
 abbrev Found : Profile → List (List ℕ) → List ℕ → Type 0
-Found profile line text = ((n : ℕ) × (s : Sort) × (n ≤ length text) × StandsAt profile line text n s) ⊎ (OpensBlock text × ClosesAt text None)
+Found profile line text = ((n : ℕ) × (s : LexemeKind) × (n ≤ length text) × IsLexemeAt profile line text n s) ⊎ (OpensBlock text × ClosesAt text None)
 
 block_found : (profile : Profile) (line : List (List ℕ)) (text : List ℕ) → OpensBlock text → (r : Option ℕ) × ClosesAt text r → Found profile line text
 block_found profile line text opens (None, never) = inr (opens, never)
@@ -169,7 +169,7 @@ plain_found : (profile : Profile) (line : List (List ℕ)) (c : ℕ) (cs : List 
     → not (is_blank c || c == 10) ≡ true
     → LongestOrNo IsSpelling (c ∷ cs)
     → Found profile line (c ∷ cs)
-plain_found profile line c cs no_comment no_header v (inl (n, l)) = inl (n, Spelled l.front.0, l.fits, inr (record { no_comment = no_comment; no_header = no_header; longest = l; spelled = l.front.1 }))
+plain_found profile line c cs no_comment no_header v (inl (n, l)) = inl (n, Spelled l.prefix.0, l.fits, inr (record { no_comment = no_comment; no_header = no_header; longest = l; spelled = l.prefix.1 }))
 plain_found profile line c cs no_comment no_header v (inr none) = absurd (none 1 (omega arith) (one_spelled c v (spelled_kind (c ∷ [])) (spelled_kind_is (c ∷ []))))
 
 token_found : (profile : Profile) (line : List (List ℕ)) (c : ℕ) (cs : List ℕ)
@@ -178,7 +178,7 @@ token_found : (profile : Profile) (line : List (List ℕ)) (c : ℕ) (cs : List 
     → Told (AwaitsHeader profile line)
     → LongestOrNo IsHeader (c ∷ cs)
     → Found profile line (c ∷ cs)
-token_found profile line c cs no_comment v (inl awaits) (inl (n, l)) = inl (n, Spelled Header, l.fits, inl (record { awaited = awaits; fits = l.fits; spelled = l.front }, refl))
+token_found profile line c cs no_comment v (inl awaits) (inl (n, l)) = inl (n, Spelled Header, l.fits, inl (record { awaited = awaits; fits = l.fits; spelled = l.prefix }, refl))
 token_found profile line c cs no_comment v (inl awaits) (inr none) = plain_found profile line c cs no_comment (λ m h. none m h.fits h.spelled) v (longest_front IsSpelling spelling_told (c ∷ cs))
 token_found profile line c cs no_comment v (inr lacks) l = plain_found profile line c cs no_comment (λ m h. lacks h.awaited) v (longest_front IsSpelling spelling_told (c ∷ cs))
 
@@ -197,28 +197,28 @@ some_found profile line c cs = cases (begins_told (c ∷ cs) (codes "/*")) (begi
 
 -- the lexemes of a text up to its end, or up to a comment that is not closed
 record Ended (profile : Profile) (line : List (List ℕ)) (cs : List Char) : Type 0 where
-  pieces : List Piece
+  lexemes : List Lexeme
   rest : List Char
-  whole : laid pieces ++ rest ≡ cs
-  each : EachStands profile line pieces rest
+  whole : characters_of lexemes ++ rest ≡ cs
+  each : AreLexemes profile line lexemes rest
   stops : (rest ≡ []) ⊎ (OpensBlock (codes_of rest) × ClosesAt (codes_of rest) None)
 
-grow : (profile : Profile) (line : List (List ℕ)) (cs : List Char) (m : ℕ) (s : Sort) → m ≤ length cs → StandsAt profile line (codes_of cs) m s → Ended profile (with_piece line (record { sort = s; chars = take m cs }) s) (drop m cs) → Ended profile line cs
+grow : (profile : Profile) (line : List (List ℕ)) (cs : List Char) (m : ℕ) (s : LexemeKind) → m ≤ length cs → IsLexemeAt profile line (codes_of cs) m s → Ended profile (with_lexeme line (record { kind = s; chars = take m cs }) s) (drop m cs) → Ended profile line cs
 grow profile line cs m s fits stands more =
-    let p : Piece = record { sort = s; chars = take m cs } in
-    let whole : take m cs ++ (laid more.pieces ++ more.rest) ≡ cs = ap (λ z. take m cs ++ z) more.whole ∙ take-append-drop m cs in
+    let p : Lexeme = record { kind = s; chars = take m cs } in
+    let whole : take m cs ++ (characters_of more.lexemes ++ more.rest) ≡ cs = ap (λ z. take m cs ++ z) more.whole ∙ take-append-drop m cs in
     let len : length (take m cs) ≡ m = length-take-le m cs fits in
-    let here : StandsAt profile line (codes_of (take m cs ++ (laid more.pieces ++ more.rest))) (length (take m cs)) s = rw (whole, len) stands in
+    let here : IsLexemeAt profile line (codes_of (take m cs ++ (characters_of more.lexemes ++ more.rest))) (length (take m cs)) s = rw (whole, len) stands in
     record {
-      pieces = p ∷ more.pieces;
+      lexemes = p ∷ more.lexemes;
       rest = more.rest;
-      whole = append_assoc (take m cs) (laid more.pieces) more.rest ∙ whole;
+      whole = append_assoc (take m cs) (characters_of more.lexemes) more.rest ∙ whole;
       each = (here, more.each);
       stops = more.stops;
     }
 
 ended : (profile : Profile) (n : ℕ) (line : List (List ℕ)) (cs : List Char) → length cs ≤ n → Ended profile line cs
-ended profile n line [] le = record { pieces = []; rest = []; whole = refl; each = tt; stops = inl refl }
+ended profile n line [] le = record { lexemes = []; rest = []; whole = refl; each = tt; stops = inl refl }
 ended profile zero line (c ∷ cs) le = absurd (omega arith)
 ended profile (suc n) line (c ∷ cs) le = cases (ended profile n) (some_found profile line c.code (codes_of cs))
   where
@@ -227,26 +227,26 @@ ended profile (suc n) line (c ∷ cs) le = cases (ended profile n) (some_found p
         let some : 0 < m = some_piece profile line (codes_of (c ∷ cs)) m s stands in
         let codes_length : length (codes_of (c ∷ cs)) ≡ length (c ∷ cs) = length-map (c ∷ cs) (λ (z : Char). z.code) in
         let d : length (drop m (c ∷ cs)) ≡ length (c ∷ cs) - m = length-drop m (c ∷ cs) in
-        grow profile line (c ∷ cs) m s (omega arith) stands (later (with_piece line (record { sort = s; chars = take m (c ∷ cs) }) s) (drop m (c ∷ cs)) (omega arith))
-    cases later (inr opens) = record { pieces = []; rest = c ∷ cs; whole = refl; each = tt; stops = inr opens }
+        grow profile line (c ∷ cs) m s (omega arith) stands (later (with_lexeme line (record { kind = s; chars = take m (c ∷ cs) }) s) (drop m (c ∷ cs)) (omega arith))
+    cases later (inr opens) = record { lexemes = []; rest = c ∷ cs; whole = refl; each = tt; stops = inr opens }
 
 -- a text has a cut, or a comment that opens in it is not closed
-pub some_cut : (profile : Profile) (cs : List Char) → ((ps : List Piece) × Cut profile cs ps) ⊎ ((p : Place) × Unclosed profile cs p)
+pub some_cut : (profile : Profile) (cs : List Char) → ((ps : List Lexeme) × Tokenizes profile cs ps) ⊎ ((p : Place) × Unclosed profile cs p)
 some_cut profile cs = cases (ended profile (length cs) [] cs (omega arith))
   where
-    cases : Ended profile [] cs → ((ps : List Piece) × Cut profile cs ps) ⊎ ((p : Place) × Unclosed profile cs p)
+    cases : Ended profile [] cs → ((ps : List Lexeme) × Tokenizes profile cs ps) ⊎ ((p : Place) × Unclosed profile cs p)
     cases e = stop e.stops
       where
-        stop : (e.rest ≡ []) ⊎ (OpensBlock (codes_of e.rest) × ClosesAt (codes_of e.rest) None) → ((ps : List Piece) × Cut profile cs ps) ⊎ ((p : Place) × Unclosed profile cs p)
-        stop (inl none) = inl (e.pieces, subst (λ (z : List Char). CutUpTo profile cs e.pieces z) none (record { whole = e.whole; each = e.each }))
-        stop (inr opens) = inr (head_place e.rest, record { pieces = e.pieces; rest = e.rest; cut = record { whole = e.whole; each = e.each }; opens = opens.0; never = opens.1; here = refl })
+        stop : (e.rest ≡ []) ⊎ (OpensBlock (codes_of e.rest) × ClosesAt (codes_of e.rest) None) → ((ps : List Lexeme) × Tokenizes profile cs ps) ⊎ ((p : Place) × Unclosed profile cs p)
+        stop (inl none) = inl (e.lexemes, subst (λ (z : List Char). TokenizesPrefix profile cs e.lexemes z) none (record { whole = e.whole; each = e.each }))
+        stop (inr opens) = inr (head_place e.rest, record { lexemes = e.lexemes; rest = e.rest; tokenized = record { whole = e.whole; each = e.each }; opens = opens.0; never = opens.1; here = refl })
 
 -- a text has a cut exactly where no comment in it is unclosed
-pub cut_unless_unclosed : (profile : Profile) (chars : List Char) → ((pieces : List Piece) × Cut profile chars pieces) ↔ ((at : Place) → ¬ Unclosed profile chars at)
-cut_unless_unclosed profile chars = (λ h at u. cut_closed profile chars h.0 at h.1 u, λ closed. told_of closed (some_cut profile chars))
+pub tokenizes_unless_unclosed : (profile : Profile) (chars : List Char) → ((lexemes : List Lexeme) × Tokenizes profile chars lexemes) ↔ ((at : Place) → ¬ Unclosed profile chars at)
+tokenizes_unless_unclosed profile chars = (λ h at u. cut_closed profile chars h.0 at h.1 u, λ closed. told_of closed (some_cut profile chars))
   where
-    told_of : ((at : Place) → ¬ Unclosed profile chars at) → ((ps : List Piece) × Cut profile chars ps) ⊎ ((p : Place) × Unclosed profile chars p) → (pieces : List Piece) × Cut profile chars pieces
-    told_of closed (inl cut) = cut
+    told_of : ((at : Place) → ¬ Unclosed profile chars at) → ((ps : List Lexeme) × Tokenizes profile chars ps) ⊎ ((p : Place) × Unclosed profile chars p) → (lexemes : List Lexeme) × Tokenizes profile chars lexemes
+    told_of closed (inl tokenized) = tokenized
     told_of closed (inr (p, u)) = absurd (closed p u)
 
 -- each file reads in some way
@@ -254,12 +254,12 @@ module _ (profile : Profile) (file : ℕ) (bytes : List ℕ) where
   abbrev SomeReading : Type 0
   SomeReading = (r : Result (List LogicalLine) Fault) × Reads profile file bytes r
 
-  of_groups : (chars : List Char) (ps : List Piece) → cleaned file bytes ≡ Ok chars → Cut profile chars ps → (o : Option Fault) → group_fault [] (lines_of profile ps) ≡ o → SomeReading
-  of_groups chars ps e cut None g = (Ok (lines_of profile ps), record { chars = chars; pieces = ps; cleaned = e; cut = cut; grouped = g; same = refl })
-  of_groups chars ps e cut (Some f) g = (Err f, bad_groups e cut g)
+  of_groups : (chars : List Char) (ps : List Lexeme) → cleaned file bytes ≡ Ok chars → Tokenizes profile chars ps → (o : Option Fault) → group_fault [] (lines_of profile ps) ≡ o → SomeReading
+  of_groups chars ps e tokenized None g = (Ok (lines_of profile ps), record { chars = chars; lexemes = ps; cleaned = e; tokenized = tokenized; grouped = g; same = refl })
+  of_groups chars ps e tokenized (Some f) g = (Err f, bad_groups e tokenized g)
 
-  of_cut : (chars : List Char) → cleaned file bytes ≡ Ok chars → ((ps : List Piece) × Cut profile chars ps) ⊎ ((p : Place) × Unclosed profile chars p) → SomeReading
-  of_cut chars e (inl (ps, cut)) = of_groups chars ps e cut (group_fault [] (lines_of profile ps)) refl
+  of_cut : (chars : List Char) → cleaned file bytes ≡ Ok chars → ((ps : List Lexeme) × Tokenizes profile chars ps) ⊎ ((p : Place) × Unclosed profile chars p) → SomeReading
+  of_cut chars e (inl (ps, tokenized)) = of_groups chars ps e tokenized (group_fault [] (lines_of profile ps)) refl
   of_cut chars e (inr (p, open_here)) = (Err (file_fault 1 p), open_comment e open_here)
 
   of_cleaned : (r : Result (List Char) Place) → cleaned file bytes ≡ r → SomeReading

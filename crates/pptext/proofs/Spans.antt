@@ -9,7 +9,7 @@ use Rattle.pptext.specs.declared.sources.Profile.{Profile}
 use Rattle.pptext.specs.Lines.{LogicalLine, IsDirected}
 use Rattle.pptext.specs.Tree.{role}
 use Rattle.pptext.specs.Sources.{next_branch, spans, tokens_of, lines_from}
-use Rattle.pptext.specs.Grouping.{draft, drafts, AreDirected, AreDrafts, AreLines}
+use Rattle.pptext.specs.code.Grouping.{line_span, line_spans, AreDirected, AreLineSpans, AreLines}
 
 abbrev pub no_line : Line
 no_line = record { start = 0; end = 0; number = 0; directive = None; next_branch = None }
@@ -89,7 +89,7 @@ line_at ts ls i d lines l =
 
 -- the spans without next branch lines
 
-pub lines_of_drafts : (before : List Token) (rs : List LogicalLine) → lines_from (before ++ tokens_of rs) (drafts (length before) rs) ≡ rs
+pub lines_of_drafts : (before : List Token) (rs : List LogicalLine) → lines_from (before ++ tokens_of rs) (line_spans (length before) rs) ≡ rs
 lines_of_drafts before [] = refl
 lines_of_drafts before (r ∷ rs) =
     let wider : length (before ++ r.tokens) ≡ length before + length r.tokens = length-append before r.tokens in
@@ -97,25 +97,25 @@ lines_of_drafts before (r ∷ rs) =
     ap (take (length before + length r.tokens - length before)) (drop-append_seam before (r.tokens ++ tokens_of rs))
     ∙ ap (λ (n : ℕ). take n (r.tokens ++ tokens_of rs)) (omega arith)
     ∙ take-append_seam r.tokens (tokens_of rs) in
-    let rest : lines_from (before ++ (r.tokens ++ tokens_of rs)) (drafts (length before + length r.tokens) rs) ≡ rs =
-    ap (λ (z : List Token). lines_from z (drafts (length before + length r.tokens) rs)) (sym (append_assoc before r.tokens (tokens_of rs)))
-    ∙ ap (λ (n : ℕ). lines_from ((before ++ r.tokens) ++ tokens_of rs) (drafts n rs)) (sym wider)
+    let rest : lines_from (before ++ (r.tokens ++ tokens_of rs)) (line_spans (length before + length r.tokens) rs) ≡ rs =
+    ap (λ (z : List Token). lines_from z (line_spans (length before + length r.tokens) rs)) (sym (append_assoc before r.tokens (tokens_of rs)))
+    ∙ ap (λ (n : ℕ). lines_from ((before ++ r.tokens) ++ tokens_of rs) (line_spans n rs)) (sym wider)
     ∙ lines_of_drafts (before ++ r.tokens) rs in
     ap (λ (z : List Token). record { tokens = z; number = r.number; directive = r.directive }
-    ∷ lines_from (before ++ (r.tokens ++ tokens_of rs)) (drafts (length before + length r.tokens) rs)) here
+    ∷ lines_from (before ++ (r.tokens ++ tokens_of rs)) (line_spans (length before + length r.tokens) rs)) here
     ∙ ap (λ (z : List LogicalLine). r ∷ z) rest
 
 -- the lines that a text is cut into
-pub drafts_are : (ts : List Token) (ls : List Line) (rs : List LogicalLine) → tokens_of rs ≡ ts → ls ≡ drafts 0 rs → AreDirected rs → (lines_from ts ls ≡ rs) × AreDrafts ts ls
+pub drafts_are : (ts : List Token) (ls : List Line) (rs : List LogicalLine) → tokens_of rs ≡ ts → ls ≡ line_spans 0 rs → AreDirected rs → (lines_from ts ls ≡ rs) × AreLineSpans ts ls
 drafts_are ts ls rs tokens lines directed =
-    let same : lines_from ts ls ≡ rs = ap (lines_from ts) lines ∙ ap (λ (z : List Token). lines_from z (drafts 0 rs)) (sym tokens) ∙ lines_of_drafts [] rs in
-    (same, (ap tokens_of same ∙ tokens, ap (drafts 0) same ∙ sym lines, subst AreDirected (sym same) directed))
+    let same : lines_from ts ls ≡ rs = ap (lines_from ts) lines ∙ ap (λ (z : List Token). lines_from z (line_spans 0 rs)) (sym tokens) ∙ lines_of_drafts [] rs in
+    (same, (ap tokens_of same ∙ tokens, ap (line_spans 0) same ∙ sym lines, subst AreDirected (sym same) directed))
 
-pub drafts-append : (start : ℕ) (rs : List LogicalLine) (r : LogicalLine) → drafts start (rs ++ r ∷ []) ≡ drafts start rs ++ draft (start + length (tokens_of rs)) r ∷ []
-drafts-append start [] r = ap (λ (n : ℕ). draft n r ∷ []) (sym (add-zero start))
-drafts-append start (q ∷ rs) r =
+pub line_spans-append : (start : ℕ) (rs : List LogicalLine) (r : LogicalLine) → line_spans start (rs ++ r ∷ []) ≡ line_spans start rs ++ line_span (start + length (tokens_of rs)) r ∷ []
+line_spans-append start [] r = ap (λ (n : ℕ). line_span n r ∷ []) (sym (add-zero start))
+line_spans-append start (q ∷ rs) r =
     let n : start + length q.tokens + length (tokens_of rs) ≡ start + length (q.tokens ++ tokens_of rs) = omega (arith, length-append q.tokens (tokens_of rs)) in
-    ap (λ (z : List Line). draft start q ∷ z) (drafts-append (start + length q.tokens) rs r ∙ ap (λ (k : ℕ). drafts (start + length q.tokens) rs ++ draft k r ∷ []) n)
+    ap (λ (z : List Line). line_span start q ∷ z) (line_spans-append (start + length q.tokens) rs r ∙ ap (λ (k : ℕ). line_spans (start + length q.tokens) rs ++ line_span k r ∷ []) n)
 
 pub tokens_of-append : (rs : List LogicalLine) (r : LogicalLine) → tokens_of (rs ++ r ∷ []) ≡ tokens_of rs ++ r.tokens
 tokens_of-append [] r = append-nil r.tokens

@@ -3,70 +3,70 @@ use Rattle.std.proofs.Common.{◌≡◌, Result, Ok, Err, IfOk, sym}
 use Rattle.std.proofs.lemmas.Result.{IfOk-at_ok}
 use Rattle.std.specs.Result.{IsErrAnd}
 use Rattle.pptext.specs.declared.tokens.Fault.{Fault}
-use Rattle.pptext.specs.declared.stops.Stop.{Stop}
-use Rattle.pptext.specs.declared.stops.Stop.TheVariants.{Fault as Faulted, Memory as OutOfMemory}
-use Rattle.pptext.specs.Stops.{Answers, IfSettled, settled}
+use Rattle.pptext.specs.declared.error.Error.{Error}
+use Rattle.pptext.specs.declared.error.Error.TheVariants.{Fault as Faulted, Memory as OutOfMemory}
+use Rattle.pptext.specs.Errors.{Returns, UnlessOutOfMemory, split_memory}
 
 -- a step stops where one of its parts does, whose fault is its own
-pub stops : {A B C D : Type 0} (r : Result C Stop) (y : Stop) (m : A → B) (n : C → D) (v : Result B Fault) (w : Result D Fault)
+pub stops : {A B C D : Type 0} (r : Result C Error) (y : Error) (m : A → B) (n : C → D) (v : Result B Fault) (w : Result D Fault)
     → IsErrAnd r (λ e. e ≡ y)
-    → Answers (Err y) m v
+    → Returns (Err y) m v
     → ((f : Fault) → Err f ≡ v → Err f ≡ w)
-    → Answers r n w
+    → Returns r n w
 stops (Ok c) y m n v w e a raised = absurd e
 stops (Err x) y m n v w e a raised = at x y e a
   where
-    at : (x y : Stop) → x ≡ y → Answers (Err y) m v → Answers (Err x) n w
+    at : (x y : Error) → x ≡ y → Returns (Err y) m v → Returns (Err x) n w
     at x (Faulted f) e a = rw e (raised f a)
     at x OutOfMemory e a = rw e tt
 
 -- the same where what is said is no equation
-pub stopped : {A C : Type 0} (r : Result C Stop) (y : Stop) (P : Result A Fault → Type 0) (Q : Result C Fault → Type 0)
+pub stopped : {A C : Type 0} (r : Result C Error) (y : Error) (P : Result A Fault → Type 0) (Q : Result C Fault → Type 0)
     → IsErrAnd r (λ e. e ≡ y)
-    → IfSettled (Err y) P
+    → UnlessOutOfMemory (Err y) P
     → ((f : Fault) → P (Err f) → Q (Err f))
-    → IfSettled r Q
+    → UnlessOutOfMemory r Q
 stopped (Ok c) y P Q e p raised = absurd e
 stopped (Err x) y P Q e p raised = at x y e p
   where
-    at : (x y : Stop) → x ≡ y → IfSettled (Err y) P → IfSettled (Err x) Q
+    at : (x y : Error) → x ≡ y → UnlessOutOfMemory (Err y) P → UnlessOutOfMemory (Err x) Q
     at x (Faulted f) e p = rw e (raised f p)
     at x OutOfMemory e p = rw e tt
 
 -- the same where an equation is known of the part
-pub raises : {A B C : Type 0} (r : Result C Stop) (y : Stop) (m : A → B) (v : Result B Fault) (Q : Result C Fault → Type 0)
+pub raises : {A B C : Type 0} (r : Result C Error) (y : Error) (m : A → B) (v : Result B Fault) (Q : Result C Fault → Type 0)
     → IsErrAnd r (λ e. e ≡ y)
-    → Answers (Err y) m v
+    → Returns (Err y) m v
     → ((f : Fault) → Err f ≡ v → Q (Err f))
-    → IfSettled r Q
+    → UnlessOutOfMemory r Q
 raises (Ok c) y m v Q e a raised = absurd e
 raises (Err x) y m v Q e a raised = at x y e a
   where
-    at : (x y : Stop) → x ≡ y → Answers (Err y) m v → IfSettled (Err x) Q
+    at : (x y : Error) → x ≡ y → Returns (Err y) m v → UnlessOutOfMemory (Err x) Q
     at x (Faulted f) e a = rw e (raised f a)
     at x OutOfMemory e a = rw e tt
 
 -- what is said of a step, said more weakly
-pub if_settled-weaker : {A : Type 0} (r : Result A Stop) (P Q : Result A Fault → Type 0)
+pub if_settled-weaker : {A : Type 0} (r : Result A Error) (P Q : Result A Fault → Type 0)
     → ((x : Result A Fault) → P x → Q x)
-    → IfSettled r P
-    → IfSettled r Q
+    → UnlessOutOfMemory r P
+    → UnlessOutOfMemory r Q
 if_settled-weaker (Ok a) P Q more p = more (Ok a) p
 if_settled-weaker (Err (Faulted f)) P Q more p = more (Err f) p
 if_settled-weaker (Err OutOfMemory) P Q more p = tt
 
 -- ---- the public edge
 
-pub settles : {A : Type 0} (r : Result A Stop) (P : Result A Fault → Type 0) → IfSettled r P → IfOk (settled r) P
+pub settles : {A : Type 0} (r : Result A Error) (P : Result A Fault → Type 0) → UnlessOutOfMemory r P → IfOk (split_memory r) P
 settles (Ok a) P p = p
 settles (Err (Faulted f)) P p = p
 settles (Err OutOfMemory) P p = tt
 
-pub settled-if_ok : {A : Type 0} (r : Result A Stop) (P : A → Type 0) → IfOk r P → IfOk (settled r) (λ a. IfOk a P)
-settled-if_ok (Ok a) P p = p
-settled-if_ok (Err (Faulted f)) P p = tt
-settled-if_ok (Err OutOfMemory) P p = tt
+pub split_memory-if_ok : {A : Type 0} (r : Result A Error) (P : A → Type 0) → IfOk r P → IfOk (split_memory r) (λ a. IfOk a P)
+split_memory-if_ok (Ok a) P p = p
+split_memory-if_ok (Err (Faulted f)) P p = tt
+split_memory-if_ok (Err OutOfMemory) P p = tt
 
 -- what is said of a step holds of what is settled
-pub settled-at_ok : {A : Type 0} (r : Result A Stop) (P : Result A Fault → Type 0) (x : Result A Fault) → Ok x ≡ settled r → IfSettled r P → P x
-settled-at_ok r P x e p = IfOk-at_ok P (sym e) (settles r P p)
+pub split_memory-at_ok : {A : Type 0} (r : Result A Error) (P : Result A Fault → Type 0) (x : Result A Fault) → Ok x ≡ split_memory r → UnlessOutOfMemory r P → P x
+split_memory-at_ok r P x e p = IfOk-at_ok P (sym e) (settles r P p)

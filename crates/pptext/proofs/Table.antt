@@ -33,7 +33,7 @@ short_front text m fits e = let l : length (take m text) ≡ m = length-take-le 
 
 pub longest_at : (text : List ℕ) (n : ℕ) → 0 < n → Begun text n → ((m : ℕ) → n < m → m ≤ 4 → Begun text m → ⊥) → LongestOrNone (λ s. is_punctuator s ≡ true) text n
 longest_at text n some here above =
-    (λ z. absurd (omega arith), λ _. record { fits = here.0; front = here.1; longest = λ m more fits e. above m more (short_front text m fits e) (fits, e) })
+    (λ z. absurd (omega arith), λ _. record { fits = here.0; prefix = here.1; longest = λ m more fits e. above m more (short_front text m fits e) (fits, e) })
 
 pub none_at : (text : List ℕ) → (Begun text 4 → ⊥) → (Begun text 3 → ⊥) → (Begun text 2 → ⊥) → (Begun text 1 → ⊥) → LongestOrNone (λ s. is_punctuator s ≡ true) text 0
 none_at text d c b a = (λ _ m fits e. none m fits e (short_front text m fits e), λ z. absurd (omega arith))

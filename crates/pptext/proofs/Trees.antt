@@ -4,12 +4,12 @@ use Rattle.std.specs.List.{AllByRecursion}
 use Rattle.std.proofs.lemmas.List.{append-nil}
 use Rattle.pptext.specs.Lines.{LogicalLine}
 use Rattle.pptext.specs.Tree.{Role, TextLine, ControlLine, Opens, Elses, Closes, Parts, Done, Run, Control, Section, Branches, End, Branch, part_lines}
-use Rattle.pptext.specs.Tree.{branch_lines, BeginsRun, AreParts, AreBranches, Tree, role, Open, opened, fault_or, group_fault}
+use Rattle.pptext.specs.Tree.{branch_lines, BeginsRun, AreParts, AreBranches, Tree, role, Open, after_line, fault_or, group_fault}
 
 -- a tree has no fault
 
-pub one_line : (os : List Open) (r : LogicalLine) (rs : List LogicalLine) (s : Role) → role r ≡ s → group_fault os (r ∷ rs) ≡ fault_or r (opened s r os).0 (group_fault (opened s r os).1 rs)
-one_line os r rs s e = ap (λ (z : Role). fault_or r (opened z r os).0 (group_fault (opened z r os).1 rs)) e
+pub one_line : (os : List Open) (r : LogicalLine) (rs : List LogicalLine) (s : Role) → role r ≡ s → group_fault os (r ∷ rs) ≡ fault_or r (after_line s r os).0 (group_fault (after_line s r os).1 rs)
+one_line os r rs s e = ap (λ (z : Role). fault_or r (after_line z r os).0 (group_fault (after_line z r os).1 rs)) e
 
 text_lines : (os : List Open) (rs rest : List LogicalLine) → AllByRecursion (λ r. role r ≡ TextLine) rs → group_fault os (rs ++ rest) ≡ group_fault os rest
 text_lines os [] rest all = refl
@@ -49,7 +49,7 @@ no_fault lines parts tree =
 
 -- lines without fault have a tree: a prefix of the lines after open sections is parts, then each section's branches and parts
 
-record Front (Rest : List LogicalLine → Type 0) (lines : List LogicalLine) : Type 0 where
+record LeadingLexeme (Rest : List LogicalLine → Type 0) (lines : List LogicalLine) : Type 0 where
   parts : Parts
   rest : List LogicalLine
   are : AreParts parts
@@ -58,7 +58,7 @@ record Front (Rest : List LogicalLine → Type 0) (lines : List LogicalLine) : T
 
 abbrev Behind : List Open → List LogicalLine → Type 0
 Behind [] rest = rest ≡ []
-Behind (o ∷ os) rest = (bs : Branches) × (more : List LogicalLine) × AreBranches o.1 bs × (branch_lines bs ++ more ≡ rest) × Front (Behind os) more
+Behind (o ∷ os) rest = (bs : Branches) × (more : List LogicalLine) × AreBranches o.1 bs × (branch_lines bs ++ more ≡ rest) × LeadingLexeme (Behind os) more
 
 pub with_text : (r : LogicalLine) (ps : Parts) → role r ≡ TextLine → AreParts ps → (qs : Parts) × AreParts qs × (part_lines qs ≡ r ∷ part_lines ps)
 with_text r Done is are = (Run (r ∷ []) Done, ((λ (e : r ∷ [] ≡ []). cc), (is, tt), (λ (e : ⊥). e), tt), refl)
@@ -69,9 +69,9 @@ with_text r (Section q ps bs qs) is are = (Run (r ∷ []) (Section q ps bs qs), 
 -- what a line adds to the prefixes of the later lines
 front_at : (r : LogicalLine) (rs : List LogicalLine) (os : List Open) (s : Role)
     → role r ≡ s
-    → ((before : List Open) → group_fault before rs ≡ None → Front (Behind before) rs)
-    → fault_or r (opened s r os).0 (group_fault (opened s r os).1 rs) ≡ None
-    → Front (Behind os) (r ∷ rs)
+    → ((before : List Open) → group_fault before rs ≡ None → LeadingLexeme (Behind before) rs)
+    → fault_or r (after_line s r os).0 (group_fault (after_line s r os).1 rs) ≡ None
+    → LeadingLexeme (Behind os) (r ∷ rs)
 front_at r rs os TextLine is later e =
     let f = later os e in
     let w = with_text r f.parts is f.are in
@@ -109,14 +109,14 @@ front_at r rs (o ∷ os) Closes is later e =
     let f = later os e in
     record { parts = Done; rest = r ∷ rs; are = tt; whole = refl; behind = (End r, rs, is, refl, f) }
 
-front : (rs : List LogicalLine) (os : List Open) → group_fault os rs ≡ None → Front (Behind os) rs
-front [] [] e = record { parts = Done; rest = []; are = tt; whole = refl; behind = refl }
-front [] (o ∷ os) e = absurd (cc)
-front (r ∷ rs) os e = front_at r rs os (role r) refl (front rs) (sym (one_line os r rs (role r) refl) ∙ e)
+prefix : (rs : List LogicalLine) (os : List Open) → group_fault os rs ≡ None → LeadingLexeme (Behind os) rs
+prefix [] [] e = record { parts = Done; rest = []; are = tt; whole = refl; behind = refl }
+prefix [] (o ∷ os) e = absurd (cc)
+prefix (r ∷ rs) os e = front_at r rs os (role r) refl (prefix rs) (sym (one_line os r rs (role r) refl) ∙ e)
 
 pub a_tree : (lines : List LogicalLine) → group_fault [] lines ≡ None → (parts : Parts) × Tree lines parts
 a_tree lines e =
-    let f = front lines [] e in
+    let f = prefix lines [] e in
     (f.parts, record { whole = sym (append-nil (part_lines f.parts)) ∙ ap (λ (z : List LogicalLine). part_lines f.parts ++ z) (sym f.behind) ∙ f.whole; each = f.are })
 
 pub tree_exactly : (lines : List LogicalLine) → (group_fault [] lines ≡ None) ↔ ((parts : Parts) × Tree lines parts)

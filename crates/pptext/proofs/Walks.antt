@@ -2,7 +2,7 @@
 use Rattle.std.proofs.Common.{◌≡◌, ℕ, ◌+◌, ◌<◌, Bool, List, ◌∷◌, ◌++◌, map, length, ap, ◌∙◌, arith, None, Some}
 use Rattle.std.proofs.lemmas.List.{length-map}
 use Rattle.pptext.specs.Lines.{LogicalLine}
-use Rattle.pptext.specs.Tree.{Role, TextLine, ControlLine, Opens, Elses, Closes, Parts, Branches, End, Branch, part_lines, branch_lines, AreParts, AreBranches, role, branch_behind}
+use Rattle.pptext.specs.Tree.{Role, TextLine, ControlLine, Opens, Elses, Closes, Parts, Branches, End, Branch, part_lines, branch_lines, AreParts, AreBranches, role, branch_after}
 use Rattle.pptext.specs.Sources.{next_branch}
 use Rattle.pptext.proofs.Guards.{behind_parts}
 use Rattle.pptext.proofs.GuardScan.{branch_within}
@@ -20,22 +20,22 @@ next_within r k lines n e = next_role_within (role r) k lines n e
 
 -- of an opening line and of `#elif` and `#else`
 
-pub next_of_opening : (r : LogicalLine) → role r ≡ Opens → (k : ℕ) (lines : List LogicalLine) → next_branch k (role r) lines ≡ branch_behind 0 (k + 1) (map role lines)
+pub next_of_opening : (r : LogicalLine) → role r ≡ Opens → (k : ℕ) (lines : List LogicalLine) → next_branch k (role r) lines ≡ branch_after 0 (k + 1) (map role lines)
 next_of_opening r is k lines = ap (λ (z : Role). next_branch k z lines) is
 
-pub next_of_branch : (r : LogicalLine) (final : Bool) → role r ≡ Elses final → (k : ℕ) (lines : List LogicalLine) → next_branch k (role r) lines ≡ branch_behind 0 (k + 1) (map role lines)
+pub next_of_branch : (r : LogicalLine) (final : Bool) → role r ≡ Elses final → (k : ℕ) (lines : List LogicalLine) → next_branch k (role r) lines ≡ branch_after 0 (k + 1) (map role lines)
 next_of_branch r final is k lines = ap (λ (z : Role). next_branch k z lines) is
 
 pub next_of_end : (r : LogicalLine) → role r ≡ Closes → (k : ℕ) (lines : List LogicalLine) → next_branch k (role r) lines ≡ None
 next_of_end r is k lines = ap (λ (z : Role). next_branch k z lines) is
 
-first_branch : (bs : Branches) (last : Bool) (k : ℕ) (rest : List LogicalLine) → AreBranches last bs → branch_behind 0 k (map role (branch_lines bs ++ rest)) ≡ Some k
-first_branch (End r) last k rest is = ap (λ (z : Role). branch_behind 0 k (z ∷ map role rest)) is
-first_branch (Branch r ps bs) last k rest (before, final, is, parts, more) = ap (λ (z : Role). branch_behind 0 k (z ∷ map role (part_lines ps ++ branch_lines bs ++ rest))) is
+first_branch : (bs : Branches) (last : Bool) (k : ℕ) (rest : List LogicalLine) → AreBranches last bs → branch_after 0 k (map role (branch_lines bs ++ rest)) ≡ Some k
+first_branch (End r) last k rest is = ap (λ (z : Role). branch_after 0 k (z ∷ map role rest)) is
+first_branch (Branch r ps bs) last k rest (before, final, is, parts, more) = ap (λ (z : Role). branch_after 0 k (z ∷ map role (part_lines ps ++ branch_lines bs ++ rest))) is
 
 -- it is the first line of the branches after the parts of the group
 pub next_behind : (ps : Parts) (bs : Branches) (last : Bool) (k : ℕ) (rest : List LogicalLine)
     → AreParts ps
     → AreBranches last bs
-    → branch_behind 0 k (map role (part_lines ps ++ (branch_lines bs ++ rest))) ≡ Some (k + length (part_lines ps))
+    → branch_after 0 k (map role (part_lines ps ++ (branch_lines bs ++ rest))) ≡ Some (k + length (part_lines ps))
 next_behind ps bs last k rest parts are = behind_parts ps 0 k (branch_lines bs ++ rest) parts ∙ first_branch bs last (k + length (part_lines ps)) rest are

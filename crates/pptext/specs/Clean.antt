@@ -29,15 +29,15 @@ abbrev pub backslash : ℕ
 backslash = 92
 
 -- Each byte with its location, from this line and column on. An LF ends a line.
-abbrev pub placed : ℕ → ℕ → ℕ → List ℕ → List Char
-placed file line col [] = []
-placed file line col (b ∷ bs) =
-    record { code = b; at = place file line col } ∷ (if b == newline then placed file (line + 1) 1 bs else placed file line (col + 1) bs)
+abbrev pub with_locations : ℕ → ℕ → ℕ → List ℕ → List Char
+with_locations file line col [] = []
+with_locations file line col (b ∷ bs) =
+    record { code = b; at = place file line col } ∷ (if b == newline then with_locations file (line + 1) 1 bs else with_locations file line (col + 1) bs)
 
 -- the bytes after a byte order mark
-abbrev pub unmarked : List ℕ → List ℕ
-unmarked (a ∷ b ∷ c ∷ bs) = if a == 0xef && (b == 0xbb && c == 0xbf) then bs else a ∷ b ∷ c ∷ bs
-unmarked bs = bs
+abbrev pub without_bom : List ℕ → List ℕ
+without_bom (a ∷ b ∷ c ∷ bs) = if a == 0xef && (b == 0xbb && c == 0xbf) then bs else a ∷ b ∷ c ∷ bs
+without_bom bs = bs
 
 -- whether a CR directly before an LF is here
 abbrev pub is_return_at : List Char → Bool
@@ -60,7 +60,7 @@ terminated cs = cs ++ missing_newline cs
 
 -- the first of three functions on lists: line ends
 abbrev pub line_ends : ℕ → List ℕ → List Char
-line_ends file bytes = terminated (without_returns (placed file 1 1 (unmarked bytes)))
+line_ends file bytes = terminated (without_returns (with_locations file 1 1 (without_bom bytes)))
 
 -- the trigraphs (5.2.1.1): the character after `??`, and the one that all three stand for
 abbrev pub trigraph_pairs : List (List ℕ × List ℕ)
@@ -87,30 +87,30 @@ trigraph_at (a ∷ b ∷ c ∷ cs) = if a.code == 63 && b.code == 63 then trigra
 trigraph_at cs = 0
 
 -- Trigraphs are replaced from the left. The next `skip` characters belong to the one before.
-abbrev pub trigraphs_behind : ℕ → List Char → List Char
-trigraphs_behind skip [] = []
-trigraphs_behind (suc skip) (c ∷ cs) = trigraphs_behind skip cs
-trigraphs_behind zero (c ∷ cs) =
+abbrev pub trigraphs_after : ℕ → List Char → List Char
+trigraphs_after skip [] = []
+trigraphs_after (suc skip) (c ∷ cs) = trigraphs_after skip cs
+trigraphs_after zero (c ∷ cs) =
     let r = trigraph_at (c ∷ cs) in
-    if r == 0 then c ∷ trigraphs_behind 0 cs else record { code = r; at = c.at } ∷ trigraphs_behind 2 cs
+    if r == 0 then c ∷ trigraphs_after 0 cs else record { code = r; at = c.at } ∷ trigraphs_after 2 cs
 
 -- the second function: trigraphs
 abbrev pub trigraphs : List Char → List Char
-trigraphs cs = trigraphs_behind 0 cs
+trigraphs cs = trigraphs_after 0 cs
 
 -- whether a backslash and a new-line are here
 abbrev pub splice_at : List Char → Bool
 splice_at [] = false
 splice_at (c ∷ cs) = c.code == backslash && head_code cs == newline
 
-abbrev pub splices_behind : ℕ → List Char → List Char
-splices_behind skip [] = []
-splices_behind (suc skip) (c ∷ cs) = splices_behind skip cs
-splices_behind zero (c ∷ cs) = if splice_at (c ∷ cs) then splices_behind 1 cs else c ∷ splices_behind 0 cs
+abbrev pub splices_after : ℕ → List Char → List Char
+splices_after skip [] = []
+splices_after (suc skip) (c ∷ cs) = splices_after skip cs
+splices_after zero (c ∷ cs) = if splice_at (c ∷ cs) then splices_after 1 cs else c ∷ splices_after 0 cs
 
 -- the third function: each backslash directly before a new-line is deleted with it
 abbrev pub splices : List Char → List Char
-splices cs = splices_behind 0 cs
+splices cs = splices_after 0 cs
 
 -- the location of the backslash, if the text ends in a backslash and a new-line
 abbrev pub splice_at_end : List Char → Option Place

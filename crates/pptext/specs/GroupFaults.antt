@@ -9,7 +9,7 @@ HasTree lines = (parts : Parts) × Tree lines parts
 
 -- some list of lines that begins with these has a tree
 abbrev pub BeginsTree : List LogicalLine → Type 0
-BeginsTree front = (rest : List LogicalLine) × HasTree (front ++ rest)
+BeginsTree prefix = (rest : List LogicalLine) × HasTree (prefix ++ rest)
 
 -- This line opens the innermost if-section that is open after the lines: with one `#endif` more, the lines from it on are one if-section.
 pub record Innermost (lines : List LogicalLine) (opening : LogicalLine) : Type 0 where

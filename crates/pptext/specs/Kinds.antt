@@ -79,8 +79,8 @@ str_test =
 abbrev pub other_test : List ℕ → Bool
 other_test s = one_test (λ c. not (is_blank c || c == 10)) s && (not (ident_test s) && (not (number_test s) && not (is_punctuator s)))
 
-abbrev pub lone_quote_test : List ℕ → Bool
-lone_quote_test = either_test (exactly_test (39 ∷ [])) (exactly_test (34 ∷ []))
+abbrev pub unmatched_quote_test : List ℕ → Bool
+unmatched_quote_test = either_test (exactly_test (39 ∷ [])) (exactly_test (34 ∷ []))
 
 -- a comment begins with the text
 abbrev pub comment_test : List ℕ → Bool
@@ -99,4 +99,4 @@ spelled_kind s =
 
 -- the kind of the one token that a text is, or None if it is no token or an unmatched quote
 unfoldable pub kind_of : List ℕ → Option Kind
-kind_of text = if lone_quote_test text || comment_test text then None else spelled_kind text
+kind_of text = if unmatched_quote_test text || comment_test text then None else spelled_kind text

@@ -1,12 +1,12 @@
 -- The kind of the one token that a text is (6.4).
 use Rattle.std.specs.Prelude.{◌≡◌, ℕ, List, Option, None, Some}
 use Rattle.pptext.specs.declared.tokens.Kind.{Kind}
-use Rattle.pptext.specs.Sources.{IsOneToken, IsLoneQuote}
+use Rattle.pptext.specs.Sources.{IsOneToken, IsUnmatchedQuote}
 
 -- the text is one token of this kind, and no unmatched quote; or it is no such token
 abbrev pub Lexes : List ℕ → Option Kind → Type 0
-Lexes text None = (k : Kind) → IsOneToken text k → IsLoneQuote text
-Lexes text (Some k) = IsOneToken text k × (¬ IsLoneQuote text)
+Lexes text None = (k : Kind) → IsOneToken text k → IsUnmatchedQuote text
+Lexes text (Some k) = IsOneToken text k × (¬ IsUnmatchedQuote text)
 
 -- a function that returns each text's kind
 pub record IsLexer (kind_of : List ℕ → Option Kind) : Type 0 where

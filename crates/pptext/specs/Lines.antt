@@ -9,7 +9,7 @@ use Rattle.pptext.specs.declared.sources.Profile.{Profile}
 use Rattle.pptext.specs.declared.sources.Profile.TheVariants.{C11, Later, Gnu}
 use Rattle.pptext.specs.declared.characters.Char.{Char}
 use Rattle.pptext.specs.Clean.{codes_of}
-use Rattle.pptext.specs.Cut.{Piece, Sort, NewLine, Spelled, head_place}
+use Rattle.pptext.specs.Lexemes.{Lexeme, LexemeKind, NewLine, Spelled, head_place}
 
 -- a line's tokens, the physical line of its new-line, and the directive if it is one
 pub record LogicalLine : Type 0 where
@@ -23,11 +23,11 @@ token_of kind space chars =
     let at = head_place chars in record { kind = kind; text = codes_of chars; space = space; at = at; used = at }
 
 -- whether white space or the beginning of a line precedes what follows the lexeme
-abbrev pub leaves_space : Sort → Bool
+abbrev pub leaves_space : LexemeKind → Bool
 leaves_space (Spelled k) = false
 leaves_space s = true
 
-abbrev pub tokens_after : Bool → List Token → List Char → Sort → List Token
+abbrev pub tokens_after : Bool → List Token → List Char → LexemeKind → List Token
 tokens_after space tokens chars NewLine = []
 tokens_after space tokens chars (Spelled k) = tokens ++ token_of k space chars ∷ []
 tokens_after space tokens chars s = tokens
@@ -56,32 +56,32 @@ directive_named C11 name = named_in directive_names name
 directive_named Later name = named_in (directive_names ++ later_names) name
 directive_named Gnu name = named_in (directive_names ++ (later_names ++ gnu_names)) name
 
-abbrev pub directive_behind : Profile → List Token → Directive
-directive_behind profile [] = Null
-directive_behind profile (t ∷ ts) = directive_named profile t.text
+abbrev pub directive_after_hash : Profile → List Token → Directive
+directive_after_hash profile [] = Null
+directive_after_hash profile (t ∷ ts) = directive_named profile t.text
 
 -- the directive of a line, if its first token is `#` or `%:`
 abbrev pub directive_of : Profile → List Token → Option Directive
 directive_of profile [] = None
 directive_of profile (t ∷ ts) =
-    if bytes_eq t.text (codes "#") || bytes_eq t.text (codes "%:") then Some (directive_behind profile ts) else None
+    if bytes_eq t.text (codes "#") || bytes_eq t.text (codes "%:") then Some (directive_after_hash profile ts) else None
 
 -- the line of these tokens whose new-line is in the physical line of this number
 abbrev pub line_of : Profile → List Token → ℕ → LogicalLine
 line_of profile tokens number = record { tokens = tokens; number = number; directive = directive_of profile tokens }
 
-abbrev pub lines_ended : Profile → List Token → List Char → Sort → List LogicalLine
+abbrev pub lines_ended : Profile → List Token → List Char → LexemeKind → List LogicalLine
 lines_ended profile tokens chars NewLine = line_of profile tokens (head_place chars).line ∷ []
 lines_ended profile tokens chars s = []
 
 -- the lines of the lexemes, after these tokens of the first line
-abbrev pub lines_behind : Profile → Bool → List Token → List Piece → List LogicalLine
-lines_behind profile space tokens [] = []
-lines_behind profile space tokens (p ∷ ps) =
-    lines_ended profile tokens p.chars p.sort ++ lines_behind profile (leaves_space p.sort) (tokens_after space tokens p.chars p.sort) ps
+abbrev pub lines_after : Profile → Bool → List Token → List Lexeme → List LogicalLine
+lines_after profile space tokens [] = []
+lines_after profile space tokens (p ∷ ps) =
+    lines_ended profile tokens p.chars p.kind ++ lines_after profile (leaves_space p.kind) (tokens_after space tokens p.chars p.kind) ps
 
-abbrev pub lines_of : Profile → List Piece → List LogicalLine
-lines_of profile ps = lines_behind profile true [] ps
+abbrev pub lines_of : Profile → List Lexeme → List LogicalLine
+lines_of profile ps = lines_after profile true [] ps
 
 -- the directive of the line is that of its tokens
 abbrev pub IsDirected : Profile → LogicalLine → Type 0

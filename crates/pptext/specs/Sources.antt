@@ -9,16 +9,16 @@ use Rattle.pptext.specs.declared.sources.Line.{Line}
 use Rattle.pptext.specs.declared.sources.Profile.{Profile}
 use Rattle.pptext.specs.declared.sources.Profile.TheVariants.{C11}
 use Rattle.pptext.specs.declared.characters.Char.{Char}
-use Rattle.pptext.specs.Clean.{cleaned, placed}
-use Rattle.pptext.specs.Cut.{Piece, Spelled, Cut, Unclosed}
+use Rattle.pptext.specs.Clean.{cleaned, with_locations}
+use Rattle.pptext.specs.Lexemes.{Lexeme, Spelled, Tokenizes, Unclosed}
 use Rattle.pptext.specs.Lines.{LogicalLine, lines_of}
 use Rattle.pptext.specs.Tokens.{fault}
-use Rattle.pptext.specs.Tree.{Role, Opens, Elses, role, branch_behind, group_fault}
+use Rattle.pptext.specs.Tree.{Role, Opens, Elses, role, branch_after, group_fault}
 
 -- the next branch line, in an if-section, of a line with index k before these lines
 abbrev pub next_branch : ℕ → Role → List LogicalLine → Option ℕ
-next_branch k Opens rest = branch_behind 0 (k + 1) (map role rest)
-next_branch k (Elses final) rest = branch_behind 0 (k + 1) (map role rest)
+next_branch k Opens rest = branch_after 0 (k + 1) (map role rest)
+next_branch k (Elses final) rest = branch_after 0 (k + 1) (map role rest)
 next_branch k s rest = None
 
 -- the lines as spans of the tokens; the first has index k, and its tokens begin at `start`
@@ -41,11 +41,11 @@ file_fault number at = fault number at []
 -- the lines of a file without fault
 pub record IsSource (profile : Profile) (file : ℕ) (bytes : List ℕ) (lines : List LogicalLine) : Type 0 where
   pub chars : List Char
-  pub pieces : List Piece
+  pub lexemes : List Lexeme
   pub cleaned : cleaned file bytes ≡ Ok chars
-  pub cut : Cut profile chars pieces
-  pub grouped : group_fault [] (lines_of profile pieces) ≡ None
-  pub same : lines ≡ lines_of profile pieces
+  pub tokenized : Tokenizes profile chars lexemes
+  pub grouped : group_fault [] (lines_of profile lexemes) ≡ None
+  pub same : lines ≡ lines_of profile lexemes
 
 -- the first fault of a file
 pub data IsFaultOf (profile : Profile) (file : ℕ) (bytes : List ℕ) : Fault → Type 0 where
@@ -54,7 +54,7 @@ pub data IsFaultOf (profile : Profile) (file : ℕ) (bytes : List ℕ) : Fault �
   -- otherwise a comment is not closed
   open_comment : {chars : List Char} {p : Place} → cleaned file bytes ≡ Ok chars → Unclosed profile chars p → IsFaultOf profile file bytes (file_fault 1 p)
   -- otherwise the groups have a fault
-  bad_groups : {chars : List Char} {pieces : List Piece} {f : Fault} → cleaned file bytes ≡ Ok chars → Cut profile chars pieces → group_fault [] (lines_of profile pieces) ≡ Some f → IsFaultOf profile file bytes f
+  bad_groups : {chars : List Char} {lexemes : List Lexeme} {f : Fault} → cleaned file bytes ≡ Ok chars → Tokenizes profile chars lexemes → group_fault [] (lines_of profile lexemes) ≡ Some f → IsFaultOf profile file bytes f
 
 -- the result of reading a file
 abbrev pub Reads : Profile → ℕ → List ℕ → Result (List LogicalLine) Fault → Type 0
@@ -63,7 +63,7 @@ Reads profile file bytes (Err f) = IsFaultOf profile file bytes f
 
 -- outside an include line the text is one token of this kind. All profiles tokenize it alike, so C11 stands for all.
 abbrev pub IsOneToken : List ℕ → Kind → Type 0
-IsOneToken text k = let cs = placed 0 1 1 text in Cut C11 cs (record { sort = Spelled k; chars = cs } ∷ [])
+IsOneToken text k = let cs = with_locations 0 1 1 text in Tokenizes C11 cs (record { kind = Spelled k; chars = cs } ∷ [])
 
-abbrev pub IsLoneQuote : List ℕ → Type 0
-IsLoneQuote text = (text ≡ 39 ∷ []) ⊎ (text ≡ 34 ∷ [])
+abbrev pub IsUnmatchedQuote : List ℕ → Type 0
+IsUnmatchedQuote text = (text ≡ 39 ∷ []) ⊎ (text ≡ 34 ∷ [])

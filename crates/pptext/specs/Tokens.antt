@@ -28,16 +28,16 @@ abbrev pub is_identifier : Token → Bool
 is_identifier t = is_identifier_kind t.kind
 
 -- an identifier with this spelling
-abbrev pub is_name : List ℕ → Token → Bool
-is_name text t = is_identifier t && bytes_eq t.text text
+abbrev pub is_identifier_named : List ℕ → Token → Bool
+is_identifier_named text t = is_identifier t && bytes_eq t.text text
 
 -- a punctuator with this spelling
 abbrev pub is_punct : List ℕ → Token → Bool
 is_punct text t = is_punctuator_kind t.kind && bytes_eq t.text text
 
 -- an unmatched quote: one that begins no literal (6.4, paragraph 3)
-abbrev pub is_lone_quote : Token → Bool
-is_lone_quote t = is_other_kind t.kind && (bytes_eq t.text (codes "'") || bytes_eq t.text (34 ∷ []))
+abbrev pub is_unmatched_quote : Token → Bool
+is_unmatched_quote t = is_other_kind t.kind && (bytes_eq t.text (codes "'") || bytes_eq t.text (34 ∷ []))
 
 -- the fault with this number, location and text
 abbrev pub fault : ℕ → Place → List ℕ → Fault

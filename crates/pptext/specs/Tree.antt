@@ -100,14 +100,14 @@ abbrev pub fault_at : ℕ → LogicalLine → Fault
 fault_at number r = fault number (sign_place r.tokens) (name_of r.tokens)
 
 -- what a line does to the open if-sections, or its fault: 3 outside an if-section, 4 after `#else`
-abbrev pub opened : {L : Type 0} → Role → L → List (L × Bool) → Option ℕ × List (L × Bool)
-opened Opens r os = (None, (r, false) ∷ os)
-opened (Elses final) r [] = (Some 3, [])
-opened (Elses final) r ((o, true) ∷ os) = (Some 4, [])
-opened (Elses final) r ((o, false) ∷ os) = (None, (o, final) ∷ os)
-opened Closes r [] = (Some 3, [])
-opened Closes r (o ∷ os) = (None, os)
-opened s r os = (None, os)
+abbrev pub after_line : {L : Type 0} → Role → L → List (L × Bool) → Option ℕ × List (L × Bool)
+after_line Opens r os = (None, (r, false) ∷ os)
+after_line (Elses final) r [] = (Some 3, [])
+after_line (Elses final) r ((o, true) ∷ os) = (Some 4, [])
+after_line (Elses final) r ((o, false) ∷ os) = (None, (o, final) ∷ os)
+after_line Closes r [] = (Some 3, [])
+after_line Closes r (o ∷ os) = (None, os)
+after_line s r os = (None, os)
 
 -- the fault of a file that ends with these if-sections open
 abbrev pub fault_at_end : List Open → Option Fault
@@ -122,14 +122,14 @@ fault_or r None later = later
 -- The first fault of the lines from the top, after these open if-sections. It is 5 if an if-section is open at the end.
 abbrev pub group_fault : List Open → List LogicalLine → Option Fault
 group_fault os [] = fault_at_end os
-group_fault os (r ∷ rs) = fault_or r (opened (role r) r os).0 (group_fault (opened (role r) r os).1 rs)
+group_fault os (r ∷ rs) = fault_or r (after_line (role r) r os).0 (group_fault (after_line (role r) r os).1 rs)
 
 -- The index, counted from k, of the next branch line of the enclosing if-section, after `depth` inner openings.
-abbrev pub branch_behind : ℕ → ℕ → List Role → Option ℕ
-branch_behind depth k [] = None
-branch_behind depth k (Opens ∷ rs) = branch_behind (suc depth) (k + 1) rs
-branch_behind zero k (Closes ∷ rs) = Some k
-branch_behind (suc depth) k (Closes ∷ rs) = branch_behind depth (k + 1) rs
-branch_behind zero k (Elses final ∷ rs) = Some k
-branch_behind (suc depth) k (Elses final ∷ rs) = branch_behind (suc depth) (k + 1) rs
-branch_behind depth k (s ∷ rs) = branch_behind depth (k + 1) rs
+abbrev pub branch_after : ℕ → ℕ → List Role → Option ℕ
+branch_after depth k [] = None
+branch_after depth k (Opens ∷ rs) = branch_after (suc depth) (k + 1) rs
+branch_after zero k (Closes ∷ rs) = Some k
+branch_after (suc depth) k (Closes ∷ rs) = branch_after depth (k + 1) rs
+branch_after zero k (Elses final ∷ rs) = Some k
+branch_after (suc depth) k (Elses final ∷ rs) = branch_after (suc depth) (k + 1) rs
+branch_after depth k (s ∷ rs) = branch_after depth (k + 1) rs

@@ -10,5 +10,5 @@ pub struct Char {
     pub at: Place,
 }
 
-pub(crate) mod places;
+pub(crate) mod advance;
 pub(crate) mod steps;

@@ -1,9 +1,9 @@
 //! The groups of a file (6.10), by directive names alone.
 ghost use Rattle.std.specs.Prelude.{◌≡◌, ◌<◌, ◌^◌, [], length, None};
-ghost use Rattle.pptext.specs.Answers.{GroupsInto};
+ghost use Rattle.pptext.specs.ReadResults.{GroupsInto};
 ghost use Rattle.pptext.specs.Sources.{lines_from};
 ghost use Rattle.pptext.specs.Tree.{group_fault};
-ghost use Rattle.pptext.specs.Grouping.{AreDrafts, AreLines};
+ghost use Rattle.pptext.specs.code.Grouping.{AreLineSpans, AreLines};
 
 mod branches;
 mod faults;
@@ -37,7 +37,7 @@ pub(crate) fn group_lines(
     tokens: Vec<Token>,
     lines: Vec<Line>,
 ) -> Result<Source, SourceFault>
-    requires are_drafts { AreDrafts tokens.items lines.items }
+    requires are_drafts { AreLineSpans tokens.items lines.items }
     requires few { length lines.items < 2 ^ 32 }
     ensures { GroupsInto (lines_from tokens.items lines.items) result }
 {

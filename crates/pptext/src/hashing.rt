@@ -1,8 +1,8 @@
 //! The hash function for tables of names.
 ghost use Rattle.std.specs.Prelude.{◌≡◌, ◌+◌, ◌<◌, ◌≤◌, length};
 ghost use Rattle.std.specs.Hash.FoldHasher.{folded_multiply, read_u32, read_u64, read_short};
-ghost use Rattle.pptext.specs.Hashed as hashed;
-ghost use Rattle.pptext.specs.Hashed.{behind, drawn};
+ghost use Rattle.pptext.specs.NameHash as hashed;
+ghost use Rattle.pptext.specs.NameHash.{hash_after, key_word};
 
 use std::hash::{BuildHasher, Hasher, RandomState};
 
@@ -32,7 +32,7 @@ impl Hashing {
 
     /// Creates a hash function with this key.
     pub fn keyed(key: RandomState) -> Hashing
-        ensures { result.first ≡ record { state = drawn key 0; key = drawn key 1 } }
+        ensures { result.first ≡ record { state = key_word key 0; key = key_word key 1 } }
     {
         Hashing {
             first: NameHasher {
@@ -69,7 +69,7 @@ fn product(left: u64, right: u64) -> u64
 }
 
 /// Returns the four bytes from an index on as a number, the lowest first.
-pub fn half_word(bytes: &[u8], at: usize) -> u64
+pub fn u32_at(bytes: &[u8], at: usize) -> u64
     requires { at + 4 ≤ length bytes.now }
     ensures value { result ≡ read_u32 bytes.now at }
     ensures bound { result < 4_294_967_296 }
@@ -82,7 +82,7 @@ fn word(bytes: &[u8], at: usize) -> u64
     requires { at + 8 ≤ length bytes.now }
     ensures { result ≡ read_u64 bytes.now at }
 {
-    half_word(bytes, at) | half_word(bytes, at + 4) << 32
+    u32_at(bytes, at) | u32_at(bytes, at + 4) << 32
 }
 
 /// Reads fewer than eight bytes as one word, by reads that may overlap.
@@ -91,7 +91,7 @@ fn short_word(bytes: &[u8]) -> u64
 {
     let len = bytes.len();
     if len >= 4 {
-        return half_word(bytes, 0) | half_word(bytes, len - 4) << 32;
+        return u32_at(bytes, 0) | u32_at(bytes, len - 4) << 32;
     }
     if len > 0 {
         return bytes[0] as u64 | (bytes[len / 2] as u64) << 8 | (bytes[len - 1] as u64) << 16;
@@ -100,8 +100,8 @@ fn short_word(bytes: &[u8]) -> u64
 }
 
 /// Returns the hash after these bytes.
-fn behind(state: u64, factor: u64, bytes: &[u8]) -> u64
-    ensures { result ≡ behind state factor bytes.now }
+fn hash_after(state: u64, factor: u64, bytes: &[u8]) -> u64
+    ensures { result ≡ hash_after state factor bytes.now }
 {
     let len = bytes.len();
     if len < 8 {
@@ -127,6 +127,6 @@ impl Hasher for NameHasher {
 
     fn write(&mut self, bytes: &[u8]) {
         let factor = self.key ^ bytes.len() as u64;
-        self.state = behind(self.state, factor, bytes);
+        self.state = hash_after(self.state, factor, bytes);
     }
 }

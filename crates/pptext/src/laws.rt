@@ -6,9 +6,9 @@ ghost use Rattle.pptext.specs.declared.sources.Profile.{Profile};
 ghost use Rattle.pptext.specs.declared.tokens.Kind.{Kind};
 ghost use Rattle.pptext.specs.declared.tokens.Kind.TheVariants.{Header};
 ghost use Rattle.pptext.specs.declared.characters.Char.{Char};
-ghost use Rattle.pptext.specs.Carrying.{CarriesOn};
+ghost use Rattle.pptext.specs.Continuations.{ContinuesToken};
 ghost use Rattle.pptext.specs.Clean.{cleaned, codes_of};
-ghost use Rattle.pptext.specs.Cut.{Piece, Spelled, Cut, Unclosed};
+ghost use Rattle.pptext.specs.Lexemes.{Lexeme, Spelled, Tokenizes, Unclosed};
 ghost use Rattle.pptext.specs.GroupFaults.{IsGroupFault};
 ghost use Rattle.pptext.specs.Guard.{GuardedBy};
 ghost use Rattle.pptext.specs.KindTests.{OpensComment, TestsAreLanguages};
@@ -17,19 +17,19 @@ ghost use Rattle.pptext.specs.Laws.{tokens_in};
 ghost use Rattle.pptext.specs.Lexing.{HasOneLexer};
 ghost use Rattle.pptext.specs.Lines.{LogicalLine, lines_of};
 ghost use Rattle.pptext.specs.NextBranches.{part_branches};
-ghost use Rattle.pptext.specs.Sources.{Reads, tokens_of, spans, IsLoneQuote, IsOneToken};
+ghost use Rattle.pptext.specs.Sources.{Reads, tokens_of, spans, IsUnmatchedQuote, IsOneToken};
 ghost use Rattle.pptext.specs.Spellings.{Spells};
 ghost use Rattle.pptext.specs.Tree.{group_fault, Parts, Tree};
 
 /// A text is tokenized into comments, white space, new-lines and tokens in only one way (5.1.1.2, 6.4).
-pub fn one_cut()
-    ensures { (profile : Profile) (cs : List Char) (a b : List Piece) → Cut profile cs a → Cut profile cs b → a ≡ b }
+pub fn one_tokenization()
+    ensures { (profile : Profile) (cs : List Char) (a b : List Lexeme) → Tokenizes profile cs a → Tokenizes profile cs b → a ≡ b }
 {}
 
 /// A text can be tokenized if and only if no comment in it is unclosed, whatever its characters. So tokenizing gives
 /// tokens or fault 1.
-pub fn cut_unless_unclosed()
-    ensures { (profile : Profile) (chars : List Char) → ((pieces : List Piece) × Cut profile chars pieces) ↔ ((at : Place) → ¬ Unclosed profile chars at) }
+pub fn tokenizes_unless_unclosed()
+    ensures { (profile : Profile) (chars : List Char) → ((lexemes : List Lexeme) × Tokenizes profile chars lexemes) ↔ ((at : Place) → ¬ Unclosed profile chars at) }
 {}
 
 /// Reading a file has at most one result: its lines or its first fault.
@@ -45,18 +45,18 @@ pub fn some_reading()
 /// The tokens of a file's lines are exactly those of its lexemes, in order, each with its kind, spelling, location and
 /// leading-space flag. None is lost at the end, because a text ends in a new-line after phase 2 (5.1.1.2).
 pub fn keeps_every_token()
-    ensures { (profile : Profile) (file : ℕ) (bytes : List ℕ) (chars : List Char) (pieces : List Piece) → cleaned file bytes ≡ Ok chars → Cut profile chars pieces → tokens_of (lines_of profile pieces) ≡ tokens_in true pieces }
+    ensures { (profile : Profile) (file : ℕ) (bytes : List ℕ) (chars : List Char) (lexemes : List Lexeme) → cleaned file bytes ≡ Ok chars → Tokenizes profile chars lexemes → tokens_of (lines_of profile lexemes) ≡ tokens_in true lexemes }
 {}
 
 /// Each token of a text, except a header name (6.4.7) and an unmatched quote, is the one token of its spelling. So
 /// `relex` finds its kind again.
-pub fn relexes_what_is_cut()
-    ensures { (profile : Profile) (chars : List Char) (pieces : List Piece) → Cut profile chars pieces → (p : Piece) (k : Kind) → Contains pieces p → p.sort ≡ Spelled k → k ≢ Header → IsOneToken (codes_of p.chars) k }
+pub fn relexes_tokens()
+    ensures { (profile : Profile) (chars : List Char) (lexemes : List Lexeme) → Tokenizes profile chars lexemes → (p : Lexeme) (k : Kind) → Contains lexemes p → p.kind ≡ Spelled k → k ≢ Header → IsOneToken (codes_of p.chars) k }
 {}
 
 /// Text that continues an identifier (6.4.2) or a number (6.4.8) forms one token of that kind with it.
-pub fn carried_on()
-    ensures { (text more : List ℕ) (k : Kind) → IsOneToken text k → CarriesOn k text more → IsOneToken (text ++ more) k }
+pub fn continued_token()
+    ensures { (text more : List ℕ) (k : Kind) → IsOneToken text k → ContinuesToken k text more → IsOneToken (text ++ more) k }
 {}
 
 /// A file's lines have a tree of groups (6.10) if and only if they have no fault.
@@ -102,5 +102,5 @@ pub fn tests_are_languages()
 /// `kind_of`, which decides what pasted and stringized texts are, gives a kind if and only if the text is one of that
 /// kind's spellings (6.4), is no unmatched quote and opens no comment.
 pub fn kind_by_language()
-    ensures { (text : List ℕ) (k : Kind) → (kind_of text ≡ Some k) ↔ (Spells k text × (¬ IsLoneQuote text) × (¬ OpensComment text)) }
+    ensures { (text : List ℕ) (k : Kind) → (kind_of text ≡ Some k) ↔ (Spells k text × (¬ IsUnmatchedQuote text) × (¬ OpensComment text)) }
 {}

@@ -3,7 +3,7 @@
 
 mod characters;
 mod cleaning;
-mod cutting;
+mod lexer;
 mod directives;
 mod grouping;
 mod hashing;
@@ -13,22 +13,22 @@ mod reading;
 mod scanning;
 mod sequences;
 mod sources;
-mod stops;
-mod texts;
-mod tokenizing;
+mod error;
+mod cleaned_text;
+mod longest_token;
 mod tokens;
 
 pub use characters::Char;
 pub use directives::{Class, Question};
-pub use hashing::{Hashing, half_word};
+pub use hashing::{Hashing, u32_at};
 pub use laws::{
-    carried_on, cut_unless_unclosed, keeps_every_token, kind_by_language, next_branches, one_cut,
-    one_guard, one_lexer, one_reading, one_tree, relexes_what_is_cut, some_reading,
+    continued_token, tokenizes_unless_unclosed, keeps_every_token, kind_by_language, next_branches, one_tokenization,
+    one_guard, one_lexer, one_reading, one_tree, relexes_tokens, some_reading,
     tests_are_languages, tree_unless_fault, which_group_fault,
 };
 pub use reading::{read_lines, read_source, relex};
-pub use scanning::carrying::carries_on;
+pub use scanning::continuing::continues;
 pub use sequences::Sequence;
 pub use sources::{Directive, LONGEST, Line, Profile, Source, SourceFault};
-pub use stops::{Stop, settled};
+pub use error::{Error, split_memory};
 pub use tokens::{Fault, Kind, Memory, Place, Spelling, Token, Tokens};

@@ -2,7 +2,7 @@
 ghost use Rattle.std.specs.Prelude.{◌≡◌, ◌↔◌, ◌≤◌, length, take, IsTrue, [], ◌∷◌};
 ghost use Rattle.pptext.specs.Spellings.{is_punct1, is_punct2, is_punct3, is_punctuator};
 ghost use Rattle.pptext.specs.Languages.{LongestOrNone};
-ghost use Rattle.pptext.specs.Finds.{is_closed};
+ghost use Rattle.pptext.specs.code.FoundLexemes.{begins_nothing_longer};
 
 /// Returns whether the byte is a punctuator by itself.
 fn is_punct1(c: u8) -> bool
@@ -38,8 +38,8 @@ fn is_punct1(c: u8) -> bool
 }
 
 /// Returns whether the byte is a punctuator by itself, and begins no longer token and no header name.
-pub(crate) fn is_closed(c: u8) -> bool
-    ensures is { result ≡ is_closed c }
+pub(crate) fn begins_nothing_longer(c: u8) -> bool
+    ensures is { result ≡ begins_nothing_longer c }
     ensures punct { IsTrue result → IsTrue (is_punct1 c) }
 {
     matches!(c, b'(' | b')' | b',' | b';' | b'[' | b']' | b'{' | b'}')

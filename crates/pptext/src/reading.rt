@@ -4,11 +4,11 @@ ghost use Rattle.pptext.specs.Clean.{longest};
 ghost use Rattle.pptext.specs.declared.tokens.Kind.{Kind};
 ghost use Rattle.pptext.specs.declared.sources.SourceFault.TheVariants.{Bad};
 ghost use Rattle.pptext.specs.Guard.{GuardedBy};
-ghost use Rattle.pptext.specs.Sources.{Reads, tokens_of, spans, file_fault, IsOneToken, IsLoneQuote};
-ghost use Rattle.pptext.specs.Answers.{Answers};
+ghost use Rattle.pptext.specs.Sources.{Reads, tokens_of, spans, file_fault, IsOneToken, IsUnmatchedQuote};
+ghost use Rattle.pptext.specs.ReadResults.{ReadResult};
 
 use crate::cleaning::clean_text;
-use crate::cutting::{Front, cut_lines, next_piece};
+use crate::lexer::{LeadingLexeme, tokenize_lines, next_lexeme};
 use crate::grouping::group_lines;
 use crate::sources::{Line, Profile, Source, SourceFault};
 use crate::tokens::{Fault, Kind, Memory, Place, Token};
@@ -60,7 +60,7 @@ pub fn read_source(
     profile: Profile,
 ) -> Result<Source, SourceFault>
     requires { length bytes.now ≤ longest }
-    ensures { Answers result (Reads profile file bytes.now) }
+    ensures { ReadResult result (Reads profile file bytes.now) }
 {
     let text = match clean_text(alloc, bytes, file)? {
         Ok(text) => text,
@@ -69,7 +69,7 @@ pub fn read_source(
     // Capacity for about as many as ordinary C has, so that the vectors are seldom moved.
     let mut tokens = Vec::with_capacity(alloc, bytes.len() / 5)?;
     let mut lines = Vec::with_capacity(alloc, bytes.len() / 20)?;
-    if let Err(place) = cut_lines(&text, &mut tokens, &mut lines, profile)? {
+    if let Err(place) = tokenize_lines(&text, &mut tokens, &mut lines, profile)? {
         return Err(fault_at(1, place));
     }
     drop(text);
@@ -117,8 +117,8 @@ impl Source {
 }
 
 /// Returns whether the text is `'` or `"` alone.
-fn is_lone_quote(text: &[u8]) -> bool
-    ensures { IsTrue result ↔ IsLoneQuote text.now }
+fn is_unmatched_quote(text: &[u8]) -> bool
+    ensures { IsTrue result ↔ IsUnmatchedQuote text.now }
 {
     text.len() == 1 && (text[0] == b'\'' || text[0] == b'"')
 }
@@ -127,17 +127,17 @@ fn is_lone_quote(text: &[u8]) -> bool
 /// if the text is no token, more than one, white space, a comment, or an unmatched quote (6.4p3). Allocates nothing.
 #[tactic(auto, using(crate::proofs::OneToken::finds_token))]
 pub fn relex(text: &[u8]) -> Option<Kind>
-    ensures none { IfNone result ((k : Kind) → IsOneToken text.now k → IsLoneQuote text.now) }
-    ensures some { IfSome result (λ k. IsOneToken text.now k × (¬ IsLoneQuote text.now)) }
+    ensures none { IfNone result ((k : Kind) → IsOneToken text.now k → IsUnmatchedQuote text.now) }
+    ensures some { IfSome result (λ k. IsOneToken text.now k × (¬ IsUnmatchedQuote text.now)) }
 {
     if text.is_empty() {
         return None;
     }
-    if is_lone_quote(text) {
+    if is_unmatched_quote(text) {
         return None;
     }
-    let found = next_piece(text, &[], Profile::C11);
-    let Front::Token(kind, n) = found.front else {
+    let found = next_lexeme(text, &[], Profile::C11);
+    let LeadingLexeme::Token(kind, n) = found.prefix else {
         return None;
     };
     if n != text.len() {

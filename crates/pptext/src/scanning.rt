@@ -2,11 +2,11 @@
 ghost use Rattle.std.specs.Prelude.{◌≡◌, ◌↔◌, ◌⊎◌, [], ◌∷◌, ◌||◌, ◌<◌, ◌≤◌, length, take, slice_index, IsTrue};
 ghost use Rattle.std.specs.List.{AllPass};
 ghost use Rattle.pptext.specs.Languages.{OnlyPart, LongestOrNone, Longest, Repeated, One, Either};
-ghost use Rattle.pptext.specs.Cut.{BeginsWith};
-ghost use Rattle.pptext.specs.Finds.{starts_word};
+ghost use Rattle.pptext.specs.Lexemes.{BeginsWith};
+ghost use Rattle.pptext.specs.code.FoundLexemes.{starts_identifier};
 ghost use Rattle.pptext.specs.Spellings.{is_digit, is_hex, is_nondigit, is_ident_byte, is_blank, IsUniversal, IsNondigit, IsIdent};
 
-pub(crate) mod carrying;
+pub(crate) mod continuing;
 pub(crate) mod headers;
 pub(crate) mod literals;
 pub(crate) mod numbers;
@@ -99,8 +99,8 @@ static WORD_STARTS: [u8; 256] = *b"\
     11111111111111111111111111111111";
 
 /// Returns whether the byte begins an identifier and can't begin a literal.
-pub(crate) fn starts_word(c: u8) -> bool
-    ensures { result ≡ starts_word c }
+pub(crate) fn starts_identifier(c: u8) -> bool
+    ensures { result ≡ starts_identifier c }
 {
     WORD_STARTS[c as usize] == b'1'
 }

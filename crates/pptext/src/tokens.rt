@@ -1,7 +1,7 @@
 //! Locations, preprocessing tokens and faults.
 ghost use Rattle.std.specs.Prelude.{◌≡◌, ◌<◌, ◌≤◌, List, ℕ, IfOk, IfSome, IfNone, OnErr, OnOk, length, take, [], ◌++◌, Some, None};
 ghost use Rattle.std.specs.Str.{bytes_eq};
-ghost use Rattle.pptext.specs.Tokens.{is_identifier, is_name, is_punct, is_lone_quote, fault};
+ghost use Rattle.pptext.specs.Tokens.{is_identifier, is_identifier_named, is_punct, is_unmatched_quote, fault};
 
 use crate::sequences::Sequence;
 use std::alloc::{AllocError, AllocFailed, Global};
@@ -127,7 +127,7 @@ impl Spelling {
 
     /// Copies the first n bytes of a text into a spelling, if it allocates nothing and the text has at least 14 bytes.
     #[inline(always)]
-    pub(crate) fn front_in_place(text: &[u8], n: usize) -> Option<Spelling>
+    pub(crate) fn prefix_in_place(text: &[u8], n: usize) -> Option<Spelling>
         requires { n ≤ length text.now }
         ensures { IfSome result (λ s. s ≡ take n text.now) }
     {
@@ -144,11 +144,11 @@ impl Spelling {
     }
 
     /// Copies the first n bytes of a text into a spelling.
-    pub(crate) fn front(alloc: Global, text: &[u8], n: usize) -> Result<Spelling, AllocError>
+    pub(crate) fn prefix(alloc: Global, text: &[u8], n: usize) -> Result<Spelling, AllocError>
         requires { n ≤ length text.now }
         ensures { IfOk result (λ s. s ≡ take n text.now) }
     {
-        match Spelling::front_in_place(text, n) {
+        match Spelling::prefix_in_place(text, n) {
             Some(spelling) => Ok(spelling),
             None => Spelling::from_slice(alloc, &text[..n]),
         }
@@ -256,8 +256,8 @@ impl Token {
     }
 
     /// Returns whether it is the identifier with this spelling.
-    pub fn is_name(&self, text: &[u8]) -> bool
-        ensures { result ≡ is_name text.now self.now }
+    pub fn is_identifier_named(&self, text: &[u8]) -> bool
+        ensures { result ≡ is_identifier_named text.now self.now }
     {
         self.is_identifier() && self.text.as_bytes() == text
     }
@@ -270,8 +270,8 @@ impl Token {
     }
 
     /// Returns whether it is an unmatched `'` or `"` (6.4p3).
-    pub fn is_lone_quote(&self) -> bool
-        ensures { result ≡ is_lone_quote self.now }
+    pub fn is_unmatched_quote(&self) -> bool
+        ensures { result ≡ is_unmatched_quote self.now }
     {
         matches!(self.kind, Kind::Other)
             && (is_spelled(self.text.as_bytes(), b"'") || is_spelled(self.text.as_bytes(), b"\""))

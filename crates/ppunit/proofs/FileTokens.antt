@@ -11,8 +11,8 @@ use Rattle.pptext.specs.declared.characters.Char.{Char}
 use Rattle.pptext.specs.Clean.{codes_of}
 use Rattle.pptext.specs.Languages.{Either, One}
 use Rattle.pptext.specs.Spellings.{is_digit, is_nondigit, IsNondigit, IsHeader, Spells}
-use Rattle.pptext.specs.Cut.{Sort, NewLine, Blank, Comment, Spelled, Piece, StandsAt, EachStands, with_piece, laid}
-use Rattle.pptext.specs.Lines.{LogicalLine, leaves_space, tokens_after, lines_ended, lines_behind, IsDirected}
+use Rattle.pptext.specs.Lexemes.{Sort, NewLine, Blank, Comment, Spelled, Piece, StandsAt, AreLexemes, with_lexeme, characters_of}
+use Rattle.pptext.specs.Lines.{LogicalLine, leaves_space, tokens_after, lines_ended, lines_after, IsDirected}
 use Rattle.pptext.specs.Sources.{IsSource}
 use Rattle.pptext.proofs.OneKind.{begins, one_kind}
 
@@ -61,21 +61,21 @@ after_spelled profile line space tokens chars rest (Spelled k) all here = both I
 
 lines_spelled : (profile : Profile) (line : List (List ℕ)) (space : Bool) (tokens : List Token) (ps : List Piece) (rest : List Char)
     → AreSpelled tokens
-    → EachStands profile line ps rest
-    → AllByRecursion (IsSpelledLine profile) (lines_behind profile space tokens ps)
+    → AreLexemes profile line ps rest
+    → AllByRecursion (IsSpelledLine profile) (lines_after profile space tokens ps)
 lines_spelled profile line space tokens [] rest all each = tt
 lines_spelled profile line space tokens (p ∷ ps) rest all each =
     let after = tokens_after space tokens p.chars p.sort in
-    both (IsSpelledLine profile) (lines_ended profile tokens p.chars p.sort) (lines_behind profile (leaves_space p.sort) after ps)
+    both (IsSpelledLine profile) (lines_ended profile tokens p.chars p.sort) (lines_after profile (leaves_space p.sort) after ps)
     (ended_spelled profile tokens p.chars p.sort all)
-    (lines_spelled profile (with_piece line p p.sort) (leaves_space p.sort) after ps rest
-    (after_spelled profile line space tokens p.chars (laid ps ++ rest) p.sort all each.0) each.1)
+    (lines_spelled profile (with_lexeme line p p.sort) (leaves_space p.sort) after ps rest
+    (after_spelled profile line space tokens p.chars (characters_of ps ++ rest) p.sort all each.0) each.1)
 
 pub source_spelled : (profile : Profile) (file : ℕ) (bytes : List ℕ) (lines : List LogicalLine)
     → IsSource profile file bytes lines
     → AllByRecursion (IsSpelledLine profile) lines
 source_spelled profile file bytes lines is =
-    subst (AllByRecursion (IsSpelledLine profile)) (sym is.same) (lines_spelled profile [] true [] is.pieces [] tt is.cut.each)
+    subst (AllByRecursion (IsSpelledLine profile)) (sym is.same) (lines_spelled profile [] true [] is.lexemes [] tt is.tokenized.each)
 
 -- ---- the kind of a spelling
 

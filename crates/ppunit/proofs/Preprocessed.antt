@@ -1,9 +1,9 @@
 -- From what is read of a unit's definitions and what is walked to the unit's value.
 use Rattle.std.proofs.Common.{◌≡◌, ◌↔◌, ℕ, List, [], Option, None, Result, Ok, Err, ap, ◌∙◌, subst}
 use Rattle.pptext.specs.declared.tokens.Fault.{Fault}
-use Rattle.pptext.specs.declared.stops.Stop.{Stop}
-use Rattle.pptext.specs.declared.stops.Stop.TheVariants.{Fault as Faulted, Memory as OutOfMemory}
-use Rattle.pptext.specs.Stops.{IfSettled}
+use Rattle.pptext.specs.declared.error.Error.{Error}
+use Rattle.pptext.specs.declared.error.Error.TheVariants.{Fault as Faulted, Memory as OutOfMemory}
+use Rattle.pptext.specs.Errors.{UnlessOutOfMemory}
 use Rattle.pptext.specs.declared.sources.Profile.{Profile}
 use Rattle.pptext.specs.Lines.{LogicalLine}
 use Rattle.pptext.specs.Sources.{IsSource, Reads}
@@ -52,10 +52,10 @@ defines_unread around files profile defines x s f one is reads =
     let reads' : Reads profile command_file (command_text defines) (Err f) = subst (Reads profile command_file (command_text defines)) is reads in
     λ more grows. unread (subst (λ (z : Profile). Reads z command_file (command_text defines) (Err f)) (one more) reads')
 
-pub on_settled : {A : Type 0} {P Q : Result A Fault → Type 0} (r : Result A Stop)
+pub on_settled : {A : Type 0} {P Q : Result A Fault → Type 0} (r : Result A Error)
     → ((a : Result A Fault) → P a → Q a)
-    → IfSettled r P
-    → IfSettled r Q
+    → UnlessOutOfMemory r P
+    → UnlessOutOfMemory r Q
 on_settled (Ok a) turn p = turn (Ok a) p
 on_settled (Err (Faulted f)) turn p = turn (Err f) p
 on_settled (Err OutOfMemory) turn p = tt

@@ -13,7 +13,7 @@ use Rattle.pptext.specs.Lines.{LogicalLine, lines_of}
 use Rattle.pptext.specs.Sources.{IsFaultOf}
 use Rattle.pptext.specs.Tree.{Role, Elses, Closes, role, Open, opened, fault_at_end, fault_or, group_fault, Parts, Branches, sign_place}
 use Rattle.pptext.specs.Profiles.{is_gnu}
-use Rattle.pptext.specs.Tokens.{is_lone_quote}
+use Rattle.pptext.specs.Tokens.{is_unmatched_quote}
 use Rattle.ppmacro.specs.Names.{Macros}
 use Rattle.ppmacro.specs.Define.{after_define, after_undef}
 use Rattle.ppmacro.proofs.Numbers.{define_number, undef_number}
@@ -98,7 +98,7 @@ groups_other os (r ∷ rs) = or_other r (opened (role r) r os).0 _ (opened_other
 pub reads_other : {profile : Profile} {file : ℕ} {bytes : List ℕ} {f : Fault} → IsFaultOf profile file bytes f → f.number ≢ 35
 reads_other (IsFaultOf.spliced_end e) = λ h. absurd (omega arith)
 reads_other (IsFaultOf.open_comment e u) = λ h. absurd (omega arith)
-reads_other {profile} (IsFaultOf.bad_groups {pieces = pieces} e c g) = subst IsOther g (groups_other [] (lines_of profile pieces))
+reads_other {profile} (IsFaultOf.bad_groups {lexemes = lexemes} e c g) = subst IsOther g (groups_other [] (lines_of profile lexemes))
 
 -- ---- what replaces: the same as expansion
 
@@ -118,7 +118,7 @@ macros_other s (Err f) h = let most : f.number ≤ 16 = h f refl in λ e. absurd
 
 pub quote_other : (ts : List Token) → IsOther (lone_quote ts)
 quote_other [] = tt
-quote_other (t ∷ ts) = chosen (is_lone_quote t) (quote_other ts)
+quote_other (t ∷ ts) = chosen (is_unmatched_quote t) (quote_other ts)
   where
     chosen : (b : Bool) → IsOther (lone_quote ts) → IsOther (if b then Some (quote_fault t) else lone_quote ts)
     chosen true h = λ e. absurd (omega arith)

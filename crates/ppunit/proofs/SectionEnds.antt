@@ -4,7 +4,7 @@ use Rattle.std.proofs.lemmas.List.{length-drop}
 use Rattle.pptext.specs.declared.sources.Directive.{Directive}
 use Rattle.pptext.specs.Lines.{LogicalLine}
 use Rattle.pptext.specs.Sources.{next_branch}
-use Rattle.pptext.specs.Tree.{Parts, Done, Branches, End, Branch, part_lines, branch_lines, AreParts, AreBranches, role, role_by, branch_behind}
+use Rattle.pptext.specs.Tree.{Parts, Done, Branches, End, Branch, part_lines, branch_lines, AreParts, AreBranches, role, role_by, branch_after}
 use Rattle.pptext.specs.Classes.{ends_group}
 use Rattle.pptext.proofs.Walks.{next_within, next_of_branch, next_of_end, next_behind}
 use Rattle.ppunit.specs.States.{State, Surroundings, going}
@@ -19,14 +19,14 @@ use Rattle.ppunit.proofs.Advancing.{AdvancesFrom, first_at}
 
 pub branches_next : (lines : List LogicalLine) (index : ℕ) (r : LogicalLine) (ps qs : Parts) (bs : Branches) (last : Bool) (rest : List LogicalLine)
     → drop index lines ≡ r ∷ (part_lines ps ++ (branch_lines bs ++ rest))
-    → ((n : ℕ) (behind : List LogicalLine) → next_branch n (role r) behind ≡ branch_behind 0 (n + 1) (map role behind))
+    → ((n : ℕ) (behind : List LogicalLine) → next_branch n (role r) behind ≡ branch_after 0 (n + 1) (map role behind))
     → AreParts ps
     → AreBranches last bs
     → next_branch index (role (line_at lines index)) (drop (suc index) lines) ≡ Some (index + 1 + length (part_lines ps))
 branches_next lines index r ps qs bs last rest e next parts are =
     let h = at_index lines index r (part_lines ps ++ (branch_lines bs ++ rest)) e in
     ap (λ (z : LogicalLine). next_branch index (role z) (drop (suc index) lines)) h.here ∙ next index (drop (suc index) lines)
-    ∙ ap (λ (z : List LogicalLine). branch_behind 0 (index + 1) (map role z)) h.behind ∙ next_behind ps bs last (index + 1) rest parts are
+    ∙ ap (λ (z : List LogicalLine). branch_after 0 (index + 1) (map role z)) h.behind ∙ next_behind ps bs last (index + 1) rest parts are
 
 pub branches_there : (lines : List LogicalLine) (index : ℕ) (r : LogicalLine) (ps : Parts) (rest : List LogicalLine) → drop index lines ≡ r ∷ (part_lines ps ++ rest) → drop (index + 1 + length (part_lines ps)) lines ≡ rest
 branches_there lines index r ps rest e =

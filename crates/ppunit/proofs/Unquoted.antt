@@ -12,7 +12,7 @@ use Rattle.pptext.specs.declared.sources.Directive.{Directive}
 use Rattle.pptext.specs.declared.sources.Directive.TheVariants.{If}
 use Rattle.pptext.specs.Tree.{role_by, role_named}
 use Rattle.pptext.specs.Guard.{named}
-use Rattle.pptext.specs.Tokens.{is_identifier_kind, is_other_kind, is_lone_quote}
+use Rattle.pptext.specs.Tokens.{is_identifier_kind, is_other_kind, is_unmatched_quote}
 use Rattle.ppunit.specs.Quotes.{quote_fault, lone_quote}
 
 -- ---- tokens without quotes
@@ -20,7 +20,7 @@ use Rattle.ppunit.specs.Quotes.{quote_fault, lone_quote}
 abbrev pub is_quote : List ℕ → Bool
 is_quote text = bytes_eq text (codes "'") || bytes_eq text (34 ∷ [])
 
-text_unquoted : (t : Token) (text : List ℕ) → t.text ≡ text → is_quote text ≡ false → is_lone_quote t ≡ false
+text_unquoted : (t : Token) (text : List ℕ) → t.text ≡ text → is_quote text ≡ false → is_unmatched_quote t ≡ false
 text_unquoted t text e f = ap (λ (z : List ℕ). is_other_kind t.kind && is_quote z) e ∙ ap (λ (b : Bool). is_other_kind t.kind && b) f ∙ and-false (is_other_kind t.kind)
 
 pub is_ident_kind : (k : Kind) → is_identifier_kind k ≡ true → k ≡ Ident
@@ -32,7 +32,7 @@ is_ident_kind Punct e = absurd (false≢true e)
 is_ident_kind Header e = absurd (false≢true e)
 is_ident_kind Other e = absurd (false≢true e)
 
-pub ident_unquoted : (t : Token) → t.kind ≡ Ident → is_lone_quote t ≡ false
+pub ident_unquoted : (t : Token) → t.kind ≡ Ident → is_unmatched_quote t ≡ false
 ident_unquoted t e = ap (λ (k : Kind). is_other_kind k && is_quote t.text) e
 
 -- a token that is spelled so
@@ -44,10 +44,10 @@ named_is t text e = (bytes_eq-Decides t.text text).0 e
 abbrev pub is_hash : List ℕ → Bool
 is_hash text = bytes_eq text (codes "#") || bytes_eq text (codes "%:")
 
-pub hash_unquoted : (t : Token) → is_hash t.text ≡ true → is_lone_quote t ≡ false
+pub hash_unquoted : (t : Token) → is_hash t.text ≡ true → is_unmatched_quote t ≡ false
 hash_unquoted t e = cases (bytes_eq t.text (codes "#")) refl e
   where
-    cases : (b : Bool) → bytes_eq t.text (codes "#") ≡ b → (b || bytes_eq t.text (codes "%:")) ≡ true → is_lone_quote t ≡ false
+    cases : (b : Bool) → bytes_eq t.text (codes "#") ≡ b → (b || bytes_eq t.text (codes "%:")) ≡ true → is_unmatched_quote t ≡ false
     cases true is h = text_unquoted t (codes "#") (named_is t (codes "#") is) refl
     cases false is h = text_unquoted t (codes "%:") (named_is t (codes "%:") h) refl
 
@@ -57,11 +57,11 @@ opens_by true d e = refl
 opens_by false d e = absurd (cc)
 
 abbrev pub AreUnquoted : List Token → Type 0
-AreUnquoted ts = AllByRecursion (λ t. is_lone_quote t ≡ false) ts
+AreUnquoted ts = AllByRecursion (λ t. is_unmatched_quote t ≡ false) ts
 
 pub no_quote : (ts : List Token) → AreUnquoted ts → lone_quote ts ≡ None
 no_quote [] all = refl
 no_quote (t ∷ ts) all = ap (λ (b : Bool). if b then Some (quote_fault t) else lone_quote ts) all.0 ∙ no_quote ts all.1
 
-pub named_unquoted : (t : Token) (text : List ℕ) → named t text ≡ true → is_quote text ≡ false → is_lone_quote t ≡ false
+pub named_unquoted : (t : Token) (text : List ℕ) → named t text ≡ true → is_quote text ≡ false → is_unmatched_quote t ≡ false
 named_unquoted t text e f = text_unquoted t text (named_is t text e) f

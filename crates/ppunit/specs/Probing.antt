@@ -6,7 +6,7 @@ use Rattle.pptext.specs.declared.tokens.Token.{Token}
 use Rattle.pptext.specs.declared.tokens.Fault.{Fault}
 use Rattle.pptext.specs.declared.tokens.Kind.TheVariants.{Number}
 use Rattle.pptext.specs.Profiles.{is_gnu}
-use Rattle.pptext.specs.Tokens.{is_name, is_punct}
+use Rattle.pptext.specs.Tokens.{is_identifier_named, is_punct}
 use Rattle.ppshelf.specs.Names.{name_in}
 use Rattle.ppshelf.specs.Search.{Candidate, candidates}
 use Rattle.ppunit.specs.States.{Search}
@@ -14,7 +14,7 @@ use Rattle.ppunit.specs.Lines.{operands, line_fault}
 use Rattle.ppunit.specs.Including.{Asked, expanded_asked, if_somewhere}
 
 abbrev pub is_has_include : Token → Bool
-is_has_include t = is_name (codes "__has_include") t
+is_has_include t = is_identifier_named (codes "__has_include") t
 
 -- the first token is `(`
 abbrev pub opens : List Token → Bool

@@ -2,7 +2,7 @@
 use Rattle.std.specs.Prelude.{List, [], ◌∷◌, if◌then◌else◌, Option, None, Some}
 use Rattle.pptext.specs.declared.tokens.Token.{Token}
 use Rattle.pptext.specs.declared.tokens.Fault.{Fault}
-use Rattle.pptext.specs.Tokens.{is_lone_quote, fault}
+use Rattle.pptext.specs.Tokens.{is_unmatched_quote, fault}
 
 abbrev pub quote_fault : Token → Fault
 quote_fault t = fault 7 t.at t.text
@@ -10,4 +10,4 @@ quote_fault t = fault 7 t.at t.text
 -- the fault of the first unmatched quote
 abbrev pub lone_quote : List Token → Option Fault
 lone_quote [] = None
-lone_quote (t ∷ ts) = if is_lone_quote t then Some (quote_fault t) else lone_quote ts
+lone_quote (t ∷ ts) = if is_unmatched_quote t then Some (quote_fault t) else lone_quote ts

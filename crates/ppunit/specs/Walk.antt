@@ -6,7 +6,7 @@ use Rattle.pptext.specs.declared.tokens.Fault.{Fault}
 use Rattle.pptext.specs.declared.sources.Directive.{Directive}
 use Rattle.pptext.specs.Lines.{LogicalLine}
 use Rattle.pptext.specs.Sources.{next_branch}
-use Rattle.pptext.specs.Tree.{Parts, Branches, part_lines, branch_lines, AreParts, AreBranches, Tree, role, branch_behind}
+use Rattle.pptext.specs.Tree.{Parts, Branches, part_lines, branch_lines, AreParts, AreBranches, Tree, role, branch_after}
 use Rattle.pptext.specs.Classes.{has_condition}
 use Rattle.ppshelf.specs.Files.{Files, Extends}
 use Rattle.ppunit.specs.declared.states.Context.{Context}
@@ -151,7 +151,7 @@ Walks around files depth row lines s end =
 pub record BranchesAt (lines : List LogicalLine) (index : ℕ) (ps : Parts) (bs : Branches) (qs : Parts) (k : Outer) : Type 0 where
   pub line : LogicalLine
   pub rest : drop index lines ≡ line ∷ lay ps ((bs, qs) ∷ k)
-  pub next : (n : ℕ) (behind : List LogicalLine) → next_branch n (role line) behind ≡ branch_behind 0 (n + 1) (map role behind)
+  pub next : (n : ℕ) (behind : List LogicalLine) → next_branch n (role line) behind ≡ branch_after 0 (n + 1) (map role behind)
   pub parts : AreParts ps
   pub outer : AreOuter ((bs, qs) ∷ k)
 

@@ -1,7 +1,7 @@
 //! Decides whether a line of an if-section takes the group after it (6.10.1; for `#elifdef` and `#elifndef`, 6.10.2 of
 //! ISO/IEC 9899:2024).
 ghost use Rattle.std.specs.Prelude.{◌≡◌, ◌<◌, ℕ, true, false, length};
-ghost use Rattle.pptext.specs.Stops.{IfSettled};
+ghost use Rattle.pptext.specs.Errors.{UnlessOutOfMemory};
 ghost use Rattle.pptext.specs.Tree.{sign_place};
 ghost use Rattle.ppexpr.specs.Conditions.{IsCondition};
 ghost use Rattle.ppunit.specs.Conditions as spec;
@@ -16,7 +16,7 @@ use crate::states::State;
 use ppexpr::evaluate;
 use ppmacro::Table;
 use ppshelf::Disk;
-use pptext::{Directive, Fault, Place, Question, Stop, Token};
+use pptext::{Directive, Fault, Place, Question, Error, Token};
 use std::alloc::Global;
 
 /// Decides whether the group after a line of the file at index `row` is taken. Fails with the line's fault: 7, 9, 30,
@@ -27,11 +27,11 @@ pub(crate) fn decide<D: Disk>(
     row: usize,
     directive: Directive,
     line: &[Token],
-) -> Result<bool, Stop>
+) -> Result<bool, Error>
     requires rows { 0 < length around.now.shelf.names }
     requires condition { spec.IsConditional directive }
     ensures rest { state.new ≡ with_left state.old state.new.left }
-    ensures decides { IfSettled result (λ taken.
+    ensures decides { UnlessOutOfMemory result (λ taken.
         (number : ℕ)
         → spec.Decides (search_in around.now) row state.old (spec_lines.directed directive line.now number) state.new.left taken) }
 {
@@ -43,11 +43,11 @@ pub(crate) fn decide<D: Disk>(
 }
 
 /// Returns whether the macro table has the line's name, compared with `wanted`. Fault 9 unless the operand is one identifier.
-fn by_name(alloc: Global, wanted: bool, macros: &Table, line: &[Token]) -> Result<bool, Stop>
-    ensures { IfSettled result (λ taken. taken ≡ spec.by_name wanted macros.now.macros line.now (spec_lines.one_identifier (spec_lines.operands line.now))) }
+fn by_name(alloc: Global, wanted: bool, macros: &Table, line: &[Token]) -> Result<bool, Error>
+    ensures { UnlessOutOfMemory result (λ taken. taken ≡ spec.by_name wanted macros.now.macros line.now (spec_lines.one_identifier (spec_lines.operands line.now))) }
 {
     let Some(asked) = one_identifier(operands(line)) else {
-        return Err(Stop::Fault(line_fault(alloc, 9, line, name(line))?));
+        return Err(Error::Fault(line_fault(alloc, 9, line, name(line))?));
     };
     Ok(macros.get(asked).is_some() == wanted)
 }
@@ -58,10 +58,10 @@ fn by_condition<D: Disk>(
     state: &mut State,
     row: usize,
     line: &[Token],
-) -> Result<bool, Stop>
+) -> Result<bool, Error>
     requires { 0 < length around.now.shelf.names }
     ensures rest { state.new ≡ with_left state.old state.new.left }
-    ensures is { IfSettled result (λ taken.
+    ensures is { UnlessOutOfMemory result (λ taken.
         spec.DecidesOf (condition_tokens (search_in around.now) row line.now) state.old (sign_place line.now) state.new.left taken) }
 {
     let at = sign(line);
@@ -71,18 +71,18 @@ fn by_condition<D: Disk>(
         return value(around.alloc, state, at, operands);
     }
     let Some(tokens) = probe(around, row, operands)? else {
-        return Err(Stop::Fault(Fault::bare(30, at)));
+        return Err(Error::Fault(Fault::bare(30, at)));
     };
     value(around.alloc, state, at, tokens.as_slice())
 }
 
 /// Evaluates a condition, and spends its replacements from the budget.
-fn value(alloc: Global, state: &mut State, at: Place, tokens: &[Token]) -> Result<bool, Stop>
+fn value(alloc: Global, state: &mut State, at: Place, tokens: &[Token]) -> Result<bool, Error>
     ensures rest { state.new ≡ with_left state.old state.new.left }
-    ensures is { IfSettled result (λ taken.
+    ensures is { UnlessOutOfMemory result (λ taken.
         IsCondition state.old.macros state.old.env at tokens.now state.old.left taken state.new.left) }
 {
     let (taken, left) = evaluate(alloc, &state.macros, &state.env, state.left, at, tokens)?;
     state.left = left;
-    taken.map_err(Stop::Fault)
+    taken.map_err(Error::Fault)
 }

@@ -1,7 +1,7 @@
 //! Control lines that open no file (6.10.3 to 6.10.7), and text lines.
 ghost use Rattle.std.specs.Prelude.{◌≡◌, IfOk, Some, true};
 ghost use Rattle.std.specs.Result.{result_err};
-ghost use Rattle.pptext.specs.Stops.{IfSettled};
+ghost use Rattle.pptext.specs.Errors.{UnlessOutOfMemory};
 ghost use Rattle.ppunit.specs.Directives as spec;
 ghost use Rattle.ppunit.specs.Lines as spec_lines;
 ghost use Rattle.pptext.specs.Tree.{sign_place};
@@ -13,7 +13,7 @@ use crate::lines::{DirectiveLine, line_fault, name, operands, push_space, sign};
 use crate::states::State;
 use ppexpand::expand;
 use ppmacro::{define, undef};
-use pptext::{Directive, Fault, Profile, Stop, Token};
+use pptext::{Directive, Fault, Profile, Error, Token};
 use std::alloc::{AllocError, Global};
 
 /// Emits the expansion of a run of text lines, up to its first fault (6.10.3).
@@ -21,8 +21,8 @@ pub(crate) fn run_text<'x>(
     alloc: Global,
     state: &mut State<'x>,
     tokens: &'x [Token],
-) -> Result<(), Stop>
-    ensures { IfSettled result (λ r. spec.RunGives state.old tokens.now (record { state = state.new; fault = result_err r })) }
+) -> Result<(), Error>
+    ensures { UnlessOutOfMemory result (λ r. spec.RunGives state.old tokens.now (record { state = state.new; fault = result_err r })) }
 {
     // Blank lines between directives are a run as well.
     if tokens.is_empty() {
@@ -33,7 +33,7 @@ pub(crate) fn run_text<'x>(
     state.items.extend(expanded.tokens)?;
     match expanded.fault {
         None => Ok(()),
-        Some(fault) => Err(Stop::Fault(fault)),
+        Some(fault) => Err(Error::Fault(fault)),
     }
 }
 
@@ -78,8 +78,8 @@ fn pragma<'x>(
     profile: Profile,
     row: usize,
     line: &'x [Token],
-) -> Result<(), Stop>
-    ensures { IfSettled result (λ r. record { state = state.new; fault = result_err r } ≡ going (spec.pragma_passed profile row state.old line.now)) }
+) -> Result<(), Error>
+    ensures { UnlessOutOfMemory result (λ r. record { state = state.new; fault = result_err r } ≡ going (spec.pragma_passed profile row state.old line.now)) }
 {
     let tokens = operands(line);
     state.pass_pragma(sign(line), tokens)?;
@@ -91,10 +91,10 @@ fn pragma<'x>(
 
 /// Stops a unit with a fault.
 #[inline(never)]
-fn stopped(fault: Fault) -> Result<(), Stop>
-    ensures { IfSettled result (λ r. result_err r ≡ Some fault) }
+fn stopped(fault: Fault) -> Result<(), Error>
+    ensures { UnlessOutOfMemory result (λ r. result_err r ≡ Some fault) }
 {
-    Err(Stop::Fault(fault))
+    Err(Error::Fault(fault))
 }
 
 /// Executes a `#define` line (6.10.3).
@@ -103,8 +103,8 @@ fn define_by<'x>(
     state: &mut State<'x>,
     profile: Profile,
     line: &'x [Token],
-) -> Result<(), Stop>
-    ensures { IfSettled result (λ r.
+) -> Result<(), Error>
+    ensures { UnlessOutOfMemory result (λ r.
         record { state = state.new; fault = result_err r } ≡ spec.with_macros state.old (after_define profile state.old.macros (sign_place line.now) (spec_lines.operands line.now))) }
 {
     match define(
@@ -125,8 +125,8 @@ fn undef_by<'x>(
     state: &mut State<'x>,
     profile: Profile,
     line: &'x [Token],
-) -> Result<(), Stop>
-    ensures { IfSettled result (λ r.
+) -> Result<(), Error>
+    ensures { UnlessOutOfMemory result (λ r.
         record { state = state.new; fault = result_err r } ≡ spec.with_macros state.old (after_undef profile state.old.macros (sign_place line.now) (spec_lines.operands line.now))) }
 {
     match undef(
@@ -142,8 +142,8 @@ fn undef_by<'x>(
 }
 
 /// Stops a unit with fault 8, with the name of an unknown directive.
-fn unknown(alloc: Global, line: &[Token]) -> Result<(), Stop>
-    ensures { IfSettled result (λ r. result_err r ≡ Some (spec_lines.named_fault 8 line.now)) }
+fn unknown(alloc: Global, line: &[Token]) -> Result<(), Error>
+    ensures { UnlessOutOfMemory result (λ r. result_err r ≡ Some (spec_lines.named_fault 8 line.now)) }
 {
     stopped(line_fault(alloc, 8, line, name(line))?)
 }
@@ -155,9 +155,9 @@ fn control_any<'x>(
     state: &mut State<'x>,
     profile: Profile,
     line: DirectiveLine<'x>,
-) -> Result<(), Stop>
+) -> Result<(), Error>
     requires { spec.IsControl line.directive }
-    ensures { IfSettled result (λ r.
+    ensures { UnlessOutOfMemory result (λ r.
         spec.ControlBy profile line.entry.row (Some line.entry.directive) state.old (spec_lines.directed line.entry.directive line.entry.tokens.now line.entry.number)
         (record { state = state.new; fault = result_err r })) }
 {
@@ -177,9 +177,9 @@ pub(crate) fn control<'x>(
     state: &mut State<'x>,
     profile: Profile,
     line: DirectiveLine<'x>,
-) -> Result<(), Stop>
+) -> Result<(), Error>
     requires { spec.IsControl line.directive }
-    ensures { IfSettled result (λ r.
+    ensures { UnlessOutOfMemory result (λ r.
         spec.ControlBy profile line.entry.row (Some line.entry.directive) state.old (spec_lines.directed line.entry.directive line.entry.tokens.now line.entry.number)
         (record { state = state.new; fault = result_err r })) }
 {

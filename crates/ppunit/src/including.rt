@@ -1,7 +1,7 @@
 //! The header that an `#include` line names (6.10.2).
 ghost use Rattle.std.specs.Prelude.{◌≡◌, ◌∷◌, IfOk, [], true};
 ghost use Rattle.std.specs.Option.{option_map};
-ghost use Rattle.pptext.specs.Stops.{IfSettled};
+ghost use Rattle.pptext.specs.Errors.{UnlessOutOfMemory};
 ghost use Rattle.ppunit.specs.Lines.{line_fault};
 ghost use Rattle.ppunit.specs.Including as spec;
 ghost use Rattle.ppunit.specs.Directives.{Asks, AsksReplaced};
@@ -12,7 +12,7 @@ use crate::lines::{line_fault, operands, push_space};
 use crate::replacing::replaced;
 use crate::states::State;
 use ppshelf::Form;
-use pptext::{Kind, Spelling, Stop, Token};
+use pptext::{Kind, Spelling, Error, Token};
 use std::alloc::{AllocError, Global};
 use std::marker::Model;
 
@@ -127,12 +127,12 @@ fn expanded_asked(alloc: Global, tokens: &[Token]) -> Result<Option<Asked>, Allo
 }
 
 /// Returns the header, or fault 30 if there is none or no file can have its name.
-fn asked_or_fault(alloc: Global, line: &[Token], asked: Option<Asked>) -> Result<Asked, Stop>
-    ensures { IfSettled result (λ r. r ≡ spec.asked_or (line_fault 30 line.now []) (spec.if_somewhere asked)) }
+fn asked_or_fault(alloc: Global, line: &[Token], asked: Option<Asked>) -> Result<Asked, Error>
+    ensures { UnlessOutOfMemory result (λ r. r ≡ spec.asked_or (line_fault 30 line.now []) (spec.if_somewhere asked)) }
 {
     match asked {
         Some(asked) if !is_nowhere(asked.name.as_bytes()) => Ok(asked),
-        _ => Err(Stop::Fault(line_fault(alloc, 30, line, b"")?)),
+        _ => Err(Error::Fault(line_fault(alloc, 30, line, b"")?)),
     }
 }
 
@@ -164,17 +164,17 @@ pub(crate) fn asked_as_it_stands(
 }
 
 /// Returns the header that the tokens name after macro replacement, or fault 30.
-fn asked_behind(alloc: Global, line: &[Token], tokens: &[Token]) -> Result<Asked, Stop>
-    ensures { IfSettled result (λ r. r ≡ spec.asked_or (line_fault 30 line.now []) (spec.if_somewhere (spec.expanded_asked tokens.now))) }
+fn asked_behind(alloc: Global, line: &[Token], tokens: &[Token]) -> Result<Asked, Error>
+    ensures { UnlessOutOfMemory result (λ r. r ≡ spec.asked_or (line_fault 30 line.now []) (spec.if_somewhere (spec.expanded_asked tokens.now))) }
 {
     let asked = expanded_asked(alloc, tokens)?;
     asked_or_fault(alloc, line, asked)
 }
 
 /// Returns the header that an include line names once its macros are replaced.
-fn ask_replaced<'x>(alloc: Global, state: &mut State<'x>, line: &'x [Token]) -> Result<Asked, Stop>
+fn ask_replaced<'x>(alloc: Global, state: &mut State<'x>, line: &'x [Token]) -> Result<Asked, Error>
     ensures rest { state.new ≡ with_left state.old state.new.left }
-    ensures asks { IfSettled result (λ asked. AsksReplaced state.old line.now state.new.left asked) }
+    ensures asks { UnlessOutOfMemory result (λ asked. AsksReplaced state.old line.now state.new.left asked) }
 {
     let tokens = replaced(alloc, state, operands(line))?;
     asked_behind(alloc, line, tokens.as_slice())
@@ -186,9 +186,9 @@ pub(crate) fn ask<'x>(
     alloc: Global,
     state: &mut State<'x>,
     line: &'x [Token],
-) -> Result<Asked, Stop>
+) -> Result<Asked, Error>
     ensures rest { state.new ≡ with_left state.old state.new.left }
-    ensures asks { IfSettled result (λ asked. Asks state.old line.now state.new.left asked) }
+    ensures asks { UnlessOutOfMemory result (λ asked. Asks state.old line.now state.new.left asked) }
 {
     let rest = operands(line);
     if let Some(first) = rest.first() {

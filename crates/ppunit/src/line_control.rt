@@ -2,7 +2,7 @@
 ghost use Rattle.std.specs.Prelude.{◌≡◌, ◌+◌, ◌-ℤ◌, pos, [], IfOk};
 ghost use Rattle.std.specs.Option.{ok_or};
 ghost use Rattle.std.specs.Result.{result_err};
-ghost use Rattle.pptext.specs.Stops.{IfSettled};
+ghost use Rattle.pptext.specs.Errors.{UnlessOutOfMemory};
 ghost use Rattle.pptext.specs.declared.sources.Directive.TheVariants.{Line};
 ghost use Rattle.ppunit.specs.LineControl as spec;
 ghost use Rattle.ppunit.specs.Lines.{directed, line_fault};
@@ -13,7 +13,7 @@ use crate::lines::{line_fault, operands};
 use crate::replacing::replaced;
 use crate::states::State;
 use ppexpand::Env;
-use pptext::{Kind, Spelling, Stop, Token};
+use pptext::{Kind, Spelling, Error, Token};
 use std::alloc::{AllocError, Global};
 use std::marker::Model;
 
@@ -90,12 +90,12 @@ fn rename(env: &mut Env, name: Option<Spelling>)
 }
 
 /// Returns the operands of `#line` after macro replacement, or fault 33.
-fn presumed_or_fault(alloc: Global, line: &[Token], tokens: &[Token]) -> Result<Presumed, Stop>
-    ensures { IfSettled result (λ r. r ≡ ok_or (spec.presumed tokens.now) (line_fault 33 line.now [])) }
+fn presumed_or_fault(alloc: Global, line: &[Token], tokens: &[Token]) -> Result<Presumed, Error>
+    ensures { UnlessOutOfMemory result (λ r. r ≡ ok_or (spec.presumed tokens.now) (line_fault 33 line.now [])) }
 {
     match presumed_by(tokens)? {
         Some(presumed) => Ok(presumed),
-        None => Err(Stop::Fault(line_fault(alloc, 33, line, b"")?)),
+        None => Err(Error::Fault(line_fault(alloc, 33, line, b"")?)),
     }
 }
 
@@ -114,8 +114,8 @@ pub(crate) fn renumber<'x>(
     state: &mut State<'x>,
     line: &'x [Token],
     physical: u32,
-) -> Result<(), Stop>
-    ensures { IfSettled result (λ r. LineGives state.old (directed Line line.now physical) (record { state = state.new; fault = result_err r })) }
+) -> Result<(), Error>
+    ensures { UnlessOutOfMemory result (λ r. LineGives state.old (directed Line line.now physical) (record { state = state.new; fault = result_err r })) }
 {
     let tokens = replaced(alloc, state, operands(line))?;
     let presumed = presumed_or_fault(alloc, line, tokens.as_slice())?;

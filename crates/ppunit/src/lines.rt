@@ -2,13 +2,13 @@
 ghost use Rattle.std.specs.Prelude.{◌≡◌, ◌++◌, IfOk, OnOk};
 ghost use Rattle.std.specs.Option.{option_copied};
 ghost use Rattle.std.specs.Result.{result_err};
-ghost use Rattle.pptext.specs.Stops.{IfSettled};
+ghost use Rattle.pptext.specs.Errors.{UnlessOutOfMemory};
 ghost use Rattle.pptext.specs.Tree.{sign_place, name_of};
 ghost use Rattle.ppmacro.specs.Substitution.{spelled_space};
 ghost use Rattle.ppunit.specs.Lines as spec;
 ghost use Rattle.ppunit.specs.Quotes as quotes;
 
-use pptext::{Directive, Fault, Place, Stop, Token};
+use pptext::{Directive, Fault, Place, Error, Token};
 use std::alloc::{AllocError, Global};
 
 /// A directive line of the file at index `row`: its tokens from the `#` on, and its number in that file, from 1.
@@ -87,12 +87,12 @@ pub(crate) fn one_identifier(tokens: &[Token]) -> Option<&[u8]>
 }
 
 /// Fails with fault 7 at the first unmatched quote (6.4p3), if there is one.
-pub(crate) fn refuse_lone_quote(line: &[Token]) -> Result<(), Stop>
-    ensures { IfSettled result (λ r. result_err r ≡ quotes.lone_quote line.now) }
+pub(crate) fn refuse_lone_quote(line: &[Token]) -> Result<(), Error>
+    ensures { UnlessOutOfMemory result (λ r. result_err r ≡ quotes.lone_quote line.now) }
 {
     for token in line {
-        if token.is_lone_quote() {
-            return Err(Stop::Fault(Fault::of_token(7, token.at, token)?));
+        if token.is_unmatched_quote() {
+            return Err(Error::Fault(Fault::of_token(7, token.at, token)?));
         }
     }
     Ok(())

@@ -1,7 +1,7 @@
 //! Opens files (6.10.2): dependencies, contents, and the predefined names in a file.
 ghost use Rattle.std.specs.Prelude.{◌≡◌, ◌<◌, ◌^◌, pos, map, length, string_bytes, IfOk, OnOk, IfErr, IfSome};
 ghost use Rattle.std.specs.Result.{result_err};
-ghost use Rattle.pptext.specs.Stops.{IfSettled};
+ghost use Rattle.pptext.specs.Errors.{UnlessOutOfMemory};
 ghost use Rattle.ppshelf.specs.Files.{Files, Extends};
 ghost use Rattle.ppshelf.specs.Names.{name_in};
 ghost use Rattle.ppunit.specs.Dependencies.{is_among};
@@ -17,7 +17,7 @@ use crate::indexed::count;
 use crate::states::{Context, State, literal};
 use ppexpand::Env;
 use ppshelf::{Disk, Folders, Form, Pass, Shelf, resolve, resolve_behind};
-use pptext::{Fault, Memory, Place, Profile, Source, Stop};
+use pptext::{Fault, Memory, Place, Profile, Source, Error};
 use std::alloc::{AllocError, Global};
 use std::marker::Model;
 
@@ -203,16 +203,16 @@ fn pay_for<D: Disk>(
     depth: u32,
     at: Place,
     row: usize,
-) -> Result<(), Stop>
+) -> Result<(), Error>
     requires { row < length around.now.shelf.names }
-    ensures { IfSettled result (λ r. Pays depth at (name_in around.now.shelf.names row) state.old state.new (result_err r)) }
+    ensures { UnlessOutOfMemory result (λ r. Pays depth at (name_in around.now.shelf.names row) state.old state.new (result_err r)) }
 {
     if depth > DEEPEST {
         let name = around.shelf().name(row);
-        return Err(Stop::Fault(Fault::new(around.alloc, 32, at, name.as_bytes())?));
+        return Err(Error::Fault(Fault::new(around.alloc, 32, at, name.as_bytes())?));
     }
     if state.is_spent() {
-        return Err(Stop::Fault(Fault::bare(35, at)));
+        return Err(Error::Fault(Fault::bare(35, at)));
     }
     state.pay();
     Ok(())
@@ -234,24 +234,24 @@ fn source_of<'a, D: Disk>(
     pass: &mut Pass<'a, D>,
     at: Place,
     row: usize,
-) -> Result<&'a Source, Stop>
+) -> Result<&'a Source, Error>
     requires shelf { pass.old.shelf ≡ around.now.shelf }
     requires row { row < length around.now.shelf.names }
     ensures shelf { pass.new.shelf ≡ around.now.shelf }
     ensures grows { Extends pass.new.files pass.old.files }
     ensures lines { IfOk result (λ source. HasLines around.now.shelf pass.new.files row source.now) }
-    ensures fault { IfSettled result (λ r. IfErr r (λ f. HasFault around.now.shelf pass.new.files row at f)) }
+    ensures fault { UnlessOutOfMemory result (λ r. IfErr r (λ f. HasFault around.now.shelf pass.new.files row at f)) }
 {
     let shelf = around.shelf();
     let Ok(loaded) = shelf.look(pass, row, around.disk) else {
-        return Err(Stop::Memory);
+        return Err(Error::Memory);
     };
     match loaded.lines() {
         Some(Ok(source)) => Ok(source),
-        Some(Err(fault)) => Err(Stop::Fault(fault.clone()?)),
+        Some(Err(fault)) => Err(Error::Fault(fault.clone()?)),
         None => {
             let name = shelf.name(row).as_bytes();
-            Err(Stop::Fault(Fault::new(around.alloc, 6, at, name)?))
+            Err(Error::Fault(Fault::new(around.alloc, 6, at, name)?))
         }
     }
 }
@@ -287,12 +287,12 @@ pub(crate) fn open<'a, D: Disk>(
     depth: u32,
     at: Place,
     opening: Opening,
-) -> Result<Option<Entered<'a>>, Stop>
+) -> Result<Option<Entered<'a>>, Error>
     requires shelf { pass.old.shelf ≡ around.now.shelf }
     requires row { opening.row < length around.now.shelf.names }
     ensures shelf { pass.new.shelf ≡ around.now.shelf }
     ensures grows { Extends pass.new.files pass.old.files }
-    ensures opened { IfSettled result (λ leads.
+    ensures opened { UnlessOutOfMemory result (λ leads.
         Leads (surroundings_of around.now) pass.new.files depth
         (λ (more : Files) (m : Reached). Opened (surroundings_of around.now more) depth at state.old opening.row opening.folder m)
         state.new leads) }

@@ -1,7 +1,7 @@
 //! Preprocesses a unit: its definitions, and then its file.
 ghost use Rattle.std.specs.Prelude.{◌≡◌, ◌<◌, IfOk, Ok, Option, None, All, length};
 ghost use Rattle.std.specs.Result.{result_err};
-ghost use Rattle.pptext.specs.Stops.{IfSettled};
+ghost use Rattle.pptext.specs.Errors.{UnlessOutOfMemory};
 ghost use Rattle.pptext.specs.declared.tokens.Fault.{Fault};
 ghost use Rattle.ppshelf.specs.Files.{Files, Extends, Agree, AllLawful};
 ghost use Rattle.ppunit.specs.States.{Reached, surroundings_of, given};
@@ -18,7 +18,7 @@ use crate::states::State;
 use crate::units::{Setting, Unit, UnitOut};
 use crate::walking::walk;
 use ppshelf::{Disk, Folders, Pass, Shelf};
-use pptext::{Fault, Memory, Place, Stop, settled, tree_unless_fault};
+use pptext::{Fault, Memory, Place, Error, split_memory, tree_unless_fault};
 use std::alloc::Global;
 
 /// Executes the unit's definitions.
@@ -27,19 +27,19 @@ fn define_all<'x, 'a: 'x, D: Disk>(
     pass: &mut Pass<'a, D>,
     state: &mut State<'x>,
     defines: &'x Definitions,
-) -> Result<(), Stop>
+) -> Result<(), Error>
     requires shelf { pass.old.shelf ≡ around.now.shelf }
     requires rows { 0 < length around.now.shelf.names }
     requires profile { defines.now.profile ≡ around.now.shelf.profile }
     ensures shelf { pass.new.shelf ≡ around.now.shelf }
     ensures grows { Extends pass.new.files pass.old.files }
-    ensures defined { IfSettled result (λ r.
+    ensures defined { UnlessOutOfMemory result (λ r.
         DefinesOver (surroundings_of around.now) pass.new.files defines.now.texts state.old
         (record { state = state.new; fault = result_err r })) }
 {
     let source = match defines.lines() {
         Ok(source) => source,
-        Err(fault) => return Err(Stop::Fault(fault.clone()?)),
+        Err(fault) => return Err(Error::Fault(fault.clone()?)),
     };
     tree_unless_fault();
     let file = OpenFile::new(COMMAND_FILE as usize, source);
@@ -52,12 +52,12 @@ fn process<'x, 'a: 'x, D: Disk>(
     pass: &mut Pass<'a, D>,
     state: &mut State<'x>,
     row: usize,
-) -> Result<(), Stop>
+) -> Result<(), Error>
     requires shelf { pass.old.shelf ≡ around.now.shelf }
     requires row { row < length around.now.shelf.names }
     ensures shelf { pass.new.shelf ≡ around.now.shelf }
     ensures grows { Extends pass.new.files pass.old.files }
-    ensures opened { IfSettled result (λ r.
+    ensures opened { UnlessOutOfMemory result (λ r.
         (more : Files)
         → Extends more pass.new.files
         → Opened (surroundings_of around.now more) 0 (first_place row) state.old row None (record { state = state.new; fault = result_err r })) }
@@ -85,13 +85,13 @@ fn translate<'x, 'a: 'x, D: Disk>(
     state: &mut State<'x>,
     defines: &'x Definitions,
     row: usize,
-) -> Result<(), Stop>
+) -> Result<(), Error>
     requires shelf { pass.old.shelf ≡ around.now.shelf }
     requires row { row < length around.now.shelf.names }
     requires profile { defines.now.profile ≡ around.now.shelf.profile }
     ensures shelf { pass.new.shelf ≡ around.now.shelf }
     ensures grows { Extends pass.new.files pass.old.files }
-    ensures translated { IfSettled result (λ r.
+    ensures translated { UnlessOutOfMemory result (λ r.
         Translates (surroundings_of around.now pass.new.files) defines.now.texts row state.old
         (record { state = state.new; fault = result_err r })) }
 {
@@ -116,7 +116,7 @@ fn first_fault<'x, 'a: 'x, D: Disk>(
         (record { state = state.new; fault = fault })) }
 {
     let translated = translate(around, pass, state, &unit.defines, unit.file);
-    Ok(settled(translated)?.err())
+    Ok(split_memory(translated)?.err())
 }
 
 /// Returns the output with these items and dependencies, and the fault of the unit if it has one. Fails if an

@@ -18,7 +18,7 @@ use std::alloc::{AllocError, Global};
 fn is_has_include(token: &Token) -> bool
     ensures { result ≡ spec.is_has_include token.now }
 {
-    token.is_name(b"__has_include")
+    token.is_identifier_named(b"__has_include")
 }
 
 /// Returns whether a token is the name `__has_include`.

@@ -1,12 +1,12 @@
 //! Macro replacement in the operands of a directive (6.10.2, 6.10.4).
 ghost use Rattle.std.specs.Prelude.{◌≡◌};
-ghost use Rattle.pptext.specs.Stops.{IfSettled};
+ghost use Rattle.pptext.specs.Errors.{UnlessOutOfMemory};
 ghost use Rattle.ppunit.specs.Replacing.{Replaces};
 ghost use Rattle.ppunit.specs.States.{with_left};
 
 use crate::states::State;
 use ppexpand::{Expanded, expand};
-use pptext::{Stop, Token, Tokens};
+use pptext::{Error, Token, Tokens};
 use std::alloc::Global;
 
 /// Returns a copy of the expansion of the operands, or the fault of the expansion. Changes nothing in `state` but the
@@ -15,9 +15,9 @@ pub(crate) fn replaced<'x>(
     alloc: Global,
     state: &mut State<'x>,
     operands: &'x [Token],
-) -> Result<Tokens, Stop>
+) -> Result<Tokens, Error>
     ensures rest { state.new ≡ with_left state.old state.new.left }
-    ensures replaces { IfSettled result (λ r. Replaces state.old operands.now state.new.left r) }
+    ensures replaces { UnlessOutOfMemory result (λ r. Replaces state.old operands.now state.new.left r) }
 {
     let Expanded {
         tokens,
@@ -26,7 +26,7 @@ pub(crate) fn replaced<'x>(
     } = expand(alloc, &state.macros, &state.env, state.left, operands)?;
     state.left = left;
     if let Some(fault) = fault {
-        return Err(Stop::Fault(fault));
+        return Err(Error::Fault(fault));
     }
     Ok(Tokens::new(tokens.to_vec(alloc)?))
 }

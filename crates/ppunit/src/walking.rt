@@ -5,7 +5,7 @@ ghost use Rattle.std.specs.Prelude.{List, ◌++◌, drop, length};
 ghost use Rattle.std.specs.List.{AllByRecursion};
 ghost use Rattle.std.specs.Result.{result_err};
 ghost use Rattle.pptext.specs.Lines.{LogicalLine};
-ghost use Rattle.pptext.specs.Stops.{IfSettled};
+ghost use Rattle.pptext.specs.Errors.{UnlessOutOfMemory};
 ghost use Rattle.pptext.specs.Tree.{Parts, Branches, branch_lines, AreBranches};
 ghost use Rattle.pptext.specs.Classes.{opens_section, ends_group};
 ghost use Rattle.pptext.specs.declared.sources.Directive.{Directive};
@@ -24,7 +24,7 @@ use crate::opening::{Around, Entered, OpenFile, Opening, open, resolve_in};
 use crate::stack::Stack;
 use crate::states::State;
 use ppshelf::{Disk, Pass};
-use pptext::{Class, Directive, Source, Stop, Token};
+use pptext::{Class, Directive, Source, Error, Token};
 use std::alloc::Global;
 use std::marker::Model;
 
@@ -56,11 +56,11 @@ fn enters<D: Disk>(
     row: usize,
     source: &Source,
     index: usize,
-) -> Result<bool, Stop>
+) -> Result<bool, Error>
     requires rows { 0 < length around.now.shelf.names }
     requires index { index < length source.now }
     ensures rest { state.new ≡ with_left state.old state.new.left }
-    ensures enters { IfSettled result (λ taken. Enters (search_in around.now) row state.old (line_at source.now index) state.new.left taken) }
+    ensures enters { UnlessOutOfMemory result (λ taken. Enters (search_in around.now) row state.old (line_at source.now index) state.new.left taken) }
 {
     let Some(directive) = line(source, index).directive else {
         return Ok(true);
@@ -79,11 +79,11 @@ fn find_branch<D: Disk>(
     row: usize,
     source: &Source,
     start: usize,
-) -> Result<usize, Stop>
+) -> Result<usize, Error>
     requires rows { 0 < length around.now.shelf.names }
     requires start { start < length source.now }
     ensures further { IfOk result (λ next. start < next) }
-    ensures found { IfSettled result (λ next.
+    ensures found { UnlessOutOfMemory result (λ next.
         (ps : Parts) (bs : Branches) (qs : Parts) (k : Outer)
         → BranchesAt source.now start ps bs qs k
         → FindsBranch (search_in around.now) row source.now state.old state.new bs qs k next) }
@@ -122,14 +122,14 @@ fn enter_section<D: Disk>(
     source: &Source,
     directive: Directive,
     index: usize,
-) -> Result<usize, Stop>
+) -> Result<usize, Error>
     requires rows { 0 < length around.now.shelf.names }
     requires index { index < length source.now }
     requires line { (line_at source.now index).directive ≡ Some directive }
     requires opens { opens_section directive ≡ true }
     ensures further { IfOk result (λ next. index < next) }
     ensures entered { (files : Files) (depth : ℕ)
-        → IfSettled result (λ next. Advances (surroundings_of around.now) files depth row source.now index state.old state.new next) }
+        → UnlessOutOfMemory result (λ next. Advances (surroundings_of around.now) files depth row source.now index state.old state.new next) }
 {
     if decide(around, state, row, directive, tokens_at(source, index))? {
         return Ok(index + 1);
@@ -143,12 +143,12 @@ fn do_run<'x>(
     state: &mut State<'x>,
     source: &'x Source,
     index: usize,
-) -> Result<usize, Stop>
+) -> Result<usize, Error>
     requires index { index < length source.now }
     requires text { IsTextLine (line_at source.now index) }
     ensures further { IfOk result (λ next. index < next) }
     ensures run { (around : Files → Surroundings) (files : Files) (depth row : ℕ)
-        → IfSettled result (λ next. Advances around files depth row source.now index state.old state.new next) }
+        → UnlessOutOfMemory result (λ next. Advances around files depth row source.now index state.old state.new next) }
 {
     let end = run_end(source, index);
     run_text(alloc, state, tokens_between(source, index, end))?;
@@ -164,13 +164,13 @@ fn include<'x, 'a: 'x, D: Disk>(
     depth: u32,
     from: Opening,
     line: &'x [Token],
-) -> Result<Option<Entered<'a>>, Stop>
+) -> Result<Option<Entered<'a>>, Error>
     requires shelf { pass.old.shelf ≡ around.now.shelf }
     requires rows { 0 < length around.now.shelf.names }
     requires depth { depth ≤ 200 }
     ensures shelf { pass.new.shelf ≡ around.now.shelf }
     ensures grows { Extends pass.new.files pass.old.files }
-    ensures includes { IfSettled result (λ leads.
+    ensures includes { UnlessOutOfMemory result (λ leads.
         (directive : Directive) (number : ℕ)
         → Leads (surroundings_of around.now) pass.new.files (suc depth)
         (λ (more : Files) (m : Reached). Includes (surroundings_of around.now more) depth from.row from.folder state.old (directed directive line.now number) m)
@@ -179,7 +179,7 @@ fn include<'x, 'a: 'x, D: Disk>(
     let asked = ask(around.alloc, state, line)?;
     let Some((row, folder)) = resolve_in(around, from, &asked)? else {
         let name = asked.name.as_bytes();
-        return Err(Stop::Fault(line_fault(around.alloc, 31, line, name)?));
+        return Err(Error::Fault(line_fault(around.alloc, 31, line, name)?));
     };
     let opening = Opening {
         row,
@@ -203,7 +203,7 @@ fn do_line<'x, 'a: 'x, D: Disk>(
     state: &mut State<'x>,
     depth: u32,
     line: DirectiveLine<'x>,
-) -> Result<Option<Entered<'a>>, Stop>
+) -> Result<Option<Entered<'a>>, Error>
     requires shelf { pass.old.shelf ≡ around.now.shelf }
     requires rows { 0 < length around.now.shelf.names }
     requires depth { depth ≤ 200 }
@@ -211,7 +211,7 @@ fn do_line<'x, 'a: 'x, D: Disk>(
     requires ends { ends_group line.directive ≡ false }
     ensures shelf { pass.new.shelf ≡ around.now.shelf }
     ensures grows { Extends pass.new.files pass.old.files }
-    ensures control { IfSettled result (λ leads.
+    ensures control { UnlessOutOfMemory result (λ leads.
         Leads (surroundings_of around.now) pass.new.files (suc depth)
         (λ (more : Files) (m : Reached). Controls (surroundings_of around.now more) depth line.entry.row state.old (directed line.entry.directive line.entry.tokens.now line.entry.number) m)
         state.new leads) }
@@ -223,7 +223,7 @@ fn do_line<'x, 'a: 'x, D: Disk>(
         number: _,
     } = line;
     match directive.class() {
-        Class::Error => Err(Stop::Fault(error(around.alloc, tokens)?)),
+        Class::Error => Err(Error::Fault(error(around.alloc, tokens)?)),
         Class::Ignored => Ok(None),
         Class::Includes(next) => {
             refuse_lone_quote(tokens)?;
@@ -272,7 +272,7 @@ fn step<'x, 'a: 'x, D: Disk>(
     state: &mut State<'x>,
     depth: u32,
     file: &OpenFile<'x>,
-) -> Result<Next<'a>, Stop>
+) -> Result<Next<'a>, Error>
     requires shelf { pass.old.shelf ≡ around.now.shelf }
     requires rows { 0 < length around.now.shelf.names }
     requires depth { depth ≤ 200 }
@@ -280,7 +280,7 @@ fn step<'x, 'a: 'x, D: Disk>(
     ensures shelf { pass.new.shelf ≡ around.now.shelf }
     ensures grows { Extends pass.new.files pass.old.files }
     ensures further { IfOk result (λ next. file.now.index < next.0) }
-    ensures step { IfSettled result (λ found.
+    ensures step { UnlessOutOfMemory result (λ found.
         Steps (surroundings_of around.now) pass.new.files depth file.now.row file.now.lines file.now.index state.old state.new found) }
 {
     let OpenFile { row, source, index } = *file;
@@ -314,13 +314,13 @@ pub(crate) fn walk<'s, 'a: 's, D: Disk>(
     pass: &mut Pass<'a, D>,
     state: &mut State<'s>,
     first: OpenFile<'s>,
-) -> Result<(), Stop>
+) -> Result<(), Error>
     requires shelf { pass.old.shelf ≡ around.now.shelf }
     requires rows { 0 < length around.now.shelf.names }
     requires begins { first.index ≡ 0 }
     ensures shelf { pass.new.shelf ≡ around.now.shelf }
     ensures grows { Extends pass.new.files pass.old.files }
-    ensures walk { IfSettled result (λ r.
+    ensures walk { UnlessOutOfMemory result (λ r.
         Walks (surroundings_of around.now) pass.new.files 0 first.entry.row first.entry.lines state.old
         (record { state = state.new; fault = result_err r })) }
 {

@@ -1,7 +1,7 @@
 //! Constraints on a replacement list (6.10.3p5, 6.10.3.2p1, 6.10.3.3p1, p3).
 ghost use Rattle.std.specs.Prelude.{◌≡◌, IfOk, codes, true};
 ghost use Rattle.std.specs.List.{list_any};
-ghost use Rattle.pptext.specs.Tokens.{is_name};
+ghost use Rattle.pptext.specs.Tokens.{is_identifier_named};
 ghost use Rattle.ppmacro.specs.Define.{misplaces_variable_arguments, misplaces_paste, begins_with_parameter, misplaces_hash};
 
 use super::headings::has_variable_arguments;
@@ -13,9 +13,9 @@ use std::alloc::{AllocError, Global};
 
 /// Returns whether a replacement list contains `__VA_ARGS__`.
 fn says_variable_arguments(body: &[Token]) -> bool
-    ensures { result ≡ list_any (is_name (codes "__VA_ARGS__")) body.now }
+    ensures { result ≡ list_any (is_identifier_named (codes "__VA_ARGS__")) body.now }
 {
-    body.iter().any(|t| t.is_name(b"__VA_ARGS__"))
+    body.iter().any(|t| t.is_identifier_named(b"__VA_ARGS__"))
 }
 
 /// Returns whether a replacement list contains `__VA_ARGS__`, but the parameter list has no `...`.

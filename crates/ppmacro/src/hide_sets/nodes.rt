@@ -279,7 +279,7 @@ fn settled_meet(one: u32, two: u32) -> Option<u32>
 }
 
 /// Returns the result of an operation if a set is empty or both are equal.
-fn settled(operation: Operation, one: u32, two: u32) -> Option<u32>
+fn split_memory(operation: Operation, one: u32, two: u32) -> Option<u32>
     ensures { result ≡ known operation [] one two }
 {
     match operation.kind {
@@ -292,7 +292,7 @@ fn settled(operation: Operation, one: u32, two: u32) -> Option<u32>
 fn known(pairs: &Pairs, operation: Operation, one: u32, two: u32) -> Option<u32>
     ensures { result ≡ known operation pairs.now one two }
 {
-    match settled(operation, one, two) {
+    match split_memory(operation, one, two) {
         Some(number) => Some(number),
         None => pairs.get(one, two),
     }
@@ -319,7 +319,7 @@ fn make(
         → ((w : ℕ) → word nodes.old.keys n w ≡ joined_word operation (word nodes.old.keys one w) (word nodes.old.keys two w))
         → (result ≡ Ok n) × (nodes.new.keys ≡ nodes.old.keys) }
 {
-    match settled(operation, one, two) {
+    match split_memory(operation, one, two) {
         Some(number) => Ok(number),
         None => make_node(nodes, operation, one, two),
     }

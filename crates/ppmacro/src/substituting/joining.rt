@@ -1,15 +1,15 @@
 //! Joins lists of tokens with `##` (6.10.3.3).
 ghost use Rattle.std.specs.Prelude.{◌≡◌, ◌++◌, ◌∷◌, IfOk, OnOk, IsTrue, [], map};
-ghost use Rattle.pptext.specs.Carrying.{CarriesOn};
+ghost use Rattle.pptext.specs.Continuations.{ContinuesToken};
 ghost use Rattle.ppmacro.specs.HideSets.{hiding, hidings, HasSets, AllKnown, Keeps};
 ghost use Rattle.ppmacro.specs.Substitution.{pasted, join, join_all};
-ghost use Rattle.pptext.specs.Stops.{Answers};
+ghost use Rattle.pptext.specs.Errors.{Returns};
 ghost use Rattle.ppmacro.specs.Substituting.{lists_of, ListsKnown, IsWhole, EndsWhole};
 
 use crate::flying::Hidden;
 use crate::hide_sets::HideSets;
 use crate::substituting::pasting::pasted;
-use pptext::{Place, Stop, carries_on};
+use pptext::{Place, Error, continues};
 use std::alloc::{AllocError, Global};
 
 /// Appends copies of tokens.
@@ -37,9 +37,9 @@ fn push_joined<'a>(
 /// Returns whether these bytes continue the last token, whose kind is the kind of its spelling if `whole`.
 fn is_carried_on(last: &Hidden, whole: bool, more: &[u8]) -> bool
     ensures whole { IsTrue result → IsTrue whole }
-    ensures more { IsTrue result → CarriesOn last.now.token.kind last.now.token.text more.now }
+    ensures more { IsTrue result → ContinuesToken last.now.token.kind last.now.token.text more.now }
 {
-    whole && carries_on(last.kind(), last.text(), more)
+    whole && continues(last.kind(), last.text(), more)
 }
 
 /// Pastes two tokens, like `paste`. `whole`: the kind of the last token is the kind of its spelling, as after a paste. Such an
@@ -51,11 +51,11 @@ fn paste_onto<'a>(
     whole: bool,
     first: &Hidden,
     used: Place,
-) -> Result<Hidden<'a>, Stop>
+) -> Result<Hidden<'a>, Error>
     requires last { HasSets sets.old last }
     requires first { HasSets sets.old first.now }
     requires whole { IsTrue whole → IsWhole last }
-    ensures is { Answers result (hiding sets.new) (pasted (hiding sets.old last.entry) (hiding sets.old first.now) used) }
+    ensures is { Returns result (hiding sets.new) (pasted (hiding sets.old last.entry) (hiding sets.old first.now) used) }
     ensures known { IfOk result (λ h. HasSets sets.new h) }
     ensures whole { IfOk result IsWhole }
     ensures keeps { Keeps sets.old sets.new }
@@ -78,11 +78,11 @@ fn join<'a>(
     whole: bool,
     right: &[Hidden<'a>],
     used: Place,
-) -> Result<bool, Stop>
+) -> Result<bool, Error>
     requires left { AllKnown sets.old left.old.items }
     requires whole { IsTrue whole → EndsWhole left.old.items }
     requires right { AllKnown sets.old right.now }
-    ensures is { Answers result (λ _. hidings sets.new left.new.items) (join (hidings sets.old left.old.items) (hidings sets.old right.now) used) }
+    ensures is { Returns result (λ _. hidings sets.new left.new.items) (join (hidings sets.old left.old.items) (hidings sets.old right.now) used) }
     ensures known { OnOk result (AllKnown sets.new left.new.items) }
     ensures whole { IfOk result (λ w. IsTrue w → EndsWhole left.new.items) }
     ensures keeps { Keeps sets.old sets.new }
@@ -109,9 +109,9 @@ pub(crate) fn join_all<'a>(
     sets: &mut HideSets,
     lists: &[Vec<Hidden<'a>>],
     used: Place,
-) -> Result<Vec<Hidden<'a>>, Stop>
+) -> Result<Vec<Hidden<'a>>, Error>
     requires { ListsKnown sets.old lists.now }
-    ensures is { Answers result (λ v. hidings sets.new v.items) (join_all [] (map (hidings sets.old) (lists_of lists.now)) used) }
+    ensures is { Returns result (λ v. hidings sets.new v.items) (join_all [] (map (hidings sets.old) (lists_of lists.now)) used) }
     ensures known { IfOk result (λ v. AllKnown sets.new v.items) }
     ensures keeps { Keeps sets.old sets.new }
 {

@@ -2,7 +2,7 @@
 ghost use Rattle.std.specs.Prelude.{◌≡◌, ◌++◌, IfOk, OnOk, [], ◌∷◌, map, Ok, unwrap_or};
 ghost use Rattle.ppmacro.specs.HideSets.{hidings, AllKnown};
 ghost use Rattle.ppmacro.specs.Substitution.{argument_at, expanded_at, plain, after_ok, stringized, operand_tokens, operands_tokens};
-ghost use Rattle.pptext.specs.Stops.{Answers};
+ghost use Rattle.pptext.specs.Errors.{Returns};
 ghost use Rattle.ppmacro.specs.Substituting.{lists_of, option_of, options_of, ArgumentsKnown, arguments_in, tokens_of, ListsKnown};
 
 use crate::flying::{Expansion, Hidden};
@@ -10,7 +10,7 @@ use crate::hide_sets::HideSets;
 use crate::invoked::Arguments;
 use crate::macros::Operand;
 use crate::substituting::stringizing::stringized;
-use pptext::{Place, Stop, Token};
+use pptext::{Place, Error, Token};
 use std::alloc::{AllocError, Global};
 
 /// Returns the tokens of an argument. An absent argument has none.
@@ -81,8 +81,8 @@ fn literal<'a>(
     argument: &[Hidden],
     at: Place,
     used: Place,
-) -> Result<Vec<Hidden<'a>>, Stop>
-    ensures is { Answers result (λ v. hidings sets.now v.items) (after_ok (stringized (tokens_of argument.now) at used) (λ t. Ok (t ∷ []))) }
+) -> Result<Vec<Hidden<'a>>, Error>
+    ensures is { Returns result (λ v. hidings sets.now v.items) (after_ok (stringized (tokens_of argument.now) at used) (λ t. Ok (t ∷ []))) }
     ensures known { IfOk result (λ v. AllKnown sets.now v.items) }
 {
     let hidden = stringized(alloc, sets, argument, at, used)?;
@@ -97,9 +97,9 @@ pub(crate) fn operand_tokens<'x, 'a: 'x>(
     arguments: Arguments<'_, 'x>,
     used: Place,
     operand: &Operand<'a>,
-) -> Result<Vec<Hidden<'x>>, Stop>
+) -> Result<Vec<Hidden<'x>>, Error>
     requires { ArgumentsKnown sets.now arguments.given.now arguments.expanded.now }
-    ensures is { Answers result (λ v. hidings sets.now v.items)
+    ensures is { Returns result (λ v. hidings sets.now v.items)
         (operand_tokens beside (arguments_in sets.now arguments.entry.given.now arguments.entry.expanded.now) used operand.now) }
     ensures known { IfOk result (λ v. AllKnown sets.now v.items) }
 {
@@ -136,9 +136,9 @@ pub(crate) fn operands_tokens<'x, 'a: 'x>(
     arguments: Arguments<'_, 'x>,
     used: Place,
     operands: &[Operand<'a>],
-) -> Result<Vec<Vec<Hidden<'x>>>, Stop>
+) -> Result<Vec<Vec<Hidden<'x>>>, Error>
     requires { ArgumentsKnown sets.now arguments.given.now arguments.expanded.now }
-    ensures is { Answers result (λ v. map (hidings sets.now) (lists_of v.items))
+    ensures is { Returns result (λ v. map (hidings sets.now) (lists_of v.items))
         (operands_tokens beside (arguments_in sets.now arguments.entry.given.now arguments.entry.expanded.now) used operands.now) }
     ensures known { IfOk result (λ v. ListsKnown sets.now v.items) }
 {

@@ -3,12 +3,12 @@ ghost use Rattle.std.specs.Prelude.{◌≡◌, ◌++◌, IfOk};
 ghost use Rattle.ppmacro.specs.HideSets.{hiding, HasSets, Keeps};
 ghost use Rattle.ppmacro.specs.Substitution.{pasted};
 ghost use Rattle.ppmacro.specs.Substituting.{hidden_in};
-ghost use Rattle.pptext.specs.Stops.{Answers};
+ghost use Rattle.pptext.specs.Errors.{Returns};
 
 use crate::flying::Hidden;
 use crate::hide_sets::HideSets;
 use crate::substituting::lexing::kind_of;
-use pptext::{Fault, Kind, Memory, Place, Spelling, Stop, Token, settled};
+use pptext::{Fault, Kind, Memory, Place, Spelling, Error, Token, split_memory};
 use std::alloc::{AllocError, Global};
 
 /// Returns the concatenated spellings of two tokens.
@@ -40,16 +40,16 @@ pub(crate) fn pasted<'a>(
     left: &Hidden,
     right: &Hidden,
     used: Place,
-) -> Result<Hidden<'a>, Stop>
+) -> Result<Hidden<'a>, Error>
     requires left { HasSets sets.old left.now }
     requires right { HasSets sets.old right.now }
-    ensures is { Answers result (hiding sets.new) (pasted (hiding sets.old left.now) (hiding sets.old right.now) used) }
+    ensures is { Returns result (hiding sets.new) (pasted (hiding sets.old left.now) (hiding sets.old right.now) used) }
     ensures known { IfOk result (λ h. HasSets sets.new h) }
     ensures keeps { Keeps sets.old sets.new }
 {
     let text = both(alloc, left, right)?;
     let Some(kind) = kind_of(text.as_slice()) else {
-        return Err(Stop::Fault(Fault::new(alloc, 19, used, text.as_slice())?));
+        return Err(Error::Fault(Fault::new(alloc, 19, used, text.as_slice())?));
     };
     let hide = sets.common(left, right)?;
     let token = made_of(kind, text, left, used)?;
@@ -74,5 +74,5 @@ pub fn paste<'a>(
     ensures known { IfOk result (λ r. IfOk r (λ h. HasSets sets.new h)) }
     ensures keeps { Keeps sets.old sets.new }
 {
-    settled(pasted(alloc, sets, left, right, used))
+    split_memory(pasted(alloc, sets, left, right, used))
 }

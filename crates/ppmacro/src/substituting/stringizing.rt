@@ -1,14 +1,14 @@
 //! The operator `#` (6.10.3.2).
 ghost use Rattle.std.specs.Prelude.{◌≡◌, ℕ, [], ◌∷◌, ◌++◌, take, IfOk, OnOk, OnErr};
 ghost use Rattle.ppmacro.specs.HideSets.{HasSets, hiding};
-ghost use Rattle.pptext.specs.Stops.{Answers};
+ghost use Rattle.pptext.specs.Errors.{Returns};
 ghost use Rattle.ppmacro.specs.Substitution.{escaped, spelled_space, spelled_in_string, string_text, stringized};
 ghost use Rattle.ppmacro.specs.Substituting.{tokens_of, hidden_in};
 
 use crate::flying::Hidden;
 use crate::hide_sets::HideSets;
 use crate::substituting::lexing::kind_of;
-use pptext::{Fault, Kind, Memory, Place, Spelling, Stop, Token, settled};
+use pptext::{Fault, Kind, Memory, Place, Spelling, Error, Token, split_memory};
 use std::alloc::{AllocError, Global};
 
 /// Appends a byte of a literal, with a backslash before `"` and `\`. If an allocation fails, the text is unchanged.
@@ -76,14 +76,14 @@ pub(crate) fn stringized<'a>(
     argument: &[Hidden],
     at: Place,
     used: Place,
-) -> Result<Hidden<'a>, Stop>
-    ensures is { Answers result (hiding sets.now) (stringized (tokens_of argument.now) at used) }
+) -> Result<Hidden<'a>, Error>
+    ensures is { Returns result (hiding sets.now) (stringized (tokens_of argument.now) at used) }
     ensures known { IfOk result (λ h. HasSets sets.now h) }
 {
     let text = string_text(alloc, argument)?;
     let kind = kind_of(text.as_slice());
     if !matches!(kind, Some(Kind::Str)) {
-        return Err(Stop::Fault(Fault::new(alloc, 20, used, text.as_slice())?));
+        return Err(Error::Fault(Fault::new(alloc, 20, used, text.as_slice())?));
     }
     let token = Token {
         kind: Kind::Str,
@@ -109,5 +109,5 @@ pub fn stringize<'a>(
     ensures is { IfOk result (λ r. hidden_in sets.now r ≡ stringized (tokens_of argument.now) at used) }
     ensures known { IfOk result (λ r. IfOk r (λ h. HasSets sets.now h)) }
 {
-    settled(stringized(alloc, sets, argument, at, used))
+    split_memory(stringized(alloc, sets, argument, at, used))
 }

@@ -43,7 +43,7 @@ fn asked_of(
     let hidden = hidden_by_both(sets, token, a, b);
     assert!(rt; sets.hides(&hidden) == is_hidden);
     match asked {
-        Asked::Settled => sets.settled(&hidden),
+        Asked::Settled => sets.split_memory(&hidden),
         Asked::WithOwn => sets.with_own(&hidden),
         Asked::Common => sets.common(&hidden, &Hidden::new(token, b)),
     }
@@ -55,7 +55,7 @@ fn hides_by_either_of_two_sets(rt: HostRuntime) -> Result<(), Fail> {
     let mut sets = HideSets::new(rt.alloc())?;
     assert!(rt; source.tokens().len() == 3);
     for token in source.tokens() {
-        let is_hidden = !token.is_name(b"c");
+        let is_hidden = !token.is_identifier_named(b"c");
         let with_own: &[u8] = if is_hidden { b"ab" } else { b"abc" };
         for (asked, names) in [
             (Asked::Settled, b"ab".as_slice()),

@@ -1,6 +1,6 @@
 //! Tests of hashing with random keys.
 use crate::defining::drawn;
-use pptext::{Hashing, half_word};
+use pptext::{Hashing, u32_at};
 use std::hash::BuildHasher;
 use std::test::Fail;
 
@@ -22,6 +22,6 @@ fn keys_tell_hashes(rt: HostRuntime) -> Result<(), Fail> {
 
 #[test]
 fn four_bytes_are_a_number(rt: HostRuntime) -> Result<(), Fail> {
-    assert!(rt; half_word(b"\x01\x02\x03\x04\x05", 1) == 0x0504_0302);
+    assert!(rt; u32_at(b"\x01\x02\x03\x04\x05", 1) == 0x0504_0302);
     Ok(())
 }

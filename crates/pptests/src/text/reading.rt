@@ -2,7 +2,7 @@
 //! tokens are in tests/token_tests.py, which compares the program's output.
 use super::{FILE, read};
 use crate::showing::{assert_shown, push_fault};
-use pptext::{Fault, Kind, Line, Profile, Source, carries_on, read_lines, relex};
+use pptext::{Fault, Kind, Line, Profile, Source, continues, read_lines, relex};
 use std::alloc::{AllocError, Global};
 use std::process::Abort;
 use std::test::Fail;
@@ -322,6 +322,6 @@ const CARRIED: &[(Kind, &[u8], &[u8], bool)] = &[
 #[test]
 fn tells_what_carries_on(rt: HostRuntime) {
     for (kind, text, more, carries) in CARRIED {
-        assert!(rt; carries_on(*kind, text, more) == *carries, "{more:?}");
+        assert!(rt; continues(*kind, text, more) == *carries, "{more:?}");
     }
 }

@@ -1,5 +1,5 @@
 //! Tests of tokens, spellings and faults.
-use pptext::{Fault, Kind, Place, Spelling, Stop, Token, Tokens, settled};
+use pptext::{Fault, Kind, Place, Spelling, Error, Token, Tokens, split_memory};
 use std::alloc::{AllocError, Global};
 use std::test::Fail;
 
@@ -50,9 +50,9 @@ fn tells_what_tokens_are(rt: HostRuntime) -> Result<(), Fail> {
         let token = word(rt.alloc(), *kind, text.as_bytes())?;
         let answers = [
             token.is_identifier(),
-            token.is_name(asked.as_bytes()),
+            token.is_identifier_named(asked.as_bytes()),
             token.is_punct(asked.as_bytes()),
-            token.is_lone_quote(),
+            token.is_unmatched_quote(),
         ];
         assert!(rt; answers == *wanted, "{text}");
     }
@@ -69,17 +69,17 @@ fn makes_lists_faults_and_outcomes(rt: HostRuntime) -> Result<(), Fail> {
     let mut tokens = Vec::new(rt.alloc());
     tokens.push(word(rt.alloc(), Kind::Ident, b"ab")?)?;
     let list = Tokens::new(tokens);
-    assert!(rt; matches!(list.as_slice(), [token] if token.is_name(b"ab")));
+    assert!(rt; matches!(list.as_slice(), [token] if token.is_identifier_named(b"ab")));
     let tokens = list.into_vec();
     let [token] = tokens.as_slice() else {
         return Err(Fail::new("other tokens"));
     };
     assert!(rt; is_fault(&Fault::of_token(8, AT, token)?, b"ab"));
     assert!(rt; is_fault(&Fault::new(rt.alloc(), 8, AT, b"ab")?, b"ab"));
-    let bare = Err(Stop::Fault(Fault::bare(8, AT)));
-    assert!(rt; matches!(&settled::<u8>(bare), Ok(Err(fault)) if is_fault(fault, b"")));
-    assert!(rt; matches!(settled(Ok(7)), Ok(Ok(7))));
-    assert!(rt; settled::<u8>(Err(Stop::Memory)).is_err());
+    let bare = Err(Error::Fault(Fault::bare(8, AT)));
+    assert!(rt; matches!(&split_memory::<u8>(bare), Ok(Err(fault)) if is_fault(fault, b"")));
+    assert!(rt; matches!(split_memory(Ok(7)), Ok(Ok(7))));
+    assert!(rt; split_memory::<u8>(Err(Error::Memory)).is_err());
     Ok(())
 }
 

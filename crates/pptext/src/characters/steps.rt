@@ -1,13 +1,13 @@
 //! Translation phases 1 and 2 one step at a time: what the remaining bytes of a file begin with.
 ghost use Rattle.std.specs.Prelude.{◌≡◌, ◌<◌, MatchOption, length};
-ghost use Rattle.pptext.specs.Clean.{trigraph, unmarked};
-ghost use Rattle.pptext.specs.Steps.{Code, PlainFront, Removed, StopsAt, newline_front, open_end, step_of, trigraph_front};
+ghost use Rattle.pptext.specs.Clean.{trigraph, without_bom};
+ghost use Rattle.pptext.specs.code.Steps.{Code, PlainPrefix, Removed, StopsAt, newline_front, lacks_newline, step_of, trigraph_front};
 
 use memchr::memchr3;
 
 /// What the remaining bytes of a file begin with.
 #[derive(Clone, Copy)]
-pub(crate) enum Step {
+pub(crate) enum CharStep {
     /// A character: its code, and the number of bytes that spell it.
     Code(u8, usize),
     /// A number of bytes that phases 1 and 2 remove: a CR before an LF, or a backslash with its new-line.
@@ -15,8 +15,8 @@ pub(crate) enum Step {
 }
 
 /// Returns the bytes after the byte order mark, if there is one.
-pub(crate) fn unmarked(bytes: &[u8]) -> &[u8]
-    ensures { result.now ≡ unmarked bytes.now }
+pub(crate) fn without_bom(bytes: &[u8]) -> &[u8]
+    ensures { result.now ≡ without_bom bytes.now }
 {
     match bytes {
         [0xef, 0xbb, 0xbf, rest @ ..] => rest,
@@ -25,8 +25,8 @@ pub(crate) fn unmarked(bytes: &[u8]) -> &[u8]
 }
 
 /// Returns whether the bytes end in a line without an LF.
-pub(crate) fn has_open_end(bytes: &[u8]) -> bool
-    ensures { result ≡ open_end bytes.now }
+pub(crate) fn lacks_newline(bytes: &[u8]) -> bool
+    ensures { result ≡ lacks_newline bytes.now }
 {
     match bytes {
         [] => false,
@@ -54,7 +54,7 @@ pub(crate) fn trigraph(code: u8) -> u8
 
 /// Returns the index of the first byte that may be more than a character of its own: a backslash, `?` or CR.
 pub(crate) fn first_special(rest: &[u8]) -> Option<usize>
-    ensures { MatchOption result (PlainFront rest.now (length rest.now)) (λ at. StopsAt rest.now at) }
+    ensures { MatchOption result (PlainPrefix rest.now (length rest.now)) (λ at. StopsAt rest.now at) }
 {
     memchr3(b'\\', b'?', b'\r', rest)
 }
@@ -84,12 +84,12 @@ fn newline_len(rest: &[u8], supplied: bool) -> Option<usize>
 
 /// Returns what the remaining bytes begin with. `supplied` says whether the file's last new-line is missing and
 /// supplied.
-pub(crate) fn next_step(rest: &[u8], supplied: bool) -> Step
+pub(crate) fn next_step(rest: &[u8], supplied: bool) -> CharStep
     requires { 0 < length rest.now }
-    ensures { (elim result [ Step.Code code n ↦ Code code n | Step.Removed n ↦ Removed n ]) ≡ step_of supplied rest.now }
+    ensures { (elim result [ CharStep.Code code n ↦ Code code n | CharStep.Removed n ↦ Removed n ]) ≡ step_of supplied rest.now }
 {
     if let [b'\r', b'\n', ..] = rest {
-        return Step::Removed(1);
+        return CharStep::Removed(1);
     }
     let (code, len) = match trigraph_front(rest) {
         0 => (rest[0], 1),
@@ -97,8 +97,8 @@ pub(crate) fn next_step(rest: &[u8], supplied: bool) -> Step
     };
     if code == b'\\' {
         if let Some(n) = newline_len(&rest[len..], supplied) {
-            return Step::Removed(len + n);
+            return CharStep::Removed(len + n);
         }
     }
-    Step::Code(code, len)
+    CharStep::Code(code, len)
 }

@@ -1,7 +1,7 @@
 //! The next branch line of each line that opens or branches an if-section (6.10.1).
 ghost use Rattle.std.specs.Prelude.{◌≡◌, reverse, IfOk, MatchResult};
 ghost use Rattle.pptext.specs.Tree.{role_by};
-ghost use Rattle.pptext.specs.Grouping.{step_back, linked};
+ghost use Rattle.pptext.specs.code.Grouping.{step_back, linked};
 
 use crate::directives::{Role, role_of};
 use crate::sources::{Directive, Line, SourceFault};
@@ -10,21 +10,21 @@ use std::alloc::{AllocFailed, Global};
 /// Passes a line with this directive on the way from the last line to the first, and returns its next branch line. The
 /// stack holds the next branch line of each open if-section, the innermost on top.
 fn step_back(
-    behind: &mut Vec<usize>,
+    open_branches: &mut Vec<usize>,
     at: usize,
     directive: Option<Directive>,
 ) -> Result<Option<usize>, AllocFailed<usize>>
-    ensures { IfOk result (λ next. (next, reverse behind.new.items) ≡ step_back at (role_by directive) (reverse behind.old.items)) }
+    ensures { IfOk result (λ next. (next, reverse open_branches.new.items) ≡ step_back at (role_by directive) (reverse open_branches.old.items)) }
 {
     match role_of(directive) {
-        Role::Opens => Ok(behind.pop()),
+        Role::Opens => Ok(open_branches.pop()),
         Role::Elses(_) => {
-            let next = behind.pop();
-            behind.push(at)?;
+            let next = open_branches.pop();
+            open_branches.push(at)?;
             Ok(next)
         }
         Role::Closes => {
-            behind.push(at)?;
+            open_branches.push(at)?;
             Ok(None)
         }
         Role::Text | Role::Control => Ok(None),
@@ -35,9 +35,9 @@ fn step_back(
 fn link_branches(alloc: Global, lines: &mut [Line]) -> Result<(), SourceFault>
     ensures { MatchResult result (λ _. lines.new ≡ linked 0 lines.old) (λ e. e ≡ SourceFault.Memory) }
 {
-    let mut behind = Vec::new(alloc);
+    let mut open_branches = Vec::new(alloc);
     for at in (0..lines.len()).rev() {
-        let next = step_back(&mut behind, at, lines[at].directive)?;
+        let next = step_back(&mut open_branches, at, lines[at].directive)?;
         lines[at].next_branch = next;
     }
     Ok(())

@@ -5,8 +5,8 @@ ghost use Rattle.pptext.specs.declared.tokens.Token.{Token};
 ghost use Rattle.pptext.specs.Lines.{LogicalLine};
 ghost use Rattle.pptext.specs.Tokens.{fault};
 ghost use Rattle.pptext.specs.Sources.{lines_from};
-ghost use Rattle.pptext.specs.Tree.{role_by, opened, fault_at, group_fault};
-ghost use Rattle.pptext.specs.Grouping.{AreLines, line_role, IsBranching, Takes};
+ghost use Rattle.pptext.specs.Tree.{role_by, after_line, fault_at, group_fault};
+ghost use Rattle.pptext.specs.code.Grouping.{AreLines, line_role, IsBranching, LineTakes};
 
 use crate::directives::{Role, role_of};
 use crate::sources::{Directive, Line, SourceFault};
@@ -39,7 +39,7 @@ fn take_line(
     directive: Option<Directive>,
 ) -> Result<Option<u8>, AllocFailed<Section>>
     requires { at < 2 ^ 32 }
-    ensures { IfOk result (λ n. Takes (opened (role_by directive) at (reverse open_sections.old.items)) n (reverse open_sections.new.items)) }
+    ensures { IfOk result (λ n. LineTakes (after_line (role_by directive) at (reverse open_sections.old.items)) n (reverse open_sections.new.items)) }
 {
     match role_of(directive) {
         Role::Opens => {

@@ -6,7 +6,7 @@ ghost use Rattle.pptext.specs.declared.tokens.Token.{Token};
 ghost use Rattle.pptext.specs.Sources.{lines_from};
 ghost use Rattle.pptext.specs.Guard.{are_parentheses, guard_name, ident_if, is_not_defined};
 ghost use Rattle.pptext.specs.Tree.{Opens, Closes};
-ghost use Rattle.pptext.specs.Grouping.{AreLines, line_role, ClosedAtOnce, FlatGuard};
+ghost use Rattle.pptext.specs.code.Grouping.{AreLines, line_role, ClosedAtOnce, FlatGuard};
 
 use crate::directives::{Role, role_of};
 use crate::sources::Line;

@@ -1,26 +1,26 @@
 //! Character constants (6.4.4.4) and string literals (6.4.5).
 ghost use Rattle.std.specs.Prelude.{◌≡◌, ◌≢◌, ◌↔◌, ◌⊎◌, ◌+◌, ◌-◌, ◌<◌, ◌≤◌, ℕ, [], ◌∷◌, length, drop, IsTrue, slice_index, Contains};
-ghost use Rattle.pptext.specs.Languages.{OnlyPart, NoFront, IsOnly, Then, Exactly};
+ghost use Rattle.pptext.specs.Languages.{OnlyPart, NoPrefix, IsOnly, Then, Exactly};
 ghost use Rattle.pptext.specs.Spellings.{IsElement, IsCharConst, IsStr, char_prefixes, str_prefixes};
-ghost use Rattle.pptext.specs.Lone.{IsQuoted, AreLone, StaysOpen};
+ghost use Rattle.pptext.specs.code.UnmatchedQuotes.{IsQuoted, AreUnmatched, StaysOpen};
 
 /// How far the quotes of each kind are known to be unmatched, that is, not closed in their line. Each number counts the
 /// bytes of the text after that range, so it stays valid as the text is read. Without this, a line of n unmatched
 /// quotes would be searched n times.
 #[derive(Clone, Copy)]
-pub(crate) struct LoneQuotes {
+pub(crate) struct UnmatchedQuotes {
     /// The number of bytes after the range of single quotes.
     pub(crate) single: usize,
     /// The number of bytes after the range of double quotes.
     pub(crate) double: usize,
 }
 
-impl LoneQuotes {
+impl UnmatchedQuotes {
     /// Creates the record for a text of `len` bytes of whose quotes nothing is known.
-    pub(crate) fn unknown(len: usize) -> LoneQuotes
+    pub(crate) fn unknown(len: usize) -> UnmatchedQuotes
         ensures { result ≡ record { single = len; double = len } }
     {
-        LoneQuotes {
+        UnmatchedQuotes {
             single: len,
             double: len,
         }
@@ -29,12 +29,12 @@ impl LoneQuotes {
 
 /// What follows an opening quote.
 #[derive(Clone, Copy)]
-pub(crate) enum Quoted {
+pub(crate) enum QuoteScan {
     /// The number of bytes up to and including the closing quote.
     Closed(usize),
     /// No closing quote in this line. The quotes among the first bytes, of which this is the number, aren't closed
     /// either.
-    Lone(usize),
+    Unmatched(usize),
 }
 
 /// Returns whether the byte is a prefix of one letter: u, U or L.
@@ -136,22 +136,22 @@ fn element_len(text: &[u8], quote: u8) -> usize
 }
 
 /// Returns what follows an opening quote: its elements (6.4.4.4, 6.4.5) up to the closing quote.
-fn quoted_rest(text: &[u8], quote: u8) -> Quoted
+fn quoted_rest(text: &[u8], quote: u8) -> QuoteScan
     requires { quote ≢ 92 }
-    ensures { elim result [ Quoted.Closed n ↦ IsOnly (IsQuoted quote) text.now n | Quoted.Lone n ↦ StaysOpen quote text.now n ] }
+    ensures { elim result [ QuoteScan.Closed n ↦ IsOnly (IsQuoted quote) text.now n | QuoteScan.Unmatched n ↦ StaysOpen quote text.now n ] }
 {
     let mut at = 0;
     while at < text.len() {
         if text[at] == quote {
-            return Quoted::Closed(at + 1);
+            return QuoteScan::Closed(at + 1);
         }
         let n = element_len(&text[at..], quote);
         if n == 0 {
-            return Quoted::Lone(at);
+            return QuoteScan::Unmatched(at);
         }
         at += n;
     }
-    Quoted::Lone(at)
+    QuoteScan::Unmatched(at)
 }
 
 /// Returns the length of the literal whose opening has this length, or 0 if no quote closes it. The quotes of its kind
@@ -162,17 +162,17 @@ fn literal_len(text: &[u8], opening: usize, quote: u8, left: &mut usize) -> usiz
     requires last { slice_index text.now (opening - 1) ≡ quote }
     requires first { (r : ℕ) → r + 1 < opening → slice_index text.now r ≢ quote }
     requires no_backslash { quote ≢ 92 }
-    requires lone { AreLone quote text.now (length text.now - left.old) }
-    ensures none { result ≡ 0 → NoFront (IsQuoted quote) (drop opening text.now) }
+    requires unmatched { AreUnmatched quote text.now (length text.now - left.old) }
+    ensures none { result ≡ 0 → NoPrefix (IsQuoted quote) (drop opening text.now) }
     ensures some { 0 < result → (opening < result) × IsOnly (IsQuoted quote) (drop opening text.now) (result - opening) }
-    ensures lone { AreLone quote text.now (length text.now - left.new) }
+    ensures unmatched { AreUnmatched quote text.now (length text.now - left.new) }
 {
     if *left <= text.len() - opening {
         return 0;
     }
     match quoted_rest(&text[opening..], quote) {
-        Quoted::Closed(n) => opening + n,
-        Quoted::Lone(n) => {
+        QuoteScan::Closed(n) => opening + n,
+        QuoteScan::Unmatched(n) => {
             *left = text.len() - opening - n;
             0
         }
@@ -189,9 +189,9 @@ fn begins_with_byte(text: &[u8], c: u8) -> bool
 /// Returns the length of the character constant that begins the text, or 0. Single quotes are known to be unmatched, up
 /// to the last `left` bytes.
 pub(crate) fn char_const_len(text: &[u8], left: &mut usize) -> usize
-    requires { AreLone 39 text.now (length text.now - left.old) }
+    requires { AreUnmatched 39 text.now (length text.now - left.old) }
     ensures part { OnlyPart IsCharConst text.now result }
-    ensures lone { AreLone 39 text.now (length text.now - left.new) }
+    ensures unmatched { AreUnmatched 39 text.now (length text.now - left.new) }
 {
     let opening = char_opening_len(text);
     if opening == 0 {
@@ -206,9 +206,9 @@ pub(crate) fn char_const_len(text: &[u8], left: &mut usize) -> usize
 /// Returns the length of the string literal that begins the text, or 0. Double quotes are known to be unmatched, up to
 /// the last `left` bytes.
 pub(crate) fn str_len(text: &[u8], left: &mut usize) -> usize
-    requires { AreLone 34 text.now (length text.now - left.old) }
+    requires { AreUnmatched 34 text.now (length text.now - left.old) }
     ensures part { OnlyPart IsStr text.now result }
-    ensures lone { AreLone 34 text.now (length text.now - left.new) }
+    ensures unmatched { AreUnmatched 34 text.now (length text.now - left.new) }
 {
     let opening = str_opening_len(text);
     if opening == 0 {

@@ -1,7 +1,7 @@
 use Rattle.std.proofs.Common.{refl, sym}
 use Rattle.std.proofs.lemmas.Result.{IfOk-weaker}
 use Rattle.ppexpr.specs.Conditions.{ill_formed, not_replaced, replaced}
-use Rattle.pptext.proofs.Stopping.{settled-at_ok}
+use Rattle.pptext.proofs.Stopping.{split_memory-at_ok}
 use Rattle.ppexpr.proofs.conditions.evaluate_replaced.Goals as goal
 
 pub returns-in_default : goal.returns-in_default
@@ -18,4 +18,4 @@ pub returns : goal.returns
 returns c =
     let asks = rw c.in-Some.is at c.in_ok-asked.ensures in
     let expands = rw c.as_slice-asked.ensures.value at c.in_ok-tokens.ensures in
-    IfOk-weaker c.beside.result _ _ (λ r h. replaced asks expands (sym h.1) c.in-None.is (settled-at_ok c.decide_run.result _ _ h.0 c.decide_run.ensures)) c.beside.ensures
+    IfOk-weaker c.beside.result _ _ (λ r h. replaced asks expands (sym h.1) c.in-None.is (split_memory-at_ok c.decide_run.result _ _ h.0 c.decide_run.ensures)) c.beside.ensures

@@ -1,7 +1,7 @@
 use Rattle.std.proofs.Common.{◌≡◌, ℕ, List, [], ◌∷◌, ◌+◌, ◌-◌, ◌<◌, ◌++◌, length, drop, take, sym, ap, subst, ◌∙◌, arith, length-drop}
 use Rattle.std.proofs.lemmas.List.{take_rest}
-use Rattle.pptext.specs.Breaks.{Stretch}
-use Rattle.pptext.specs.Steps.{Code, Removed, open_end, step_of}
+use Rattle.pptext.specs.code.LineNotes.{PlainRun}
+use Rattle.pptext.specs.code.Steps.{Code, Removed, lacks_newline, step_of}
 use Rattle.pptext.proofs.Copies.{code_at, copies_all, copies_code, copies_removed, removed_at, whole_closed, whole_open}
 use Rattle.pptext.proofs.cleaning.copy_cleaned.Goals as goal
 use Rattle.pptext.proofs.cleaning.copy_cleaned.Goals.{then-supplied+in_ok-push-2, else-supplied}
@@ -20,7 +20,7 @@ overflow_add-start c =
     let at = c.loop-ahead.start + c.in-Some.ahead in
     let ahead = simp take_rest at c.in-Some.ensures in
     let l = length-drop c.loop-ahead.start raw in
-    let is : step_of (open_end raw) (drop at raw) ≡ Code c.in-Code.code c.in-Code.len = ap (λ s. step_of s (drop at raw)) (sym c.requires.supplied) ∙ sym (simp take_rest at c.in-Code.ensures) in
+    let is : step_of (lacks_newline raw) (drop at raw) ≡ Code c.in-Code.code c.in-Code.len = ap (λ s. step_of s (drop at raw)) (sym c.requires.supplied) ∙ sym (simp take_rest at c.in-Code.ensures) in
     let here : at < length raw = omega (arith, ahead.0) in
     omega (arith, (code_at 0 raw at c.in-Code.code c.in-Code.len here is).fits, c.requires.small)
 
@@ -30,7 +30,7 @@ overflow_add-start-in-Removed c =
     let at = c.loop-ahead.start + c.in-Some.ahead in
     let ahead = simp take_rest at c.in-Some.ensures in
     let l = length-drop c.loop-ahead.start raw in
-    let is : step_of (open_end raw) (drop at raw) ≡ Removed c.in-Removed.len = ap (λ s. step_of s (drop at raw)) (sym c.requires.supplied) ∙ sym (simp take_rest at c.in-Removed.ensures) in
+    let is : step_of (lacks_newline raw) (drop at raw) ≡ Removed c.in-Removed.len = ap (λ s. step_of s (drop at raw)) (sym c.requires.supplied) ∙ sym (simp take_rest at c.in-Removed.ensures) in
     let here : at < length raw = omega (arith, ahead.0) in
     omega (arith, (removed_at 0 raw at c.in-Removed.len here is).fits, c.requires.small)
 
@@ -40,7 +40,7 @@ loop-ahead-smaller-in-Code c =
     let at = c.loop-ahead.start + c.in-Some.ahead in
     let ahead = simp take_rest at c.in-Some.ensures in
     let l = length-drop c.loop-ahead.start raw in
-    let is : step_of (open_end raw) (drop at raw) ≡ Code c.in-Code.code c.in-Code.len = ap (λ s. step_of s (drop at raw)) (sym c.requires.supplied) ∙ sym (simp take_rest at c.in-Code.ensures) in
+    let is : step_of (lacks_newline raw) (drop at raw) ≡ Code c.in-Code.code c.in-Code.len = ap (λ s. step_of s (drop at raw)) (sym c.requires.supplied) ∙ sym (simp take_rest at c.in-Code.ensures) in
     let here : at < length raw = omega (arith, ahead.0) in
     nearer c.loop-ahead.start c.in-Some.ahead c.in-Code.len (length raw) here (code_at 0 raw at c.in-Code.code c.in-Code.len here is).some
 
@@ -50,7 +50,7 @@ loop-ahead-smaller c =
     let at = c.loop-ahead.start + c.in-Some.ahead in
     let ahead = simp take_rest at c.in-Some.ensures in
     let l = length-drop c.loop-ahead.start raw in
-    let is : step_of (open_end raw) (drop at raw) ≡ Removed c.in-Removed.len = ap (λ s. step_of s (drop at raw)) (sym c.requires.supplied) ∙ sym (simp take_rest at c.in-Removed.ensures) in
+    let is : step_of (lacks_newline raw) (drop at raw) ≡ Removed c.in-Removed.len = ap (λ s. step_of s (drop at raw)) (sym c.requires.supplied) ∙ sym (simp take_rest at c.in-Removed.ensures) in
     let here : at < length raw = omega (arith, ahead.0) in
     nearer c.loop-ahead.start c.in-Some.ahead c.in-Removed.len (length raw) here (removed_at 0 raw at c.in-Removed.len here is).some
 
@@ -60,10 +60,10 @@ loop-ahead-preserved-in-Code c =
     let start = c.loop-ahead.start in
     let n = c.in-Some.ahead in
     let ahead = simp take_rest at c.in-Some.ensures in
-    let stretch : Stretch (open_end raw) (drop start raw) n = subst (λ s. Stretch s (drop start raw) n) c.requires.supplied ahead.1 in
-    let is : step_of (open_end raw) (drop (start + n) raw) ≡ Code c.in-Code.code c.in-Code.len = ap (λ s. step_of s (drop (start + n) raw)) (sym c.requires.supplied) ∙ sym (simp take_rest at c.in-Code.ensures) in
+    let stretch : PlainRun (lacks_newline raw) (drop start raw) n = subst (λ s. PlainRun s (drop start raw) n) c.requires.supplied ahead.1 in
+    let is : step_of (lacks_newline raw) (drop (start + n) raw) ≡ Code c.in-Code.code c.in-Code.len = ap (λ s. step_of s (drop (start + n) raw)) (sym c.requires.supplied) ∙ sym (simp take_rest at c.in-Code.ensures) in
     let codes = c.in_ok-push-in-Code.ensures.items ∙ ap (λ z. z ++ c.in-Code.code ∷ []) (c.in_ok-extend_from_slice.ensures.items ∙ stretch_codes raw c.loop-ahead.codes.items start n) in
-    rw (codes, c.in_ok-push.ensures.items) (copies_code raw start n c.in-Code.code c.in-Code.len c.loop-ahead.codes.items c.loop-ahead.breaks.items c.loop-ahead.invariant ahead.0 stretch is)
+    rw (codes, c.in_ok-push.ensures.items) (copies_code raw start n c.in-Code.code c.in-Code.len c.loop-ahead.codes.items c.loop-ahead.line_notes.items c.loop-ahead.invariant ahead.0 stretch is)
 
 pub loop-ahead-preserved : goal.loop-ahead-preserved
 loop-ahead-preserved c =
@@ -71,20 +71,20 @@ loop-ahead-preserved c =
     let start = c.loop-ahead.start in
     let n = c.in-Some.ahead in
     let ahead = simp take_rest at c.in-Some.ensures in
-    let stretch : Stretch (open_end raw) (drop start raw) n = subst (λ s. Stretch s (drop start raw) n) c.requires.supplied ahead.1 in
-    let is : step_of (open_end raw) (drop (start + n) raw) ≡ Removed c.in-Removed.len = ap (λ s. step_of s (drop (start + n) raw)) (sym c.requires.supplied) ∙ sym (simp take_rest at c.in-Removed.ensures) in
+    let stretch : PlainRun (lacks_newline raw) (drop start raw) n = subst (λ s. PlainRun s (drop start raw) n) c.requires.supplied ahead.1 in
+    let is : step_of (lacks_newline raw) (drop (start + n) raw) ≡ Removed c.in-Removed.len = ap (λ s. step_of s (drop (start + n) raw)) (sym c.requires.supplied) ∙ sym (simp take_rest at c.in-Removed.ensures) in
     let codes = c.in_ok-extend_from_slice.ensures.items ∙ stretch_codes raw c.loop-ahead.codes.items start n in
-    rw (codes, c.in_ok-push.ensures.items) (copies_removed raw start n c.in-Removed.len c.loop-ahead.codes.items c.loop-ahead.breaks.items c.loop-ahead.invariant (c.requires.breaks.ends 0) ahead.0 stretch is)
+    rw (codes, c.in_ok-push.ensures.items) (copies_removed raw start n c.in-Removed.len c.loop-ahead.codes.items c.loop-ahead.line_notes.items c.loop-ahead.invariant (c.requires.line_notes.ends 0) ahead.0 stretch is)
 
 pub returns : goal.returns
 returns c =
     let raw = c.args.raw.now in
     let start = c.loop-ahead.start in
-    let breaks = c.loop-ahead.breaks.items in
-    let last : Stretch (open_end raw) (drop start raw) (length (drop start raw)) = subst (λ s. Stretch s (drop start raw) (length (drop start raw))) c.requires.supplied (simp take_rest at c.in_default.ensures) in
-    let all = copies_all raw start c.loop-ahead.codes.items breaks c.loop-ahead.invariant last in
+    let line_notes = c.loop-ahead.line_notes.items in
+    let last : PlainRun (lacks_newline raw) (drop start raw) (length (drop start raw)) = subst (λ s. PlainRun s (drop start raw) (length (drop start raw))) c.requires.supplied (simp take_rest at c.in_default.ensures) in
+    let all = copies_all raw start c.loop-ahead.codes.items line_notes c.loop-ahead.invariant last in
     let same = simp take_rest at c.in_ok-extend_from_slice-2.ensures.items in
     elim c.if-supplied.branch [
-      | then-supplied+in_ok-push-2 w ↦ rw (w.codes-is, w.in_ok-push-2.ensures.items, same) (whole_open raw (c.loop-ahead.codes.items ++ drop start raw) breaks all.0 all.1 (sym c.requires.supplied ∙ w.if-supplied.true))
-      | else-supplied w ↦ rw (w.codes-is, same) (whole_closed raw (c.loop-ahead.codes.items ++ drop start raw) breaks all.0 all.1 (sym c.requires.supplied ∙ w.if-supplied.false))
+      | then-supplied+in_ok-push-2 w ↦ rw (w.codes-is, w.in_ok-push-2.ensures.items, same) (whole_open raw (c.loop-ahead.codes.items ++ drop start raw) line_notes all.0 all.1 (sym c.requires.supplied ∙ w.if-supplied.true))
+      | else-supplied w ↦ rw (w.codes-is, same) (whole_closed raw (c.loop-ahead.codes.items ++ drop start raw) line_notes all.0 all.1 (sym c.requires.supplied ∙ w.if-supplied.false))
     ]

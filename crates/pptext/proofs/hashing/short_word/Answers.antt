@@ -5,7 +5,7 @@ use Rattle.pptext.proofs.hashing.short_word.Goals as goal
 
 pub returns-then-len-ge4 : goal.returns-then-len-ge4
 unfolding read_short
-returns-then-len-ge4 c = rw (c.half_word.ensures.value, c.half_word-then-len-ge4.ensures.value, le-leb 4 (length c.args.bytes.now) c.if-len-ge4.true)
+returns-then-len-ge4 c = rw (c.u32_at.ensures.value, c.u32_at-then-len-ge4.ensures.value, le-leb 4 (length c.args.bytes.now) c.if-len-ge4.true)
 
 pub returns-then-len-gt0 : goal.returns-then-len-gt0
 unfolding read_short

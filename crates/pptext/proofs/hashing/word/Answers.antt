@@ -3,4 +3,4 @@ use Rattle.pptext.proofs.hashing.word.Goals as goal
 
 pub returns : goal.returns
 unfolding read_u64
-returns c = rw (c.half_word.ensures.value, c.half_word-2.ensures.value)
+returns c = rw (c.u32_at.ensures.value, c.u32_at-2.ensures.value)

@@ -4,35 +4,35 @@ use Rattle.pptext.specs.declared.sources.Profile.{Profile}
 use Rattle.pptext.specs.declared.sources.Source.{Source}
 use Rattle.pptext.specs.declared.sources.SourceFault.{SourceFault}
 use Rattle.pptext.specs.declared.sources.SourceFault.TheVariants.{Bad, Memory}
-use Rattle.pptext.specs.Answers.{Answers, GroupsInto}
+use Rattle.pptext.specs.ReadResults.{ReadResult, GroupsInto}
 use Rattle.pptext.specs.Clean.{cleaned}
-use Rattle.pptext.specs.Cut.{Piece, Cut}
+use Rattle.pptext.specs.Lexemes.{Lexeme, Tokenizes}
 use Rattle.pptext.specs.Lines.{LogicalLine, lines_of}
 use Rattle.pptext.specs.Tree.{group_fault}
 use Rattle.pptext.specs.Sources.{lines_from, Reads, spliced_end, open_comment, bad_groups}
-use Rattle.pptext.specs.Finds.{CutsInto}
-use Rattle.pptext.specs.Texts.{Cleans}
+use Rattle.pptext.specs.code.FoundLexemes.{TokenizesInto}
+use Rattle.pptext.specs.code.CleanedText.{Cleans}
 use Rattle.pptext.proofs.Spans.{same_lines}
 use Rattle.pptext.proofs.Lengths.{cleaned_length}
 use Rattle.pptext.proofs.reading.read_source.Goals as goal
 
 -- what grouping answers is what reading answers
-grouped : (profile : Profile) (file : ℕ) (bytes : List ℕ) (chars : List Char) (pieces : List Piece) (lines : List LogicalLine) (r : Result Source SourceFault)
+grouped : (profile : Profile) (file : ℕ) (bytes : List ℕ) (chars : List Char) (lexemes : List Lexeme) (lines : List LogicalLine) (r : Result Source SourceFault)
     → cleaned file bytes ≡ Ok chars
-    → Cut profile chars pieces
-    → lines_of profile pieces ≡ lines
+    → Tokenizes profile chars lexemes
+    → lines_of profile lexemes ≡ lines
     → GroupsInto lines r
-    → Answers r (Reads profile file bytes)
-grouped profile file bytes chars pieces lines (Ok s) clean cut are groups =
-    record { chars = chars; pieces = pieces; cleaned = clean; cut = cut; grouped = ap (group_fault []) are ∙ groups.1; same = groups.0 ∙ sym are }
-grouped profile file bytes chars pieces lines (Err (Bad f)) clean cut are groups = bad_groups clean cut (ap (group_fault []) are ∙ groups)
-grouped profile file bytes chars pieces lines (Err Memory) clean cut are groups = tt
+    → ReadResult r (Reads profile file bytes)
+grouped profile file bytes chars lexemes lines (Ok s) clean tokenized are groups =
+    record { chars = chars; lexemes = lexemes; cleaned = clean; tokenized = tokenized; grouped = ap (group_fault []) are ∙ groups.1; same = groups.0 ∙ sym are }
+grouped profile file bytes chars lexemes lines (Err (Bad f)) clean tokenized are groups = bad_groups clean tokenized (ap (group_fault []) are ∙ groups)
+grouped profile file bytes chars lexemes lines (Err Memory) clean tokenized are groups = tt
 
 pub group_lines-requires-clause-few : goal.group_lines-requires-clause-few
 group_lines-requires-clause-few c =
     let text = subst (Cleans c.args.file c.args.bytes.now) c.in-Ok.is c.in_ok-text.ensures in
-    let cut = subst (CutsInto c.args.profile c.in-Ok.text c.cut_lines.new.tokens.items c.cut_lines.new.lines.items) c.in_default.is c.in_ok-place.ensures in
-    omega (arith, cut.4, cleaned_length c.args.file c.args.bytes.now c.in-Ok.text text, c.requires)
+    let tokenized = subst (TokenizesInto c.args.profile c.in-Ok.text c.tokenize_lines.new.tokens.items c.tokenize_lines.new.lines.items) c.in_default.is c.in_ok-place.ensures in
+    omega (arith, tokenized.4, cleaned_length c.args.file c.args.bytes.now c.in-Ok.text text, c.requires)
 
 pub returns-in-Err : goal.returns-in-Err
 returns-in-Err c =
@@ -42,12 +42,12 @@ returns-in-Err c =
 pub returns-in-Err-2 : goal.returns-in-Err-2
 returns-in-Err-2 c =
     let text = subst (Cleans c.args.file c.args.bytes.now) c.in-Ok.is c.in_ok-text.ensures in
-    let unclosed = subst (CutsInto c.args.profile c.in-Ok.text c.cut_lines.new.tokens.items c.cut_lines.new.lines.items) c.in-Err-2.is c.in_ok-place.ensures in
+    let unclosed = subst (TokenizesInto c.args.profile c.in-Ok.text c.tokenize_lines.new.tokens.items c.tokenize_lines.new.lines.items) c.in-Err-2.is c.in_ok-place.ensures in
     rw c.fault_at-in-Err-2.ensures (open_comment text unclosed)
 
 pub returns : goal.returns
 returns c =
     let text = subst (Cleans c.args.file c.args.bytes.now) c.in-Ok.is c.in_ok-text.ensures in
-    let same = same_lines c.cut_lines.new.tokens.items c.shrink_to_fit.new.self.items c.cut_lines.new.lines.items c.shrink_to_fit-2.new.self.items c.shrink_to_fit.ensures.items c.shrink_to_fit-2.ensures.items in
-    let cut = subst (CutsInto c.args.profile c.in-Ok.text c.cut_lines.new.tokens.items c.cut_lines.new.lines.items) c.in_default.is c.in_ok-place.ensures in
-    grouped c.args.profile c.args.file c.args.bytes.now c.in-Ok.text cut.0 (lines_from c.shrink_to_fit.new.self.items c.shrink_to_fit-2.new.self.items) c.group_lines.result text cut.1 (cut.2 ∙ sym same) c.group_lines.ensures
+    let same = same_lines c.tokenize_lines.new.tokens.items c.shrink_to_fit.new.self.items c.tokenize_lines.new.lines.items c.shrink_to_fit-2.new.self.items c.shrink_to_fit.ensures.items c.shrink_to_fit-2.ensures.items in
+    let tokenized = subst (TokenizesInto c.args.profile c.in-Ok.text c.tokenize_lines.new.tokens.items c.tokenize_lines.new.lines.items) c.in_default.is c.in_ok-place.ensures in
+    grouped c.args.profile c.args.file c.args.bytes.now c.in-Ok.text tokenized.0 (lines_from c.shrink_to_fit.new.self.items c.shrink_to_fit-2.new.self.items) c.group_lines.result text tokenized.1 (tokenized.2 ∙ sym same) c.group_lines.ensures

@@ -2,7 +2,7 @@ use Rattle.std.proofs.Common.{◌≡◌, ◌∙◌, ℕ, true, false, List, [], 
 use Rattle.std.proofs.lemmas.Result.{IfOk-weaker}
 use Rattle.std.specs.FinSet as set
 use Rattle.std.specs.Option.{option_copied}
-use Rattle.pptext.specs.Tokens.{is_lone_quote}
+use Rattle.pptext.specs.Tokens.{is_unmatched_quote}
 use Rattle.ppmacro.specs.Names.{Macros}
 use Rattle.ppmacro.specs.Hiding.{Hiding}
 use Rattle.ppmacro.specs.HideSets.{hide_of, hiding, hidings, AllKnown}
@@ -19,7 +19,7 @@ use Rattle.ppexpand.proofs.TurnLemmas.{turn-quote, turn-hidden, turn-named, turn
 use Rattle.ppexpand.proofs.turn.Replacer.next_turn.Goals as goal
 
 -- the step of a macro's name that is not hidden
-named : (macros : Macros) (env : Env) (left : Option ℕ) (t : Hiding) (rest : List Hiding) (d : Definition) → is_lone_quote t.token ≡ false → set.contains t.hide t.token.text ≡ false → macro_of macros t.token ≡ Some d
+named : (macros : Macros) (env : Env) (left : Option ℕ) (t : Hiding) (rest : List Hiding) (d : Definition) → is_unmatched_quote t.token ≡ false → set.contains t.hide t.token.text ≡ false → macro_of macros t.token ≡ Some d
     → turn_within macros env left (t ∷ rest) ≡ within left (t ∷ rest) (macro_turn env t rest d d.shape)
 named macros env left t rest d quote free found = ap (within left (t ∷ rest)) (turn-named macros env t rest quote free ∙ ap (named_turn env t rest) found)
 
@@ -38,7 +38,7 @@ returns-then-is_quote-clause-is c =
     let s = c.args.self.now.sets in
     let t = hiding s c.in-Some.head in
     let rest = hidings s c.next.new.self in
-    let quote : is_lone_quote c.in-Some.head.token ≡ true = sym c.is_quote.ensures ∙ c.if-is_quote.true in
+    let quote : is_unmatched_quote c.in-Some.head.token ≡ true = sym c.is_quote.ensures ∙ c.if-is_quote.true in
     let whole : Refused (quote_fault t) ≡ turn_within c.args.context.now.table.now.macros c.args.context.now.env.now c.args.left (hidings s c.args.list.now) =
     sym (ap (within c.args.left (t ∷ rest)) (turn-quote c.args.context.now.table.now.macros c.args.context.now.env.now t rest quote) ∙ refused-within c.args.left (t ∷ rest) (quote_fault t))
     ∙ ap (λ l. turn_within c.args.context.now.table.now.macros c.args.context.now.env.now c.args.left (hidings s l)) (sym c.in-Some.ensures) in
@@ -52,7 +52,7 @@ returns-then-hides-clause-is c =
     let s = c.args.self.now.sets in
     let t = hiding s c.in-Some.head in
     let rest = hidings s c.next.new.self in
-    let quote : is_lone_quote c.in-Some.head.token ≡ false = sym c.is_quote.ensures ∙ c.if-is_quote.false in
+    let quote : is_unmatched_quote c.in-Some.head.token ≡ false = sym c.is_quote.ensures ∙ c.if-is_quote.false in
     let hidden : set.contains (hide_of s c.in-Some.head) c.in-Some.head.token.text ≡ true = sym c.hides.ensures ∙ c.if-hides.true in
     sym (ap (within c.args.left (t ∷ rest)) (turn-hidden c.args.context.now.table.now.macros c.args.context.now.env.now t rest quote hidden) ∙ passes-within c.args.left (t ∷ rest) t rest)
     ∙ ap (λ l. turn_within c.args.context.now.table.now.macros c.args.context.now.env.now c.args.left (hidings s l)) (sym c.in-Some.ensures)
@@ -62,7 +62,7 @@ returns-in_default-named-clause-is c =
     let s = c.args.self.now.sets in
     let t = hiding s c.in-Some.head in
     let rest = hidings s c.next.new.self in
-    let quote : is_lone_quote c.in-Some.head.token ≡ false = sym c.is_quote.ensures ∙ c.if-is_quote.false in
+    let quote : is_unmatched_quote c.in-Some.head.token ≡ false = sym c.is_quote.ensures ∙ c.if-is_quote.false in
     let none : macro_of c.args.context.now.table.now.macros c.in-Some.head.token ≡ None = named_next c.args.context.now.table.now.macros _ _ c.args.list.now c.in-Some.ensures c.requires.named ∙ ap option_copied c.in_default-named.is in
     sym (ap (within c.args.left (t ∷ rest)) (turn-unnamed c.args.context.now.table.now.macros c.args.context.now.env.now t rest quote none) ∙ passes-within c.args.left (t ∷ rest) t rest)
     ∙ ap (λ l. turn_within c.args.context.now.table.now.macros c.args.context.now.env.now c.args.left (hidings s l)) (sym c.in-Some.ensures)

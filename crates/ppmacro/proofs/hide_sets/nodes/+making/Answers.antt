@@ -2,15 +2,15 @@ use Rattle.std.proofs.Common.{◌∙◌, refl, sym, ap, subst, Ok}
 use Rattle.ppmacro.specs.Nodes.{Node, node_at, word, IsBounded}
 use Rattle.ppmacro.specs.Operations.{joined_word}
 use Rattle.ppmacro.proofs.Tries.{join-set, member-joined, bounded-on, bounded-join, keeps-on, length-keeps, words-lawful}
-use Rattle.ppmacro.proofs.Remembering.{settled-is}
+use Rattle.ppmacro.proofs.Remembering.{split_memory-is}
 use Rattle.ppmacro.proofs.Standing.{lefts-asked, rights-asked, joined-found}
 use Rattle.ppmacro.proofs.hide_sets.nodes.+making.Goals as goal
 
 pub make-returns-in-Some-clause-known : goal.make-returns-in-Some-clause-known
-make-returns-in-Some-clause-known t c = (settled-is c.args.operation c.args.nodes.now.keys c.args.one c.args.two c.in-Some.number c.requires.pool c.requires.one c.requires.two (sym c.settled.ensures ∙ c.in-Some.is)).within
+make-returns-in-Some-clause-known t c = (split_memory-is c.args.operation c.args.nodes.now.keys c.args.one c.args.two c.in-Some.number c.requires.pool c.requires.one c.requires.two (sym c.split_memory.ensures ∙ c.in-Some.is)).within
 
 pub make-returns-in-Some-clause-set : goal.make-returns-in-Some-clause-set
-make-returns-in-Some-clause-set t c = (settled-is c.args.operation c.args.nodes.now.keys c.args.one c.args.two c.in-Some.number c.requires.pool c.requires.one c.requires.two (sym c.settled.ensures ∙ c.in-Some.is)).is
+make-returns-in-Some-clause-set t c = (split_memory-is c.args.operation c.args.nodes.now.keys c.args.one c.args.two c.in-Some.number c.requires.pool c.requires.one c.requires.two (sym c.split_memory.ensures ∙ c.in-Some.is)).is
 
 pub make_node-returns-clause-set : goal.make_node-returns-clause-set
 make_node-returns-clause-set t c = λ w.
@@ -73,7 +73,7 @@ make_node-returns-in_err-both-clause-bounded t c = λ limit b.
 pub make-returns-in-Some-clause-there : goal.make-returns-in-Some-clause-there
 make-returns-in-Some-clause-there t c = λ n l h.
     let old = c.args.nodes.now.keys in
-    let made = settled-is c.args.operation old c.args.one c.args.two c.in-Some.number c.requires.pool c.requires.one c.requires.two (sym c.settled.ensures ∙ c.in-Some.is) in
+    let made = split_memory-is c.args.operation old c.args.one c.args.two c.in-Some.number c.requires.pool c.requires.one c.requires.two (sym c.split_memory.ensures ∙ c.in-Some.is) in
     (ap Ok (words-lawful old c.in-Some.number n c.requires.pool made.within l (λ w. made.is w ∙ sym (h w))), refl)
 
 pub make_node-returns-in_err-left-clause-there : goal.make_node-returns-in_err-left-clause-there

@@ -1,12 +1,12 @@
 use Rattle.std.proofs.Common.{◌≡◌, ◌∙◌, refl, ap, subst, if◌then◌else◌}
-use Rattle.pptext.specs.Carrying.{CarriesOn}
+use Rattle.pptext.specs.Continuations.{ContinuesToken}
 use Rattle.ppmacro.specs.Flying.{extended}
 use Rattle.ppmacro.proofs.WholeLemmas.{carried-whole, carried-pasted, paste-whole}
 use Rattle.ppmacro.proofs.substituting.joining.paste_onto.Goals as goal
 
 module _ (c : goal.After-turn) where
-  more : CarriesOn c.args.last.token.kind c.args.last.token.text c.args.first.now.token.text
-  more = subst (CarriesOn c.args.last.token.kind c.args.last.token.text) c.text.ensures (c.if-is_carried_on.ensures.more refl)
+  more : ContinuesToken c.args.last.token.kind c.args.last.token.text c.args.first.now.token.text
+  more = subst (ContinuesToken c.args.last.token.kind c.args.last.token.text) c.text.ensures (c.if-is_carried_on.ensures.more refl)
 
   grown : c.extend.new.self ≡ extended c.args.last c.args.first.now.token.text
   grown =

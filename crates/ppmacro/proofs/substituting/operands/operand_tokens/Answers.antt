@@ -1,7 +1,7 @@
 use Rattle.std.proofs.Common.{◌≡◌, ◌∙◌, ap, subst, [], ◌∷◌, Ok, rules, map}
 use Rattle.ppmacro.specs.HideSets.{hidings}
 use Rattle.ppmacro.specs.Substitution.{after_ok, stringized}
-use Rattle.pptext.specs.Stops.{Answers}
+use Rattle.pptext.specs.Errors.{Returns}
 use Rattle.ppmacro.specs.Substituting.{tokens_of, options_of}
 use Rattle.ppmacro.proofs.JoinLemmas.{tokens-in, argument-in, expansion-in}
 use Rattle.ppmacro.proofs.substituting.operands.operand_tokens.Goals as goal
@@ -15,4 +15,4 @@ pub returns-in-Str-clause-is : goal.returns-in-Str-clause-is
 returns-in-Str-clause-is c =
     let s = c.args.sets.now in
     let tokens = ap tokens_of c.argument.ensures ∙ tokens-in s _ ∙ ap (λ hs. map (λ t. t.token) hs) (argument-in s c.args.arguments.given.now c.in-Str.index) in
-    rw c.in-Str.is (subst (λ ts. Answers c.literal.result (λ v. hidings s v.items) (after_ok (stringized ts c.in-Str.at c.args.used) (λ t. Ok (t ∷ [])))) tokens c.literal.ensures.is)
+    rw c.in-Str.is (subst (λ ts. Returns c.literal.result (λ v. hidings s v.items) (after_ok (stringized ts c.in-Str.at c.args.used) (λ t. Ok (t ∷ [])))) tokens c.literal.ensures.is)

@@ -3,4 +3,4 @@ use Rattle.pptext.proofs.Branches.{LinkedFrom}
 use Rattle.pptext.proofs.grouping.branches.link_branches.Given as goal
 
 abbrev pub invariant-loop-at : goal.invariant-loop-at
-invariant-loop-at l = LinkedFrom l.initial.lines l.at l.lines (reverse l.behind.items)
+invariant-loop-at l = LinkedFrom l.initial.lines l.at l.lines (reverse l.open_branches.items)

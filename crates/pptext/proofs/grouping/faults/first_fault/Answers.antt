@@ -1,8 +1,8 @@
 use Rattle.std.proofs.Common.{◌≡◌, ◌∙◌, ℕ, Option, None, Some, ap, sym, subst, Bool, List, [], ◌∷◌, ◌++◌, reverse, get_or}
 use Rattle.std.proofs.lemmas.List.{nil_from_length, reverse-append}
 use Rattle.pptext.specs.Sources.{lines_from}
-use Rattle.pptext.specs.Tree.{opened, fault_at_end, group_fault}
-use Rattle.pptext.specs.Grouping.{line_role, Takes}
+use Rattle.pptext.specs.Tree.{after_line, fault_at_end, group_fault}
+use Rattle.pptext.specs.code.Grouping.{line_role, LineTakes}
 use Rattle.pptext.proofs.Spans.{no_line}
 use Rattle.pptext.proofs.Faults.{FaultsSoFar, blank_line, branching_here, faults_start, faults_step, fault_here, open_lines, fault_at_last, fault_last, opens_branching}
 use Rattle.pptext.proofs.grouping.faults.first_fault.Goals as goal
@@ -15,8 +15,8 @@ fault_at-requires-clause-branching c =
     let role = line_role (get_or c.args.lines.now c.loop-at.at no_line) in
     let before = reverse c.loop-at.open_sections.items in
     let after = reverse c.take_line.new.open_sections.items in
-    let step : (opened role c.loop-at.at before).0 ≡ Some c.in-Some.number =
-    subst (λ (z : Option ℕ). Takes (opened role c.loop-at.at before) z after) c.in-Some.is c.in_ok-number.ensures in
+    let step : (after_line role c.loop-at.at before).0 ≡ Some c.in-Some.number =
+    subst (λ (z : Option ℕ). LineTakes (after_line role c.loop-at.at before) z after) c.in-Some.is c.in_ok-number.ensures in
     λ d. branching_here c.args.tokens.now c.args.lines.now c.requires.are_lines c.loop-at.at c.in-Some.number before no_line d c.loop-at-test.true step
 
 pub returns-in-Some : goal.returns-in-Some
@@ -24,8 +24,8 @@ returns-in-Some c =
     let role = line_role (get_or c.args.lines.now c.loop-at.at no_line) in
     let before = reverse c.loop-at.open_sections.items in
     let after = reverse c.take_line.new.open_sections.items in
-    let step : (opened role c.loop-at.at before).0 ≡ Some c.in-Some.number =
-    subst (λ (z : Option ℕ). Takes (opened role c.loop-at.at before) z after) c.in-Some.is c.in_ok-number.ensures in
+    let step : (after_line role c.loop-at.at before).0 ≡ Some c.in-Some.number =
+    subst (λ (z : Option ℕ). LineTakes (after_line role c.loop-at.at before) z after) c.in-Some.is c.in_ok-number.ensures in
     ap Some (c.in_ok-fault_at.ensures blank_line) ∙ fault_here c.args.tokens.now c.args.lines.now c.requires.are_lines c.loop-at.at c.in-Some.number before no_line c.loop-at-test.true c.loop-at.invariant step
 
 pub loop-at-preserved : goal.loop-at-preserved
@@ -33,8 +33,8 @@ loop-at-preserved c =
     let role = line_role (get_or c.args.lines.now c.loop-at.at no_line) in
     let before = reverse c.loop-at.open_sections.items in
     let after = reverse c.take_line.new.open_sections.items in
-    let step : opened role c.loop-at.at before ≡ (None, after) =
-    subst (λ (z : Option ℕ). Takes (opened role c.loop-at.at before) z after) c.in_default.is c.in_ok-number.ensures in
+    let step : after_line role c.loop-at.at before ≡ (None, after) =
+    subst (λ (z : Option ℕ). LineTakes (after_line role c.loop-at.at before) z after) c.in_default.is c.in_ok-number.ensures in
     faults_step c.args.tokens.now c.args.lines.now c.requires.are_lines c.loop-at.at before after no_line c.loop-at-test.true c.loop-at.invariant step
 
 pub returns-in-None : goal.returns-in-None

@@ -3,7 +3,7 @@ use Rattle.pptext.specs.declared.tokens.Token.{Token}
 use Rattle.pptext.specs.Tree.{Opens}
 use Rattle.pptext.specs.Sources.{lines_from}
 use Rattle.pptext.specs.Guard.{guard_name}
-use Rattle.pptext.specs.Grouping.{line_role, FlatGuard}
+use Rattle.pptext.specs.code.Grouping.{line_role, FlatGuard}
 use Rattle.pptext.proofs.Spans.{no_line, line_at, line_from}
 use Rattle.pptext.proofs.Roles.{opens_meant}
 use Rattle.pptext.proofs.GuardScan.{flat_here, only_here, if_none, if_some}

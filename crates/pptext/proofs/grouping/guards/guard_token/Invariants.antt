@@ -1,6 +1,6 @@
 use Rattle.std.proofs.Common.{◌↔◌, ℕ, List, drop}
 use Rattle.pptext.specs.Sources.{lines_from}
-use Rattle.pptext.specs.Grouping.{FlatGuard}
+use Rattle.pptext.specs.code.Grouping.{FlatGuard}
 use Rattle.pptext.proofs.grouping.guards.guard_token.Given as goal
 
 abbrev pub invariant-loop-at : goal.invariant-loop-at

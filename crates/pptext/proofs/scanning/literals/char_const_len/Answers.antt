@@ -4,7 +4,7 @@ use Rattle.std.proofs.lemmas.List.{take_rest}
 use Rattle.pptext.proofs.Fronts.{only_zero}
 use Rattle.pptext.proofs.Combine.{then_none_first, then_lacks_rest, then_found}
 use Rattle.pptext.proofs.Literals.{CharOpening, char_const_part}
-use Rattle.pptext.proofs.LoneQuotes.{CharRest, char_rest_lacks, char_rest_only, char_rest_empty}
+use Rattle.pptext.proofs.UnmatchedQuoteLemmas.{CharRest, char_rest_lacks, char_rest_only, char_rest_empty}
 use Rattle.pptext.proofs.scanning.literals.char_const_len.Goals as goal
 
 pub returns-then-opening-eq0-clause-part : goal.returns-then-opening-eq0-clause-part

@@ -7,7 +7,7 @@ use Rattle.pptext.proofs.scanning.literals.char_opening_len.Goals as goal
 
 -- nothing that opens a character constant begins here
 opens_none : (text : List ℕ) → ((m : ℕ) → m ≤ length text → CharOpens text m → ⊥) → OnlyPart CharOpening text 0
-opens_none text none = only_zero CharOpening text (λ m fits front. none m fits (char_opens text m fits front))
+opens_none text none = only_zero CharOpening text (λ m fits prefix. none m fits (char_opens text m fits prefix))
 
 nothing_here : (text : List ℕ) → length text ≡ 0 → (m : ℕ) → m ≤ length text → CharOpens text m → ⊥
 nothing_here text empty m fits (inl o) = let one = o.0 in omega arith

@@ -1,12 +1,12 @@
 use Rattle.std.proofs.Common.{◌≡◌, ◌<◌, drop, get_or, arith, sym, ◌∙◌}
 use Rattle.std.proofs.lemmas.List.{take_rest}
-use Rattle.pptext.specs.Languages.{OnlyPart, NoFront}
+use Rattle.pptext.specs.Languages.{OnlyPart, NoPrefix}
 use Rattle.pptext.specs.Spellings.{IsElement}
-use Rattle.pptext.specs.Lone.{IsQuoted}
+use Rattle.pptext.specs.code.UnmatchedQuotes.{IsQuoted}
 use Rattle.pptext.proofs.Closing.{closes_here, closes_nowhere, one_more}
 use Rattle.pptext.proofs.Combine.{head_at, room_at, end_at, lacks_nothing}
 use Rattle.pptext.proofs.Literals.{quote_lacks, empty_lacks}
-use Rattle.pptext.proofs.LoneQuotes.{passed_more}
+use Rattle.pptext.proofs.UnmatchedQuoteLemmas.{passed_more}
 use Rattle.pptext.proofs.scanning.literals.quoted_rest.Goals as goal
 
 pub returns-then-text-at : goal.returns-then-text-at
@@ -23,7 +23,7 @@ returns-then-n-eq0 c =
     let at = c.loop-at.at in
     let quote = c.args.quote in
     let p : OnlyPart (IsElement quote) (drop at text) c.element_len-n.result = simp take_rest at c.element_len-n.ensures in
-    let none : NoFront (IsQuoted quote) (drop at text) = closes_nowhere (IsElement quote) quote (drop at text) (λ h. c.if-text-at.false (sym (head_at text at) ∙ h.1)) (p.0 c.if-n-eq0.true) in
+    let none : NoPrefix (IsQuoted quote) (drop at text) = closes_nowhere (IsElement quote) quote (drop at text) (λ h. c.if-text-at.false (sym (head_at text at) ∙ h.1)) (p.0 c.if-n-eq0.true) in
     (c.loop-at.invariant.within, c.loop-at.invariant.lacks none, λ r lt e. c.loop-at.invariant.passed r lt e none)
 
 pub loop-at-preserved : goal.loop-at-preserved
@@ -43,5 +43,5 @@ returns c =
     let at = c.loop-at.at in
     let quote = c.args.quote in
     let l = end_at text at c.loop-at-test.false in
-    let none : NoFront (IsQuoted quote) (drop at text) = closes_nowhere (IsElement quote) quote (drop at text) (λ h. omega (arith, h.0, l)) (lacks_nothing (IsElement quote) (drop at text) (empty_lacks quote) l) in
+    let none : NoPrefix (IsQuoted quote) (drop at text) = closes_nowhere (IsElement quote) quote (drop at text) (λ h. omega (arith, h.0, l)) (lacks_nothing (IsElement quote) (drop at text) (empty_lacks quote) l) in
     (c.loop-at.invariant.within, c.loop-at.invariant.lacks none, λ r lt e. c.loop-at.invariant.passed r lt e none)

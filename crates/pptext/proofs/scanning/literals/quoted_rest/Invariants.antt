@@ -1,7 +1,7 @@
 use Rattle.std.proofs.Common.{ℕ, ◌+◌, ◌-◌, ◌≤◌, length, drop}
-use Rattle.pptext.specs.Languages.{NoFront, IsOnly}
-use Rattle.pptext.specs.Lone.{IsQuoted}
-use Rattle.pptext.proofs.LoneQuotes.{Passed}
+use Rattle.pptext.specs.Languages.{NoPrefix, IsOnly}
+use Rattle.pptext.specs.code.UnmatchedQuotes.{IsQuoted}
+use Rattle.pptext.proofs.UnmatchedQuoteLemmas.{Passed}
 use Rattle.pptext.proofs.scanning.literals.quoted_rest.Given as goal
 
 -- what closes from here on is what closes, and nothing closes if nothing does from here on
@@ -9,7 +9,7 @@ abbrev pub invariant-loop-at : goal.invariant-loop-at
 invariant-loop-at l = record {
   within : l.at ≤ length l.text;
   closes : (k : ℕ) → IsOnly (IsQuoted l.quote) (drop l.at l.text) k → IsOnly (IsQuoted l.quote) l.text (l.at + k);
-  lacks : NoFront (IsQuoted l.quote) (drop l.at l.text) → NoFront (IsQuoted l.quote) l.text;
+  lacks : NoPrefix (IsQuoted l.quote) (drop l.at l.text) → NoPrefix (IsQuoted l.quote) l.text;
   passed : Passed l.quote l.text l.at;
 }
 

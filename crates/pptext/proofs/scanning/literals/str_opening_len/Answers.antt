@@ -7,7 +7,7 @@ use Rattle.pptext.proofs.scanning.literals.str_opening_len.Goals as goal
 
 -- nothing that opens a string literal begins here
 opens_none : (text : List ℕ) → ((m : ℕ) → m ≤ length text → StrOpens text m → ⊥) → OnlyPart StrOpening text 0
-opens_none text none = only_zero StrOpening text (λ m fits front. none m fits (str_opens text m fits front))
+opens_none text none = only_zero StrOpening text (λ m fits prefix. none m fits (str_opens text m fits prefix))
 
 nothing_here : (text : List ℕ) → length text ≡ 0 → (m : ℕ) → m ≤ length text → StrOpens text m → ⊥
 nothing_here text empty m fits (inl o) = let one = o.0 in omega arith

@@ -1,0 +1,180 @@
+-- Stretches of bytes that are characters of their own, and tables of the line notes between them.
+use Rattle.std.proofs.Common.{◌≡◌, ℕ, zero, suc, ◌⊎◌, inl, inr, ◌+◌, ◌-◌, ◌<◌, ◌≤◌, Bool, true, false, ◌==◌, ◌||◌, if◌then◌else◌, List, [], ◌∷◌, ◌++◌, length}
+use Rattle.std.proofs.Common.{drop, get_or, refl, sym, ap, ◌∙◌, subst, arith, Option, None, Some, length-drop, append_assoc, add-zero}
+use Rattle.std.proofs.lemmas.Bool.{false≢true, cases_lt}
+use Rattle.std.proofs.lemmas.List.{drop_more, drop-drop, drop_all, get_or-drop, get_or_past, append-nil}
+use Rattle.pptext.specs.Clean.{backslash}
+use Rattle.pptext.specs.code.LineNotes.{IsTable, OwnPrefix, PlainRun, after_note, step_len}
+use Rattle.pptext.specs.code.Steps.{Code, Removed, IsChanged, PlainPrefix, coded, is_special, newline_front, return_front, spliced, step_of, trigraph_front}
+
+-- a byte that isn't special is a character
+no_mark : (b : ℕ) (bs : List ℕ) → (b == 63) ≡ false → trigraph_front (b ∷ bs) ≡ 0
+no_mark b [] h = refl
+no_mark b (c ∷ []) h = refl
+no_mark b (c ∷ d ∷ bs) h = rw h refl
+
+no_cr : (b : ℕ) (bs : List ℕ) → (b == 13) ≡ false → return_front (b ∷ bs) ≡ false
+no_cr b [] h = refl
+no_cr b (c ∷ bs) h = rw h refl
+
+neither : (a b c : Bool) → (a || b || c) ≡ false → (a ≡ false) × (b ≡ false) × (c ≡ false)
+neither false false false h = (refl, refl, refl)
+neither true b c h = absurd (false≢true (sym h))
+neither false true c h = absurd (false≢true (sym h))
+neither false false true h = absurd (false≢true (sym h))
+
+plain_step : (s : Bool) (b : ℕ) (bs : List ℕ) → is_special b ≡ false → step_of s (b ∷ bs) ≡ Code b 1
+plain_step s b bs h =
+    let n = neither (b == 92) (b == 63) (b == 13) h in
+    rw (no_cr b bs n.2, no_mark b bs n.1, n.0) refl
+
+one_byte : (s : Bool) (bs : List ℕ) (code : ℕ) → step_of s bs ≡ Code code 1 → code ≡ get_or bs 0 0
+one_byte s bs code h = first (return_front bs) h
+  where
+    codes : (a b m n : ℕ) → Code a m ≡ Code b n → (a ≡ b) × (m ≡ n)
+    codes a b m n e = (cc, cc)
+
+    none : (found : Option ℕ) (a m : ℕ) → spliced found a m ≡ Code code 1 → (a ≡ code) × (m ≡ 1)
+    none None a m e = codes a code m 1 e
+    none (Some k) a m e = cc
+
+    third : (t : Bool) (a m : ℕ) → (if t then spliced (newline_front s (drop m bs)) a m else Code a m) ≡ Code code 1 → (a ≡ code) × (m ≡ 1)
+    third true a m e = none (newline_front s (drop m bs)) a m e
+    third false a m e = codes a code m 1 e
+
+    second : (t : Bool) → (if t then coded s bs (get_or bs 0 0) 1 else coded s bs (trigraph_front bs) 3) ≡ Code code 1 → code ≡ get_or bs 0 0
+    second true e = sym (third (get_or bs 0 0 == backslash) (get_or bs 0 0) 1 e).0
+    second false e = absurd (omega (arith, (third (trigraph_front bs == backslash) (trigraph_front bs) 3 e).1))
+
+    first : (t : Bool) → (if t then Removed 1 else (if trigraph_front bs == 0 then coded s bs (get_or bs 0 0) 1 else coded s bs (trigraph_front bs) 3)) ≡ Code code 1 → code ≡ get_or bs 0 0
+    first true e = cc
+    first false e = second (trigraph_front bs == 0) e
+
+-- What is no character of one byte is a line note.
+pub long_code : (s : Bool) (bs : List ℕ) (a n : ℕ) → step_of s bs ≡ Code a n → (n ≡ 1 → ⊥) → IsChanged s bs
+long_code s bs a n is long = λ code e. long (same code (sym is ∙ e))
+  where
+    same : (code : ℕ) → Code a n ≡ Code code 1 → n ≡ 1
+    same code e = cc
+
+pub removed_bytes : (s : Bool) (bs : List ℕ) (n : ℕ) → step_of s bs ≡ Removed n → IsChanged s bs
+removed_bytes s bs n is = λ code e. none code (sym is ∙ e)
+  where
+    none : (code : ℕ) → Removed n ≡ Code code 1 → ⊥
+    none code e = cc
+
+pub stretch_all : (s : Bool) (bs : List ℕ) → OwnPrefix s bs (length bs) → PlainRun s bs (length bs)
+stretch_all s bs h = record { prefix = h; stops = λ lt. absurd (omega arith) }
+
+-- A front of own bytes grows, byte by byte.
+pub own_none : (s : Bool) (bs : List ℕ) → OwnPrefix s bs 0
+own_none s bs = record { fits = omega arith; own = λ k lt. absurd (omega arith) }
+
+pub own_plain : (s : Bool) (bs : List ℕ) (at n : ℕ) → OwnPrefix s bs at → PlainPrefix (drop at bs) n → OwnPrefix s bs (at + n)
+own_plain s bs at n h prefix =
+    let l = length-drop at bs in
+    let more = prefix.0 in
+    let before = h.fits in
+    record { fits = omega arith; own = λ k lt. by k lt (cases_lt k at) }
+  where
+    plain : (k : ℕ) → at ≤ k → k < at + n → is_special (get_or bs k 0) ≡ false
+    plain k le lt = ap is_special (ap (λ i. get_or bs i 0) (omega arith) ∙ sym (get_or-drop at bs (k - at) 0)) ∙ prefix.1 (k - at) (omega arith)
+
+    by : (k : ℕ) → k < at + n → (k < at) ⊎ (at ≤ k) → step_of s (drop k bs) ≡ Code (get_or bs k 0) 1
+    by k lt (inl below) = h.own k below
+    by k lt (inr le) =
+        let l = length-drop at bs in
+        let more = prefix.0 in
+        let before = h.fits in
+        ap (step_of s) (drop_more bs k 0 (omega arith)) ∙ plain_step s (get_or bs k 0) (drop (k + 1) bs) (plain k le lt)
+
+pub own_code : (s : Bool) (bs : List ℕ) (at code : ℕ) → OwnPrefix s bs at → at < length bs → step_of s (drop at bs) ≡ Code code 1 → OwnPrefix s bs (at + 1)
+own_code s bs at code h room is = record { fits = omega arith; own = λ k lt. by k lt (cases_lt k at) }
+  where
+    this : step_of s (drop at bs) ≡ Code (get_or bs at 0) 1
+    this = is ∙ ap (λ c. Code c 1) (one_byte s (drop at bs) code is ∙ get_or-drop at bs 0 0 ∙ ap (λ k. get_or bs k 0) (add-zero at))
+
+    by : (k : ℕ) → k < at + 1 → (k < at) ⊎ (at ≤ k) → step_of s (drop k bs) ≡ Code (get_or bs k 0) 1
+    by k lt (inl below) = h.own k below
+    by k lt (inr le) =
+        let e : at ≡ k = omega arith in
+        subst (λ i. step_of s (drop i bs) ≡ Code (get_or bs i 0) 1) e this
+
+-- the front and the rest of a stretch
+pub own_less : (s : Bool) (bs : List ℕ) (n m : ℕ) → n ≤ m → OwnPrefix s bs m → OwnPrefix s bs n
+own_less s bs n m le h =
+    let fits = h.fits in
+    record { fits = omega arith; own = λ k lt. h.own k (omega arith) }
+
+pub stretch_rest : (s : Bool) (raw : List ℕ) (o n m : ℕ) → n ≤ m → PlainRun s (drop o raw) m → PlainRun s (drop (o + n) raw) (m - n)
+stretch_rest s raw o n m le h =
+    let l = length-drop o raw in
+    let l2 = length-drop (o + n) raw in
+    let fits = h.prefix.fits in
+    record {
+      prefix = record {
+        fits = omega arith;
+        own = λ k lt. ap (step_of s) (sym (rest k)) ∙ h.prefix.own (n + k) (omega arith) ∙ ap (λ b. Code b 1) (byte k);
+      };
+      stops = λ lt. subst (IsChanged s) (ap (λ k. drop k (drop o raw)) (omega arith) ∙ rest (m - n)) (h.stops (omega arith));
+    }
+  where
+    rest : (k : ℕ) → drop (n + k) (drop o raw) ≡ drop k (drop (o + n) raw)
+    rest k = drop-drop (n + k) o raw ∙ ap (λ i. drop i raw) (omega arith) ∙ sym (drop-drop k (o + n) raw)
+
+    byte : (k : ℕ) → get_or (drop o raw) (n + k) 0 ≡ get_or (drop (o + n) raw) k 0
+    byte k = get_or-drop o raw (n + k) 0 ∙ ap (λ i. get_or raw i 0) (omega arith) ∙ sym (get_or-drop (o + n) raw k 0)
+
+-- What follows the entries made so far makes the table whole.
+pub record Begun (s : Bool) (raw : List ℕ) (start : ℕ) (done : List ℕ) : Type 0 where
+  pub fits : start ≤ length raw
+  pub table : (ns : List ℕ) → IsTable s (drop start raw) ns → IsTable s raw (done ++ ns)
+
+pub begun_none : (s : Bool) (raw : List ℕ) → Begun s raw 0 []
+begun_none s raw = record { fits = omega arith; table = λ ns h. h }
+
+-- the bytes after a line note at an offset
+pub behind_at : (s : Bool) (raw : List ℕ) (offset len : ℕ) → step_len (step_of s (drop offset raw)) ≡ len → after_note s (drop offset raw) ≡ drop (offset + len) raw
+behind_at s raw offset len is = ap (λ k. drop k (drop offset raw)) is ∙ drop-drop len offset raw
+
+pub begun_more : (s : Bool) (raw : List ℕ) (start n len : ℕ) (done : List ℕ)
+    → Begun s raw start done
+    → n < length (drop start raw)
+    → PlainRun s (drop start raw) n
+    → step_len (step_of s (drop (start + n) raw)) ≡ len
+    → start + n + len ≤ length raw
+    → Begun s raw (start + n + len) (done ++ n ∷ [])
+begun_more s raw start n len done h room stretch is fits = record {
+  fits = fits;
+  table = λ ns rest. subst (IsTable s raw) (sym (append_assoc done (n ∷ []) ns)) (h.table (n ∷ ns) (room, stretch, subst (λ z. IsTable s z ns) behind rest));
+}
+  where
+    behind : drop (start + n + len) raw ≡ after_note s (drop n (drop start raw))
+    behind = sym (behind_at s raw (start + n) len is) ∙ ap (after_note s) (sym (drop-drop n start raw))
+
+pub begun_all : (s : Bool) (raw : List ℕ) (start : ℕ) (done : List ℕ) → Begun s raw start done → PlainRun s (drop start raw) (length (drop start raw)) → IsTable s raw done
+begun_all s raw start done h last = subst (IsTable s raw) (append-nil done) (h.table [] last)
+
+-- The table is read from its front: the next stretch, and what follows after its line note.
+drop_nil : (n : ℕ) → drop {A = ℕ} n [] ≡ []
+drop_nil zero = refl
+drop_nil (suc n) = refl
+
+nothing : (s : Bool) → PlainRun s [] 0
+nothing s = record { prefix = record { fits = omega arith; own = λ k lt. absurd (omega arith) }; stops = λ lt. absurd (omega arith) }
+
+pub table_next : (s : Bool) (bs line_notes : List ℕ) (next : ℕ)
+    → IsTable s bs (drop next line_notes)
+    → PlainRun s bs (get_or line_notes next (length bs)) × IsTable s (after_note s (drop (get_or line_notes next (length bs)) bs)) (drop (next + 1) line_notes)
+table_next s bs line_notes next h = by (cases_lt next (length line_notes))
+  where
+    by : (next < length line_notes) ⊎ (length line_notes ≤ next) → PlainRun s bs (get_or line_notes next (length bs)) × IsTable s (after_note s (drop (get_or line_notes next (length bs)) bs)) (drop (next + 1) line_notes)
+    by (inl more) =
+        let entry = subst (IsTable s bs) (drop_more line_notes next (length bs) more) h in
+        (entry.1, entry.2)
+    by (inr past) =
+        let last : get_or line_notes next (length bs) ≡ length bs = get_or_past line_notes next (length bs) past in
+        let none : drop next line_notes ≡ [] = drop_all next line_notes past in
+        let after : drop (next + 1) line_notes ≡ [] = drop_all (next + 1) line_notes (omega arith) in
+        let end : drop (length bs) bs ≡ [] = drop_all (length bs) bs (omega arith) in
+        (subst (PlainRun s bs) (sym last) (subst (IsTable s bs) none h), rw (after, last, end, drop_nil) (nothing s))

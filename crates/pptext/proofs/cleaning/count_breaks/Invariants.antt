@@ -1,9 +1,0 @@
-use Rattle.std.proofs.Common.{◌-◌, length}
-use Rattle.pptext.proofs.Copies.{Counted}
-use Rattle.pptext.proofs.cleaning.count_breaks.Given as goal
-
-abbrev pub invariant-loop-ahead : goal.invariant-loop-ahead
-invariant-loop-ahead l = Counted l.raw l.start l.count
-
-abbrev pub decreases-loop-ahead : goal.decreases-loop-ahead
-decreases-loop-ahead l = length l.raw - l.start

@@ -1,9 +1,0 @@
-use Rattle.std.proofs.Common.{◌-◌, length}
-use Rattle.pptext.specs.Breaks.{OwnFront}
-use Rattle.pptext.proofs.cleaning.first_break.Given as goal
-
-abbrev pub invariant-loop-ahead : goal.invariant-loop-ahead
-invariant-loop-ahead l = OwnFront l.supplied l.bytes l.start
-
-abbrev pub decreases-loop-ahead : goal.decreases-loop-ahead
-decreases-loop-ahead l = length l.bytes - l.start

@@ -1,0 +1,5 @@
+use Rattle.pptext.proofs.Carried.{continued_token}
+use Rattle.pptext.proofs.laws.continued_token.Goals as goal
+
+pub returns : goal.returns
+returns c = λ text more k one rest. (continued_token text more k one rest).0

@@ -1,0 +1,5 @@
+use Rattle.pptext.proofs.OneCut.{one_tokenization}
+use Rattle.pptext.proofs.laws.one_tokenization.Goals as goal
+
+pub returns : goal.returns
+returns c = one_tokenization

@@ -1,9 +1,0 @@
-use Rattle.std.proofs.Common.{nat_eq, get_or, refl, arith}
-use Rattle.std.proofs.lemmas.Bool.{agree_below_at}
-use Rattle.pptext.specs.declared.scanning.TheConstants.{WORD_STARTS}
-use Rattle.pptext.specs.Finds.{starts_word}
-use Rattle.pptext.proofs.scanning.starts_word.Goals as goal
-
--- The table is held against the definition at each of the 256 bytes, by computing.
-pub returns : goal.returns
-returns c = agree_below_at (λ k. nat_eq (get_or WORD_STARTS k 0) 49) starts_word 256 c.args.c refl (omega arith)

@@ -1,5 +1,0 @@
-use Rattle.std.proofs.Common.{rules}
-use Rattle.pptext.proofs.tokens.Token.is_name.Goals as goal
-
-pub returns-then-is_identifier : goal.returns-then-is_identifier
-returns-then-is_identifier c = search rules

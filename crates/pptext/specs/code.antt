@@ -1,0 +1,7 @@
+-- Vocabulary of the code: only contracts inside this crate and views cite these files. No theorem rests on them.
+pub mod LineNotes
+pub mod Steps
+pub mod CleanedText
+pub mod FoundLexemes
+pub mod UnmatchedQuotes
+pub mod Grouping

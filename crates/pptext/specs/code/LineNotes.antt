@@ -1,0 +1,28 @@
+-- The table of line notes: where phases 1 and 2 (5.1.1.2) remove or replace bytes of a file. Only the contracts of private functions, and the view
+-- of a type's private fields, cite this.
+use Rattle.std.specs.Prelude.{◌≡◌, ◌<◌, ◌≤◌, ℕ, List, [], ◌∷◌, Bool, length, drop, slice_index}
+use Rattle.pptext.specs.code.Steps.{CharStep, Code, Removed, IsChanged, step_of}
+
+-- each of the first n bytes is a character of its own
+pub record OwnPrefix (supplied : Bool) (bs : List ℕ) (n : ℕ) : Type 0 where
+  pub fits : n ≤ length bs
+  pub own : (k : ℕ) → k < n → step_of supplied (drop k bs) ≡ Code (slice_index bs k) 1
+
+-- and after them the bytes end, or a line note is there
+pub record PlainRun (supplied : Bool) (bs : List ℕ) (n : ℕ) : Type 0 where
+  pub prefix : OwnPrefix supplied bs n
+  pub stops : n < length bs → IsChanged supplied (drop n bs)
+
+-- the number of bytes that the step reads
+abbrev pub step_len : CharStep → ℕ
+step_len (Code code n) = n
+step_len (Removed n) = n
+
+-- the bytes after the line note that is here
+abbrev pub after_note : Bool → List ℕ → List ℕ
+after_note supplied bs = drop (step_len (step_of supplied bs)) bs
+
+-- An entry for each line note: the number of bytes between it and the line note before, or the start.
+abbrev pub IsTable : Bool → List ℕ → List ℕ → Type 0
+IsTable supplied bs [] = PlainRun supplied bs (length bs)
+IsTable supplied bs (n ∷ ns) = (n < length bs) × PlainRun supplied bs n × IsTable supplied (after_note supplied (drop n bs)) ns
