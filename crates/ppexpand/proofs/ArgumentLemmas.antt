@@ -4,16 +4,16 @@ use Rattle.std.proofs.Common.{Global, is_some, true≢false, refl, sym, ap, ◌�
 use Rattle.pptext.specs.declared.tokens.Token.{Token}
 use Rattle.pptext.specs.declared.tokens.Fault.{Fault}
 use Rattle.ppmacro.specs.Names.{Name, Macros}
-use Rattle.ppmacro.specs.Numbered.{Numbered}
+use Rattle.ppmacro.specs.HideSetPool.{HideSetPool}
 use Rattle.ppmacro.specs.Hiding.{Hiding}
-use Rattle.ppmacro.specs.HideSets.{hidings, AllKnown, Keeps}
-use Rattle.ppmacro.specs.Chains.{names_in, chains_of}
+use Rattle.ppmacro.specs.HideSets.{hidings, AllKnown, KeepsSets}
+use Rattle.ppmacro.specs.Chains.{parameter_names, chains_of}
 use Rattle.ppmacro.specs.Substituting.{lists_of, ListsKnown, option_of}
 use Rattle.ppmacro.specs.Substitution.{argument_at}
 use Rattle.std.specs.Option.{option_map}
-use Rattle.ppmacro.specs.declared.flying.Expansion.{Expansion}
-use Rattle.ppmacro.specs.declared.flying.Expansion.TheVariants.{Unused}
-use Rattle.ppmacro.specs.declared.flying.Hidden.{Hidden}
+use Rattle.ppmacro.specs.declared.hidden_token.Expansion.{Expansion}
+use Rattle.ppmacro.specs.declared.hidden_token.Expansion.TheVariants.{Unused}
+use Rattle.ppmacro.specs.declared.hidden_token.Hidden.{Hidden}
 use Rattle.ppmacro.specs.declared.macros.Chain.{Chain}
 use Rattle.ppexpand.specs.declared.env.Env.{Env}
 use Rattle.ppmacro.specs.Patterns.{entry_chain}
@@ -25,7 +25,7 @@ use Rattle.ppexpand.specs.Shown.{given_in, expanded_in, ExpansionsKnown, held, R
 use Rattle.ppexpand.proofs.Follows.{ArgumentsFollow, arguments_start, arguments_unused, arguments_used, arguments_refused, arguments_end}
 use Rattle.ppexpand.proofs.Keeping.{expanded-keeps, expanded_in-push, arguments_known}
 
-pub arguments_first : (macros : Macros) (env : Env) (level : ℕ) (call : Call) (left : Option ℕ) → ArgumentsFollow macros env level call left (wanted call) [] left (to_expand 0 (chains_of call.macro) (names_in call.macro.shape) call.arguments)
+pub arguments_first : (macros : Macros) (env : Env) (level : ℕ) (call : Call) (left : Option ℕ) → ArgumentsFollow macros env level call left (wanted call) [] left (to_expand 0 (chains_of call.macro) (parameter_names call.macro.kind) call.arguments)
 unfolding wanted
 arguments_first macros env level call left = arguments_start macros env level call left (wanted call)
 
@@ -56,7 +56,7 @@ module _ (macros : Macros) (env : Env) (level : ℕ) (head : Token) (left after 
   argument_raises f low e one = raises low (at_level (Some f) e one)
 
 -- the expansion of the copied list of an argument is the expansion of the argument
-module _ (macros : Macros) (env : Env) (level : ℕ) (head : Token) (left after : Option ℕ) (s t : Numbered) (given copied passed : List Hidden) (fault : Option Fault) where
+module _ (macros : Macros) (env : Env) (level : ℕ) (head : Token) (left after : Option ℕ) (s t : HideSetPool) (given copied passed : List Hidden) (fault : Option Fault) where
   -- what is known of the tokens that were made of what passed
   abbrev IsMade : Expansion → Type 0
   IsMade e = (is_some fault ≡ false) × (held e ≡ passed) × ((as' : List Hidden) → option_of as' e ≡ Some passed)
@@ -84,12 +84,12 @@ module _ (macros : Macros) (env : Env) (level : ℕ) (head : Token) (left after 
 
 -- ---- the argument of a parameter
 
-argument-in : (s : Numbered) (vs : List (Vec Hidden Global)) (i : ℕ) → argument_at (given_in s vs) i ≡ hidings s (argument_at (lists_of vs) i)
+argument-in : (s : HideSetPool) (vs : List (Vec Hidden Global)) (i : ℕ) → argument_at (given_in s vs) i ≡ hidings s (argument_at (lists_of vs) i)
 argument-in s [] i = refl
 argument-in s (v ∷ vs) zero = refl
 argument-in s (v ∷ vs) (suc i) = argument-in s vs i
 
-pub argument-known : (s : Numbered) (vs : List (Vec Hidden Global)) (i : ℕ) → ListsKnown s vs → AllKnown s (argument_at (lists_of vs) i)
+pub argument-known : (s : HideSetPool) (vs : List (Vec Hidden Global)) (i : ℕ) → ListsKnown s vs → AllKnown s (argument_at (lists_of vs) i)
 argument-known s vs i known = (arguments_known vs [] known (record { each = tt })).given_known i
 
 -- what is to be expanded of the parameter i, whether it is pre-expanded or not
@@ -116,7 +116,7 @@ rest-end cs (n ∷ names) given i zero h = absurd (omega arith)
 rest-end cs (n ∷ names) given i (suc j) h = rest-end cs names given i j (omega arith)
 
 -- the argument of the next parameter, which is appended to the expansions of the others, and the rest of the budget after it
-module _ (macros : Macros) (env : Env) (level : ℕ) (first left between : Option ℕ) (s u w : Numbered) (vs : List (Vec Hidden Global)) (cs : List Chain) (names : List Name) (i : ℕ)
+module _ (macros : Macros) (env : Env) (level : ℕ) (first left between : Option ℕ) (s u w : HideSetPool) (vs : List (Vec Hidden Global)) (cs : List Chain) (names : List Name) (i : ℕ)
     (done items : List Expansion) (call : Call) (all : List (Option (List Hiding))) where
   abbrev Here : Type 0
   Here = ArgumentsFollow macros env level call first all (expanded_in u vs done) left (to_expand i cs (drop i names) (given_in s vs))
@@ -127,7 +127,7 @@ module _ (macros : Macros) (env : Env) (level : ℕ) (first left between : Optio
   abbrev argument : List Hidden
   argument = argument_at (lists_of vs) i
 
-  pushed : (x : Numbered) (e : Expansion) → length done ≡ i → items ≡ done ++ e ∷ [] → expanded_in x vs items ≡ expanded_in x vs done ++ option_map (hidings x) (option_of argument e) ∷ []
+  pushed : (x : HideSetPool) (e : Expansion) → length done ≡ i → items ≡ done ++ e ∷ [] → expanded_in x vs items ≡ expanded_in x vs done ++ option_map (hidings x) (option_of argument e) ∷ []
   pushed x e count made =
       ap (expanded_in x vs) made ∙ expanded_in-push x vs done e ∙ ap (λ n. expanded_in x vs done ++ option_map (hidings x) (option_of (argument_at (lists_of vs) n) e) ∷ []) count
 
@@ -145,7 +145,7 @@ module _ (macros : Macros) (env : Env) (level : ℕ) (first left between : Optio
       (rest-is cs names (given_in s vs) i true less is_used ∙ ap (λ a. Some a ∷ Behind) (argument-in s vs i)) here
 
   pub follows_used : (e : Expansion) (tokens : List Hiding) → i < length names → length done ≡ i → uses_alone i cs ≡ true → items ≡ done ++ e ∷ []
-      → Keeps u w
+      → KeepsSets u w
       → ListsKnown u vs
       → ExpansionsKnown u done
       → option_map (hidings w) (option_of argument e) ≡ Some tokens
@@ -165,7 +165,7 @@ module _ (macros : Macros) (env : Env) (level : ℕ) (first left between : Optio
   follows_refused f less is_used one here =
       arguments_refused macros env level call first all (expanded_in u vs done) left between Behind (hidings s argument) f (is_next less is_used here) one
 
-pub follows_all : (macros : Macros) (env : Env) (level : ℕ) (first left : Option ℕ) (s u : Numbered) (vs : List (Vec Hidden Global)) (cs : List Chain) (names : List Name) (i : ℕ) (done : List Expansion)
+pub follows_all : (macros : Macros) (env : Env) (level : ℕ) (first left : Option ℕ) (s u : HideSetPool) (vs : List (Vec Hidden Global)) (cs : List Chain) (names : List Name) (i : ℕ) (done : List Expansion)
     (call : Call) (all : List (Option (List Hiding)))
     → length names ≤ i
     → ArgumentsFollow macros env level call first all (expanded_in u vs done) left (to_expand i cs (drop i names) (given_in s vs))
@@ -174,14 +174,14 @@ follows_all macros env level first left s u vs cs names i done call all end here
     (subst (ArgumentsFollow macros env level call first all (expanded_in u vs done) left) (rest-end cs names (given_in s vs) i i end) here)
 
 -- the entry of a parameter says whether it is pre-expanded
-pub marked-alone : (used shown : List Bool) (count i : ℕ) (cs ds : List Chain) (mark : Bool)
+pub marked-alone : (used shown : List Bool) (count i : ℕ) (cs ds : List Chain) (flag : Bool)
     → shown ≡ used
     → cs ≡ ds
     → ((j : ℕ) → j < count → get_or used j false ≡ uses_alone j cs)
     → i < count
-    → get_or shown i false ≡ mark
-    → uses_alone i ds ≡ mark
-marked-alone used shown count i cs ds mark same chains marks less is = ap (uses_alone i) (sym chains) ∙ sym (marks i less) ∙ ap (λ xs. get_or xs i false) (sym same) ∙ is
+    → get_or shown i false ≡ flag
+    → uses_alone i ds ≡ flag
+marked-alone used shown count i cs ds flag same chains marks less is = ap (uses_alone i) (sym chains) ∙ sym (marks i less) ∙ ap (λ xs. get_or xs i false) (sym same) ∙ is
 
 -- a parameter is among the chains of entries if it is one of them
 pub used-by-entries : (i : ℕ) (es : List Entry) → uses_alone i (map entry_chain es) ≡ list_any (λ e. is_alone i (entry_chain e).operands) es

@@ -2,10 +2,10 @@
 use Rattle.std.proofs.Common.{◌≡◌, ◌∙◌, ℕ, suc, ◌<◌, Bool, true, false, not, true≢false, List, [], ◌∷◌, ◌++◌, Option, Some, None, is_some, Ok, Err, refl, sym, ap, subst, arith, append_assoc, append-nil}
 use Rattle.pptext.specs.declared.tokens.Fault.{Fault}
 use Rattle.ppmacro.specs.Names.{Macros}
-use Rattle.ppmacro.specs.Numbered.{Numbered}
+use Rattle.ppmacro.specs.HideSetPool.{HideSetPool}
 use Rattle.ppmacro.specs.Hiding.{Hiding}
 use Rattle.ppmacro.specs.HideSets.{hidings}
-use Rattle.ppmacro.specs.declared.flying.Hidden.{Hidden}
+use Rattle.ppmacro.specs.declared.hidden_token.Hidden.{Hidden}
 use Rattle.ppexpand.specs.declared.env.Env.{Env}
 use Rattle.ppexpand.specs.Turn.{Call, Turn, Failed, Replaced, Called, wanted, ExpandedArguments, with_expanded}
 use Rattle.ppexpand.specs.Budget.{less_one}
@@ -84,7 +84,7 @@ module _ (macros : Macros) (env : Env) (level : ℕ) (left : Option ℕ) (list :
   call_goes_on (finishes args) next e = record { turn = λ n out d. call_replaced found args e d }
 
   -- the result of the call is the step of the list
-  pub call_taken : (s : Numbered) (hs : List Hidden) (passed more : List Hiding) (raised : Option Fault) (after : Option ℕ) (goes : Bool) → is_some raised ≡ not goes → more ≡ passed
+  pub call_taken : (s : HideSetPool) (hs : List Hidden) (passed more : List Hiding) (raised : Option Fault) (after : Option ℕ) (goes : Bool) → is_some raised ≡ not goes → more ≡ passed
       → ComesTo macros env level call (less_one left) after (finished_in s hs raised)
       → HasTaken macros env level left list passed goes raised after (hidings s hs) more
   call_taken s hs passed more None after true e same h = (refl, ([], same ∙ sym (append-nil passed), call_goes_on h (hidings s hs) refl))

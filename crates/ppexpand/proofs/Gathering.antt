@@ -1,10 +1,10 @@
 -- How the search for the matching `)` goes on.
 use Rattle.std.proofs.Common.{◌≡◌, ℕ, zero, suc, true, List, [], ◌∷◌, ◌++◌, Option, Vec, Global, refl, sym, ap, ◌∙◌, append_assoc, append-nil}
-use Rattle.ppmacro.specs.Numbered.{Numbered}
+use Rattle.ppmacro.specs.HideSetPool.{HideSetPool}
 use Rattle.ppmacro.specs.Hiding.{Hiding}
 use Rattle.ppmacro.specs.HideSets.{hiding, hidings, HasSets, AllKnown}
 use Rattle.ppmacro.specs.Substituting.{ListsKnown}
-use Rattle.ppmacro.specs.declared.flying.Hidden.{Hidden}
+use Rattle.ppmacro.specs.declared.hidden_token.Hidden.{Hidden}
 use Rattle.ppexpand.specs.Arguments.{Gathered, Closed, Quoted, Unclosed, with_token, with_argument, separates}
 use Rattle.ppexpand.specs.Shown.{given_in}
 
@@ -49,18 +49,18 @@ pub outermost : (depth : ℕ) (commas : Option ℕ) → separates depth commas �
 outermost zero commas e = refl
 outermost (suc depth) commas e = absurd (cc)
 
-pub hidings-push : (s : Numbered) (hs : List Hidden) (h : Hidden) → hidings s (hs ++ h ∷ []) ≡ hidings s hs ++ hiding s h ∷ []
+pub hidings-push : (s : HideSetPool) (hs : List Hidden) (h : Hidden) → hidings s (hs ++ h ∷ []) ≡ hidings s hs ++ hiding s h ∷ []
 hidings-push s [] h = refl
 hidings-push s (g ∷ hs) h = ap (λ ts. hiding s g ∷ ts) (hidings-push s hs h)
 
-pub given-push : (s : Numbered) (vs : List (Vec Hidden Global)) (v : Vec Hidden Global) → given_in s (vs ++ v ∷ []) ≡ given_in s vs ++ hidings s v.items ∷ []
+pub given-push : (s : HideSetPool) (vs : List (Vec Hidden Global)) (v : Vec Hidden Global) → given_in s (vs ++ v ∷ []) ≡ given_in s vs ++ hidings s v.items ∷ []
 given-push s [] v = refl
 given-push s (w ∷ vs) v = ap (λ ts. hidings s w.items ∷ ts) (given-push s vs v)
 
-pub known-push : {s : Numbered} (hs : List Hidden) (h : Hidden) → AllKnown s hs → HasSets s h → AllKnown s (hs ++ h ∷ [])
+pub known-push : {s : HideSetPool} (hs : List Hidden) (h : Hidden) → AllKnown s hs → HasSets s h → AllKnown s (hs ++ h ∷ [])
 known-push [] h k known = record { each = (known, tt) }
 known-push {s} (g ∷ hs) h k known = record { each = (k.each.0, (known-push {s = s} hs h (record { each = k.each.1 }) known).each) }
 
-pub lists_known-push : {s : Numbered} (vs : List (Vec Hidden Global)) (v : Vec Hidden Global) → ListsKnown s vs → AllKnown s v.items → ListsKnown s (vs ++ v ∷ [])
+pub lists_known-push : {s : HideSetPool} (vs : List (Vec Hidden Global)) (v : Vec Hidden Global) → ListsKnown s vs → AllKnown s v.items → ListsKnown s (vs ++ v ∷ [])
 lists_known-push [] v k known = record { each = (known, tt) }
 lists_known-push (w ∷ vs) v k known = record { each = (k.each.0, (lists_known-push vs v (record { each = k.each.1 }) known).each) }

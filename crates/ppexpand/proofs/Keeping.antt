@@ -3,89 +3,89 @@ use Rattle.std.proofs.Common.{◌≡◌, ℕ, zero, suc, List, [], ◌∷◌, �
 use Rattle.std.specs.Option.{option_map}
 use Rattle.std.specs.FinSet as set
 use Rattle.ppmacro.specs.Names.{HideSet}
-use Rattle.ppmacro.specs.Numbered.{Numbered}
-use Rattle.ppmacro.specs.HideSets.{set_at, hiding, hidings, HasSets, AllKnown, Keeps}
+use Rattle.ppmacro.specs.HideSetPool.{HideSetPool}
+use Rattle.ppmacro.specs.HideSets.{set_at, hiding, hidings, HasSets, AllKnown, KeepsSets}
 use Rattle.ppmacro.specs.Substitution.{argument_at, expanded_at}
 use Rattle.ppmacro.specs.Substituting.{lists_of, option_of, options_of, ListsKnown, ArgumentsKnown}
-use Rattle.ppmacro.specs.declared.flying.Hidden.{Hidden}
-use Rattle.ppmacro.specs.declared.flying.Expansion.{Expansion}
-use Rattle.ppmacro.specs.declared.flying.Expansion.TheVariants.{Unused, AsGiven, Made}
+use Rattle.ppmacro.specs.declared.hidden_token.Hidden.{Hidden}
+use Rattle.ppmacro.specs.declared.hidden_token.Expansion.{Expansion}
+use Rattle.ppmacro.specs.declared.hidden_token.Expansion.TheVariants.{Unused, AsGiven, Made}
 use Rattle.ppmacro.proofs.ArgumentLemmas.{all-known}
 use Rattle.ppmacro.proofs.KeepLemmas.{set-keeps, hiding-keeps, hidings-keeps, known-keeps, known-set, known-sets}
 use Rattle.ppexpand.specs.declared.turn.Invocation.{Invocation}
 use Rattle.ppexpand.specs.Turn.{Call}
 use Rattle.ppexpand.specs.Shown.{given_in, expanded_in, held, ExpansionsKnown, call_in, CallKnown}
 
-pub given-keeps : {s t : Numbered} (vs : List (Vec Hidden Global)) → Keeps s t → ListsKnown s vs → given_in t vs ≡ given_in s vs
+pub given-keeps : {s t : HideSetPool} (vs : List (Vec Hidden Global)) → KeepsSets s t → ListsKnown s vs → given_in t vs ≡ given_in s vs
 given-keeps [] k h = refl
 given-keeps (v ∷ vs) k h = λ i. hidings-keeps v.items k h.each.0 i ∷ given-keeps vs k (record { each = h.each.1 }) i
 
-pub given_known-keeps : {s t : Numbered} (vs : List (Vec Hidden Global)) → Keeps s t → ListsKnown s vs → ListsKnown t vs
+pub given_known-keeps : {s t : HideSetPool} (vs : List (Vec Hidden Global)) → KeepsSets s t → ListsKnown s vs → ListsKnown t vs
 given_known-keeps [] k h = record { each = tt }
 given_known-keeps (v ∷ vs) k h =
     let rest = given_known-keeps vs k (record { each = h.each.1 }) in
     record { each = (known-keeps v.items k h.each.0, rest.each) }
 
-option-keeps : {s t : Numbered} (given : List Hidden) (e : Expansion) → Keeps s t → AllKnown s given → AllKnown s (held e) → option_map (hidings t) (option_of given e) ≡ option_map (hidings s) (option_of given e)
+option-keeps : {s t : HideSetPool} (given : List Hidden) (e : Expansion) → KeepsSets s t → AllKnown s given → AllKnown s (held e) → option_map (hidings t) (option_of given e) ≡ option_map (hidings s) (option_of given e)
 option-keeps given Unused k g h = refl
 option-keeps given AsGiven k g h = ap Some (hidings-keeps given k g)
 option-keeps given (Made v) k g h = ap Some (hidings-keeps v.items k h)
 
-pub expanded-keeps : {s t : Numbered} (vs : List (Vec Hidden Global)) (es : List Expansion) → Keeps s t → ListsKnown s vs → ExpansionsKnown s es → expanded_in t vs es ≡ expanded_in s vs es
+pub expanded-keeps : {s t : HideSetPool} (vs : List (Vec Hidden Global)) (es : List Expansion) → KeepsSets s t → ListsKnown s vs → ExpansionsKnown s es → expanded_in t vs es ≡ expanded_in s vs es
 expanded-keeps vs [] k g h = refl
 expanded-keeps [] (e ∷ es) k g h = λ i. option-keeps [] e k (record { each = tt }) h.each.0 i ∷ expanded-keeps [] es k g (record { each = h.each.1 }) i
 expanded-keeps (v ∷ vs) (e ∷ es) k g h = λ i. option-keeps v.items e k g.each.0 h.each.0 i ∷ expanded-keeps vs es k (record { each = g.each.1 }) (record { each = h.each.1 }) i
 
-pub expanded_known-keeps : {s t : Numbered} (es : List Expansion) → Keeps s t → ExpansionsKnown s es → ExpansionsKnown t es
+pub expanded_known-keeps : {s t : HideSetPool} (es : List Expansion) → KeepsSets s t → ExpansionsKnown s es → ExpansionsKnown t es
 expanded_known-keeps [] k h = record { each = tt }
 expanded_known-keeps (e ∷ es) k h =
     let rest = expanded_known-keeps es k (record { each = h.each.1 }) in
     record { each = (known-keeps (held e) k h.each.0, rest.each) }
 
-pub expanded_known-push : {s : Numbered} (es : List Expansion) (e : Expansion) → ExpansionsKnown s es → AllKnown s (held e) → ExpansionsKnown s (es ++ e ∷ [])
+pub expanded_known-push : {s : HideSetPool} (es : List Expansion) (e : Expansion) → ExpansionsKnown s es → AllKnown s (held e) → ExpansionsKnown s (es ++ e ∷ [])
 expanded_known-push [] e h here = record { each = (here, tt) }
 expanded_known-push (x ∷ es) e h here =
     let rest = expanded_known-push es e (record { each = h.each.1 }) here in
     record { each = (h.each.0, rest.each) }
 
 -- one more, of the argument that is next, or of one that is absent
-pub expanded_in-push : (s : Numbered) (vs : List (Vec Hidden Global)) (es : List Expansion) (e : Expansion)
+pub expanded_in-push : (s : HideSetPool) (vs : List (Vec Hidden Global)) (es : List Expansion) (e : Expansion)
     → expanded_in s vs (es ++ e ∷ []) ≡ expanded_in s vs es ++ option_map (hidings s) (option_of (argument_at (lists_of vs) (length es)) e) ∷ []
 expanded_in-push s [] [] e = refl
 expanded_in-push s (v ∷ vs) [] e = refl
 expanded_in-push s [] (x ∷ es) e = ap (λ xs. option_map (hidings s) (option_of [] x) ∷ xs) (expanded_in-push s [] es e)
 expanded_in-push s (v ∷ vs) (x ∷ es) e = ap (λ xs. option_map (hidings s) (option_of v.items x) ∷ xs) (expanded_in-push s vs es e)
 
-option-at : {s : Numbered} (given : List Hidden) (e : Expansion) → AllKnown s given → AllKnown s (held e) → AllKnown s (unwrap_or (option_of given e) [])
+option-at : {s : HideSetPool} (given : List Hidden) (e : Expansion) → AllKnown s given → AllKnown s (held e) → AllKnown s (unwrap_or (option_of given e) [])
 option-at given Unused g h = h
 option-at given AsGiven g h = g
 option-at given (Made v) g h = h
 
-expanded-at : {s : Numbered} (vs : List (Vec Hidden Global)) (es : List Expansion) → ListsKnown s vs → ExpansionsKnown s es → (i : ℕ) → AllKnown s (expanded_at (options_of vs es) i)
+expanded-at : {s : HideSetPool} (vs : List (Vec Hidden Global)) (es : List Expansion) → ListsKnown s vs → ExpansionsKnown s es → (i : ℕ) → AllKnown s (expanded_at (options_of vs es) i)
 expanded-at vs [] g h i = record { each = tt }
 expanded-at [] (e ∷ es) g h zero = option-at [] e (record { each = tt }) h.each.0
 expanded-at (v ∷ vs) (e ∷ es) g h zero = option-at v.items e g.each.0 h.each.0
 expanded-at [] (e ∷ es) g h (suc i) = expanded-at [] es g (record { each = h.each.1 }) i
 expanded-at (v ∷ vs) (e ∷ es) g h (suc i) = expanded-at vs es (record { each = g.each.1 }) (record { each = h.each.1 }) i
 
-pub arguments_known : {s : Numbered} (vs : List (Vec Hidden Global)) (es : List Expansion) → ListsKnown s vs → ExpansionsKnown s es → ArgumentsKnown s vs es
+pub arguments_known : {s : HideSetPool} (vs : List (Vec Hidden Global)) (es : List Expansion) → ListsKnown s vs → ExpansionsKnown s es → ArgumentsKnown s vs es
 arguments_known vs es h k = record { given_known = (all-known vs [] vs [] refl refl h (record { each = tt })).given_known; expanded_known = expanded-at vs es h k }
 
-pub no_arguments_known : (s : Numbered) → ArgumentsKnown s [] []
+pub no_arguments_known : (s : HideSetPool) → ArgumentsKnown s [] []
 no_arguments_known s = arguments_known [] [] (record { each = tt }) (record { each = tt })
 
 -- an invocation of the code, with the tokens after its `)`
-abbrev pub call_of : Numbered → Invocation → List Hidden → Call
+abbrev pub call_of : HideSetPool → Invocation → List Hidden → Call
 call_of sets c behind = call_in sets c.head c.replaced.now c.arguments.items c.both behind
 
 -- its hide sets exist
-abbrev IsCallKnown : Numbered → Invocation → Type 0
+abbrev IsCallKnown : HideSetPool → Invocation → Type 0
 IsCallKnown sets c = CallKnown sets c.head c.arguments.items c.both
 
-pub call_known-keeps : {s t : Numbered} (c : Invocation) → Keeps s t → IsCallKnown s c → IsCallKnown t c
+pub call_known-keeps : {s t : HideSetPool} (c : Invocation) → KeepsSets s t → IsCallKnown s c → IsCallKnown t c
 call_known-keeps c k h = record { head = known-sets c.head k h.head; arguments = given_known-keeps c.arguments.items k h.arguments; both = known-set c.both k h.both }
 
-pub call_of-keeps : {s t : Numbered} (c : Invocation) (behind : List Hidden) → Keeps s t → IsCallKnown s c → AllKnown s behind → call_of t c behind ≡ call_of s c behind
+pub call_of-keeps : {s t : HideSetPool} (c : Invocation) (behind : List Hidden) → KeepsSets s t → IsCallKnown s c → AllKnown s behind → call_of t c behind ≡ call_of s c behind
 call_of-keeps {s} {t} c behind k h rest =
     let sets : set_at t c.both ≡ set_at s c.both = set-keeps c.both k h.both in
     let heads : hiding t c.head ≡ hiding s c.head = hiding-keeps c.head k h.head in
@@ -94,8 +94,8 @@ call_of-keeps {s} {t} c behind k h rest =
     λ i. record { head = heads i; macro = c.replaced.now; arguments = lists i; gain = set.insert (sets i) c.head.token.text; behind = rests i }
 
 -- an invocation that was made while sets were added
-pub call_made : {s t : Numbered} (c : Invocation) (behind : List Hidden) (gain : HideSet)
-    → Keeps s t
+pub call_made : {s t : HideSetPool} (c : Invocation) (behind : List Hidden) (gain : HideSet)
+    → KeepsSets s t
     → HasSets s c.head
     → ListsKnown s c.arguments.items
     → AllKnown s behind

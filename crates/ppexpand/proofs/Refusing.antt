@@ -11,14 +11,14 @@ use Rattle.ppmacro.specs.Hiding.{Hiding}
 use Rattle.ppmacro.specs.Chains.{chains_of}
 use Rattle.ppmacro.specs.Lexing.{kind_of}
 use Rattle.ppmacro.specs.declared.macros.Variadic.{Variadic}
-use Rattle.ppmacro.specs.declared.macros.Shape.{Shape}
-use Rattle.ppmacro.specs.declared.macros.Shape.TheVariants.{Predefined, ObjectLike, FunctionLike}
-use Rattle.ppmacro.specs.declared.macros.Definition.{Definition}
+use Rattle.ppmacro.specs.declared.macros.MacroKind.{MacroKind}
+use Rattle.ppmacro.specs.declared.macros.MacroKind.TheVariants.{Predefined, ObjectLike, FunctionLike}
+use Rattle.ppmacro.specs.declared.macros.Macro.{Macro}
 use Rattle.ppmacro.specs.declared.macros.Chain.{Chain}
 use Rattle.ppmacro.specs.declared.macros.Operand.{Operand}
 use Rattle.ppmacro.specs.declared.macros.Operand.TheVariants.{Tok, Param, Str, Rest}
-use Rattle.ppmacro.specs.Substitution.{string_text, string_token, is_string_literal, stringized, pasted_as, pasted, after_ok, join, join_all, Arguments, argument_at, operand_tokens, operands_tokens, is_joined, before_rest, chain_tokens, Marked}
-use Rattle.ppmacro.specs.Substitution.{chains_tokens, substituted}
+use Rattle.ppmacro.specs.Substitution.{string_text, string_token, is_string_literal, stringized, pasted_as, pasted, after_ok, join, join_all, Arguments, argument_at, operand_tokens, operands_tokens, is_joined, before_rest, chain_tokens, Replacement}
+use Rattle.ppmacro.specs.Substitution.{chains_tokens, macro_replacement}
 use Rattle.ppexpand.specs.declared.env.Env.{Env}
 use Rattle.ppexpand.specs.declared.expansion.Expanded.{Expanded}
 use Rattle.ppexpand.specs.Arguments.{is_open, Gathered, Closed, Quoted, Unclosed, gather, separators, fitted}
@@ -85,7 +85,7 @@ below_chains args used pending first [] = tt
 below_chains args used pending first (c ∷ cs) =
     below_after (chain_tokens args used c) _ (below_chain args used c) (λ ts. below_after (chains_tokens args used _ false cs) _ (below_chains args used _ false cs) (λ rest. tt))
 
-below_substituted : (d : Definition) (args : Arguments) (gain : HideSet) (used : Place) (space : Bool) → IsBelow (substituted d args gain used space)
+below_substituted : (d : Macro) (args : Arguments) (gain : HideSet) (used : Place) (space : Bool) → IsBelow (macro_replacement d args gain used space)
 below_substituted d args gain used space = below_after (chains_tokens args used space true (chains_of d)) _ (below_chains args used space true (chains_of d)) (λ m. tt)
 
 -- ---- expansion steps: 7, 17, 18 and those
@@ -99,31 +99,31 @@ turn_either : (b : Bool) (t u : Turn) → IsTurnBelow t → IsTurnBelow u → Is
 turn_either true t u h k = h
 turn_either false t u h k = k
 
-below_replaced : (r : Result Marked Fault) (behind : List Hiding) → IsBelow r → IsTurnBelow (replaced_by r behind)
+below_replaced : (r : Result Replacement Fault) (behind : List Hiding) → IsBelow r → IsTurnBelow (replaced_by r behind)
 below_replaced (Ok m) behind h = tt
 below_replaced (Err f) behind h = h
 
-below_called : (t : Hiding) (d : Definition) (as' : Option (List (List Hiding))) (close : Hiding) (behind : List Hiding) → IsTurnBelow (called t d as' close behind)
+below_called : (t : Hiding) (d : Macro) (as' : Option (List (List Hiding))) (close : Hiding) (behind : List Hiding) → IsTurnBelow (called t d as' close behind)
 below_called t d (Some as') close behind = tt
 below_called t d None close behind = omega arith
 
-below_invoked : (t : Hiding) (d : Definition) (names : List Name) (variadic : Variadic) (g : Gathered) → IsTurnBelow (invoked t d names variadic g)
+below_invoked : (t : Hiding) (d : Macro) (names : List Name) (variadic : Variadic) (g : Gathered) → IsTurnBelow (invoked t d names variadic g)
 below_invoked t d names variadic (Closed as' close behind) = below_called t d (fitted names variadic as') close behind
 below_invoked t d names variadic (Quoted q) = omega arith
 below_invoked t d names variadic Unclosed = omega arith
 
-below_function : (t : Hiding) (d : Definition) (names : List Name) (variadic : Variadic) (list : List Hiding) → IsTurnBelow (function_turn t d names variadic list)
+below_function : (t : Hiding) (d : Macro) (names : List Name) (variadic : Variadic) (list : List Hiding) → IsTurnBelow (function_turn t d names variadic list)
 below_function t d names variadic [] = tt
 below_function t d names variadic (p ∷ rest) =
     turn_either (is_open p.token) (invoked t d names variadic (gather 0 (separators names variadic) rest)) (Passes t (p ∷ rest)) (below_invoked t d names variadic (gather 0 (separators names variadic) rest)) tt
 
-below_macro : (env : Env) (t : Hiding) (rest : List Hiding) (d : Definition) (shape : Shape) → IsTurnBelow (macro_turn env t rest d shape)
+below_macro : (env : Env) (t : Hiding) (rest : List Hiding) (d : Macro) (kind : MacroKind) → IsTurnBelow (macro_turn env t rest d kind)
 below_macro env t rest d (Predefined b) = tt
-below_macro env t rest d ObjectLike = below_replaced (substituted d no_arguments _ t.token.used t.token.space) rest (below_substituted d no_arguments _ t.token.used t.token.space)
+below_macro env t rest d ObjectLike = below_replaced (macro_replacement d no_arguments _ t.token.used t.token.space) rest (below_substituted d no_arguments _ t.token.used t.token.space)
 below_macro env t rest d (FunctionLike names variadic) = below_function t d names variadic rest
 
-below_named : (env : Env) (t : Hiding) (rest : List Hiding) (d : Option Definition) → IsTurnBelow (named_turn env t rest d)
-below_named env t rest (Some d) = below_macro env t rest d d.shape
+below_named : (env : Env) (t : Hiding) (rest : List Hiding) (d : Option Macro) → IsTurnBelow (named_turn env t rest d)
+below_named env t rest (Some d) = below_macro env t rest d d.kind
 below_named env t rest None = tt
 
 below_turn : (macros : Macros) (env : Env) (list : List Hiding) → IsTurnBelow (turn macros env list)

@@ -9,11 +9,11 @@ use Rattle.pptext.specs.Tokens.{is_unmatched_quote}
 use Rattle.ppmacro.specs.Names.{Name, Macros}
 use Rattle.ppmacro.specs.Hiding.{Hiding}
 use Rattle.ppmacro.specs.Chains.{is_function_like}
-use Rattle.ppmacro.specs.Substitution.{Marked}
-use Rattle.ppmacro.specs.declared.macros.Definition.{Definition}
+use Rattle.ppmacro.specs.Substitution.{Replacement}
+use Rattle.ppmacro.specs.declared.macros.Macro.{Macro}
 use Rattle.ppmacro.specs.declared.macros.Variadic.{Variadic}
-use Rattle.ppmacro.specs.declared.macros.Shape.{Shape}
-use Rattle.ppmacro.specs.declared.macros.Shape.TheVariants.{Predefined, ObjectLike, FunctionLike}
+use Rattle.ppmacro.specs.declared.macros.MacroKind.{MacroKind}
+use Rattle.ppmacro.specs.declared.macros.MacroKind.TheVariants.{Predefined, ObjectLike, FunctionLike}
 use Rattle.ppexpand.specs.declared.env.Env.{Env}
 use Rattle.ppexpand.specs.Arguments.{is_open, Gathered, Closed, Quoted, Unclosed, gather, separators, fitted}
 use Rattle.ppexpand.specs.Turn.{Turn, Done, Refused, Passes, Failed, Replaced, Called, turn, macro_of, quote_fault, named_turn, macro_turn, function_turn, invoked, called, replaced_by}
@@ -31,11 +31,11 @@ module _ (macros : Macros) (env : Env) where
   by_name : (t : Hiding) → is_unmatched_quote t.token ≡ false → is_always_replaced (macro_of macros t.token) ≡ false → is_settled macros t ≡ true
   by_name t unquoted spared = rw (unquoted, spared) (or_right (set.contains t.hide t.token.text) true refl)
 
-  replaced_settles : (r : Result Marked Fault) (rest : List Hiding) → Settles (replaced_by r rest)
+  replaced_settles : (r : Result Replacement Fault) (rest : List Hiding) → Settles (replaced_by r rest)
   replaced_settles (Ok m) rest = tt
   replaced_settles (Err f) rest = tt
 
-  invoked_settles : (t : Hiding) (d : Definition) (names : List Name) (variadic : Variadic) (g : Gathered) → Settles (invoked t d names variadic g)
+  invoked_settles : (t : Hiding) (d : Macro) (names : List Name) (variadic : Variadic) (g : Gathered) → Settles (invoked t d names variadic g)
   invoked_settles t d names variadic (Closed as' close behind) = by_count (fitted names variadic as')
     where
       by_count : (o : Option (List (List Hiding))) → Settles (called t d o close behind)
@@ -44,22 +44,22 @@ module _ (macros : Macros) (env : Env) where
   invoked_settles t d names variadic (Quoted q) = tt
   invoked_settles t d names variadic Unclosed = tt
 
-  function_settles : (t : Hiding) (rest : List Hiding) (d : Definition) (names : List Name) (variadic : Variadic) → is_settled macros t ≡ true → Settles (function_turn t d names variadic rest)
-  function_settles t [] d names variadic settled = settled
-  function_settles t (p ∷ rest) d names variadic settled =
+  function_settles : (t : Hiding) (rest : List Hiding) (d : Macro) (names : List Name) (variadic : Variadic) → is_settled macros t ≡ true → Settles (function_turn t d names variadic rest)
+  function_settles t [] d names variadic hide_set_of = hide_set_of
+  function_settles t (p ∷ rest) d names variadic hide_set_of =
       elim (is_open p.token) as (λ b. Settles (if b then invoked t d names variadic (gather 0 (separators names variadic) rest) else Passes t (p ∷ rest))) [
         | true ↦ invoked_settles t d names variadic _
-        | false ↦ settled
+        | false ↦ hide_set_of
       ]
 
-  macro_settles : (t : Hiding) (rest : List Hiding) (d : Definition) (shape : Shape) → (is_function_like shape ≡ true → is_settled macros t ≡ true) → Settles (macro_turn env t rest d shape)
-  macro_settles t rest d (Predefined b) settled = tt
-  macro_settles t rest d ObjectLike settled = replaced_settles _ rest
-  macro_settles t rest d (FunctionLike names variadic) settled = function_settles t rest d names variadic (settled refl)
+  macro_settles : (t : Hiding) (rest : List Hiding) (d : Macro) (kind : MacroKind) → (is_function_like kind ≡ true → is_settled macros t ≡ true) → Settles (macro_turn env t rest d kind)
+  macro_settles t rest d (Predefined b) hide_set_of = tt
+  macro_settles t rest d ObjectLike hide_set_of = replaced_settles _ rest
+  macro_settles t rest d (FunctionLike names variadic) hide_set_of = function_settles t rest d names variadic (hide_set_of refl)
 
-  named_settles : (t : Hiding) (rest : List Hiding) → is_unmatched_quote t.token ≡ false → (o : Option Definition) → macro_of macros t.token ≡ o → Settles (named_turn env t rest o)
+  named_settles : (t : Hiding) (rest : List Hiding) → is_unmatched_quote t.token ≡ false → (o : Option Macro) → macro_of macros t.token ≡ o → Settles (named_turn env t rest o)
   named_settles t rest unquoted None is = by_name t unquoted (ap is_always_replaced is)
-  named_settles t rest unquoted (Some d) is = macro_settles t rest d d.shape (λ function. by_name t unquoted (ap is_always_replaced is ∙ ap not function))
+  named_settles t rest unquoted (Some d) is = macro_settles t rest d d.kind (λ function. by_name t unquoted (ap is_always_replaced is ∙ ap not function))
 
   turn_settles : (list : List Hiding) → Settles (turn macros env list)
   unfolding turn
@@ -91,8 +91,8 @@ module _ (macros : Macros) (env : Env) where
   all_settled (done e) = All-nil (λ x. is_settled macros x ≡ true)
   all_settled (refused e) = All-nil (λ x. is_settled macros x ≡ true)
   all_settled (passes {left = left} {list = list} {t = t} {rest = rest} {out = out} e d) =
-      let settled : Settles (Passes t rest) = subst (λ x. Settles x) e (within_settles left list (turn macros env list) (turn_settles list)) in
-      All-cons (λ x. is_settled macros x ≡ true) t out.tokens settled (all_settled d)
+      let hide_set_of : Settles (Passes t rest) = subst (λ x. Settles x) e (within_settles left list (turn macros env list) (turn_settles list)) in
+      All-cons (λ x. is_settled macros x ≡ true) t out.tokens hide_set_of (all_settled d)
   all_settled (failed e) = All-nil (λ x. is_settled macros x ≡ true)
   all_settled (replaced e d) = all_settled d
   all_settled (argument_refused e a) = All-nil (λ x. is_settled macros x ≡ true)

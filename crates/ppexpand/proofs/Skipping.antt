@@ -7,13 +7,13 @@ use Rattle.std.proofs.lemmas.List.{map-append}
 use Rattle.pptext.specs.declared.tokens.Token.{Token}
 use Rattle.pptext.specs.Tokens.{is_unmatched_quote}
 use Rattle.ppmacro.specs.Names.{Macros}
-use Rattle.ppmacro.specs.Numbered.{Numbered}
+use Rattle.ppmacro.specs.HideSetPool.{HideSetPool}
 use Rattle.ppmacro.specs.Hiding.{Hiding}
 use Rattle.ppmacro.specs.HideSets.{set_at, IsKnown, hiding, hidings, AllKnown}
 use Rattle.ppmacro.specs.Substitution.{plain}
 use Rattle.ppmacro.specs.Substituting.{tokens_of}
-use Rattle.ppmacro.proofs.KeepLemmas.{known-front, known-behind, known-append}
-use Rattle.ppmacro.specs.declared.flying.Hidden.{Hidden}
+use Rattle.ppmacro.proofs.KeepLemmas.{known-front, known-rest, known-append}
+use Rattle.ppmacro.specs.declared.hidden_token.Hidden.{Hidden}
 use Rattle.ppexpand.specs.declared.env.Env.{Env}
 use Rattle.ppexpand.specs.Turn.{Passes, macro_of, turn}
 use Rattle.ppexpand.specs.Budget.{within}
@@ -71,7 +71,7 @@ skipped-on macros list passed next more last all h k = record {
 pub skipped-one : (macros : Macros) (h : Hidden) (list next passed : List Hidden) → list ≡ h ∷ next → is_plain macros h.token ≡ true → HasSkipped macros list passed next (passed ++ h ∷ [])
 skipped-one macros h list next passed is plain = record { skipped = h ∷ []; laid_out = is; passes = refl; plain = record { each = (plain, tt) } }
 
-module _ (macros : Macros) (env : Env) (level : ℕ) (left : Option ℕ) (s : Numbered) where
+module _ (macros : Macros) (env : Env) (level : ℕ) (left : Option ℕ) (s : HideSetPool) where
   skips : (hs rest : List Hidden) → ArePlain macros hs → (n : ℕ) (out : Outcome) → Expands macros env level left n (hidings s rest) out
       → Takes macros env level left n (hidings s (hs ++ rest)) (record { tokens = hidings s hs ++ out.tokens; fault = out.fault; left = out.left })
   skips [] rest h n out d = record { turns = n; more = omega arith; is = d }
@@ -106,18 +106,18 @@ module _ (macros : Macros) (env : Env) (level : ℕ) (left : Option ℕ) (s : Nu
       let more = after.more in
       rw (← same) (omega arith)
 
-pub next-known : {macros : Macros} (s : Numbered) (list passed next more : List Hidden) → HasSkipped macros list passed next more → AllKnown s list → AllKnown s next
-next-known s list passed next more k h = known-behind k.skipped next (subst (AllKnown s) k.laid_out h)
+pub next-known : {macros : Macros} (s : HideSetPool) (list passed next more : List Hidden) → HasSkipped macros list passed next more → AllKnown s list → AllKnown s next
+next-known s list passed next more k h = known-rest k.skipped next (subst (AllKnown s) k.laid_out h)
 
-pub more-known : {macros : Macros} (s : Numbered) (list passed next more : List Hidden) → HasSkipped macros list passed next more → AllKnown s list → AllKnown s passed → AllKnown s more
+pub more-known : {macros : Macros} (s : HideSetPool) (list passed next more : List Hidden) → HasSkipped macros list passed next more → AllKnown s list → AllKnown s passed → AllKnown s more
 more-known s list passed next more k h p = subst (AllKnown s) (sym k.passes) (known-append passed k.skipped p (known-front k.skipped next (subst (AllKnown s) k.laid_out h)))
 
 -- tokens of a file with one set
-pub known-with_set : (s : Numbered) (n : ℕ) (ts : List Token) → IsKnown s n → AllKnown s (map (with_set n) ts)
+pub known-with_set : (s : HideSetPool) (n : ℕ) (ts : List Token) → IsKnown s n → AllKnown s (map (with_set n) ts)
 known-with_set s n [] h = record { each = tt }
-known-with_set s n (t ∷ ts) h = let rest = known-with_set s n ts h in record { each = (record { hide = h; also = tt }, rest.each) }
+known-with_set s n (t ∷ ts) h = let rest = known-with_set s n ts h in record { each = (record { hide = h; extra = tt }, rest.each) }
 
-pub hidings-with_set : (s : Numbered) (n : ℕ) (ts : List Token) → set_at s n ≡ set.empty → hidings s (map (with_set n) ts) ≡ map plain ts
+pub hidings-with_set : (s : HideSetPool) (n : ℕ) (ts : List Token) → set_at s n ≡ set.empty → hidings s (map (with_set n) ts) ≡ map plain ts
 hidings-with_set s n [] h = refl
 hidings-with_set s n (t ∷ ts) h = λ i. record { token = t; hide = h i } ∷ hidings-with_set s n ts h i
 
@@ -166,7 +166,7 @@ expansion-behind macros env left tokens front rest e out laid_out h d is ends le
     }
 
 -- tokens that are all emitted unchanged expand to themselves
-pub plain-expands : (macros : Macros) (env : Env) (level : ℕ) (left : Option ℕ) (s : Numbered) (hs : List Hidden)
+pub plain-expands : (macros : Macros) (env : Env) (level : ℕ) (left : Option ℕ) (s : HideSetPool) (hs : List Hidden)
     → ArePlain macros hs
     → ExpandsTo macros env level left (hidings s hs) (record { tokens = hidings s hs; fault = None; left = left })
 plain-expands macros env level left s [] h = expands-nothing macros env level left

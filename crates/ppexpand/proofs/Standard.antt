@@ -6,12 +6,12 @@ use Rattle.pptext.specs.declared.tokens.Fault.{Fault}
 use Rattle.pptext.specs.Tokens.{is_unmatched_quote}
 use Rattle.ppmacro.specs.Names.{Name, Macros}
 use Rattle.ppmacro.specs.Hiding.{Hiding}
-use Rattle.ppmacro.specs.Substitution.{Marked}
-use Rattle.ppmacro.specs.declared.macros.Builtin.{Builtin}
-use Rattle.ppmacro.specs.declared.macros.Definition.{Definition}
+use Rattle.ppmacro.specs.Substitution.{Replacement}
+use Rattle.ppmacro.specs.declared.macros.PredefinedMacro.{PredefinedMacro}
+use Rattle.ppmacro.specs.declared.macros.Macro.{Macro}
 use Rattle.ppmacro.specs.declared.macros.Variadic.{Variadic}
-use Rattle.ppmacro.specs.declared.macros.Shape.{Shape}
-use Rattle.ppmacro.specs.declared.macros.Shape.TheVariants.{Predefined, ObjectLike, FunctionLike}
+use Rattle.ppmacro.specs.declared.macros.MacroKind.{MacroKind}
+use Rattle.ppmacro.specs.declared.macros.MacroKind.TheVariants.{Predefined, ObjectLike, FunctionLike}
 use Rattle.ppexpand.specs.declared.env.Env.{Env}
 use Rattle.ppexpand.specs.declared.expansion.Expanded.{Expanded}
 use Rattle.ppexpand.specs.Arguments.{is_open, Gathered, Closed, Quoted, Unclosed, gather, separators, fitted}
@@ -39,23 +39,23 @@ module _ (macros : Macros) (env : Env) where
     lone_quote : {t : Hiding} {rest : List Hiding} → is_unmatched_quote t.token ≡ true → Means (t ∷ rest) (Refused (quote_fault t))
     no_macro : {t : Hiding} {rest : List Hiding} → is_unmatched_quote t.token ≡ false → macro_of macros t.token ≡ None → Means (t ∷ rest) (Passes t rest)
     hidden : {t : Hiding} {rest : List Hiding} → is_unmatched_quote t.token ≡ false → set.contains t.hide t.token.text ≡ true → Means (t ∷ rest) (Passes t rest)
-    predefined : {t : Hiding} {rest : List Hiding} {d : Definition} {b : Builtin} → NamesMacro macros t d → d.shape ≡ Predefined b → Means (t ∷ rest) (Replaced (predefined_value b env t (set.insert t.hide t.token.text) ∷ rest))
-    object_like : {t : Hiding} {rest : List Hiding} {d : Definition} {m : Marked} → NamesMacro macros t d → d.shape ≡ ObjectLike → object_result t d ≡ Ok m → Means (t ∷ rest) (Replaced (followed_by rest m))
-    object_refused : {t : Hiding} {rest : List Hiding} {d : Definition} {f : Fault} → NamesMacro macros t d → d.shape ≡ ObjectLike → object_result t d ≡ Err f → Means (t ∷ rest) (Failed f)
-    not_invoked : {t : Hiding} {rest : List Hiding} {d : Definition} {names : List Name} {variadic : Variadic}
+    predefined : {t : Hiding} {rest : List Hiding} {d : Macro} {b : PredefinedMacro} → NamesMacro macros t d → d.kind ≡ Predefined b → Means (t ∷ rest) (Replaced (predefined_value b env t (set.insert t.hide t.token.text) ∷ rest))
+    object_like : {t : Hiding} {rest : List Hiding} {d : Macro} {m : Replacement} → NamesMacro macros t d → d.kind ≡ ObjectLike → object_result t d ≡ Ok m → Means (t ∷ rest) (Replaced (followed_by rest m))
+    object_refused : {t : Hiding} {rest : List Hiding} {d : Macro} {f : Fault} → NamesMacro macros t d → d.kind ≡ ObjectLike → object_result t d ≡ Err f → Means (t ∷ rest) (Failed f)
+    not_invoked : {t : Hiding} {rest : List Hiding} {d : Macro} {names : List Name} {variadic : Variadic}
         → NamesMacro macros t d
-        → d.shape ≡ FunctionLike names variadic
+        → d.kind ≡ FunctionLike names variadic
         → opens_next rest ≡ false
         → Means (t ∷ rest) (Passes t rest)
-    quote_inside : {t paren quote : Hiding} {inside : List Hiding} {d : Definition} {names : List Name} {variadic : Variadic}
+    quote_inside : {t paren quote : Hiding} {inside : List Hiding} {d : Macro} {names : List Name} {variadic : Variadic}
         → Opens macros t paren d names variadic
         → gather 0 (separators names variadic) inside ≡ Quoted quote
         → Means (t ∷ paren ∷ inside) (Failed (quote_fault quote))
-    unclosed : {t paren : Hiding} {inside : List Hiding} {d : Definition} {names : List Name} {variadic : Variadic}
+    unclosed : {t paren : Hiding} {inside : List Hiding} {d : Macro} {names : List Name} {variadic : Variadic}
         → Opens macros t paren d names variadic
         → gather 0 (separators names variadic) inside ≡ Unclosed
         → Means (t ∷ paren ∷ inside) (Failed (fault_at_use 17 t))
-    wrong_number : {t paren close : Hiding} {inside behind : List Hiding} {d : Definition} {names : List Name} {variadic : Variadic} {arguments : List (List Hiding)}
+    wrong_number : {t paren close : Hiding} {inside behind : List Hiding} {d : Macro} {names : List Name} {variadic : Variadic} {arguments : List (List Hiding)}
         → Opens macros t paren d names variadic
         → gather 0 (separators names variadic) inside ≡ Closed arguments close behind
         → fitted names variadic arguments ≡ None
@@ -64,7 +64,7 @@ module _ (macros : Macros) (env : Env) where
 
   -- ---- the step of a list is by one of the rules
 
-  by_number : (t paren close : Hiding) (inside behind : List Hiding) (d : Definition) (names : List Name) (variadic : Variadic) (arguments : List (List Hiding))
+  by_number : (t paren close : Hiding) (inside behind : List Hiding) (d : Macro) (names : List Name) (variadic : Variadic) (arguments : List (List Hiding))
       → Opens macros t paren d names variadic
       → gather 0 (separators names variadic) inside ≡ Closed arguments close behind
       → (o : Option (List (List Hiding)))
@@ -74,7 +74,7 @@ module _ (macros : Macros) (env : Env) where
   by_number t paren close inside behind d names variadic arguments i g (Some given) e =
       Means.begins (record { paren = paren; inside = inside; names = names; variadic = variadic; arguments = arguments; close = close; laid_out = refl; opens = i; closed = g; fits = e; gains = refl })
 
-  by_gathered : (t paren : Hiding) (inside : List Hiding) (d : Definition) (names : List Name) (variadic : Variadic)
+  by_gathered : (t paren : Hiding) (inside : List Hiding) (d : Macro) (names : List Name) (variadic : Variadic)
       → Opens macros t paren d names variadic
       → (g : Gathered)
       → gather 0 (separators names variadic) inside ≡ g
@@ -83,25 +83,25 @@ module _ (macros : Macros) (env : Env) where
   by_gathered t paren inside d names variadic i (Quoted q) e = Means.quote_inside i e
   by_gathered t paren inside d names variadic i Unclosed e = Means.unclosed i e
 
-  by_next : (t : Hiding) (rest : List Hiding) (d : Definition) (names : List Name) (variadic : Variadic) → NamesMacro macros t d → d.shape ≡ FunctionLike names variadic → Means (t ∷ rest) (function_turn t d names variadic rest)
+  by_next : (t : Hiding) (rest : List Hiding) (d : Macro) (names : List Name) (variadic : Variadic) → NamesMacro macros t d → d.kind ≡ FunctionLike names variadic → Means (t ∷ rest) (function_turn t d names variadic rest)
   by_next t [] d names variadic c e = Means.not_invoked c e refl
   by_next t (paren ∷ inside) d names variadic c e = elim (is_open paren.token) as (λ b. is_open paren.token ≡ b → Means (t ∷ paren ∷ inside) (function_turn t d names variadic (paren ∷ inside))) [
-    | true ↦ λ o. rw o (by_gathered t paren inside d names variadic (record { names_macro = c; shape = e; paren_opens = o }) (gather 0 (separators names variadic) inside) refl)
+    | true ↦ λ o. rw o (by_gathered t paren inside d names variadic (record { names_macro = c; kind = e; paren_opens = o }) (gather 0 (separators names variadic) inside) refl)
     | false ↦ λ o. rw o (Means.not_invoked c e o)
   ] refl
 
-  by_result : (t : Hiding) (rest : List Hiding) (d : Definition) → NamesMacro macros t d → d.shape ≡ ObjectLike → (r : Result Marked Fault) → object_result t d ≡ r → Means (t ∷ rest) (replaced_by r rest)
+  by_result : (t : Hiding) (rest : List Hiding) (d : Macro) → NamesMacro macros t d → d.kind ≡ ObjectLike → (r : Result Replacement Fault) → object_result t d ≡ r → Means (t ∷ rest) (replaced_by r rest)
   by_result t rest d c e (Ok m) h = Means.object_like c e h
   by_result t rest d c e (Err f) h = Means.object_refused c e h
 
-  by_shape : (t : Hiding) (rest : List Hiding) (d : Definition) → NamesMacro macros t d → (s : Shape) → d.shape ≡ s → Means (t ∷ rest) (macro_turn env t rest d s)
+  by_shape : (t : Hiding) (rest : List Hiding) (d : Macro) → NamesMacro macros t d → (s : MacroKind) → d.kind ≡ s → Means (t ∷ rest) (macro_turn env t rest d s)
   by_shape t rest d c (Predefined b) e = Means.predefined c e
   by_shape t rest d c ObjectLike e = by_result t rest d c e (object_result t d) refl
   by_shape t rest d c (FunctionLike names variadic) e = by_next t rest d names variadic c e
 
-  by_name : (t : Hiding) (rest : List Hiding) → is_unmatched_quote t.token ≡ false → set.contains t.hide t.token.text ≡ false → (o : Option Definition) → macro_of macros t.token ≡ o → Means (t ∷ rest) (named_turn env t rest o)
+  by_name : (t : Hiding) (rest : List Hiding) → is_unmatched_quote t.token ≡ false → set.contains t.hide t.token.text ≡ false → (o : Option Macro) → macro_of macros t.token ≡ o → Means (t ∷ rest) (named_turn env t rest o)
   by_name t rest q h None e = Means.no_macro q e
-  by_name t rest q h (Some d) e = by_shape t rest d (record { no_quote = q; not_hidden = h; named = e }) d.shape refl
+  by_name t rest q h (Some d) e = by_shape t rest d (record { no_quote = q; not_hidden = h; named = e }) d.kind refl
 
   by_hiding : (t : Hiding) (rest : List Hiding) → is_unmatched_quote t.token ≡ false → (b : Bool) → set.contains t.hide t.token.text ≡ b → Means (t ∷ rest) (turn macros env (t ∷ rest))
   by_hiding t rest q true h = subst (Means (t ∷ rest)) (sym (turn-hidden macros env t rest q h)) (Means.hidden q h)
@@ -117,21 +117,21 @@ module _ (macros : Macros) (env : Env) where
 
   -- ---- and each rule is the step of its lists
 
-  calls_turn : {t : Hiding} {d : Definition} (rest : List Hiding) → NamesMacro macros t d → (s : Shape) → d.shape ≡ s → turn macros env (t ∷ rest) ≡ macro_turn env t rest d s
+  calls_turn : {t : Hiding} {d : Macro} (rest : List Hiding) → NamesMacro macros t d → (s : MacroKind) → d.kind ≡ s → turn macros env (t ∷ rest) ≡ macro_turn env t rest d s
   calls_turn {t = t} {d = d} rest c s e = turn-named macros env t rest c.no_quote c.not_hidden ∙ ap (named_turn env t rest) c.named ∙ ap (macro_turn env t rest d) e
 
-  not_opened : (t : Hiding) (d : Definition) (names : List Name) (variadic : Variadic) (rest : List Hiding) → opens_next rest ≡ false → function_turn t d names variadic rest ≡ Passes t rest
+  not_opened : (t : Hiding) (d : Macro) (names : List Name) (variadic : Variadic) (rest : List Hiding) → opens_next rest ≡ false → function_turn t d names variadic rest ≡ Passes t rest
   not_opened t d names variadic [] e = refl
   not_opened t d names variadic (p ∷ rest) e = rw e refl
 
-  invokes_turn : {t paren : Hiding} {d : Definition} {names : List Name} {variadic : Variadic} (inside : List Hiding)
+  invokes_turn : {t paren : Hiding} {d : Macro} {names : List Name} {variadic : Variadic} (inside : List Hiding)
       → Opens macros t paren d names variadic
       → (g : Gathered)
       → gather 0 (separators names variadic) inside ≡ g
       → turn macros env (t ∷ paren ∷ inside) ≡ invoked t d names variadic g
   invokes_turn {t = t} {paren = paren} {d = d} {names = names} {variadic = variadic} inside i g e =
       let opened : function_turn t d names variadic (paren ∷ inside) ≡ invoked t d names variadic (gather 0 (separators names variadic) inside) = rw (i.paren_opens) refl in
-      calls_turn (paren ∷ inside) i.names_macro (FunctionLike names variadic) i.shape ∙ opened ∙ ap (invoked t d names variadic) e
+      calls_turn (paren ∷ inside) i.names_macro (FunctionLike names variadic) i.kind ∙ opened ∙ ap (invoked t d names variadic) e
 
   called-is : (call : Call) (close : Hiding) (o : Option (List (List Hiding)))
       → o ≡ Some call.arguments
@@ -186,11 +186,11 @@ module _ (macros : Macros) (env : Env) where
   at_called (Means.begins b) = b
 
   -- the result of an invocation
-  result_failed : (call : Call) (expanded : List (Option (List Hiding))) (f : Fault) (r : Result Marked Fault) → replaced_by r call.behind ≡ Failed f → r ≡ Err f
+  result_failed : (call : Call) (expanded : List (Option (List Hiding))) (f : Fault) (r : Result Replacement Fault) → replaced_by r call.behind ≡ Failed f → r ≡ Err f
   result_failed call expanded f (Ok m) e = absurd (cc)
   result_failed call expanded f (Err g) e = let same : g ≡ f = cc in ap Err same
 
-  result_replaced : (behind next : List Hiding) (r : Result Marked Fault) → replaced_by r behind ≡ Replaced next → (m : Marked) × (r ≡ Ok m) × (followed_by behind m ≡ next)
+  result_replaced : (behind next : List Hiding) (r : Result Replacement Fault) → replaced_by r behind ≡ Replaced next → (m : Replacement) × (r ≡ Ok m) × (followed_by behind m ≡ next)
   result_replaced behind next (Ok m) e = let same : followed_by behind m ≡ next = cc in (m, refl, same)
   result_replaced behind next (Err f) e = absurd (cc)
 

@@ -12,13 +12,13 @@ use Rattle.pptext.specs.declared.tokens.Place.{Place}
 use Rattle.pptext.specs.Tokens.{is_identifier, is_unmatched_quote}
 use Rattle.ppmacro.specs.Names.{Name, HideSet, Macros}
 use Rattle.ppmacro.specs.Hiding.{Hiding}
-use Rattle.ppmacro.specs.Members.{same_name}
-use Rattle.ppmacro.specs.declared.macros.Definition.{Definition}
+use Rattle.ppmacro.specs.code.Members.{same_name}
+use Rattle.ppmacro.specs.declared.macros.Macro.{Macro}
 use Rattle.ppmacro.specs.declared.macros.Variadic.{Variadic}
-use Rattle.ppmacro.specs.declared.macros.Shape.{Shape}
-use Rattle.ppmacro.specs.declared.macros.Shape.TheVariants.{Predefined, ObjectLike, FunctionLike}
+use Rattle.ppmacro.specs.declared.macros.MacroKind.{MacroKind}
+use Rattle.ppmacro.specs.declared.macros.MacroKind.TheVariants.{Predefined, ObjectLike, FunctionLike}
 use Rattle.ppmacro.specs.Chains.{chains_of}
-use Rattle.ppmacro.specs.Substitution.{Arguments, Marked, substituted, after_ok, chains_tokens, gained}
+use Rattle.ppmacro.specs.Substitution.{Arguments, Replacement, macro_replacement, after_ok, chains_tokens, hsadd}
 use Rattle.ppexpand.specs.Arguments.{Gathered, Closed, Quoted, Unclosed, argument_role, gather, separators, fitted, separates, fewer, with_token, with_argument, is_open, Quote, Open, Close, Comma, Inner}
 use Rattle.ppexpand.specs.declared.env.Env.{Env}
 use Rattle.ppexpand.specs.Turn.{Call, Turn, Done, Refused, Passes, Failed, Replaced, Called, turn, finished, mark_next, followed_by, replaced_by, gain_of, quote_fault, called, invoked, function_turn, macro_turn, named_turn}
@@ -41,25 +41,25 @@ hides-mark_next false xs = refl
 abbrev pub HasGain : HideSet → Hiding → Type 0
 HasGain gain t = Holds gain t.hide
 
-all_gained : (gain : HideSet) (used : Place) (ts : List Hiding) → AllByRecursion (HasGain gain) (map (gained gain used) ts)
+all_gained : (gain : HideSet) (used : Place) (ts : List Hiding) → AllByRecursion (HasGain gain) (map (hsadd gain used) ts)
 all_gained gain used [] = tt
 all_gained gain used (t ∷ ts) = ((λ q e. set.contains-union nat_list_cmp_total t.hide gain q ∙ ap (λ b. set.contains t.hide q || b) e ∙ or_right _ true refl), all_gained gain used ts)
 
-gained_after : (r : Result Marked Fault) (gain : HideSet) (used : Place) (m : Marked) → after_ok r (λ m. Ok (record m { tokens = map (gained gain used) m.tokens })) ≡ Ok m → AllByRecursion (HasGain gain) m.tokens
+gained_after : (r : Result Replacement Fault) (gain : HideSet) (used : Place) (m : Replacement) → after_ok r (λ m. Ok (record m { tokens = map (hsadd gain used) m.tokens })) ≡ Ok m → AllByRecursion (HasGain gain) m.tokens
 gained_after (Ok n) gain used m e =
-    let tokens : map (gained gain used) n.tokens ≡ m.tokens = ap (λ m. m.tokens) (let inner : record n { tokens = map (gained gain used) n.tokens } ≡ m = cc in inner) in
+    let tokens : map (hsadd gain used) n.tokens ≡ m.tokens = ap (λ m. m.tokens) (let inner : record n { tokens = map (hsadd gain used) n.tokens } ≡ m = cc in inner) in
     subst (AllByRecursion (HasGain gain)) tokens (all_gained gain used n.tokens)
 gained_after (Err f) gain used m e = absurd (cc)
 
-pub substituted_gain : (d : Definition) (args : Arguments) (gain : HideSet) (used : Place) (space : Bool) (m : Marked) → substituted d args gain used space ≡ Ok m → AllByRecursion (HasGain gain) m.tokens
+pub substituted_gain : (d : Macro) (args : Arguments) (gain : HideSet) (used : Place) (space : Bool) (m : Replacement) → macro_replacement d args gain used space ≡ Ok m → AllByRecursion (HasGain gain) m.tokens
 substituted_gain d args gain used space m e = gained_after (chains_tokens args used space true (chains_of d)) gain used m e
 
 -- a name with a macro is a key of the table
-pub among_names : (macros : Macros) (k : Name) (d : Definition) → table.get macros k ≡ Some d → table.contains_key macros k ≡ true
+pub among_names : (macros : Macros) (k : Name) (d : Macro) → table.get macros k ≡ Some d → table.contains_key macros k ≡ true
 among_names macros k d e = ap is_some e
 
 -- what a name means, where it means something
-pub among_meaning : (macros : Macros) (t : Token) (d : Definition) → macro_of macros t ≡ Some d → table.contains_key macros t.text ≡ true
+pub among_meaning : (macros : Macros) (t : Token) (d : Macro) → macro_of macros t ≡ Some d → table.contains_key macros t.text ≡ true
 among_meaning macros t d = elim (is_identifier t) as (λ b. (if b then table.get macros t.text else None) ≡ Some d → table.contains_key macros t.text ≡ true) [
   | true ↦ λ e. among_names macros t.text d e
   | false ↦ λ e. absurd (cc)
@@ -156,20 +156,20 @@ module _ (macros : Macros) (env : Env) where
     gains_object h k ts all.1,
   )
 
-  hides-followed_by : (behind : List Hiding) (m : Marked) → hides (followed_by behind m) ≡ hides m.tokens ++ hides behind
+  hides-followed_by : (behind : List Hiding) (m : Replacement) → hides (followed_by behind m) ≡ hides m.tokens ++ hides behind
   hides-followed_by behind m = hides-append m.tokens (mark_next m.pending behind) ∙ ap (λ hs. hides m.tokens ++ hs) (hides-mark_next m.pending behind)
 
   object_steps : (t : Hiding) (rest : List Hiding)
       → IsOutside macros t.token.text t.hide
-      → (r : Result Marked Fault)
-      → ((m : Marked) → r ≡ Ok m → AllByRecursion (HasGain (set.insert t.hide t.token.text)) m.tokens)
+      → (r : Result Replacement Fault)
+      → ((m : Replacement) → r ≡ Ok m → AllByRecursion (HasGain (set.insert t.hide t.token.text)) m.tokens)
       → StepsTo (t ∷ rest) (replaced_by r rest)
   object_steps t rest out (Ok m) gain = ending.replaced t.token.text out (hides m.tokens) (gains_object t.hide t.token.text m.tokens (gain m refl)) (hides-followed_by rest m)
   object_steps t rest out (Err f) gain = tt
 
   call_steps : (t p : Hiding) (rest : List Hiding)
       → IsOutside macros t.token.text t.hide
-      → (d : Definition) (names : List Name) (variadic : Variadic) (g : Gathered)
+      → (d : Macro) (names : List Name) (variadic : Variadic) (g : Gathered)
       → Stands rest g
       → StepsTo (t ∷ (p ∷ rest)) (invoked t d names variadic g)
   call_steps t p rest out d names variadic (Closed as' close behind) stands = by_count (fitted names variadic as')
@@ -182,7 +182,7 @@ module _ (macros : Macros) (env : Env) where
 
   function_steps : (t : Hiding) (rest : List Hiding)
       → IsOutside macros t.token.text t.hide
-      → (d : Definition) (names : List Name) (variadic : Variadic)
+      → (d : Macro) (names : List Name) (variadic : Variadic)
       → StepsTo (t ∷ rest) (function_turn t d names variadic rest)
   function_steps t [] out d names variadic = refl
   function_steps t (p ∷ rest) out d names variadic =
@@ -191,7 +191,7 @@ module _ (macros : Macros) (env : Env) where
         | false ↦ refl
       ]
 
-  macro_steps : (t : Hiding) (rest : List Hiding) → IsOutside macros t.token.text t.hide → (d : Definition) (shape : Shape) → StepsTo (t ∷ rest) (macro_turn env t rest d shape)
+  macro_steps : (t : Hiding) (rest : List Hiding) → IsOutside macros t.token.text t.hide → (d : Macro) (kind : MacroKind) → StepsTo (t ∷ rest) (macro_turn env t rest d kind)
   macro_steps t rest out d (Predefined b) = ending.replaced t.token.text out (set.insert t.hide t.token.text ∷ []) (
     record {
       common = λ q in_h _. set.contains-insert nat_list_cmp_total t.hide t.token.text q ∙ ap (λ b. same_name q t.token.text || b) in_h ∙ or_right _ true refl;
@@ -202,9 +202,9 @@ module _ (macros : Macros) (env : Env) where
   macro_steps t rest out d ObjectLike = object_steps t rest out _ (λ m e. substituted_gain d _ _ _ _ m e)
   macro_steps t rest out d (FunctionLike names variadic) = function_steps t rest out d names variadic
 
-  named_steps : (t : Hiding) (rest : List Hiding) → set.contains t.hide t.token.text ≡ false → (o : Option Definition) → macro_of macros t.token ≡ o → StepsTo (t ∷ rest) (named_turn env t rest o)
+  named_steps : (t : Hiding) (rest : List Hiding) → set.contains t.hide t.token.text ≡ false → (o : Option Macro) → macro_of macros t.token ≡ o → StepsTo (t ∷ rest) (named_turn env t rest o)
   named_steps t rest free None e = refl
-  named_steps t rest free (Some d) e = macro_steps t rest (record { macro = among_meaning macros t.token d e; outside = free }) d d.shape
+  named_steps t rest free (Some d) e = macro_steps t rest (record { macro = among_meaning macros t.token d e; outside = free }) d d.kind
 
   pub turn_steps : (list : List Hiding) → StepsTo list (turn macros env list)
   unfolding turn
@@ -241,7 +241,7 @@ module _ (macros : Macros) (env : Env) where
   FinishesTo list (Failed fault) = Unit {0}
   FinishesTo list _ = ⊥
 
-  finishes : (list : List Hiding) (call : Call) → Found list call → (r : Result Marked Fault) → ((m : Marked) → r ≡ Ok m → AllByRecursion (HasGain call.gain) m.tokens) → FinishesTo list (replaced_by r call.behind)
+  finishes : (list : List Hiding) (call : Call) → Found list call → (r : Result Replacement Fault) → ((m : Replacement) → r ≡ Ok m → AllByRecursion (HasGain call.gain) m.tokens) → FinishesTo list (replaced_by r call.behind)
   finishes list call found (Ok m) gain =
       let lists : hides list ≡ call.head.hide ∷ (hides found.inside ++ found.close.hide ∷ hides call.behind) = ap hides found.is ∙ ap (λ hs. call.head.hide ∷ hs) (hides-append found.inside (found.close ∷ call.behind)) in
       subst (λ hs. HideStep hs (hides (followed_by call.behind m))) (sym lists)

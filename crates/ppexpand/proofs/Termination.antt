@@ -10,7 +10,7 @@ use Rattle.std.proofs.lemmas.Cmp.{eq_by_cmp_equiv, nat_list_cmp_total}
 use Rattle.std.proofs.lemmas.Map.Lookups.{exact_bytes}
 use Rattle.std.proofs.lemmas.Map.Views.{tells_apart}
 use Rattle.ppmacro.specs.Names.{Name, HideSet, Macros}
-use Rattle.ppmacro.specs.Members.{same_name}
+use Rattle.ppmacro.specs.code.Members.{same_name}
 use Rattle.ppexpand.specs.Ending.{Holds, Gains, left_out, IsOutside, Step, passes, replaced, invoked, Ends, ends, EndsAfter, FrontEnds, names_left}
 
 pub all-map : {A : Type 0} (P Q : A → Type 0) → ((x : A) → P x → Q x) → (xs : List A) → AllByRecursion P xs → AllByRecursion Q xs
@@ -138,9 +138,9 @@ module _ (macros : Macros) where
   by_step P (invoked k out inside close behind e result gains e') p o f = rw e' (f k out inside close behind e result gains)
 
   result_step : (n k : ℕ) → ((j : ℕ) → FrontsEnd n j) → FrontsEnd (suc n) k → ((j : ℕ) → j < k → ResultsEnd (suc n) j) → ResultsEnd (suc n) k
-  result_step n k lower front_k below S small name out result gained front short above behind ends_behind after =
+  result_step n k lower front_k below S small name out result hsadd front short above behind ends_behind after =
       let fewer : names_left macros (set.insert S name) < names_left macros S = fewer_left S name out in
-      lower (length result) (set.insert S name) (omega arith) result (omega arith) gained (front ++ behind) (front_k S small front short above behind ends_behind after)
+      lower (length result) (set.insert S name) (omega arith) result (omega arith) hsadd (front ++ behind) (front_k S small front short above behind ends_behind after)
       (λ k2 out2 inside close rest e result2 reached.
       let out2' : IsOutside macros k2 S = outside_part S (set.insert S name) k2 (in_insert S name) out2 in
       elim (split front behind inside close rest e) [

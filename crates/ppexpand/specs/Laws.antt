@@ -7,7 +7,7 @@ use Rattle.pptext.specs.Tokens.{is_unmatched_quote}
 use Rattle.ppmacro.specs.Names.{Macros}
 use Rattle.ppmacro.specs.Hiding.{Hiding}
 use Rattle.ppmacro.specs.Chains.{is_function_like}
-use Rattle.ppmacro.specs.declared.macros.Definition.{Definition}
+use Rattle.ppmacro.specs.declared.macros.Macro.{Macro}
 use Rattle.ppexpand.specs.declared.env.Env.{Env}
 use Rattle.ppexpand.specs.declared.expansion.Expanded.{Expanded}
 use Rattle.ppexpand.specs.Arguments.{argument_role, separates, fewer, Quote, Open, Close, Comma, Inner}
@@ -93,9 +93,9 @@ OnlyBudgetsRefuse =
 -- ---- the expanded tokens
 
 -- whether a macro's name is replaced whatever follows it (6.10.3, paragraph 9)
-abbrev pub is_always_replaced : Option Definition → Bool
+abbrev pub is_always_replaced : Option Macro → Bool
 is_always_replaced None = false
-is_always_replaced (Some d) = not (is_function_like d.shape)
+is_always_replaced (Some d) = not (is_function_like d.kind)
 
 -- a token that may be left after expansion: no unmatched quote, and no object-like or predefined macro's name unless its hide set has the name
 abbrev pub is_settled : Macros → Hiding → Bool

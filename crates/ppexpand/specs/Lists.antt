@@ -4,13 +4,13 @@ use Rattle.std.specs.List.{AllByRecursion}
 use Rattle.pptext.specs.declared.tokens.Token.{Token}
 use Rattle.pptext.specs.Tokens.{is_unmatched_quote}
 use Rattle.ppmacro.specs.Names.{Macros}
-use Rattle.ppmacro.specs.declared.flying.Hidden.{Hidden}
-use Rattle.ppmacro.specs.declared.macros.Definition.{Definition}
+use Rattle.ppmacro.specs.declared.hidden_token.Hidden.{Hidden}
+use Rattle.ppmacro.specs.declared.macros.Macro.{Macro}
 use Rattle.ppexpand.specs.Turn.{macro_of}
 
 -- a token of a file with the number of a hide set
 abbrev pub with_set : ℕ → Token → Hidden
-with_set hide t = record { token = t; hide = hide; also = None }
+with_set hide t = record { token = t; hide = hide; extra = None }
 
 -- the first token gets the leading-space flag, if the flag is set
 abbrev pub marked : Bool → List Hidden → List Hidden
@@ -27,6 +27,6 @@ pub record ArePlain (macros : Macros) (hs : List Hidden) : Type 0 where
   pub each : AllByRecursion (λ h. is_plain macros h.token ≡ true) hs
 
 -- the macro that the next token names
-abbrev pub next_macro : Macros → List Token → Option Definition
+abbrev pub next_macro : Macros → List Token → Option Macro
 next_macro macros [] = None
 next_macro macros (t ∷ ts) = macro_of macros t

@@ -2,8 +2,8 @@
 use Rattle.std.specs.Prelude.{ℕ, List, Vec}
 use Rattle.std.specs.Global.{Global}
 use Rattle.pptext.specs.declared.tokens.Fault.{Fault}
-use Rattle.ppmacro.specs.declared.flying.Hidden.{Hidden}
-use Rattle.ppmacro.specs.declared.macros.Definition.{Definition}
+use Rattle.ppmacro.specs.declared.hidden_token.Hidden.{Hidden}
+use Rattle.ppmacro.specs.declared.macros.Macro.{Macro}
 
 -- an expansion step of the specification without the rest of the list. An invocation has the macro name token, the macro, the arguments, and the
 -- intersection of the hide sets of the name and the `)`
@@ -13,4 +13,4 @@ pub data Next : Type 0 where
   Passes : Hidden → Next
   Failed : Fault → Next
   Replaced : Next
-  Called : Hidden → Definition → List (Vec Hidden Global) → ℕ → Next
+  Called : Hidden → Macro → List (Vec Hidden Global) → ℕ → Next

@@ -1,7 +1,7 @@
 -- The values of pieces and of borrowed tokens, for the contracts of `Run` and of its iterator.
 use Rattle.std.specs.Prelude.{List}
 use Rattle.pptext.specs.declared.tokens.Token.{Token}
-use Rattle.ppmacro.specs.declared.flying.Hidden.{Hidden}
+use Rattle.ppmacro.specs.declared.hidden_token.Hidden.{Hidden}
 use Rattle.ppexpand.specs.declared.passed.Piece.{Piece}
 use Rattle.ppexpand.specs.declared.passed.Piece.TheVariants.{Shared, Made}
 use Rattle.ppexpand.specs.declared.run_iter.TokenRef.{TokenRef}

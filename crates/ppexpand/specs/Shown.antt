@@ -9,14 +9,14 @@ use Rattle.pptext.specs.declared.tokens.Token.{Token}
 use Rattle.pptext.specs.declared.tokens.Fault.{Fault}
 use Rattle.pptext.specs.Tokens.{fault}
 use Rattle.ppmacro.specs.Names.{Macros}
-use Rattle.ppmacro.specs.Numbered.{Numbered}
+use Rattle.ppmacro.specs.HideSetPool.{HideSetPool}
 use Rattle.ppmacro.specs.Hiding.{Hiding}
 use Rattle.ppmacro.specs.HideSets.{set_at, IsKnown, hiding, hidings, HasSets, AllKnown}
 use Rattle.ppmacro.specs.Substituting.{lists_of, option_of, options_of, ListsKnown}
-use Rattle.ppmacro.specs.declared.macros.Definition.{Definition}
-use Rattle.ppmacro.specs.declared.flying.Hidden.{Hidden}
-use Rattle.ppmacro.specs.declared.flying.Expansion.{Expansion}
-use Rattle.ppmacro.specs.declared.flying.Expansion.TheVariants.{Unused, AsGiven, Made}
+use Rattle.ppmacro.specs.declared.macros.Macro.{Macro}
+use Rattle.ppmacro.specs.declared.hidden_token.Hidden.{Hidden}
+use Rattle.ppmacro.specs.declared.hidden_token.Expansion.{Expansion}
+use Rattle.ppmacro.specs.declared.hidden_token.Expansion.TheVariants.{Unused, AsGiven, Made}
 use Rattle.ppexpand.specs.declared.env.Env.{Env}
 use Rattle.ppexpand.specs.Turn.{Call, Turn, Done, Refused, Passes, Failed, Replaced, Called, wanted, finished, ExpandedArguments}
 use Rattle.ppexpand.specs.Budget.{less_one}
@@ -25,17 +25,17 @@ use Rattle.ppexpand.specs.Expansion.{Outcome, turn_within, Expands, ExpandsArgum
 
 -- ---- arguments
 
-abbrev pub given_in : Numbered → List (Vec Hidden Global) → List (List Hiding)
+abbrev pub given_in : HideSetPool → List (Vec Hidden Global) → List (List Hiding)
 given_in sets given = map (hidings sets) (lists_of given)
 
-abbrev pub expanded_in : Numbered → List (Vec Hidden Global) → List Expansion → List (Option (List Hiding))
+abbrev pub expanded_in : HideSetPool → List (Vec Hidden Global) → List Expansion → List (Option (List Hiding))
 expanded_in sets given expanded = map (λ o. option_map (hidings sets) o) (options_of given expanded)
 
-abbrev pub fitting_in : Numbered → Option (Vec (Vec Hidden Global) Global) → Option (List (List Hiding))
+abbrev pub fitting_in : HideSetPool → Option (Vec (Vec Hidden Global) Global) → Option (List (List Hiding))
 fitting_in sets None = None
 fitting_in sets (Some v) = Some (given_in sets v.items)
 
-abbrev pub FittingKnown : Numbered → Option (Vec (Vec Hidden Global) Global) → Type 0
+abbrev pub FittingKnown : HideSetPool → Option (Vec (Vec Hidden Global) Global) → Type 0
 FittingKnown sets None = Unit {0}
 FittingKnown sets (Some v) = ListsKnown sets v.items
 
@@ -46,7 +46,7 @@ held AsGiven = []
 held (Made v) = v.items
 
 -- the hide sets of all these tokens exist
-pub record ExpansionsKnown (sets : Numbered) (es : List Expansion) : Type 0 where
+pub record ExpansionsKnown (sets : HideSetPool) (es : List Expansion) : Type 0 where
   pub each : AllByRecursion (λ e. AllKnown sets (held e)) es
 
 -- there are no tokens between the parentheses
@@ -57,7 +57,7 @@ is_bare _ = false
 -- ---- expansion steps
 
 -- an invocation: the macro name token, the macro, the arguments, the intersection of the hide sets of the name and the `)`, and the tokens after it
-abbrev pub call_in : Numbered → Hidden → Definition → List (Vec Hidden Global) → ℕ → List Hidden → Call
+abbrev pub call_in : HideSetPool → Hidden → Macro → List (Vec Hidden Global) → ℕ → List Hidden → Call
 call_in sets head macro given both behind = record {
   head = hiding sets head;
   macro = macro;
@@ -67,13 +67,13 @@ call_in sets head macro given both behind = record {
 }
 
 -- the hide sets of an invocation exist
-pub record CallKnown (sets : Numbered) (name : Hidden) (given : List (Vec Hidden Global)) (base : ℕ) : Type 0 where
+pub record CallKnown (sets : HideSetPool) (name : Hidden) (given : List (Vec Hidden Global)) (base : ℕ) : Type 0 where
   pub head : HasSets sets name
   pub arguments : ListsKnown sets given
   pub both : IsKnown sets base
 
 -- the expansion step of an action after which this list is left
-abbrev pub turn_in : Numbered → List Hidden → next.Next → Turn
+abbrev pub turn_in : HideSetPool → List Hidden → next.Next → Turn
 turn_in sets left next.Done = Done
 turn_in sets left (next.Refused f) = Refused f
 turn_in sets left (next.Passes head) = Passes (hiding sets head) (hidings sets left)
@@ -81,19 +81,19 @@ turn_in sets left (next.Failed f) = Failed f
 turn_in sets left next.Replaced = Replaced (hidings sets left)
 turn_in sets left (next.Called head macro given both) = Called (call_in sets head macro given both left)
 
-abbrev pub NextKnown : Numbered → List Hidden → next.Next → Type 0
+abbrev pub NextKnown : HideSetPool → List Hidden → next.Next → Type 0
 NextKnown sets left (next.Passes head) = HasSets sets head × AllKnown sets left
 NextKnown sets left next.Replaced = AllKnown sets left
 NextKnown sets left (next.Called head macro given both) = CallKnown sets head given both × AllKnown sets left
 NextKnown sets left _ = Unit {0}
 
 -- the expansion step of a replacement after which this list is left
-abbrev pub replaced_in : Numbered → List Hidden → Result (Unit {0}) Fault → Turn
+abbrev pub replaced_in : HideSetPool → List Hidden → Result (Unit {0}) Fault → Turn
 replaced_in sets left (Ok u) = Replaced (hidings sets left)
 replaced_in sets left (Err f) = Failed f
 
 -- the expansion step of an invocation after which this list is left, or its fault
-abbrev pub finished_in : Numbered → List Hidden → Option Fault → Turn
+abbrev pub finished_in : HideSetPool → List Hidden → Option Fault → Turn
 finished_in sets left None = Replaced (hidings sets left)
 finished_in sets left (Some f) = Failed f
 
@@ -117,7 +117,7 @@ pub data ExpandsArgument (macros : Macros) (env : Env) (level : ℕ) (head : Tok
   deep : 256 ≤ level → ExpandsArgument macros env level head left list left (Err (fault 21 head.used head.text))
 
 -- an argument of an invocation at this level has an expansion, and this value of the program stands for it
-abbrev pub HasExpanded : Macros → Env → ℕ → Token → Option ℕ → Option ℕ → Numbered → Numbered → List Hidden → Expansion → Type 0
+abbrev pub HasExpanded : Macros → Env → ℕ → Token → Option ℕ → Option ℕ → HideSetPool → HideSetPool → List Hidden → Expansion → Type 0
 HasExpanded macros env level head left after before sets given e = (tokens : List Hiding)
     × (option_map (hidings sets) (option_of given e) ≡ Some tokens)
     × ExpandsArgument macros env level head left (hidings before given) after (Ok tokens)

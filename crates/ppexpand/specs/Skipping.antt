@@ -1,7 +1,7 @@
 -- Consecutive tokens that are emitted unchanged: vocabulary of the code. No definition rests on this file.
 use Rattle.std.specs.Prelude.{◌≡◌, List, ◌++◌}
 use Rattle.ppmacro.specs.Names.{Macros}
-use Rattle.ppmacro.specs.declared.flying.Hidden.{Hidden}
+use Rattle.ppmacro.specs.declared.hidden_token.Hidden.{Hidden}
 use Rattle.ppexpand.specs.Lists.{ArePlain}
 
 -- tokens that are emitted unchanged were removed from a list and appended to the output

@@ -7,26 +7,26 @@ use Rattle.pptext.specs.declared.tokens.Fault.{Fault}
 use Rattle.pptext.specs.Tokens.{is_unmatched_quote}
 use Rattle.ppmacro.specs.Names.{Name, Macros}
 use Rattle.ppmacro.specs.Hiding.{Hiding}
-use Rattle.ppmacro.specs.Substitution.{plain, Marked, substituted}
-use Rattle.ppmacro.specs.declared.macros.Builtin.{Builtin}
+use Rattle.ppmacro.specs.Substitution.{plain, Replacement, macro_replacement}
+use Rattle.ppmacro.specs.declared.macros.PredefinedMacro.{PredefinedMacro}
 use Rattle.ppmacro.specs.declared.macros.Variadic.{Variadic}
-use Rattle.ppmacro.specs.declared.macros.Definition.{Definition}
-use Rattle.ppmacro.specs.declared.macros.Shape.TheVariants.{Predefined, ObjectLike, FunctionLike}
+use Rattle.ppmacro.specs.declared.macros.Macro.{Macro}
+use Rattle.ppmacro.specs.declared.macros.MacroKind.TheVariants.{Predefined, ObjectLike, FunctionLike}
 use Rattle.ppexpand.specs.declared.env.Env.{Env}
 use Rattle.ppexpand.specs.Arguments.{is_open, Closed, Quoted, Unclosed, gather, separators, fitted}
 use Rattle.ppexpand.specs.Turn.{predefined_value, Call, followed_by, fault_at_use, quote_fault, gain_of, no_arguments, macro_of, wanted}
 use Rattle.ppexpand.specs.Turn.{ExpandedArguments, with_expanded}
 
 -- a token names this macro, and its hide set does not have the name (6.10.3, paragraph 9; 6.10.3.4, paragraph 2)
-pub record NamesMacro (macros : Macros) (t : Hiding) (d : Definition) : Type 0 where
+pub record NamesMacro (macros : Macros) (t : Hiding) (d : Macro) : Type 0 where
   pub no_quote : is_unmatched_quote t.token ≡ false
   pub not_hidden : set.contains t.hide t.token.text ≡ false
   pub named : macro_of macros t.token ≡ Some d
 
 -- a token names a function-like macro, and this `(` is next (6.10.3, paragraph 10)
-pub record Opens (macros : Macros) (t paren : Hiding) (d : Definition) (names : List Name) (variadic : Variadic) : Type 0 where
+pub record Opens (macros : Macros) (t paren : Hiding) (d : Macro) (names : List Name) (variadic : Variadic) : Type 0 where
   pub names_macro : NamesMacro macros t d
-  pub shape : d.shape ≡ FunctionLike names variadic
+  pub kind : d.kind ≡ FunctionLike names variadic
   pub paren_opens : is_open paren.token ≡ true
 
 -- a list begins with this invocation: it has a matching `)`, and as many arguments as its parameters need (6.10.3, paragraphs 4 and 10 to 12)
@@ -49,13 +49,13 @@ opens_next [] = false
 opens_next (t ∷ ts) = is_open t.token
 
 -- the replacement of an object-like macro's name (6.10.3, paragraph 9), or the fault
-abbrev pub object_result : Hiding → Definition → Result Marked Fault
-object_result t d = substituted d no_arguments (set.insert t.hide t.token.text) t.token.used t.token.space
+abbrev pub object_result : Hiding → Macro → Result Replacement Fault
+object_result t d = macro_replacement d no_arguments (set.insert t.hide t.token.text) t.token.used t.token.space
 
 -- the replacement of an invocation after its arguments are expanded (6.10.3.1), or the fault
-abbrev pub invocation_result : Call → List (Option (List Hiding)) → Result Marked Fault
+abbrev pub invocation_result : Call → List (Option (List Hiding)) → Result Replacement Fault
 invocation_result call expanded =
-    substituted call.macro (record { given = call.arguments; expanded = expanded }) call.gain call.head.token.used call.head.token.space
+    macro_replacement call.macro (record { given = call.arguments; expanded = expanded }) call.gain call.head.token.used call.head.token.space
 
 mutual
   -- at this level a list expands to these tokens, up to its end or to this fault
@@ -76,38 +76,38 @@ mutual
         → StandardExpands macros env level rest tokens fault
         → StandardExpands macros env level (t ∷ rest) (t ∷ tokens) fault
     -- the replacement of a name is rescanned with the rest (6.10.3.4, paragraph 1)
-    predefined : {level : ℕ} {t : Hiding} {rest tokens : List Hiding} {fault : Option Fault} {d : Definition} {b : Builtin}
+    predefined : {level : ℕ} {t : Hiding} {rest tokens : List Hiding} {fault : Option Fault} {d : Macro} {b : PredefinedMacro}
         → NamesMacro macros t d
-        → d.shape ≡ Predefined b
+        → d.kind ≡ Predefined b
         → StandardExpands macros env level (predefined_value b env t (set.insert t.hide t.token.text) ∷ rest) tokens fault
         → StandardExpands macros env level (t ∷ rest) tokens fault
-    object_like : {level : ℕ} {t : Hiding} {rest tokens : List Hiding} {fault : Option Fault} {d : Definition} {m : Marked}
+    object_like : {level : ℕ} {t : Hiding} {rest tokens : List Hiding} {fault : Option Fault} {d : Macro} {m : Replacement}
         → NamesMacro macros t d
-        → d.shape ≡ ObjectLike
+        → d.kind ≡ ObjectLike
         → object_result t d ≡ Ok m
         → StandardExpands macros env level (followed_by rest m) tokens fault
         → StandardExpands macros env level (t ∷ rest) tokens fault
-    object_refused : {level : ℕ} {t : Hiding} {rest : List Hiding} {f : Fault} {d : Definition}
+    object_refused : {level : ℕ} {t : Hiding} {rest : List Hiding} {f : Fault} {d : Macro}
         → NamesMacro macros t d
-        → d.shape ≡ ObjectLike
+        → d.kind ≡ ObjectLike
         → object_result t d ≡ Err f
         → StandardExpands macros env level (t ∷ rest) [] (Some f)
     -- a function-like macro's name without `(` next is no invocation (6.10.3, paragraph 10)
-    not_invoked : {level : ℕ} {t : Hiding} {rest tokens : List Hiding} {fault : Option Fault} {d : Definition} {names : List Name} {variadic : Variadic}
+    not_invoked : {level : ℕ} {t : Hiding} {rest tokens : List Hiding} {fault : Option Fault} {d : Macro} {names : List Name} {variadic : Variadic}
         → NamesMacro macros t d
-        → d.shape ≡ FunctionLike names variadic
+        → d.kind ≡ FunctionLike names variadic
         → opens_next rest ≡ false
         → StandardExpands macros env level rest tokens fault
         → StandardExpands macros env level (t ∷ rest) (t ∷ tokens) fault
-    quote_inside : {level : ℕ} {t paren quote : Hiding} {inside : List Hiding} {d : Definition} {names : List Name} {variadic : Variadic}
+    quote_inside : {level : ℕ} {t paren quote : Hiding} {inside : List Hiding} {d : Macro} {names : List Name} {variadic : Variadic}
         → Opens macros t paren d names variadic
         → gather 0 (separators names variadic) inside ≡ Quoted quote
         → StandardExpands macros env level (t ∷ paren ∷ inside) [] (Some (quote_fault quote))
-    unclosed : {level : ℕ} {t paren : Hiding} {inside : List Hiding} {d : Definition} {names : List Name} {variadic : Variadic}
+    unclosed : {level : ℕ} {t paren : Hiding} {inside : List Hiding} {d : Macro} {names : List Name} {variadic : Variadic}
         → Opens macros t paren d names variadic
         → gather 0 (separators names variadic) inside ≡ Unclosed
         → StandardExpands macros env level (t ∷ paren ∷ inside) [] (Some (fault_at_use 17 t))
-    wrong_number : {level : ℕ} {t paren close : Hiding} {inside behind : List Hiding} {d : Definition} {names : List Name}
+    wrong_number : {level : ℕ} {t paren close : Hiding} {inside behind : List Hiding} {d : Macro} {names : List Name}
         {variadic : Variadic} {arguments : List (List Hiding)}
         → Opens macros t paren d names variadic
         → gather 0 (separators names variadic) inside ≡ Closed arguments close behind
@@ -122,7 +122,7 @@ mutual
         → StandardExpandsArguments macros env level call (wanted call) (Ok expanded)
         → invocation_result call expanded ≡ Err f
         → StandardExpands macros env level list [] (Some f)
-    invocation : {level : ℕ} {list tokens : List Hiding} {fault : Option Fault} {call : Call} {expanded : List (Option (List Hiding))} {m : Marked}
+    invocation : {level : ℕ} {list tokens : List Hiding} {fault : Option Fault} {call : Call} {expanded : List (Option (List Hiding))} {m : Replacement}
         → Invokes macros list call
         → StandardExpandsArguments macros env level call (wanted call) (Ok expanded)
         → invocation_result call expanded ≡ Ok m

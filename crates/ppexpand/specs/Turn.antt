@@ -13,14 +13,14 @@ use Rattle.pptext.specs.declared.tokens.Kind.TheVariants.{Number, Str as StringL
 use Rattle.pptext.specs.Tokens.{is_identifier, is_unmatched_quote, fault}
 use Rattle.ppmacro.specs.Names.{Name, HideSet, Macros}
 use Rattle.ppmacro.specs.Hiding.{Hiding}
-use Rattle.ppmacro.specs.Chains.{names_in, chains_of}
-use Rattle.ppmacro.specs.Substitution.{Arguments, argument_at, Marked, with_mark, substituted}
-use Rattle.ppmacro.specs.declared.macros.Builtin.{Builtin}
-use Rattle.ppmacro.specs.declared.macros.Builtin.TheVariants.{File, Line, Date, Time, Stdc, StdcHosted, StdcVersion}
+use Rattle.ppmacro.specs.Chains.{parameter_names, chains_of}
+use Rattle.ppmacro.specs.Substitution.{Arguments, argument_at, Replacement, with_flag, macro_replacement}
+use Rattle.ppmacro.specs.declared.macros.PredefinedMacro.{PredefinedMacro}
+use Rattle.ppmacro.specs.declared.macros.PredefinedMacro.TheVariants.{File, Line, Date, Time, Stdc, StdcHosted, StdcVersion}
 use Rattle.ppmacro.specs.declared.macros.Variadic.{Variadic}
-use Rattle.ppmacro.specs.declared.macros.Shape.{Shape}
-use Rattle.ppmacro.specs.declared.macros.Shape.TheVariants.{Predefined, ObjectLike, FunctionLike}
-use Rattle.ppmacro.specs.declared.macros.Definition.{Definition}
+use Rattle.ppmacro.specs.declared.macros.MacroKind.{MacroKind}
+use Rattle.ppmacro.specs.declared.macros.MacroKind.TheVariants.{Predefined, ObjectLike, FunctionLike}
+use Rattle.ppmacro.specs.declared.macros.Macro.{Macro}
 use Rattle.ppmacro.specs.declared.macros.Chain.{Chain}
 use Rattle.ppmacro.specs.declared.macros.Operand.{Operand}
 use Rattle.ppmacro.specs.declared.macros.Operand.TheVariants.{Param}
@@ -36,14 +36,14 @@ presumed_line env place = pos place.line +ℤ env.shift
 abbrev pub quoted : List ℕ → List ℕ
 quoted text = 34 ∷ (text ++ 34 ∷ [])
 
-abbrev pub predefined_kind : Builtin → Kind
+abbrev pub predefined_kind : PredefinedMacro → Kind
 predefined_kind File = StringLiteral
 predefined_kind Date = StringLiteral
 predefined_kind Time = StringLiteral
 predefined_kind _ = Number
 
 -- the spelling of the replacement; the location is the expansion location of the name
-abbrev pub predefined_text : Builtin → Env → Place → List ℕ
+abbrev pub predefined_text : PredefinedMacro → Env → Place → List ℕ
 predefined_text File env used = env.name
 predefined_text Line env used = decimal (nat_abs (presumed_line env used))
 predefined_text Date env used = quoted env.date
@@ -53,7 +53,7 @@ predefined_text StdcHosted env used = codes "1"
 predefined_text StdcVersion env used = codes "201112L"
 
 -- the token that replaces a predefined name; it has the locations and the leading-space flag of the name
-abbrev pub predefined_value : Builtin → Env → Hiding → HideSet → Hiding
+abbrev pub predefined_value : PredefinedMacro → Env → Hiding → HideSet → Hiding
 predefined_value b env t gain = record {
   token = record { kind = predefined_kind b; text = predefined_text b env t.token.used; space = t.token.space; at = t.token.at; used = t.token.used };
   hide = gain;
@@ -65,7 +65,7 @@ predefined_value b env t gain = record {
 -- argument, the names that the replacement hides, and the tokens after the matching `)`
 pub record Call : Type 0 where
   pub head : Hiding
-  pub macro : Definition
+  pub macro : Macro
   pub arguments : List (List Hiding)
   pub gain : HideSet
   pub behind : List Hiding
@@ -82,15 +82,15 @@ pub data Turn : Type 0 where
 
 -- the next token gets the leading-space flag if a space is pending
 abbrev pub mark_next : Bool → List Hiding → List Hiding
-mark_next true (t ∷ ts) = with_mark true t ∷ ts
+mark_next true (t ∷ ts) = with_flag true t ∷ ts
 mark_next true [] = []
 mark_next false ts = ts
 
 -- a replacement before the rest of the list (6.10.3.4)
-abbrev pub followed_by : List Hiding → Marked → List Hiding
+abbrev pub followed_by : List Hiding → Replacement → List Hiding
 followed_by behind m = m.tokens ++ mark_next m.pending behind
 
-abbrev pub replaced_by : Result Marked Fault → List Hiding → Turn
+abbrev pub replaced_by : Result Replacement Fault → List Hiding → Turn
 replaced_by (Ok m) behind = Replaced (followed_by behind m)
 replaced_by (Err f) behind = Failed f
 
@@ -105,18 +105,18 @@ quote_fault t = fault 7 t.token.at t.token.text
 abbrev pub gain_of : HideSet → HideSet → Name → HideSet
 gain_of hide close name = set.insert (set.intersection hide close) name
 
-abbrev pub called : Hiding → Definition → Option (List (List Hiding)) → Hiding → List Hiding → Turn
+abbrev pub called : Hiding → Macro → Option (List (List Hiding)) → Hiding → List Hiding → Turn
 called t d (Some as') close behind =
     Called (record { head = t; macro = d; arguments = as'; gain = gain_of t.hide close.hide t.token.text; behind = behind })
 called t d None close behind = Failed (fault_at_use 18 t)
 
-abbrev pub invoked : Hiding → Definition → List Name → Variadic → Gathered → Turn
+abbrev pub invoked : Hiding → Macro → List Name → Variadic → Gathered → Turn
 invoked t d names variadic (Closed as' close behind) = called t d (fitted names variadic as') close behind
 invoked t d names variadic (Quoted q) = Failed (quote_fault q)
 invoked t d names variadic Unclosed = Failed (fault_at_use 17 t)
 
 -- a function-like macro's name is invoked if `(` is next, and otherwise emitted (6.10.3, paragraph 10)
-abbrev pub function_turn : Hiding → Definition → List Name → Variadic → List Hiding → Turn
+abbrev pub function_turn : Hiding → Macro → List Name → Variadic → List Hiding → Turn
 function_turn t d names variadic [] = Passes t []
 function_turn t d names variadic (p ∷ rest) =
     if is_open p.token then invoked t d names variadic (gather 0 (separators names variadic) rest) else Passes t (p ∷ rest)
@@ -124,17 +124,17 @@ function_turn t d names variadic (p ∷ rest) =
 abbrev pub no_arguments : Arguments
 no_arguments = record { given = []; expanded = [] }
 
-abbrev pub macro_turn : Env → Hiding → List Hiding → Definition → Shape → Turn
+abbrev pub macro_turn : Env → Hiding → List Hiding → Macro → MacroKind → Turn
 macro_turn env t rest d (Predefined b) = Replaced (predefined_value b env t (set.insert t.hide t.token.text) ∷ rest)
-macro_turn env t rest d ObjectLike = replaced_by (substituted d no_arguments (set.insert t.hide t.token.text) t.token.used t.token.space) rest
+macro_turn env t rest d ObjectLike = replaced_by (macro_replacement d no_arguments (set.insert t.hide t.token.text) t.token.used t.token.space) rest
 macro_turn env t rest d (FunctionLike names variadic) = function_turn t d names variadic rest
 
-abbrev pub named_turn : Env → Hiding → List Hiding → Option Definition → Turn
-named_turn env t rest (Some d) = macro_turn env t rest d d.shape
+abbrev pub named_turn : Env → Hiding → List Hiding → Option Macro → Turn
+named_turn env t rest (Some d) = macro_turn env t rest d d.kind
 named_turn env t rest None = Passes t rest
 
 -- the macro that a token names
-abbrev pub macro_of : Macros → Token → Option Definition
+abbrev pub macro_of : Macros → Token → Option Macro
 macro_of macros t = if is_identifier t then table.get macros t.text else None
 
 unfoldable pub turn : Macros → Env → List Hiding → Turn
@@ -159,7 +159,7 @@ to_expand i cs [] given = []
 to_expand i cs (n ∷ names) given = (if uses_alone i cs then Some (argument_at given i) else None) ∷ to_expand (suc i) cs names given
 
 unfoldable pub wanted : Call → List (Option (List Hiding))
-wanted call = to_expand 0 (chains_of call.macro) (names_in call.macro.shape) call.arguments
+wanted call = to_expand 0 (chains_of call.macro) (parameter_names call.macro.kind) call.arguments
 
 -- the expansions, with one entry for each parameter, or the first fault
 abbrev pub ExpandedArguments : Type 0
@@ -173,5 +173,5 @@ with_expanded a (Err f) = Err f
 -- the expansion step of an invocation after its arguments are expanded
 unfoldable pub finished : Call → List (Option (List Hiding)) → Turn
 finished call expanded = replaced_by
-    (substituted call.macro (record { given = call.arguments; expanded = expanded }) call.gain call.head.token.used call.head.token.space)
+    (macro_replacement call.macro (record { given = call.arguments; expanded = expanded }) call.gain call.head.token.used call.head.token.space)
     call.behind

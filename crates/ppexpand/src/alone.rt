@@ -1,24 +1,24 @@
 //! Finds the parameters whose arguments are pre-expanded: those that a replacement list uses without `#` and `##` (6.10.3.1).
 ghost use Rattle.std.specs.Prelude.{◌≡◌, ◌<◌, ◌||◌, ℕ, false, IfOk, get_or, length, map};
-ghost use Rattle.ppmacro.specs.Chains.{names_in};
+ghost use Rattle.ppmacro.specs.Chains.{parameter_names};
 ghost use Rattle.ppmacro.specs.Patterns.{entry_chain, listed};
 ghost use Rattle.ppexpand.specs.Turn.{is_alone, uses_alone};
 
-use ppmacro::{Chain, Definition, Entry, Operand, Pattern, Shape};
+use ppmacro::{Chain, Macro, Entry, Operand, Pattern, MacroKind};
 use std::alloc::{AllocError, Global};
 
 /// Returns the number of parameters of a macro.
-pub(crate) fn parameters_of(replaced: &Definition) -> usize
-    ensures { result ≡ length (names_in replaced.now.shape) }
+pub(crate) fn parameters_of(replaced: &Macro) -> usize
+    ensures { result ≡ length (parameter_names replaced.now.kind) }
 {
-    match &replaced.shape {
-        Shape::FunctionLike { parameters, .. } => parameters.as_slice().len(),
+    match &replaced.kind {
+        MacroKind::FunctionLike { parameters, .. } => parameters.as_slice().len(),
         _ => 0,
     }
 }
 
 /// Sets the entry of a parameter if the chain consists of that parameter alone.
-fn mark(used: &mut Vec<bool>, operands: &[Operand])
+fn flag(used: &mut Vec<bool>, operands: &[Operand])
     ensures len { length used.new.items ≡ length used.old.items }
     ensures marks { (i : ℕ) → i < length used.old.items → get_or used.new.items i false ≡ get_or used.old.items i false || is_alone i operands.now }
 {
@@ -65,16 +65,16 @@ fn used_entries(
 #[inline(never)]
 pub(crate) fn used_alone(
     alloc: Global,
-    replaced: &Definition,
+    replaced: &Macro,
     pattern: &Pattern,
 ) -> Result<Vec<bool>, AllocError>
-    ensures len { IfOk result (λ v. length v.items ≡ length (names_in replaced.now.shape)) }
-    ensures used { IfOk result (λ v. (i : ℕ) → i < length (names_in replaced.now.shape) → get_or v.items i false ≡ uses_alone i (listed pattern.now)) }
+    ensures len { IfOk result (λ v. length v.items ≡ length (parameter_names replaced.now.kind)) }
+    ensures used { IfOk result (λ v. (i : ℕ) → i < length (parameter_names replaced.now.kind) → get_or v.items i false ≡ uses_alone i (listed pattern.now)) }
 {
     let parameters = parameters_of(replaced);
     match pattern {
-        Pattern::Alone(entries) => used_entries(alloc, parameters, entries.as_slice()),
-        Pattern::Joined(chains) => used_chains(alloc, parameters, chains.as_slice()),
+        Pattern::Plain(entries) => used_entries(alloc, parameters, entries.as_slice()),
+        Pattern::Pasted(chains) => used_chains(alloc, parameters, chains.as_slice()),
     }
 }
 
@@ -85,7 +85,7 @@ fn used_chains(alloc: Global, parameters: usize, chains: &[Chain]) -> Result<Vec
 {
     let mut used = vec![in alloc; false; parameters]?;
     for chain in chains {
-        mark(&mut used, chain.operands.as_slice());
+        flag(&mut used, chain.operands.as_slice());
     }
     Ok(used)
 }

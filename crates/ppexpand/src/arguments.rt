@@ -1,6 +1,6 @@
 //! Collects the arguments of an invocation (6.10.3p4, p11, p12).
 ghost use Rattle.std.specs.Prelude.{◌≡◌, ◌∷◌, ◌++◌, [], IfOk, OnOk};
-ghost use Rattle.ppmacro.specs.Numbered.{Numbered};
+ghost use Rattle.ppmacro.specs.HideSetPool.{HideSetPool};
 ghost use Rattle.ppmacro.specs.HideSets.{HasSets, hiding, hidings, AllKnown};
 ghost use Rattle.ppmacro.specs.Substituting.{ListsKnown};
 ghost use Rattle.ppexpand.specs.Arguments.{Closed, Quoted, Unclosed, separates, fewer, separators, needed, gather, fitted};
@@ -90,12 +90,12 @@ pub(crate) fn gather<'a>(
     list: &mut Cursor<'a>,
     commas: Option<usize>,
 ) -> Result<Gathered<'a>, AllocError>
-    ensures is { IfOk result (λ g. (sets : Numbered) → (elim g [
+    ensures is { IfOk result (λ g. (sets : HideSetPool) → (elim g [
       | Gathered.Closed arguments close ↦ Closed (given_in sets arguments.items) (hiding sets close) (hidings sets list.new)
       | Gathered.Quoted quote ↦ Quoted (hiding sets quote)
       | Gathered.Unclosed ↦ Unclosed
     ]) ≡ gather 0 commas (hidings sets list.old)) }
-    ensures known { IfOk result (λ g. (sets : Numbered) → AllKnown sets list.old → elim g [
+    ensures known { IfOk result (λ g. (sets : HideSetPool) → AllKnown sets list.old → elim g [
       | Gathered.Closed arguments close ↦ ListsKnown sets arguments.items × HasSets sets close × AllKnown sets list.new
       | Gathered.Quoted quote ↦ Unit {0}
       | Gathered.Unclosed ↦ Unit {0}
@@ -146,8 +146,8 @@ pub(crate) fn fit<'a>(
     names: &[Spelling],
     variadic: Variadic,
 ) -> Option<Vec<Vec<Hidden<'a>>>>
-    ensures is { (sets : Numbered) → fitting_in sets result ≡ fitted names.now variadic (given_in sets arguments.entry.items) }
-    ensures known { (sets : Numbered) → ListsKnown sets arguments.entry.items → FittingKnown sets result }
+    ensures is { (sets : HideSetPool) → fitting_in sets result ≡ fitted names.now variadic (given_in sets arguments.entry.items) }
+    ensures known { (sets : HideSetPool) → ListsKnown sets arguments.entry.items → FittingKnown sets result }
 {
     let least = needed(names, variadic);
     if least == 0 && is_bare(arguments.as_slice()) {

@@ -7,7 +7,7 @@ ghost use Rattle.ppexpand.specs.Lists.{marked, with_set, is_plain, next_macro, A
 use crate::lists::put;
 use crate::stretch::Stretch;
 use crate::turn::macro_at;
-use ppmacro::{Definition, Hidden, Set, Table};
+use ppmacro::{Macro, Hidden, Set, Table};
 use pptext::Token;
 use std::alloc::{AllocError, Global};
 use std::marker::Model;
@@ -25,7 +25,7 @@ pub(crate) struct Cursor<'a> {
 
 impl<'a> Model for Cursor<'a> {
     ghost use Rattle.std.specs.Prelude.{List, reverse, ◌++◌};
-    ghost use Rattle.ppmacro.specs.declared.flying.Hidden.{Hidden};
+    ghost use Rattle.ppmacro.specs.declared.hidden_token.Hidden.{Hidden};
 
     ghost Value = { List Hidden };
 
@@ -40,7 +40,7 @@ pub(crate) enum Ahead<'t, 'x, 'a> {
     /// A token that is emitted unchanged. It is popped.
     Passes(Hidden<'x>),
     /// A token that names this macro.
-    Names(&'t Definition<'a>),
+    Names(&'t Macro<'a>),
     /// Not known: the token comes from the file, or it is an unmatched quote.
     Unknown,
 }
@@ -86,7 +86,7 @@ impl<'a> Cursor<'a> {
             return None;
         };
         if self.pending {
-            hidden.mark(true);
+            hidden.flag(true);
         }
         self.pending = false;
         Some(hidden)
@@ -121,7 +121,7 @@ impl<'a> Cursor<'a> {
             return;
         }
         if let Some(last) = self.behind.last_mut() {
-            last.mark(true);
+            last.flag(true);
             return;
         }
         self.pending = true;
@@ -138,7 +138,7 @@ impl<'a> Cursor<'a> {
         let Some(last) = self.behind.last() else {
             return Ahead::Unknown;
         };
-        let token = last.word();
+        let token = last.token();
         if let Some(named) = macro_at(table, token) {
             return Ahead::Names(named);
         }
@@ -155,13 +155,13 @@ impl<'a> Cursor<'a> {
     pub(crate) fn take_plain<'t, 'b>(
         &mut self,
         table: &'t Table<'b>,
-    ) -> (Stretch<'a>, Option<&'t Definition<'b>>)
+    ) -> (Stretch<'a>, Option<&'t Macro<'b>>)
         ensures laid_out { self.old ≡ result.0 ++ self.new }
         ensures plain { ArePlain table.now.macros result.0 }
         ensures named { option_copied result.1 ≡ next_macro table.now.macros (tokens_of self.new) }
     {
         if let Some(last) = self.behind.last() {
-            return (self.below.none(), macro_at(table, last.word()));
+            return (self.below.none(), macro_at(table, last.token()));
         }
         if self.pending {
             return (self.below.none(), self.below.next_macro(table));

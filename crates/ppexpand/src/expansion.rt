@@ -4,11 +4,11 @@ ghost use Rattle.ppmacro.specs.Chains.{chains_of};
 ghost use Rattle.ppmacro.specs.Patterns.{listed};
 ghost use Rattle.std.specs.Option.{option_copied};
 ghost use Rattle.ppmacro.specs.Substituting.{tokens_of, lists_of, option_of};
-ghost use Rattle.ppmacro.specs.HideSets.{hidings, AllKnown, Keeps};
-ghost use Rattle.ppmacro.specs.Numbered.{Numbered};
+ghost use Rattle.ppmacro.specs.HideSets.{hidings, AllKnown, KeepsSets};
+ghost use Rattle.ppmacro.specs.HideSetPool.{HideSetPool};
 ghost use Rattle.ppmacro.specs.Substitution.{argument_at, plain};
 ghost use Rattle.pptext.specs.Tokens.{fault as fault_at};
-ghost use Rattle.ppmacro.specs.declared.flying.Hidden.{Hidden};
+ghost use Rattle.ppmacro.specs.declared.hidden_token.Hidden.{Hidden};
 ghost use Rattle.ppexpand.specs.Expansion.{ExpandsTo, IsExpansion};
 ghost use Rattle.ppexpand.specs.Lists.{ArePlain, is_plain, next_macro};
 ghost use Rattle.std.specs.List.{AllByRecursion};
@@ -27,7 +27,7 @@ use crate::spending::less_one;
 use crate::stretch::{is_plain, split_plain};
 use crate::supply::Supply;
 use crate::turn::{Invocation, Replacer, Step};
-use ppmacro::{Definition, Expansion, Hidden, HideSets, Pattern, Table};
+use ppmacro::{Macro, Expansion, Hidden, HideSets, Pattern, Table};
 use pptext::{Fault, Memory, Token};
 use std::alloc::{AllocError, Global};
 
@@ -46,7 +46,7 @@ fn skip_flying<'t, 'x, 'a>(
     table: &'t Table<'a>,
     list: &mut Cursor<'x>,
     passed: &mut Passed<'x>,
-) -> Result<Option<&'t Definition<'a>>, AllocError>
+) -> Result<Option<&'t Macro<'a>>, AllocError>
     ensures skipped { OnOk result (HasSkipped table.now.macros list.old passed.old list.new passed.new) }
     ensures named { IfOk result (λ r. IfSome r (λ m. Some m.now ≡ next_macro table.now.macros (tokens_of list.new))) }
 {
@@ -65,7 +65,7 @@ fn skip<'t, 'x, 'a>(
     table: &'t Table<'a>,
     list: &mut Cursor<'x>,
     passed: &mut Passed<'x>,
-) -> Result<Option<&'t Definition<'a>>, AllocError>
+) -> Result<Option<&'t Macro<'a>>, AllocError>
     ensures skipped { OnOk result (HasSkipped table.now.macros list.old passed.old list.new passed.new) }
     ensures named { IfOk result (λ r. option_copied r ≡ next_macro table.now.macros (tokens_of list.new)) }
 {
@@ -83,7 +83,7 @@ fn all_pass(table: &Table, tokens: &[Hidden]) -> bool
     ensures { result ≡ true → ArePlain table.now.macros tokens.now }
 {
     for hidden in tokens {
-        if !is_plain(table, hidden.word()) {
+        if !is_plain(table, hidden.token()) {
             return false;
         }
     }
@@ -162,7 +162,7 @@ impl<'x> Expander<'x> {
     fn take_turn<'t, 'a: 'x>(
         &mut self,
         context: &Context<'t, 'a>,
-        named: Option<&'t Definition<'a>>,
+        named: Option<&'t Macro<'a>>,
         list: &mut Cursor<'x>,
         passed: &mut Passed<'x>,
         call: &mut Option<Invocation<'t, 'x, 'a>>,
@@ -181,7 +181,7 @@ impl<'x> Expander<'x> {
         ensures call_known { OnOk result (IfSome call.new (λ c. CallKnown self.new.replacer.sets c.head c.arguments.items c.both × AllKnown self.new.replacer.sets list.new)) }
         ensures list_known { IfOk result (λ goes. goes ≡ true → AllKnown self.new.replacer.sets list.new) }
         ensures passed_known { OnOk result (AllKnown self.new.replacer.sets passed.new) }
-        ensures keeps { Keeps self.old.replacer.sets self.new.replacer.sets }
+        ensures keeps { KeepsSets self.old.replacer.sets self.new.replacer.sets }
     {
         let next = self.replacer.next_turn(context, self.left, named, list)?;
         let step = next.step;
@@ -229,7 +229,7 @@ impl<'x> Expander<'x> {
             (λ e. (self.new.fault ≡ None) × HasExpanded context.now.table.now.macros context.now.env.now context.now.level head.now.token
             self.old.left self.new.left self.old.replacer.sets self.new.replacer.sets argument.now e)) }
         ensures known { IfOk result (λ r. IfSome r (λ e. AllKnown self.new.replacer.sets (held e))) }
-        ensures keeps { Keeps self.old.replacer.sets self.new.replacer.sets }
+        ensures keeps { KeepsSets self.old.replacer.sets self.new.replacer.sets }
     {
         if context.level >= DEEPEST {
             return raise_depth(head, &mut self.fault);
@@ -278,7 +278,7 @@ impl<'x> Expander<'x> {
             (call_in self.old.replacer.sets call.now.head call.now.replaced.now call.now.arguments.items call.now.both behind) self.old.left self.new.left
             (Err f))) }
         ensures known { OnOk result (self.new.fault ≡ None → ExpansionsKnown self.new.replacer.sets expanded.new.items) }
-        ensures keeps { Keeps self.old.replacer.sets self.new.replacer.sets }
+        ensures keeps { KeepsSets self.old.replacer.sets self.new.replacer.sets }
     {
         let used = used_alone(self.replacer.supply.alloc(), call.replaced, pattern)?;
         for (parameter, alone) in used.iter().enumerate() {
@@ -312,7 +312,7 @@ impl<'x> Expander<'x> {
             (call_in self.old.replacer.sets call.now.head call.now.replaced.now call.now.arguments.items call.now.both list.old) self.old.left self.new.left
             (finished_in self.new.replacer.sets list.new self.new.fault)) }
         ensures known { OnOk result (self.new.fault ≡ None → AllKnown self.new.replacer.sets list.new) }
-        ensures keeps { Keeps self.old.replacer.sets self.new.replacer.sets }
+        ensures keeps { KeepsSets self.old.replacer.sets self.new.replacer.sets }
     {
         let pattern = call
             .replaced
@@ -339,7 +339,7 @@ impl<'x> Expander<'x> {
     fn advance<'t, 'a: 'x>(
         &mut self,
         context: &Context<'t, 'a>,
-        named: Option<&'t Definition<'a>>,
+        named: Option<&'t Macro<'a>>,
         list: &mut Cursor<'x>,
         passed: &mut Passed<'x>,
         call: &mut Option<Invocation<'t, 'x, 'a>>,
@@ -355,7 +355,7 @@ impl<'x> Expander<'x> {
             (hidings self.old.replacer.sets passed.old) goes self.new.fault self.new.left (hidings self.new.replacer.sets list.new) (hidings self.new.replacer.sets passed.new)) }
         ensures list_known { IfOk result (λ goes. goes ≡ true → AllKnown self.new.replacer.sets list.new) }
         ensures passed_known { OnOk result (AllKnown self.new.replacer.sets passed.new) }
-        ensures keeps { Keeps self.old.replacer.sets self.new.replacer.sets }
+        ensures keeps { KeepsSets self.old.replacer.sets self.new.replacer.sets }
     {
         let goes = self.take_turn(context, named, list, passed, call)?;
         let Some(found) = &*call else {
@@ -381,7 +381,7 @@ impl<'x> Expander<'x> {
         ensures outcome { OnOk result (ExpandsTo context.now.table.now.macros context.now.env.now context.now.level self.old.left (hidings self.old.replacer.sets list.old)
             (record { tokens = hidings self.new.replacer.sets passed.new; fault = self.new.fault; left = self.new.left })) }
         ensures known { OnOk result (AllKnown self.new.replacer.sets passed.new) }
-        ensures keeps { Keeps self.old.replacer.sets self.new.replacer.sets }
+        ensures keeps { KeepsSets self.old.replacer.sets self.new.replacer.sets }
     {
         loop {
             // Fast path: most tokens name no macro.
@@ -421,7 +421,7 @@ fn expand_tokens<'x, 'a: 'x>(
 ) -> Result<(Option<u64>, Option<Fault>), Memory>
     requires level { context.now.level ≡ 0 }
     requires none { passed.old ≡ [] }
-    ensures { IfOk result (λ r. (sets : Numbered) × ExpandsTo context.now.table.now.macros context.now.env.now 0 left (map plain tokens.now)
+    ensures { IfOk result (λ r. (sets : HideSetPool) × ExpandsTo context.now.table.now.macros context.now.env.now 0 left (map plain tokens.now)
         (record { tokens = hidings sets passed.new; fault = r.1; left = r.0 })) }
 {
     let sets = HideSets::with_hasher(alloc, context.table.hashing())?;

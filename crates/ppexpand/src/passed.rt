@@ -32,7 +32,7 @@ pub(crate) struct Passed<'a> {
 
 impl<'a> Model for Passed<'a> {
     ghost use Rattle.std.specs.Prelude.{List, flat_map, ◌++◌};
-    ghost use Rattle.ppmacro.specs.declared.flying.Hidden.{Hidden};
+    ghost use Rattle.ppmacro.specs.declared.hidden_token.Hidden.{Hidden};
 
     ghost Value = { List Hidden };
 

@@ -1,23 +1,23 @@
 //! The replacements of the predefined macros (6.10.8.1).
 ghost use Rattle.std.specs.Prelude.{◌≡◌, IfOk, None, decimal, nat_abs};
-ghost use Rattle.ppmacro.specs.Numbered.{Numbered};
+ghost use Rattle.ppmacro.specs.HideSetPool.{HideSetPool};
 ghost use Rattle.ppmacro.specs.HideSets.{set_at, hiding};
 ghost use Rattle.ppexpand.specs.Turn.{presumed_line, quoted, predefined_kind, predefined_text, predefined_value};
 
 use crate::env::Env;
 use crate::lists::put;
 use itoa::Buffer;
-use ppmacro::{Builtin, Hidden, Set};
+use ppmacro::{PredefinedMacro, Hidden, Set};
 use pptext::{Kind, Place, Spelling, Token};
 use std::alloc::{AllocError, Global};
 
 /// Returns the token kind of a predefined macro's replacement.
-fn predefined_kind(builtin: Builtin) -> Kind
+fn predefined_kind(builtin: PredefinedMacro) -> Kind
     ensures { result ≡ predefined_kind builtin }
 {
     match builtin {
-        Builtin::File | Builtin::Date | Builtin::Time => Kind::Str,
-        Builtin::Line | Builtin::Stdc | Builtin::StdcHosted | Builtin::StdcVersion => Kind::Number,
+        PredefinedMacro::File | PredefinedMacro::Date | PredefinedMacro::Time => Kind::Str,
+        PredefinedMacro::Line | PredefinedMacro::Stdc | PredefinedMacro::StdcHosted | PredefinedMacro::StdcVersion => Kind::Number,
     }
 }
 
@@ -43,32 +43,32 @@ fn presumed_line(alloc: Global, env: &Env, used: Place) -> Result<Vec<u8>, Alloc
 /// Returns the spelling of a predefined macro's replacement. `used` is the expansion location of the name.
 fn predefined_text(
     alloc: Global,
-    builtin: Builtin,
+    builtin: PredefinedMacro,
     env: &Env,
     used: Place,
 ) -> Result<Vec<u8>, AllocError>
     ensures { IfOk result (λ v. v.items ≡ predefined_text builtin env.now used) }
 {
     match builtin {
-        Builtin::File => Vec::from_slice(alloc, env.name.as_bytes()),
-        Builtin::Line => presumed_line(alloc, env, used),
-        Builtin::Date => quoted(alloc, env.date.as_bytes()),
-        Builtin::Time => quoted(alloc, env.time.as_bytes()),
-        Builtin::Stdc | Builtin::StdcHosted => Vec::from_slice(alloc, b"1"),
-        Builtin::StdcVersion => Vec::from_slice(alloc, b"201112L"),
+        PredefinedMacro::File => Vec::from_slice(alloc, env.name.as_bytes()),
+        PredefinedMacro::Line => presumed_line(alloc, env, used),
+        PredefinedMacro::Date => quoted(alloc, env.date.as_bytes()),
+        PredefinedMacro::Time => quoted(alloc, env.time.as_bytes()),
+        PredefinedMacro::Stdc | PredefinedMacro::StdcHosted => Vec::from_slice(alloc, b"1"),
+        PredefinedMacro::StdcVersion => Vec::from_slice(alloc, b"201112L"),
     }
 }
 
 /// Returns the token that replaces the name of a predefined macro.
 pub(crate) fn predefined_value<'a>(
     alloc: Global,
-    builtin: Builtin,
+    builtin: PredefinedMacro,
     env: &Env,
     head: &Hidden,
     gain: Set,
 ) -> Result<Hidden<'a>, AllocError>
-    ensures is { IfOk result (λ h. (sets : Numbered) → hiding sets h ≡ predefined_value builtin env.now (hiding sets head.now) (set_at sets gain)) }
-    ensures gain { IfOk result (λ h. (h.hide ≡ gain) × (h.also ≡ None)) }
+    ensures is { IfOk result (λ h. (sets : HideSetPool) → hiding sets h ≡ predefined_value builtin env.now (hiding sets head.now) (set_at sets gain)) }
+    ensures gain { IfOk result (λ h. (h.hide ≡ gain) × (h.extra ≡ None)) }
 {
     let text = Spelling::new(predefined_text(alloc, builtin, env, head.used())?)?;
     let token = Token {
@@ -78,5 +78,5 @@ pub(crate) fn predefined_value<'a>(
         at: head.at(),
         used: head.used(),
     };
-    Hidden::made(alloc, token, gain)
+    Hidden::synthesized(alloc, token, gain)
 }

@@ -11,7 +11,7 @@ use std::alloc::AllocError;
 pub(crate) fn is_open(hidden: &Hidden) -> bool
     ensures { result ≡ is_open hidden.now.token }
 {
-    hidden.word().is_punct(b"(")
+    hidden.token().is_punct(b"(")
 }
 
 /// The role of a token in the search for the `)` of an invocation (6.10.3p10, p11).
@@ -30,7 +30,7 @@ pub(crate) enum ArgumentRole {
 pub(crate) fn argument_role(hidden: &Hidden) -> ArgumentRole
     ensures { (elim result [ ArgumentRole.Quote ↦ Quote | ArgumentRole.Open ↦ Open | ArgumentRole.Close ↦ Close | ArgumentRole.Comma ↦ Comma | ArgumentRole.Inner ↦ Inner ]) ≡ argument_role hidden.now.token }
 {
-    let token = hidden.word();
+    let token = hidden.token();
     let Kind::Punct = token.kind else {
         return if token.is_unmatched_quote() {
             ArgumentRole::Quote
@@ -53,21 +53,21 @@ pub(crate) fn argument_role(hidden: &Hidden) -> ArgumentRole
 pub(crate) fn is_quote(hidden: &Hidden) -> bool
     ensures { result ≡ is_unmatched_quote hidden.now.token }
 {
-    hidden.word().is_unmatched_quote()
+    hidden.token().is_unmatched_quote()
 }
 
 /// Returns a fault at the expansion location of a token.
 pub(crate) fn at_use(number: u8, hidden: &Hidden) -> Result<Fault, AllocError>
     ensures { IfOk result (λ f. f ≡ fault number hidden.now.token.used hidden.now.token.text) }
 {
-    Fault::of_token(number, hidden.used(), hidden.word())
+    Fault::of_token(number, hidden.used(), hidden.token())
 }
 
 /// Returns fault 7 of an unmatched quote.
 pub(crate) fn lone_quote(hidden: &Hidden) -> Result<Fault, AllocError>
     ensures { IfOk result (λ f. f ≡ fault 7 hidden.now.token.at hidden.now.token.text) }
 {
-    Fault::of_token(7, hidden.at(), hidden.word())
+    Fault::of_token(7, hidden.at(), hidden.token())
 }
 
 /// Returns fault 35 of a macro's name that exceeds the budget.

@@ -6,7 +6,7 @@ ghost use Rattle.ppmacro.specs.Substituting.{tokens_of};
 ghost use Rattle.ppexpand.specs.Lists.{with_set, is_plain, next_macro, ArePlain};
 
 use crate::turn::macro_at;
-use ppmacro::{Definition, Hidden, Set, Table};
+use ppmacro::{Macro, Hidden, Set, Table};
 use pptext::Token;
 use std::marker::Model;
 
@@ -19,7 +19,7 @@ pub struct Stretch<'a> {
 
 impl<'a> Model for Stretch<'a> {
     ghost use Rattle.std.specs.Prelude.{List, map};
-    ghost use Rattle.ppmacro.specs.declared.flying.Hidden.{Hidden};
+    ghost use Rattle.ppmacro.specs.declared.hidden_token.Hidden.{Hidden};
 
     ghost Value = { List Hidden };
 
@@ -36,7 +36,7 @@ pub(crate) fn is_plain(table: &Table, token: &Token) -> bool
 }
 
 /// Returns how many of the first tokens are emitted unchanged, and the macro that the token after them names.
-fn plain_len<'t, 'b>(table: &'t Table<'b>, tokens: &[Token]) -> (usize, Option<&'t Definition<'b>>)
+fn plain_len<'t, 'b>(table: &'t Table<'b>, tokens: &[Token]) -> (usize, Option<&'t Macro<'b>>)
     ensures within { result.0 ≤ length tokens.now }
     ensures plain { AllByRecursion (λ t. is_plain table.now.macros t ≡ true) (take result.0 tokens.now) }
     ensures named { option_copied result.1 ≡ next_macro table.now.macros (drop result.0 tokens.now) }
@@ -102,7 +102,7 @@ impl<'a> Stretch<'a> {
     }
 
     /// Returns the macro that the first token names.
-    pub(crate) fn next_macro<'t, 'b>(&self, table: &'t Table<'b>) -> Option<&'t Definition<'b>>
+    pub(crate) fn next_macro<'t, 'b>(&self, table: &'t Table<'b>) -> Option<&'t Macro<'b>>
         ensures { option_copied result ≡ next_macro table.now.macros (tokens_of self.now) }
     {
         macro_at(table, self.tokens.first()?)
@@ -112,7 +112,7 @@ impl<'a> Stretch<'a> {
     pub(crate) fn take_plain<'t, 'b>(
         &mut self,
         table: &'t Table<'b>,
-    ) -> (Stretch<'a>, Option<&'t Definition<'b>>)
+    ) -> (Stretch<'a>, Option<&'t Macro<'b>>)
         ensures laid_out { self.old ≡ result.0 ++ self.new }
         ensures plain { ArePlain table.now.macros result.0 }
         ensures named { option_copied result.1 ≡ next_macro table.now.macros (tokens_of self.new) }

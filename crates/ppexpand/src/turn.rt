@@ -2,14 +2,14 @@
 ghost use Rattle.std.specs.Prelude.{◌≡◌, IfOk, OnOk, List, ◌∷◌, ◌++◌, Some, None, map};
 ghost use Rattle.std.specs.Option.{option_copied};
 ghost use Rattle.std.specs.FinSet as set;
-ghost use Rattle.ppmacro.specs.Numbered.{Numbered};
-ghost use Rattle.ppmacro.specs.declared.flying.Hidden.{Hidden};
-ghost use Rattle.ppmacro.specs.HideSets.{set_at, IsKnown, HasSets, hide_of, hiding, hidings, AllKnown, Keeps};
+ghost use Rattle.ppmacro.specs.HideSetPool.{HideSetPool};
+ghost use Rattle.ppmacro.specs.declared.hidden_token.Hidden.{Hidden};
+ghost use Rattle.ppmacro.specs.HideSets.{set_at, IsKnown, HasSets, hide_of, hiding, hidings, AllKnown, KeepsSets};
 ghost use Rattle.ppmacro.specs.Substituting.{ArgumentsKnown, arguments_in, tokens_of};
 ghost use Rattle.ppmacro.specs.Chains.{chains_of};
-ghost use Rattle.ppmacro.specs.Lone.{lone_chain};
+ghost use Rattle.ppmacro.specs.PasteFree.{lone_chain};
 ghost use Rattle.ppmacro.specs.Patterns.{listed};
-ghost use Rattle.ppmacro.specs.Substitution.{Arguments as ArgumentTokens, plain, with_mark, gained, substituted, substituted_by};
+ghost use Rattle.ppmacro.specs.Substitution.{Arguments as ArgumentTokens, plain, with_flag, hsadd, macro_replacement, chains_replacement};
 ghost use Rattle.ppexpand.specs.Arguments.{gather, separators};
 ghost use Rattle.ppexpand.specs.declared.env.Env.{Env};
 ghost use Rattle.ppexpand.specs.Turn.{Replaced, macro_of, replaced_by, no_arguments, predefined_value, called, invoked, function_turn, macro_turn};
@@ -31,7 +31,7 @@ use crate::spellings::{at_use, is_open, is_quote, lone_quote, over_budget};
 use crate::spending::is_spent;
 use crate::supply::Supply;
 use ppmacro::{
-    Arguments, Builtin, Definition, Expansion, Hidden, HideSets, MacroName, Pattern, Set, Shape,
+    Arguments, PredefinedMacro, Macro, Expansion, Hidden, HideSets, MacroName, Pattern, Set, MacroKind,
     Table, Variadic, substitute_pattern,
 };
 use pptext::{Fault, Memory, Place, Spelling, Token};
@@ -44,7 +44,7 @@ pub(crate) struct Invocation<'t, 'x, 'a> {
     /// The macro name token.
     pub(crate) head: Hidden<'x>,
     /// The macro.
-    pub(crate) replaced: &'t Definition<'a>,
+    pub(crate) replaced: &'t Macro<'a>,
     /// An argument for each parameter. An absent variable argument has no entry.
     pub(crate) arguments: Vec<Vec<Hidden<'x>>>,
     /// The intersection of the hide sets of the name and the `)`. Each token of the replacement hides these names and the macro's name.
@@ -100,7 +100,7 @@ pub(crate) struct Replacer<'x> {
 
 /// Returns the macro that a token names.
 #[inline(always)]
-pub(crate) fn macro_at<'t, 'a>(table: &'t Table<'a>, token: &Token) -> Option<&'t Definition<'a>>
+pub(crate) fn macro_at<'t, 'a>(table: &'t Table<'a>, token: &Token) -> Option<&'t Macro<'a>>
     ensures { option_copied result ≡ macro_of table.now.macros token.now }
 {
     if token.is_identifier() {
@@ -111,13 +111,13 @@ pub(crate) fn macro_at<'t, 'a>(table: &'t Table<'a>, token: &Token) -> Option<&'
 }
 
 /// Returns a token of a replacement list with this leading-space flag, these names to hide, and this expansion location.
-fn gained_token<'a>(token: &'a Token, mark: bool, gain: Set, used: Place) -> Hidden<'a>
-    ensures is { (sets : Numbered) → hiding sets result ≡ gained (set_at sets gain) used (with_mark mark (plain token.now)) }
-    ensures known { (sets : Numbered) → IsKnown sets gain → HasSets sets result }
+fn gained_token<'a>(token: &'a Token, flag: bool, gain: Set, used: Place) -> Hidden<'a>
+    ensures is { (sets : HideSetPool) → hiding sets result ≡ hsadd (set_at sets gain) used (with_flag flag (plain token.now)) }
+    ensures known { (sets : HideSetPool) → IsKnown sets gain → HasSets sets result }
 {
     let mut hidden = Hidden::new(token, gain);
-    hidden.mark(mark);
-    hidden.turn(used, gain);
+    hidden.flag(flag);
+    hidden.set_use(used, gain);
     hidden
 }
 
@@ -128,9 +128,9 @@ fn push_gained<'x, 'a: 'x>(
     used: Place,
     list: &mut Cursor<'x>,
 ) -> Result<(), AllocError>
-    ensures is { OnOk result ((sets : Numbered) → hidings sets list.new
-        ≡ map (λ t. gained (set_at sets gain) used (plain t)) body.now ++ hidings sets list.old) }
-    ensures known { OnOk result ((sets : Numbered) → IsKnown sets gain → AllKnown sets list.old → AllKnown sets list.new) }
+    ensures is { OnOk result ((sets : HideSetPool) → hidings sets list.new
+        ≡ map (λ t. hsadd (set_at sets gain) used (plain t)) body.now ++ hidings sets list.old) }
+    ensures known { OnOk result ((sets : HideSetPool) → IsKnown sets gain → AllKnown sets list.old → AllKnown sets list.new) }
 {
     let mut rest = body;
     while let Some((last, others)) = rest.split_last() {
@@ -151,11 +151,11 @@ fn replace_by<'x, 'a: 'x>(
     requires base { IsKnown sets.old base }
     requires list { AllKnown sets.old list.old }
     ensures is { OnOk result ((arguments : ArgumentTokens) → Replaced (hidings sets.new list.new)
-        ≡ replaced_by (substituted_by (map lone_chain body.now) arguments
+        ≡ replaced_by (chains_replacement (map lone_chain body.now) arguments
         (set.insert (set_at sets.old base) head.now.token.text) head.now.token.used head.now.token.space)
         (hidings sets.old list.old)) }
     ensures known { OnOk result (AllKnown sets.new list.new) }
-    ensures keeps { Keeps sets.old sets.new }
+    ensures keeps { KeepsSets sets.old sets.new }
 {
     let Some((first, others)) = body.split_first() else {
         list.mark_next(head.space());
@@ -180,7 +180,7 @@ fn failed_at<'t, 'x, 'a>(number: u8, head: &Hidden) -> Result<Next<'t, 'x, 'a>, 
 fn called<'t, 'x, 'a: 'x>(
     sets: &mut HideSets,
     head: Hidden<'x>,
-    replaced: &'t Definition<'a>,
+    replaced: &'t Macro<'a>,
     arguments: Option<Vec<Vec<Hidden<'x>>>>,
     close: &Hidden,
 ) -> Result<Next<'t, 'x, 'a>, Memory>
@@ -191,12 +191,12 @@ fn called<'t, 'x, 'a: 'x>(
         ≡ called (hiding sets.old head.entry) replaced.now (fitting_in sets.old arguments.entry) (hiding sets.old close.now)
         (hidings sets.old rest)) }
     ensures known { IfOk result (λ n. (rest : List Hidden) → AllKnown sets.old rest → NextKnown sets.new rest n) }
-    ensures keeps { Keeps sets.old sets.new }
+    ensures keeps { KeepsSets sets.old sets.new }
 {
     let Some(arguments) = arguments else {
         return failed_at(18, &head);
     };
-    let both = sets.common(&head, close)?;
+    let both = sets.common_hide_set(&head, close)?;
     Ok(Next {
         step: Step::Called(Invocation {
             head,
@@ -219,16 +219,16 @@ fn failed_quote<'t, 'x, 'a>(quote: &Hidden) -> Result<Next<'t, 'x, 'a>, Memory>
 /// Returns the action for a macro's name if nothing is left of the budget: a name that is to be replaced is refused.
 fn spent_turn<'t, 'x, 'a: 'x>(
     head: Hidden<'x>,
-    replaced: &Definition<'a>,
+    replaced: &Macro<'a>,
     list: &mut Cursor<'x>,
 ) -> Result<Next<'t, 'x, 'a>, Memory>
     ensures is { IfOk result (λ n.
-        (sets : Numbered) (env : Env) → turn_in sets list.new n
+        (sets : HideSetPool) (env : Env) → turn_in sets list.new n
         ≡ within (Some 0) (hiding sets head.entry ∷ hidings sets list.old)
-        (macro_turn env (hiding sets head.entry) (hidings sets list.old) replaced.now replaced.now.shape)) }
-    ensures known { IfOk result (λ n. (sets : Numbered) → HasSets sets head.entry → AllKnown sets list.old → NextKnown sets list.new n) }
+        (macro_turn env (hiding sets head.entry) (hidings sets list.old) replaced.now replaced.now.kind)) }
+    ensures known { IfOk result (λ n. (sets : HideSetPool) → HasSets sets head.entry → AllKnown sets list.old → NextKnown sets list.new n) }
 {
-    if matches!(replaced.shape, Shape::FunctionLike { .. }) {
+    if matches!(replaced.kind, MacroKind::FunctionLike { .. }) {
         let Some(behind) = list.next() else {
             return Ok(Next {
                 step: Step::Passes(head),
@@ -271,11 +271,11 @@ impl<'x> Replacer<'x> {
         requires base { IsKnown self.old.sets base }
         requires list { AllKnown self.old.sets list.old }
         ensures is { IfOk result (λ r. replaced_in self.new.sets list.new r
-            ≡ replaced_by (substituted_by (listed pattern.now) (arguments_in self.old.sets arguments.entry.given.now arguments.entry.expanded.now)
+            ≡ replaced_by (chains_replacement (listed pattern.now) (arguments_in self.old.sets arguments.entry.given.now arguments.entry.expanded.now)
             (set.insert (set_at self.old.sets base) head.now.token.text) head.now.token.used head.now.token.space)
             (hidings self.old.sets list.old)) }
         ensures known { IfOk result (λ r. OnOk r (AllKnown self.new.sets list.new)) }
-        ensures keeps { Keeps self.old.sets self.new.sets }
+        ensures keeps { KeepsSets self.old.sets self.new.sets }
     {
         let alloc = self.supply.alloc();
         let name = MacroName {
@@ -299,7 +299,7 @@ impl<'x> Replacer<'x> {
         &mut self,
         env: &Env,
         head: &Hidden<'x>,
-        builtin: Builtin,
+        builtin: PredefinedMacro,
         list: &mut Cursor<'x>,
     ) -> Result<Next<'t, 'x, 'a>, Memory>
         requires head { HasSets self.old.sets head.now }
@@ -308,9 +308,9 @@ impl<'x> Replacer<'x> {
             ≡ Replaced (predefined_value builtin env.now (hiding self.old.sets head.now)
             (set.insert (hide_of self.old.sets head.now) head.now.token.text) ∷ hidings self.old.sets list.old)) }
         ensures known { IfOk result (λ n. NextKnown self.new.sets list.new n) }
-        ensures keeps { Keeps self.old.sets self.new.sets }
+        ensures keeps { KeepsSets self.old.sets self.new.sets }
     {
-        let gain = self.sets.with_own(head)?;
+        let gain = self.sets.with_own_name(head)?;
         let alloc = self.supply.alloc();
         list.push(predefined_value(alloc, builtin, env, head, gain)?)?;
         Ok(Next {
@@ -325,17 +325,17 @@ impl<'x> Replacer<'x> {
         &mut self,
         base: Set,
         head: &Hidden<'x>,
-        replaced: &Definition<'a>,
+        replaced: &Macro<'a>,
         list: &mut Cursor<'x>,
     ) -> Result<Result<(), Fault>, Memory>
         requires base { IsKnown self.old.sets base }
         requires list { AllKnown self.old.sets list.old }
         ensures is { IfOk result (λ r. replaced_in self.new.sets list.new r
-            ≡ replaced_by (substituted replaced.now no_arguments
+            ≡ replaced_by (macro_replacement replaced.now no_arguments
             (set.insert (set_at self.old.sets base) head.now.token.text) head.now.token.used head.now.token.space)
             (hidings self.old.sets list.old)) }
         ensures known { IfOk result (λ r. OnOk r (AllKnown self.new.sets list.new)) }
-        ensures keeps { Keeps self.old.sets self.new.sets }
+        ensures keeps { KeepsSets self.old.sets self.new.sets }
     {
         // Fast path: most object-like macros have no `##`.
         if let Some(body) = replaced.lone_tokens() {
@@ -343,7 +343,7 @@ impl<'x> Replacer<'x> {
             return Ok(Ok(()));
         }
         let chains = replaced.chains(self.supply.alloc())?;
-        let pattern = Pattern::Joined(chains);
+        let pattern = Pattern::Pasted(chains);
         let none = Arguments {
             given: &[],
             expanded: &[],
@@ -355,19 +355,19 @@ impl<'x> Replacer<'x> {
     fn object_turn<'t, 'a: 'x>(
         &mut self,
         head: &Hidden<'x>,
-        replaced: &Definition<'a>,
+        replaced: &Macro<'a>,
         list: &mut Cursor<'x>,
     ) -> Result<Next<'t, 'x, 'a>, Memory>
         requires head { HasSets self.old.sets head.now }
         requires list { AllKnown self.old.sets list.old }
         ensures is { IfOk result (λ n. turn_in self.new.sets list.new n
-            ≡ replaced_by (substituted replaced.now no_arguments
+            ≡ replaced_by (macro_replacement replaced.now no_arguments
             (set.insert (hide_of self.old.sets head.now) head.now.token.text) head.now.token.used head.now.token.space)
             (hidings self.old.sets list.old)) }
         ensures known { IfOk result (λ n. NextKnown self.new.sets list.new n) }
-        ensures keeps { Keeps self.old.sets self.new.sets }
+        ensures keeps { KeepsSets self.old.sets self.new.sets }
     {
-        let base = self.sets.settled(head)?;
+        let base = self.sets.hide_set_of(head)?;
         match self.replace_object(base, head, replaced, list)? {
             Ok(()) => Ok(Next {
                 step: Step::Replaced,
@@ -382,7 +382,7 @@ impl<'x> Replacer<'x> {
     fn invoked<'t, 'a: 'x>(
         &mut self,
         head: Hidden<'x>,
-        replaced: &'t Definition<'a>,
+        replaced: &'t Macro<'a>,
         names: &[Spelling],
         variadic: Variadic,
         list: &mut Cursor<'x>,
@@ -393,7 +393,7 @@ impl<'x> Replacer<'x> {
             ≡ invoked (hiding self.old.sets head.entry) replaced.now names.now variadic
             (gather 0 (separators names.now variadic) (hidings self.old.sets list.old))) }
         ensures known { IfOk result (λ n. NextKnown self.new.sets list.new n) }
-        ensures keeps { Keeps self.old.sets self.new.sets }
+        ensures keeps { KeepsSets self.old.sets self.new.sets }
     {
         match gather(&mut self.supply, list, separators(names, variadic))? {
             Gathered::Closed(arguments, close) => {
@@ -409,7 +409,7 @@ impl<'x> Replacer<'x> {
     fn function_turn<'t, 'a: 'x>(
         &mut self,
         head: Hidden<'x>,
-        replaced: &'t Definition<'a>,
+        replaced: &'t Macro<'a>,
         names: &[Spelling],
         variadic: Variadic,
         list: &mut Cursor<'x>,
@@ -419,7 +419,7 @@ impl<'x> Replacer<'x> {
         ensures is { IfOk result (λ n. turn_in self.new.sets list.new n
             ≡ function_turn (hiding self.old.sets head.entry) replaced.now names.now variadic (hidings self.old.sets list.old)) }
         ensures known { IfOk result (λ n. NextKnown self.new.sets list.new n) }
-        ensures keeps { Keeps self.old.sets self.new.sets }
+        ensures keeps { KeepsSets self.old.sets self.new.sets }
     {
         let Some(next) = list.next() else {
             return Ok(Next {
@@ -442,20 +442,20 @@ impl<'x> Replacer<'x> {
         &mut self,
         env: &Env,
         head: Hidden<'x>,
-        replaced: &'t Definition<'a>,
+        replaced: &'t Macro<'a>,
         list: &mut Cursor<'x>,
     ) -> Result<Next<'t, 'x, 'a>, Memory>
         requires head { HasSets self.old.sets head }
         requires list { AllKnown self.old.sets list.old }
         ensures is { IfOk result (λ n. turn_in self.new.sets list.new n
-            ≡ macro_turn env.now (hiding self.old.sets head.entry) (hidings self.old.sets list.old) replaced.now replaced.now.shape) }
+            ≡ macro_turn env.now (hiding self.old.sets head.entry) (hidings self.old.sets list.old) replaced.now replaced.now.kind) }
         ensures known { IfOk result (λ n. NextKnown self.new.sets list.new n) }
-        ensures keeps { Keeps self.old.sets self.new.sets }
+        ensures keeps { KeepsSets self.old.sets self.new.sets }
     {
-        match &replaced.shape {
-            Shape::Predefined(builtin) => { self.predefined_turn(env, &head, *builtin, list) }
-            Shape::ObjectLike => self.object_turn(&head, replaced, list),
-            Shape::FunctionLike {
+        match &replaced.kind {
+            MacroKind::Predefined(builtin) => { self.predefined_turn(env, &head, *builtin, list) }
+            MacroKind::ObjectLike => self.object_turn(&head, replaced, list),
+            MacroKind::FunctionLike {
                 parameters,
                 variadic,
             } => {
@@ -472,14 +472,14 @@ impl<'x> Replacer<'x> {
         &mut self,
         context: &Context<'_, 'a>,
         left: Option<u64>,
-        named: Option<&'t Definition<'a>>,
+        named: Option<&'t Macro<'a>>,
         list: &mut Cursor<'x>,
     ) -> Result<Next<'t, 'x, 'a>, Memory>
         requires named { option_copied named ≡ next_macro context.now.table.now.macros (tokens_of list.old) }
         requires known { AllKnown self.old.sets list.old }
         ensures is { IfOk result (λ n. turn_in self.new.sets list.new n ≡ turn_within context.now.table.now.macros context.now.env.now left (hidings self.old.sets list.old)) }
         ensures known { IfOk result (λ n. NextKnown self.new.sets list.new n) }
-        ensures keeps { Keeps self.old.sets self.new.sets }
+        ensures keeps { KeepsSets self.old.sets self.new.sets }
     {
         let Some(head) = list.next() else {
             return Ok(Next { step: Step::Done });
@@ -524,7 +524,7 @@ impl<'x> Replacer<'x> {
             ≡ finished (call_in self.old.sets call.now.head call.now.replaced.now call.now.arguments.items call.now.both list.old)
             (expanded_in self.old.sets call.now.arguments.items expanded.now)) }
         ensures known { OnOk result (fault.new ≡ None → AllKnown self.new.sets list.new) }
-        ensures keeps { Keeps self.old.sets self.new.sets }
+        ensures keeps { KeepsSets self.old.sets self.new.sets }
     {
         let arguments = Arguments {
             given: call.arguments.as_slice(),

@@ -1,19 +1,19 @@
 -- Arguments whose hide sets are known.
 use Rattle.std.proofs.Common.{◌≡◌, ℕ, zero, suc, List, [], ◌∷◌, map, Vec, Global, sym, subst}
-use Rattle.ppmacro.specs.Numbered.{Numbered}
+use Rattle.ppmacro.specs.HideSetPool.{HideSetPool}
 use Rattle.ppmacro.specs.HideSets.{AllKnown}
 use Rattle.ppmacro.specs.Substitution.{argument_at, expanded_at}
 use Rattle.ppmacro.specs.Substituting.{lists_of, options_of, ListsKnown, ArgumentsKnown}
-use Rattle.ppmacro.specs.declared.flying.Hidden.{Hidden}
-use Rattle.ppmacro.specs.declared.flying.Expansion.{Expansion}
-use Rattle.ppmacro.specs.declared.flying.Expansion.TheVariants.{Made}
+use Rattle.ppmacro.specs.declared.hidden_token.Hidden.{Hidden}
+use Rattle.ppmacro.specs.declared.hidden_token.Expansion.{Expansion}
+use Rattle.ppmacro.specs.declared.hidden_token.Expansion.TheVariants.{Made}
 
-given-known : {s : Numbered} (vs : List (Vec Hidden Global)) → ListsKnown s vs → (i : ℕ) → AllKnown s (argument_at (lists_of vs) i)
+given-known : {s : HideSetPool} (vs : List (Vec Hidden Global)) → ListsKnown s vs → (i : ℕ) → AllKnown s (argument_at (lists_of vs) i)
 given-known [] k i = record { each = tt }
 given-known (v ∷ vs) k zero = k.each.0
 given-known (v ∷ vs) k (suc i) = given-known vs (record { each = k.each.1 }) i
 
-expanded-known : {s : Numbered} (given vs : List (Vec Hidden Global)) → ListsKnown s vs → (i : ℕ) → AllKnown s (expanded_at (options_of given (map (λ v. Made v) vs)) i)
+expanded-known : {s : HideSetPool} (given vs : List (Vec Hidden Global)) → ListsKnown s vs → (i : ℕ) → AllKnown s (expanded_at (options_of given (map (λ v. Made v) vs)) i)
 expanded-known given [] k i = record { each = tt }
 expanded-known [] (v ∷ vs) k zero = k.each.0
 expanded-known (g ∷ gs) (v ∷ vs) k zero = k.each.0
@@ -21,7 +21,7 @@ expanded-known [] (v ∷ vs) k (suc i) = expanded-known [] vs (record { each = k
 expanded-known (g ∷ gs) (v ∷ vs) k (suc i) = expanded-known gs vs (record { each = k.each.1 }) i
 
 -- Arguments, and either themselves or other lists as their expansions.
-pub all-known : {s : Numbered} (given others shown : List (Vec Hidden Global)) (expanded : List Expansion)
+pub all-known : {s : HideSetPool} (given others shown : List (Vec Hidden Global)) (expanded : List Expansion)
     → shown ≡ given
     → expanded ≡ map (λ v. Made v) others
     → ListsKnown s given

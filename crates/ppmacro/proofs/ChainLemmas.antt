@@ -2,80 +2,80 @@
 use Rattle.std.proofs.Common.{◌≡◌, ℕ, zero, suc, Bool, true, false, List, [], ◌∷◌, ◌++◌, length, set, get_or, refl, sym, ap, ◌∙◌, arith, append_assoc, append-nil}
 use Rattle.ppmacro.specs.declared.macros.Chain.{Chain}
 use Rattle.ppmacro.specs.declared.macros.Operand.{Operand}
-use Rattle.ppmacro.specs.Chains.{Item, Operates, Joins, begins_joined, join_first, grouped}
-use Rattle.ppmacro.specs.Items.{joined_to, followed, resumed}
+use Rattle.ppmacro.specs.Chains.{ChainPart, Operates, Joins, begins_joined, join_first, group_parts}
+use Rattle.ppmacro.specs.code.ChainParts.{joined_to, followed, resumed}
 
 -- ---- one operand more
 
 abbrev lone : Bool → Operand → Chain
-lone mark o = record { mark = mark; operands = o ∷ [] }
+lone flag o = record { flag = flag; operands = o ∷ [] }
 
 abbrev with_operand : Chain → Operand → Chain
-with_operand c o = record { mark = c.mark; operands = c.operands ++ o ∷ [] }
+with_operand c o = record { flag = c.flag; operands = c.operands ++ o ∷ [] }
 
 abbrev added : Bool → Bool → Operand → List Chain → List Chain
-added true mark o ds = join_first mark o ds
-added false mark o ds = lone mark o ∷ ds
+added true flag o ds = join_first flag o ds
+added false flag o ds = lone flag o ∷ ds
 
-grouped-added : (mark : Bool) (o : Operand) (is : List Item) → grouped (Operates mark o ∷ is) ≡ added (begins_joined is) mark o (grouped is)
-grouped-added mark o is = elim (begins_joined is) as (λ b. elim b [ true ↦ join_first mark o (grouped is) | false ↦ lone mark o ∷ grouped is ] ≡ added b mark o (grouped is)) [ true ↦ refl | false ↦ refl ]
+group_parts-added : (flag : Bool) (o : Operand) (is : List ChainPart) → group_parts (Operates flag o ∷ is) ≡ added (begins_joined is) flag o (group_parts is)
+group_parts-added flag o is = elim (begins_joined is) as (λ b. elim b [ true ↦ join_first flag o (group_parts is) | false ↦ lone flag o ∷ group_parts is ] ≡ added b flag o (group_parts is)) [ true ↦ refl | false ↦ refl ]
 
 -- At the front, an operand without `##` after it is a chain of its own.
-pub grouped-alone : (mark : Bool) (o : Operand) (is : List Item) → begins_joined is ≡ false → grouped (Operates mark o ∷ is) ≡ record { mark = mark; operands = o ∷ [] } ∷ grouped is
-grouped-alone mark o is e = rw (grouped, e) refl
+pub group_parts-alone : (flag : Bool) (o : Operand) (is : List ChainPart) → begins_joined is ≡ false → group_parts (Operates flag o ∷ is) ≡ record { flag = flag; operands = o ∷ [] } ∷ group_parts is
+group_parts-alone flag o is e = rw (group_parts, e) refl
 
-joined_to-lone : (mark : Bool) (o : Operand) (ds : List Chain) → joined_to (lone mark o) ds ≡ join_first mark o ds
-joined_to-lone mark o [] = refl
-joined_to-lone mark o (d ∷ ds) = refl
+joined_to-lone : (flag : Bool) (o : Operand) (ds : List Chain) → joined_to (lone flag o) ds ≡ join_first flag o ds
+joined_to-lone flag o [] = refl
+joined_to-lone flag o (d ∷ ds) = refl
 
-followed-push : (cs : List Chain) (mark : Bool) (o : Operand) (ds : List Chain) → followed true (cs ++ lone mark o ∷ []) ds ≡ cs ++ join_first mark o ds
-followed-push [] mark o ds = joined_to-lone mark o ds
-followed-push (c ∷ []) mark o ds = ap (λ es. c ∷ es) (joined_to-lone mark o ds)
-followed-push (c ∷ (b ∷ cs)) mark o ds = ap (λ es. c ∷ es) (followed-push (b ∷ cs) mark o ds)
+followed-push : (cs : List Chain) (flag : Bool) (o : Operand) (ds : List Chain) → followed true (cs ++ lone flag o ∷ []) ds ≡ cs ++ join_first flag o ds
+followed-push [] flag o ds = joined_to-lone flag o ds
+followed-push (c ∷ []) flag o ds = ap (λ es. c ∷ es) (joined_to-lone flag o ds)
+followed-push (c ∷ (b ∷ cs)) flag o ds = ap (λ es. c ∷ es) (followed-push (b ∷ cs) flag o ds)
 
-pub resumed-begin : (cs : List Chain) (mark : Bool) (o : Operand) (is : List Item) → resumed false (cs ++ record { mark = mark; operands = o ∷ [] } ∷ []) is ≡ resumed false cs (Operates mark o ∷ is)
-resumed-begin cs mark o is = by_cases (begins_joined is) (grouped is) ∙ ap (λ ds. cs ++ ds) (sym (grouped-added mark o is))
+pub resumed-begin : (cs : List Chain) (flag : Bool) (o : Operand) (is : List ChainPart) → resumed false (cs ++ record { flag = flag; operands = o ∷ [] } ∷ []) is ≡ resumed false cs (Operates flag o ∷ is)
+resumed-begin cs flag o is = by_cases (begins_joined is) (group_parts is) ∙ ap (λ ds. cs ++ ds) (sym (group_parts-added flag o is))
   where
-    by_cases : (b : Bool) (ds : List Chain) → followed b (cs ++ lone mark o ∷ []) ds ≡ cs ++ added b mark o ds
-    by_cases true ds = followed-push cs mark o ds
-    by_cases false ds = append_assoc cs (lone mark o ∷ []) ds
+    by_cases : (b : Bool) (ds : List Chain) → followed b (cs ++ lone flag o ∷ []) ds ≡ cs ++ added b flag o ds
+    by_cases true ds = followed-push cs flag o ds
+    by_cases false ds = append_assoc cs (lone flag o ∷ []) ds
 
-pub resumed-first : (mark : Bool) (o : Operand) (is : List Item) → resumed false (record { mark = mark; operands = o ∷ [] } ∷ []) is ≡ resumed true [] (Operates mark o ∷ is)
-resumed-first mark o is = by_cases (begins_joined is) (grouped is) ∙ sym (grouped-added mark o is)
+pub resumed-first : (flag : Bool) (o : Operand) (is : List ChainPart) → resumed false (record { flag = flag; operands = o ∷ [] } ∷ []) is ≡ resumed true [] (Operates flag o ∷ is)
+resumed-first flag o is = by_cases (begins_joined is) (group_parts is) ∙ sym (group_parts-added flag o is)
   where
-    by_cases : (b : Bool) (ds : List Chain) → followed b (lone mark o ∷ []) ds ≡ added b mark o ds
-    by_cases true ds = joined_to-lone mark o ds
+    by_cases : (b : Bool) (ds : List Chain) → followed b (lone flag o ∷ []) ds ≡ added b flag o ds
+    by_cases true ds = joined_to-lone flag o ds
     by_cases false ds = refl
 
-joined_to-added : (c : Chain) (b mark : Bool) (o : Operand) (ds : List Chain) → followed b (with_operand c o ∷ []) ds ≡ joined_to c (added b mark o ds)
-joined_to-added c true mark o [] = refl
-joined_to-added c true mark o (d ∷ ds) = λ i. record { mark = c.mark; operands = append_assoc c.operands (o ∷ []) d.operands i } ∷ ds
-joined_to-added c false mark o ds = refl
+joined_to-added : (c : Chain) (b flag : Bool) (o : Operand) (ds : List Chain) → followed b (with_operand c o ∷ []) ds ≡ joined_to c (added b flag o ds)
+joined_to-added c true flag o [] = refl
+joined_to-added c true flag o (d ∷ ds) = λ i. record { flag = c.flag; operands = append_assoc c.operands (o ∷ []) d.operands i } ∷ ds
+joined_to-added c false flag o ds = refl
 
-followed-set : (cs : List Chain) (n : ℕ) (c : Chain) (b mark : Bool) (o : Operand) (ds : List Chain) → length cs ≡ suc n → c ≡ get_or cs n c → followed b (set cs n (with_operand c o)) ds ≡ followed true cs (added b mark o ds)
-followed-set [] n c b mark o ds h e = absurd (omega arith)
-followed-set (x ∷ []) zero c b mark o ds h e = joined_to-added c b mark o ds ∙ ap (λ y. joined_to y (added b mark o ds)) e
-followed-set (x ∷ []) (suc n) c b mark o ds h e = absurd (omega arith)
-followed-set (x ∷ (y ∷ cs)) zero c b mark o ds h e = absurd (omega arith)
-followed-set (x ∷ (y ∷ cs)) (suc n) c b mark o ds h e = steps b n (omega arith) ∙ ap (λ es. x ∷ es) (followed-set (y ∷ cs) n c b mark o ds (omega arith) e)
+followed-set : (cs : List Chain) (n : ℕ) (c : Chain) (b flag : Bool) (o : Operand) (ds : List Chain) → length cs ≡ suc n → c ≡ get_or cs n c → followed b (set cs n (with_operand c o)) ds ≡ followed true cs (added b flag o ds)
+followed-set [] n c b flag o ds h e = absurd (omega arith)
+followed-set (x ∷ []) zero c b flag o ds h e = joined_to-added c b flag o ds ∙ ap (λ y. joined_to y (added b flag o ds)) e
+followed-set (x ∷ []) (suc n) c b flag o ds h e = absurd (omega arith)
+followed-set (x ∷ (y ∷ cs)) zero c b flag o ds h e = absurd (omega arith)
+followed-set (x ∷ (y ∷ cs)) (suc n) c b flag o ds h e = steps b n (omega arith) ∙ ap (λ es. x ∷ es) (followed-set (y ∷ cs) n c b flag o ds (omega arith) e)
   where
     steps : (b : Bool) (k : ℕ) → length (y ∷ cs) ≡ suc k → followed b (x ∷ set (y ∷ cs) k (with_operand c o)) ds ≡ x ∷ followed b (set (y ∷ cs) k (with_operand c o)) ds
     steps true zero g = refl
     steps true (suc k) g = refl
     steps false k g = refl
 
-pub resumed-joined : (cs : List Chain) (n : ℕ) (c : Chain) (mark : Bool) (o : Operand) (is : List Item)
+pub resumed-joined : (cs : List Chain) (n : ℕ) (c : Chain) (flag : Bool) (o : Operand) (is : List ChainPart)
     → length cs ≡ suc n
     → c ≡ get_or cs n c
-    → resumed false (set cs n (record { mark = c.mark; operands = c.operands ++ o ∷ [] })) is ≡ resumed true cs (Operates mark o ∷ is)
-resumed-joined cs n c mark o is h e = followed-set cs n c (begins_joined is) mark o (grouped is) h e ∙ ap (λ ds. followed true cs ds) (sym (grouped-added mark o is))
+    → resumed false (set cs n (record { flag = c.flag; operands = c.operands ++ o ∷ [] })) is ≡ resumed true cs (Operates flag o ∷ is)
+resumed-joined cs n c flag o is h e = followed-set cs n c (begins_joined is) flag o (group_parts is) h e ∙ ap (λ ds. followed true cs ds) (sym (group_parts-added flag o is))
 
 -- ---- the start, `##` and the end
 
-pub resumed-none : (is : List Item) → resumed false [] is ≡ grouped is
-resumed-none is = elim (begins_joined is) as (λ b. followed b [] (grouped is) ≡ grouped is) [ true ↦ refl | false ↦ refl ]
+pub resumed-none : (is : List ChainPart) → resumed false [] is ≡ group_parts is
+resumed-none is = elim (begins_joined is) as (λ b. followed b [] (group_parts is) ≡ group_parts is) [ true ↦ refl | false ↦ refl ]
 
-pub resumed-joins : (joined : Bool) (cs : List Chain) (is : List Item) → resumed joined cs (Joins ∷ is) ≡ resumed true cs is
+pub resumed-joins : (joined : Bool) (cs : List Chain) (is : List ChainPart) → resumed joined cs (Joins ∷ is) ≡ resumed true cs is
 resumed-joins true cs is = refl
 resumed-joins false cs is = refl
 

@@ -4,16 +4,16 @@ use Rattle.std.proofs.Common.{is_some, codes, if◌then◌else◌, refl, sym, ap
 use Rattle.std.proofs.lemmas.Bool.{and_parts, and_right, or_parts, not-true}
 use Rattle.pptext.specs.declared.tokens.Token.{Token}
 use Rattle.pptext.specs.Tokens.{is_identifier, is_punct}
-use Rattle.ppmacro.specs.Spellings.{is_hash, is_paste}
-use Rattle.ppmacro.specs.Chains.{Item, Operates, Joins, parameter_named, parameter_of, is_function_like, is_operator_hash, items_behind, begins_joined, join_first, grouped, lenient_parameter, with_rest, chains_of}
+use Rattle.ppmacro.specs.HashOperators.{is_hash, is_paste}
+use Rattle.ppmacro.specs.Chains.{ChainPart, Operates, Joins, parameter_named, parameter_of, is_function_like, is_operator_hash, parts_after, begins_joined, join_first, group_parts, lenient_parameter, with_rest, chains_of}
 use Rattle.ppmacro.specs.Define.{is_empty, misplaces_paste, begins_with_parameter, misplaces_hash}
 use Rattle.ppmacro.specs.Laws.{IsOperand, token, parameter, stringized, AreJoined, last, pasted, AreChains, none, chain, places_operators}
-use Rattle.ppmacro.specs.declared.macros.Shape.{Shape}
-use Rattle.ppmacro.specs.declared.macros.Definition.{Definition}
+use Rattle.ppmacro.specs.declared.macros.MacroKind.{MacroKind}
+use Rattle.ppmacro.specs.declared.macros.Macro.{Macro}
 use Rattle.ppmacro.specs.declared.macros.Chain.{Chain}
 use Rattle.ppmacro.specs.declared.macros.Operand.{Operand}
 use Rattle.ppmacro.specs.declared.macros.Operand.TheVariants.{Tok, Param, Str}
-use Rattle.ppmacro.proofs.ChainLemmas.{grouped-alone}
+use Rattle.ppmacro.proofs.ChainLemmas.{group_parts-alone}
 use Rattle.ppmacro.proofs.Layouts.{no_punct, other_punct}
 
 -- ---- parameters and `#` are no `##`
@@ -22,22 +22,22 @@ identifier_by : (b : Bool) (o : Option ℕ) (i : ℕ) → (if b then o else None
 identifier_by true o i e = refl
 identifier_by false o i e = absurd (cc)
 
-parameter_identifier : (shape : Shape) (t : Token) (i : ℕ) → parameter_of shape t ≡ Some i → is_identifier t ≡ true
-parameter_identifier shape t i e = identifier_by (is_identifier t) (parameter_named shape t.text) i e
+parameter_identifier : (kind : MacroKind) (t : Token) (i : ℕ) → parameter_of kind t ≡ Some i → is_identifier t ≡ true
+parameter_identifier kind t i e = identifier_by (is_identifier t) (parameter_named kind t.text) i e
 
-pub parameter_no_paste : (shape : Shape) (t : Token) (i : ℕ) → parameter_of shape t ≡ Some i → is_paste t ≡ false
-parameter_no_paste shape t i e =
-    let is : is_identifier t ≡ true = parameter_identifier shape t i e in
+pub parameter_no_paste : (kind : MacroKind) (t : Token) (i : ℕ) → parameter_of kind t ≡ Some i → is_paste t ≡ false
+parameter_no_paste kind t i e =
+    let is : is_identifier t ≡ true = parameter_identifier kind t i e in
     rw (no_punct (codes "##") t is, no_punct (codes "%:%:") t is) refl
 
-pub parameter_no_hash : (shape : Shape) (t : Token) (i : ℕ) → parameter_of shape t ≡ Some i → is_operator_hash shape t ≡ false
-parameter_no_hash shape t i e =
-    let is : is_identifier t ≡ true = parameter_identifier shape t i e in
+pub parameter_no_hash : (kind : MacroKind) (t : Token) (i : ℕ) → parameter_of kind t ≡ Some i → is_operator_hash kind t ≡ false
+parameter_no_hash kind t i e =
+    let is : is_identifier t ≡ true = parameter_identifier kind t i e in
     let no_hash : is_hash t ≡ false = rw (no_punct (codes "#") t is, no_punct (codes "%:") t is) refl in
-    and_right (is_function_like shape) (is_hash t) no_hash
+    and_right (is_function_like kind) (is_hash t) no_hash
 
-pub hash_no_paste : (shape : Shape) (t : Token) → is_operator_hash shape t ≡ true → is_paste t ≡ false
-hash_no_paste shape t e = by_spelling (is_punct (codes "#") t) refl (and_parts (is_function_like shape) (is_hash t) e).1
+pub hash_no_paste : (kind : MacroKind) (t : Token) → is_operator_hash kind t ≡ true → is_paste t ≡ false
+hash_no_paste kind t e = by_spelling (is_punct (codes "#") t) refl (and_parts (is_function_like kind) (is_hash t) e).1
   where
     by_spelling : (b : Bool) → is_punct (codes "#") t ≡ b → (b || is_punct (codes "%:") t) ≡ true → is_paste t ≡ false
     by_spelling true s h = rw (other_punct (codes "#") (codes "##") t refl s, other_punct (codes "#") (codes "%:%:") t refl s) refl
@@ -45,77 +45,77 @@ hash_no_paste shape t e = by_spelling (is_punct (codes "#") t) refl (and_parts (
 
 -- ---- chains that are laid out are the chains of the list
 
-at_token : (shape : Shape) (t : Token) (rest : List Token)
+at_token : (kind : MacroKind) (t : Token) (rest : List Token)
     → is_paste t ≡ false
-    → is_operator_hash shape t ≡ false
-    → parameter_of shape t ≡ None
-    → items_behind shape None (t ∷ rest) ≡ Operates t.space (Tok t) ∷ items_behind shape None rest
-at_token shape t rest p h e = rw (items_behind, p, h, e) refl
+    → is_operator_hash kind t ≡ false
+    → parameter_of kind t ≡ None
+    → parts_after kind None (t ∷ rest) ≡ Operates t.space (Tok t) ∷ parts_after kind None rest
+at_token kind t rest p h e = rw (parts_after, p, h, e) refl
 
-at_parameter : (shape : Shape) (t : Token) (i : ℕ) (rest : List Token)
+at_parameter : (kind : MacroKind) (t : Token) (i : ℕ) (rest : List Token)
     → is_paste t ≡ false
-    → is_operator_hash shape t ≡ false
-    → parameter_of shape t ≡ Some i
-    → items_behind shape None (t ∷ rest) ≡ Operates t.space (Param i) ∷ items_behind shape None rest
-at_parameter shape t i rest p h e = rw (items_behind, p, h, e) refl
+    → is_operator_hash kind t ≡ false
+    → parameter_of kind t ≡ Some i
+    → parts_after kind None (t ∷ rest) ≡ Operates t.space (Param i) ∷ parts_after kind None rest
+at_parameter kind t i rest p h e = rw (parts_after, p, h, e) refl
 
-at_hash : (shape : Shape) (hash t : Token) (i : ℕ) (rest : List Token)
+at_hash : (kind : MacroKind) (hash t : Token) (i : ℕ) (rest : List Token)
     → is_paste hash ≡ false
-    → is_operator_hash shape hash ≡ true
-    → parameter_of shape t ≡ Some i
-    → items_behind shape None (hash ∷ (t ∷ rest)) ≡ Operates hash.space (Str i hash.at) ∷ items_behind shape None rest
-at_hash shape hash t i rest p h e = rw (items_behind, p, h, e) refl
+    → is_operator_hash kind hash ≡ true
+    → parameter_of kind t ≡ Some i
+    → parts_after kind None (hash ∷ (t ∷ rest)) ≡ Operates hash.space (Str i hash.at) ∷ parts_after kind None rest
+at_hash kind hash t i rest p h e = rw (parts_after, p, h, e) refl
 
-at_paste : (shape : Shape) (p : Token) (ts : List Token) → is_paste p ≡ true → items_behind shape None (p ∷ ts) ≡ Joins ∷ items_behind shape None ts
-at_paste shape p ts e = rw (items_behind, e) refl
+at_paste : (kind : MacroKind) (p : Token) (ts : List Token) → is_paste p ≡ true → parts_after kind None (p ∷ ts) ≡ Joins ∷ parts_after kind None ts
+at_paste kind p ts e = rw (parts_after, e) refl
 
-module _ (shape : Shape) where
-  abbrev items : List Token → List Item
-  items ts = items_behind shape None ts
+module _ (kind : MacroKind) where
+  abbrev items : List Token → List ChainPart
+  items ts = parts_after kind None ts
 
-  operand_items : {mark : Bool} {ts : List Token} {o : Operand} → IsOperand shape mark ts o → (rest : List Token) → items (ts ++ rest) ≡ Operates mark o ∷ items rest
-  operand_items (token {t = t} p h e) rest = at_token shape t rest p h e
-  operand_items (parameter {t = t} {i = i} e) rest = at_parameter shape t i rest (parameter_no_paste shape t i e) (parameter_no_hash shape t i e) e
-  operand_items (stringized {hash = hash} {t = t} {i = i} h e) rest = at_hash shape hash t i rest (hash_no_paste shape hash h) h e
+  operand_items : {flag : Bool} {ts : List Token} {o : Operand} → IsOperand kind flag ts o → (rest : List Token) → items (ts ++ rest) ≡ Operates flag o ∷ items rest
+  operand_items (token {t = t} p h e) rest = at_token kind t rest p h e
+  operand_items (parameter {t = t} {i = i} e) rest = at_parameter kind t i rest (parameter_no_paste kind t i e) (parameter_no_hash kind t i e) e
+  operand_items (stringized {hash = hash} {t = t} {i = i} h e) rest = at_hash kind hash t i rest (hash_no_paste kind hash h) h e
 
   paste_items : (p : Token) (ts : List Token) → is_paste p ≡ true → items (p ∷ ts) ≡ Joins ∷ items ts
-  paste_items p ts e = at_paste shape p ts e
+  paste_items p ts e = at_paste kind p ts e
 
-  unjoined : {mark : Bool} {ts : List Token} {os : List Operand} → AreJoined shape mark ts os → (rest : List Token) → begins_joined (items (ts ++ rest)) ≡ false
+  unjoined : {flag : Bool} {ts : List Token} {os : List Operand} → AreJoined kind flag ts os → (rest : List Token) → begins_joined (items (ts ++ rest)) ≡ false
   unjoined (last o) rest = ap begins_joined (operand_items o rest)
   unjoined (pasted ts p more other o e j) rest = ap (λ xs. begins_joined (items xs)) (append_assoc ts (p ∷ more) rest) ∙ ap begins_joined (operand_items o (p ∷ (more ++ rest)))
 
-  unjoined_all : {ts : List Token} {cs : List Chain} → AreChains shape ts cs → begins_joined (items ts) ≡ false
+  unjoined_all : {ts : List Token} {cs : List Chain} → AreChains kind ts cs → begins_joined (items ts) ≡ false
   unjoined_all none = refl
   unjoined_all (chain ts rest j more) = unjoined j rest
 
-  joined_grouped : {mark : Bool} {ts : List Token} {os : List Operand}
-      → AreJoined shape mark ts os
+  joined_grouped : {flag : Bool} {ts : List Token} {os : List Operand}
+      → AreJoined kind flag ts os
       → (rest : List Token) (cs : List Chain)
       → begins_joined (items rest) ≡ false
-      → grouped (items rest) ≡ cs
-      → grouped (items (ts ++ rest)) ≡ record { mark = mark; operands = os } ∷ cs
-  joined_grouped (last {mark = mark} {o = o} is) rest cs b e = ap grouped (operand_items is rest) ∙ grouped-alone mark o (items rest) b ∙ ap (λ ds. record { mark = mark; operands = o ∷ [] } ∷ ds) e
-  joined_grouped (pasted {mark = mark} {o = o} ts p more other is s j) rest cs b e =
-      ap (λ xs. grouped (items xs)) (append_assoc ts (p ∷ more) rest)
-      ∙ ap grouped (operand_items is (p ∷ (more ++ rest)))
-      ∙ ap (λ ys. grouped (Operates mark o ∷ ys)) (paste_items p (more ++ rest) s)
-      ∙ ap (join_first mark o) (joined_grouped j rest cs b e)
+      → group_parts (items rest) ≡ cs
+      → group_parts (items (ts ++ rest)) ≡ record { flag = flag; operands = os } ∷ cs
+  joined_grouped (last {flag = flag} {o = o} is) rest cs b e = ap group_parts (operand_items is rest) ∙ group_parts-alone flag o (items rest) b ∙ ap (λ ds. record { flag = flag; operands = o ∷ [] } ∷ ds) e
+  joined_grouped (pasted {flag = flag} {o = o} ts p more other is s j) rest cs b e =
+      ap (λ xs. group_parts (items xs)) (append_assoc ts (p ∷ more) rest)
+      ∙ ap group_parts (operand_items is (p ∷ (more ++ rest)))
+      ∙ ap (λ ys. group_parts (Operates flag o ∷ ys)) (paste_items p (more ++ rest) s)
+      ∙ ap (join_first flag o) (joined_grouped j rest cs b e)
 
   -- A chain whose last operand may be a rest.
   abbrev ended : Chain → Chain
-  ended = with_rest (lenient_parameter shape)
+  ended = with_rest (lenient_parameter kind)
 
-  pub laid : {ts : List Token} {cs : List Chain} → AreChains shape ts cs → map ended (grouped (items ts)) ≡ cs
+  pub laid : {ts : List Token} {cs : List Chain} → AreChains kind ts cs → map ended (group_parts (items ts)) ≡ cs
   laid none = refl
-  laid (chain {mark = mark} {os = os} ts rest j more) =
-      ap (map ended) (joined_grouped j rest (grouped (items rest)) (unjoined_all more) refl)
-      ∙ ap (λ ds. ended (record { mark = mark; operands = os }) ∷ ds) (laid more)
+  laid (chain {flag = flag} {os = os} ts rest j more) =
+      ap (map ended) (joined_grouped j rest (group_parts (items rest)) (unjoined_all more) refl)
+      ∙ ap (λ ds. ended (record { flag = flag; operands = os }) ∷ ds) (laid more)
 
   -- ---- a list with valid operators has chains
 
   abbrev HashesStand : List Token → Type 0
-  HashesStand ts = (is_function_like shape && misplaces_hash shape ts) ≡ false
+  HashesStand ts = (is_function_like kind && misplaces_hash kind ts) ≡ false
 
   hashes_behind : (f a m : Bool) → (f && (a || m)) ≡ false → (f && m) ≡ false
   hashes_behind true a m e = (or_parts a m e).1
@@ -128,23 +128,23 @@ module _ (shape : Shape) where
   hash_named false g b m h e = absurd (true≢false (sym h))
 
   record First (ts : List Token) : Type 0 where
-    mark : Bool
+    flag : Bool
     operand : Operand
     front : List Token
     rest : List Token
-    is : IsOperand shape mark front operand
+    is : IsOperand kind flag front operand
     laid_out : ts ≡ front ++ rest
     less : length rest < length ts
     pastes : misplaces_paste false rest ≡ false
     hashes : HashesStand rest
 
-  behind_hash : (t : Token) (ts : List Token) → is_operator_hash shape t ≡ true → begins_with_parameter shape ts ≡ true → misplaces_paste false ts ≡ false → HashesStand ts → First (t ∷ ts)
-  behind_hash t [] h b p s = absurd (true≢false (sym b))
-  behind_hash t (u ∷ us) h b p s = elim (parameter_of shape u) as (λ o. parameter_of shape u ≡ o → is_some o ≡ true → First (t ∷ (u ∷ us))) [
+  after_hash : (t : Token) (ts : List Token) → is_operator_hash kind t ≡ true → begins_with_parameter kind ts ≡ true → misplaces_paste false ts ≡ false → HashesStand ts → First (t ∷ ts)
+  after_hash t [] h b p s = absurd (true≢false (sym b))
+  after_hash t (u ∷ us) h b p s = elim (parameter_of kind u) as (λ o. parameter_of kind u ≡ o → is_some o ≡ true → First (t ∷ (u ∷ us))) [
     | Some i ↦ λ e _.
-        let next : misplaces_paste false (u ∷ us) ≡ misplaces_paste false us = rw (parameter_no_paste shape u i e) refl in
+        let next : misplaces_paste false (u ∷ us) ≡ misplaces_paste false us = rw (parameter_no_paste kind u i e) refl in
         record {
-          mark = t.space;
+          flag = t.space;
           operand = _;
           front = t ∷ (u ∷ []);
           rest = us;
@@ -152,22 +152,22 @@ module _ (shape : Shape) where
           laid_out = refl;
           less = omega arith;
           pastes = sym next ∙ p;
-          hashes = hashes_behind (is_function_like shape) (is_hash u && not (begins_with_parameter shape us)) (misplaces_hash shape us) s;
+          hashes = hashes_behind (is_function_like kind) (is_hash u && not (begins_with_parameter kind us)) (misplaces_hash kind us) s;
         }
     | None ↦ λ _ b. absurd (true≢false (sym b))
   ] refl b
 
   first_by : (t : Token) (ts : List Token) → is_paste t ≡ false → misplaces_paste false ts ≡ false → HashesStand (t ∷ ts) → First (t ∷ ts)
-  first_by t ts p m s = elim (is_operator_hash shape t) as (λ b. is_operator_hash shape t ≡ b → First (t ∷ ts)) [
-    | true ↦ λ h. behind_hash t ts h (hash_named (is_function_like shape) (is_hash t) (begins_with_parameter shape ts) (misplaces_hash shape ts) h s) m behind
-    | false ↦ λ h. elim (parameter_of shape t) as (λ o. parameter_of shape t ≡ o → First (t ∷ ts)) [
-      | Some i ↦ λ e. record { mark = t.space; operand = _; front = t ∷ []; rest = ts; is = parameter e; laid_out = refl; less = omega arith; pastes = m; hashes = behind }
-      | None ↦ λ e. record { mark = t.space; operand = _; front = t ∷ []; rest = ts; is = token p h e; laid_out = refl; less = omega arith; pastes = m; hashes = behind }
+  first_by t ts p m s = elim (is_operator_hash kind t) as (λ b. is_operator_hash kind t ≡ b → First (t ∷ ts)) [
+    | true ↦ λ h. after_hash t ts h (hash_named (is_function_like kind) (is_hash t) (begins_with_parameter kind ts) (misplaces_hash kind ts) h s) m following
+    | false ↦ λ h. elim (parameter_of kind t) as (λ o. parameter_of kind t ≡ o → First (t ∷ ts)) [
+      | Some i ↦ λ e. record { flag = t.space; operand = _; front = t ∷ []; rest = ts; is = parameter e; laid_out = refl; less = omega arith; pastes = m; hashes = following }
+      | None ↦ λ e. record { flag = t.space; operand = _; front = t ∷ []; rest = ts; is = token p h e; laid_out = refl; less = omega arith; pastes = m; hashes = following }
     ] refl
   ] refl
     where
-      behind : HashesStand ts
-      behind = hashes_behind (is_function_like shape) (is_hash t && not (begins_with_parameter shape ts)) (misplaces_hash shape ts) s
+      following : HashesStand ts
+      following = hashes_behind (is_function_like kind) (is_hash t && not (begins_with_parameter kind ts)) (misplaces_hash kind ts) s
 
   first : (t : Token) (ts : List Token) → misplaces_paste true (t ∷ ts) ≡ false → HashesStand (t ∷ ts) → First (t ∷ ts)
   first t ts m s = elim (is_paste t) as (λ b. is_paste t ≡ b → (if b then (true || (is_empty ts || misplaces_paste true ts)) else misplaces_paste false ts) ≡ false → First (t ∷ ts)) [
@@ -176,35 +176,35 @@ module _ (shape : Shape) where
   ] refl m
 
   abbrev Laid : List Token → Type 0
-  Laid ts = (cs : List Chain) × AreChains shape ts cs
+  Laid ts = (cs : List Chain) × AreChains kind ts cs
 
   abbrev Lays : ℕ → Type 0
   Lays n = (ts : List Token) → length ts < n → misplaces_paste true ts ≡ false → HashesStand ts → Laid ts
 
   -- An operand and `##` before chains.
-  paste_before : {mark : Bool} {o : Operand} (front : List Token) (p : Token)
-      → IsOperand shape mark front o
+  paste_before : {flag : Bool} {o : Operand} (front : List Token) (p : Token)
+      → IsOperand kind flag front o
       → is_paste p ≡ true
       → {ts : List Token} {cs : List Chain}
-      → AreChains shape ts cs
+      → AreChains kind ts cs
       → is_empty ts ≡ false
       → Laid (front ++ p ∷ ts)
   paste_before front p is e none filled = absurd (true≢false filled)
-  paste_before {mark = mark} {o = o} front p is e (chain {mark = other} {os = os} {cs = cs} ts rest j more) filled = (
-    ended (record { mark = mark; operands = o ∷ os }) ∷ cs,
-    subst (λ xs. AreChains shape xs (ended (record { mark = mark; operands = o ∷ os }) ∷ cs)) (append_assoc front (p ∷ ts) rest)
+  paste_before {flag = flag} {o = o} front p is e (chain {flag = other} {os = os} {cs = cs} ts rest j more) filled = (
+    ended (record { flag = flag; operands = o ∷ os }) ∷ cs,
+    subst (λ xs. AreChains kind xs (ended (record { flag = flag; operands = o ∷ os }) ∷ cs)) (append_assoc front (p ∷ ts) rest)
         (chain (front ++ p ∷ ts) rest (pasted front p ts other is e j) more),
   )
 
-  operand_before : {mark : Bool} {o : Operand} (front rest : List Token) → IsOperand shape mark front o → Laid rest → Laid (front ++ rest)
-  operand_before {mark = mark} {o = o} front rest is m = (ended (record { mark = mark; operands = o ∷ [] }) ∷ m.0, chain front rest (last is) m.1)
+  operand_before : {flag : Bool} {o : Operand} (front rest : List Token) → IsOperand kind flag front o → Laid rest → Laid (front ++ rest)
+  operand_before {flag = flag} {o = o} front rest is m = (ended (record { flag = flag; operands = o ∷ [] }) ∷ m.0, chain front rest (last is) m.1)
 
-  lay_behind : {mark : Bool} {o : Operand} (front rest : List Token) → IsOperand shape mark front o → Lays (suc (length rest)) → misplaces_paste false rest ≡ false → HashesStand rest → Laid (front ++ rest)
+  lay_behind : {flag : Bool} {o : Operand} (front rest : List Token) → IsOperand kind flag front o → Lays (suc (length rest)) → misplaces_paste false rest ≡ false → HashesStand rest → Laid (front ++ rest)
   lay_behind front [] is on m s = operand_before front [] is ([], none)
   lay_behind front (p ∷ more) is on m s = elim (is_paste p) as (λ b. is_paste p ≡ b → (if b then (false || (is_empty more || misplaces_paste true more)) else misplaces_paste false more) ≡ false → Laid (front ++ p ∷ more)) [
     | true ↦ λ e m.
         let parts : (is_empty more ≡ false) × (misplaces_paste true more ≡ false) = or_parts (is_empty more) (misplaces_paste true more) m in
-        let l : Laid more = on more (omega arith) parts.1 (hashes_behind (is_function_like shape) (is_hash p && not (begins_with_parameter shape more)) (misplaces_hash shape more) s) in
+        let l : Laid more = on more (omega arith) parts.1 (hashes_behind (is_function_like kind) (is_hash p && not (begins_with_parameter kind more)) (misplaces_hash kind more) s) in
         paste_before front p is e l.1 parts.0
     | false ↦ λ e m.
         let stands : misplaces_paste true (p ∷ more) ≡ false = rw e m in
@@ -219,11 +219,11 @@ module _ (shape : Shape) where
       let less : length f.rest < length (t ∷ ts) = f.less in
       subst Laid (sym f.laid_out) (lay_behind f.front f.rest f.is (λ us short' m' s'. lay n us (omega arith) m' s') f.pastes f.hashes)
 
-pub lays_out : (d : Definition) → places_operators d ≡ true → AreChains d.shape d.body (chains_of d)
+pub lays_out : (d : Macro) → places_operators d ≡ true → AreChains d.kind d.body (chains_of d)
 lays_out d e =
-    let parts = and_parts (not (misplaces_paste true d.body)) (not (is_function_like d.shape && misplaces_hash d.shape d.body)) e in
-    let l : Laid d.shape d.body = lay d.shape (suc (length d.body)) d.body (omega arith) (not-true _ parts.0) (not-true _ parts.1) in
-    subst (AreChains d.shape d.body) (sym (laid d.shape l.1)) l.1
+    let parts = and_parts (not (misplaces_paste true d.body)) (not (is_function_like d.kind && misplaces_hash d.kind d.body)) e in
+    let l : Laid d.kind d.body = lay d.kind (suc (length d.body)) d.body (omega arith) (not-true _ parts.0) (not-true _ parts.1) in
+    subst (AreChains d.kind d.body) (sym (laid d.kind l.1)) l.1
 
-pub only_chains : (d : Definition) (cs : List Chain) → AreChains d.shape d.body cs → chains_of d ≡ cs
-only_chains d cs l = laid d.shape l
+pub only_chains : (d : Macro) (cs : List Chain) → AreChains d.kind d.body cs → chains_of d ≡ cs
+only_chains d cs l = laid d.kind l

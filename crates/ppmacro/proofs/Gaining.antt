@@ -4,10 +4,10 @@ use Rattle.std.specs.FinSet as set
 use Rattle.std.proofs.lemmas.Cmp.{nat_list_cmp_total}
 use Rattle.pptext.specs.declared.tokens.Place.{Place}
 use Rattle.ppmacro.specs.Names.{Name, HideSet}
-use Rattle.ppmacro.specs.Numbered.{Numbered}
-use Rattle.ppmacro.specs.HideSets.{set_at, names_in, hide_of, hiding}
-use Rattle.ppmacro.specs.Substitution.{gained}
-use Rattle.ppmacro.specs.declared.flying.Hidden.{Hidden}
+use Rattle.ppmacro.specs.HideSetPool.{HideSetPool}
+use Rattle.ppmacro.specs.HideSets.{set_at, hidden_names, hide_of, hiding}
+use Rattle.ppmacro.specs.Substitution.{hsadd}
+use Rattle.ppmacro.specs.declared.hidden_token.Hidden.{Hidden}
 use Rattle.ppmacro.proofs.Hiding.{same-by}
 
 contains-both : (s t : HideSet) (q : Name) → set.contains (set.union s t) q ≡ (set.contains s q || set.contains t q)
@@ -50,16 +50,16 @@ first-within h a g e = same-by _ _ (λ q.
     ∙ sym (contains-three h a g q))
 
 -- A name of the first set hides a token, whatever the second set is.
-pub has-first : (s : Numbered) (n : ℕ) (also : Option ℕ) (q : Name) → set.contains (set_at s n) q ≡ true → set.contains (names_in s n also) q ≡ true
+pub has-first : (s : HideSetPool) (n : ℕ) (extra : Option ℕ) (q : Name) → set.contains (set_at s n) q ≡ true → set.contains (hidden_names s n extra) q ≡ true
 has-first s n None q e = e
 has-first s n (Some m) q e = contains-both (set_at s n) (set_at s m) q ∙ ap (λ b. b || set.contains (set_at s m) q) e
 
 -- Otherwise a name of the second set does.
-pub has-second : (s : Numbered) (n m : ℕ) (q : Name) → set.contains (set_at s n) q ≡ false → set.contains (names_in s n (Some m)) q ≡ set.contains (set_at s m) q
+pub has-second : (s : HideSetPool) (n m : ℕ) (q : Name) → set.contains (set_at s n) q ≡ false → set.contains (hidden_names s n (Some m)) q ≡ set.contains (set_at s m) q
 has-second s n m q e = contains-both (set_at s n) (set_at s m) q ∙ ap (λ b. b || set.contains (set_at s m) q) e
 
-pub gained-turn : (s t : Numbered) (old new : Hidden) (used : Place) (n : ℕ) (also : Option ℕ) (g : HideSet)
-    → new ≡ record { token = record old.token { used = used }; hide = n; also = also }
-    → names_in t n also ≡ set.union (hide_of s old) g
-    → hiding t new ≡ gained g used (hiding s old)
-gained-turn s t old new used n also g is names = ap (hiding t) is ∙ (λ i. record { token = record old.token { used = used }; hide = names i })
+pub hsadd-set_use : (s t : HideSetPool) (old new : Hidden) (used : Place) (n : ℕ) (extra : Option ℕ) (g : HideSet)
+    → new ≡ record { token = record old.token { used = used }; hide = n; extra = extra }
+    → hidden_names t n extra ≡ set.union (hide_of s old) g
+    → hiding t new ≡ hsadd g used (hiding s old)
+hsadd-set_use s t old new used n extra g is names = ap (hiding t) is ∙ (λ i. record { token = record old.token { used = used }; hide = names i })

@@ -9,11 +9,11 @@ use Rattle.std.specs.Ordering.{nat_cmp}
 use Rattle.std.specs.Cmp.{Equal-is, tied_itself}
 use Rattle.std.specs.Cmp.Lexicographic.{slice_cmp}
 use Rattle.std.proofs.lemmas.Cmp.{nat_list_cmp_total}
-use Rattle.ppmacro.specs.Operations.{Operation, Union, Meet, joined}
-use Rattle.ppmacro.specs.Nodes.{Node, member, IsPool, Keeps, IsBounded}
+use Rattle.ppmacro.specs.code.Operations.{Operation, Union, Meet, member_rule}
+use Rattle.ppmacro.specs.code.Nodes.{Node, member, IsPool, KeepsNodes, IsBounded}
 use Rattle.ppmacro.specs.Names.{Name, HideSet}
-use Rattle.ppmacro.specs.Members.{same_name, kept, hide_set, counted, hide_sets}
-use Rattle.ppmacro.proofs.Tries.{member-keeps, lawful, differs}
+use Rattle.ppmacro.specs.code.Members.{same_name, selected, hide_set, counted, hide_sets}
+use Rattle.ppmacro.proofs.Tries.{member-keeps, sets_are_unique, differs}
 
 -- No member is past the names.
 pub record IsNamed (names : List Name) (ns : List Node) : Type 0 where
@@ -36,29 +36,29 @@ abbrev at_name : (ℕ → Bool) → ℕ → Name → List Name → Bool
 at_name p i q [] = false
 at_name p i q (x ∷ xs) = if same_name q x then p i else at_name p (suc i) q xs
 
-kept-none : (p : ℕ → Bool) (i : ℕ) (q : Name) (xs : List Name) → AllByRecursion (λ y. same_name q y ≡ false) xs → list_any (same_name q) (kept p i xs) ≡ false
-kept-none p i q [] h = refl
-kept-none p i q (x ∷ xs) h = elim (p i) as (λ b. list_any (same_name q) (if b then x ∷ kept p (suc i) xs else kept p (suc i) xs) ≡ false) [
-  | true ↦ λ j. h.0 j || kept-none p (suc i) q xs h.1 j
-  | false ↦ kept-none p (suc i) q xs h.1
+selected-none : (p : ℕ → Bool) (i : ℕ) (q : Name) (xs : List Name) → AllByRecursion (λ y. same_name q y ≡ false) xs → list_any (same_name q) (selected p i xs) ≡ false
+selected-none p i q [] h = refl
+selected-none p i q (x ∷ xs) h = elim (p i) as (λ b. list_any (same_name q) (if b then x ∷ selected p (suc i) xs else selected p (suc i) xs) ≡ false) [
+  | true ↦ λ j. h.0 j || selected-none p (suc i) q xs h.1 j
+  | false ↦ selected-none p (suc i) q xs h.1
 ]
 
-kept-is : (p : ℕ → Bool) (i : ℕ) (q : Name) (xs : List Name) → IsDistinct same_name xs → list_any (same_name q) (kept p i xs) ≡ at_name p i q xs
-kept-is p i q [] d = refl
-kept-is p i q (x ∷ xs) d = elim (same_name q x) as (λ t. same_name q x ≡ t → list_any (same_name q) (if p i then x ∷ kept p (suc i) xs else kept p (suc i) xs) ≡ (if t then p i else at_name p (suc i) q xs)) [
-  | true ↦ λ e. (let none = kept-none p (suc i) q xs (subst (λ z. AllByRecursion (λ y. same_name z y ≡ false) xs) (sym (name-is q x e)) (IsDistinct-head same_name x xs d)) in
-      elim (p i) as (λ b. list_any (same_name q) (if b then x ∷ kept p (suc i) xs else kept p (suc i) xs) ≡ b) [
-        | true ↦ ap (λ b. b || list_any (same_name q) (kept p (suc i) xs)) e
+selected-is : (p : ℕ → Bool) (i : ℕ) (q : Name) (xs : List Name) → IsDistinct same_name xs → list_any (same_name q) (selected p i xs) ≡ at_name p i q xs
+selected-is p i q [] d = refl
+selected-is p i q (x ∷ xs) d = elim (same_name q x) as (λ t. same_name q x ≡ t → list_any (same_name q) (if p i then x ∷ selected p (suc i) xs else selected p (suc i) xs) ≡ (if t then p i else at_name p (suc i) q xs)) [
+  | true ↦ λ e. (let none = selected-none p (suc i) q xs (subst (λ z. AllByRecursion (λ y. same_name z y ≡ false) xs) (sym (name-is q x e)) (IsDistinct-head same_name x xs d)) in
+      elim (p i) as (λ b. list_any (same_name q) (if b then x ∷ selected p (suc i) xs else selected p (suc i) xs) ≡ b) [
+        | true ↦ ap (λ b. b || list_any (same_name q) (selected p (suc i) xs)) e
         | false ↦ none
       ])
-  | false ↦ λ e. elim (p i) as (λ b. list_any (same_name q) (if b then x ∷ kept p (suc i) xs else kept p (suc i) xs) ≡ at_name p (suc i) q xs) [
-    | true ↦ λ j. ((λ k. e k || list_any (same_name q) (kept p (suc i) xs)) ∙ kept-is p (suc i) q xs (IsDistinct-tail same_name x xs d)) j
-    | false ↦ kept-is p (suc i) q xs (IsDistinct-tail same_name x xs d)
+  | false ↦ λ e. elim (p i) as (λ b. list_any (same_name q) (if b then x ∷ selected p (suc i) xs else selected p (suc i) xs) ≡ at_name p (suc i) q xs) [
+    | true ↦ λ j. ((λ k. e k || list_any (same_name q) (selected p (suc i) xs)) ∙ selected-is p (suc i) q xs (IsDistinct-tail same_name x xs d)) j
+    | false ↦ selected-is p (suc i) q xs (IsDistinct-tail same_name x xs d)
   ]
 ] refl
 
 contains-is : (names : List Name) (ns : List Node) (n : ℕ) (q : Name) → IsDistinct same_name names → set.contains (hide_set names ns n) q ≡ at_name (member ns n) 0 q names
-contains-is names ns n q d = set.contains-from_list nat_list_cmp_total (kept (member ns n) 0 names) q ∙ kept-is (member ns n) 0 q names d
+contains-is names ns n q d = set.contains-from_list nat_list_cmp_total (selected (member ns n) 0 names) q ∙ selected-is (member ns n) 0 q names d
 
 pub same-by : (s t : HideSet) → ((q : Name) → set.contains s q ≡ set.contains t q) → s ≡ t
 same-by = set.same_set nat_list_cmp_total (set.slice_cmp-IsAntisymmetric set.nat_cmp-IsAntisymmetric)
@@ -73,24 +73,24 @@ at-both op z p r i q (x ∷ xs) = elim (same_name q x) as (λ t. (if t then op (
 at-same : (p r : ℕ → Bool) (i : ℕ) (q : Name) (xs : List Name) → ((k : ℕ) → p k ≡ r k) → at_name p i q xs ≡ at_name r i q xs
 at-same p r i q xs h = λ j. at_name (λ k. h k j) i q xs
 
-contains-made : (o : Operation) (s t : HideSet) (q : Name) → set.contains (made_of o s t) q ≡ joined o (set.contains s q) (set.contains t q)
+contains-made : (o : Operation) (s t : HideSet) (q : Name) → set.contains (made_of o s t) q ≡ member_rule o (set.contains s q) (set.contains t q)
 contains-made Union s t q = set.contains-union nat_list_cmp_total s t q
 contains-made Meet s t q = set.contains-intersection nat_list_cmp_total s t q
 
-joined-none : (o : Operation) → joined o false false ≡ false
-joined-none Union = refl
-joined-none Meet = refl
+member_rule-none : (o : Operation) → member_rule o false false ≡ false
+member_rule-none Union = refl
+member_rule-none Meet = refl
 
 -- A node with the members of the result has the set of the result.
 pub made-is : (o : Operation) (names : List Name) (old new : List Node) (a b n : ℕ)
     → IsDistinct same_name names
-    → ((x : ℕ) → member new n x ≡ joined o (member old a x) (member old b x))
+    → ((x : ℕ) → member new n x ≡ member_rule o (member old a x) (member old b x))
     → hide_set names new n ≡ made_of o (hide_set names old a) (hide_set names old b)
 made-is o names old new a b n d h = same-by _ _ (λ q.
     contains-is names new n q d
-    ∙ at-same (member new n) (λ k. joined o (member old a k) (member old b k)) 0 q names h
-    ∙ at-both (joined o) (joined-none o) (member old a) (member old b) 0 q names
-    ∙ (λ i. joined o (sym (contains-is names old a q d) i) (sym (contains-is names old b q d) i))
+    ∙ at-same (member new n) (λ k. member_rule o (member old a k) (member old b k)) 0 q names h
+    ∙ at-both (member_rule o) (member_rule-none o) (member old a) (member old b) 0 q names
+    ∙ (λ i. member_rule o (sym (contains-is names old a q d) i) (sym (contains-is names old b q d) i))
     ∙ sym (contains-made o (hide_set names old a) (hide_set names old b) q))
 
 -- ---- equal sets of names, equal numbers
@@ -112,8 +112,8 @@ not-true : (b : Bool) → (¬ (b ≡ true)) → b ≡ false
 not-true true h = absurd (h refl)
 not-true false h = refl
 
-pub lawful-names : (names : List Name) (ns : List Node) (m n : ℕ) → IsPool ns → IsNamed names ns → m < length ns → n < length ns → hide_set names ns m ≡ hide_set names ns n → m ≡ n
-lawful-names names ns m n p d lm ln e = lawful ns m n p lm ln (λ x. split x (cases_lt x (length names)))
+pub sets_are_unique-names : (names : List Name) (ns : List Node) (m n : ℕ) → IsPool ns → IsNamed names ns → m < length ns → n < length ns → hide_set names ns m ≡ hide_set names ns n → m ≡ n
+sets_are_unique-names names ns m n p d lm ln e = sets_are_unique ns m n p lm ln (λ x. split x (cases_lt x (length names)))
   where
     past : (k x : ℕ) → k < length ns → length names ≤ x → member ns k x ≡ false
     past k x l h = not-true (member ns k x) (λ t. let w = d.within k x l t in absurd (omega (arith, w, h)))
@@ -160,8 +160,8 @@ has-none names ns n q d h = sym (contains-is names ns n q d ∙ at-absent (membe
 
 -- ---- sets while nodes and names are added
 
-pub hide_set-keeps : (names : List Name) (old new : List Node) (n : ℕ) → IsPool old → Keeps old new → n < length old → hide_set names new n ≡ hide_set names old n
-hide_set-keeps names old new n p k l = (λ j. set.from_list (kept (λ x. member-keeps old new n x p k l j) 0 names))
+pub hide_set-keeps : (names : List Name) (old new : List Node) (n : ℕ) → IsPool old → KeepsNodes old new → n < length old → hide_set names new n ≡ hide_set names old n
+hide_set-keeps names old new n p k l = (λ j. set.from_list (selected (λ x. member-keeps old new n x p k l j) 0 names))
 
 pub set-at : (names : List Name) (ns : List Node) (n : ℕ) → n < length ns → get_or (hide_sets names ns) n set.empty ≡ hide_set names ns n
 set-at names ns n l = let e : 0 + n ≡ n = omega arith in at-counted (hide_set names ns) 0 n ns l ∙ ap (hide_set names ns) e
@@ -172,23 +172,23 @@ known-at names ns n l = subst (λ k. n < k) (sym (length-counted (hide_set names
 pub at-known : (names : List Name) (ns : List Node) (n : ℕ) → n < length (hide_sets names ns) → n < length ns
 at-known names ns n l = subst (λ k. n < k) (length-counted (hide_set names ns) 0 ns) l
 
-pub sets-keep : (names : List Name) (old new : List Node) → IsPool old → (k : Keeps old new) → hide_sets names new ≡ hide_sets names old ++ counted (hide_set names new) (past-by 0 old) k.more
+pub sets-keep : (names : List Name) (old new : List Node) → IsPool old → (k : KeepsNodes old new) → hide_sets names new ≡ hide_sets names old ++ counted (hide_set names new) (past-by 0 old) k.more
 sets-keep names old new p k =
     (λ j. counted (hide_set names new) 0 (k.is j)) ∙ counted-more (hide_set names old) (hide_set names new) 0 old k.more (λ n a b. hide_set-keeps names old new n p k (omega (arith, b)))
 
 -- New names are in no existing set.
-kept-append : (p : ℕ → Bool) (i : ℕ) (xs ys : List Name) → ((k : ℕ) → i + length xs ≤ k → p k ≡ false) → kept p i (xs ++ ys) ≡ kept p i xs
-kept-append p i [] [] h = refl
-kept-append p i [] (y ∷ ys) h =
+selected-append : (p : ℕ → Bool) (i : ℕ) (xs ys : List Name) → ((k : ℕ) → i + length xs ≤ k → p k ≡ false) → selected p i (xs ++ ys) ≡ selected p i xs
+selected-append p i [] [] h = refl
+selected-append p i [] (y ∷ ys) h =
     let none : p i ≡ false = h i (omega arith) in
-    let rest : kept p (suc i) ys ≡ [] = kept-append p (suc i) [] ys (λ k l. h k (omega (arith, l))) in
-    (λ j. if none j then y ∷ kept p (suc i) ys else kept p (suc i) ys) ∙ rest
-kept-append p i (x ∷ xs) ys h =
-    let rest = kept-append p (suc i) xs ys (λ k l. h k (omega (arith, l))) in
+    let rest : selected p (suc i) ys ≡ [] = selected-append p (suc i) [] ys (λ k l. h k (omega (arith, l))) in
+    (λ j. if none j then y ∷ selected p (suc i) ys else selected p (suc i) ys) ∙ rest
+selected-append p i (x ∷ xs) ys h =
+    let rest = selected-append p (suc i) xs ys (λ k l. h k (omega (arith, l))) in
     λ j. if p i then x ∷ rest j else rest j
 
 pub set-named : (names more : List Name) (ns : List Node) (n : ℕ) → IsBounded (length names) ns → n < length ns → hide_set (names ++ more) ns n ≡ hide_set names ns n
-set-named names more ns n b l = ap set.from_list (kept-append (member ns n) 0 names more (λ k past. not-true (member ns n k) (λ e. let w = b.each n k l e in absurd (omega (arith, w, past)))))
+set-named names more ns n b l = ap set.from_list (selected-append (member ns n) 0 names more (λ k past. not-true (member ns n k) (λ e. let w = b.each n k l e in absurd (omega (arith, w, past)))))
 
 pub sets-named : (names more : List Name) (ns : List Node) → IsBounded (length names) ns → hide_sets (names ++ more) ns ≡ hide_sets names ns
 sets-named names more ns b = counted-same (hide_set (names ++ more) ns) (hide_set names ns) 0 ns (λ n a l. set-named names more ns n b (omega (arith, l)))
@@ -239,19 +239,19 @@ insert-is names old new a x n r d l is h = same-by _ _ (λ q.
     ∙ (λ i. (ap (λ m. at_name (λ k. nat_eq k m) 0 q names) e ∙ at-one names x 0 q r d l is) i || sym (contains-is names old a q d) i)
     ∙ sym (set.contains-insert nat_list_cmp_total (hide_set names old a) r q))
 
-kept-nothing : (p : ℕ → Bool) (i : ℕ) (xs : List Name) → ((k : ℕ) → p k ≡ false) → kept p i xs ≡ []
-kept-nothing p i [] h = refl
-kept-nothing p i (x ∷ xs) h = (λ j. if h i j then x ∷ kept p (suc i) xs else kept p (suc i) xs) ∙ kept-nothing p (suc i) xs h
+selected-nothing : (p : ℕ → Bool) (i : ℕ) (xs : List Name) → ((k : ℕ) → p k ≡ false) → selected p i xs ≡ []
+selected-nothing p i [] h = refl
+selected-nothing p i (x ∷ xs) h = (λ j. if h i j then x ∷ selected p (suc i) xs else selected p (suc i) xs) ∙ selected-nothing p (suc i) xs h
 
 pub hide-none : (names : List Name) (ns : List Node) (n : ℕ) → ((x : ℕ) → member ns n x ≡ false) → hide_set names ns n ≡ set.empty
-hide-none names ns n h = ap set.from_list (kept-nothing (member ns n) 0 names h)
+hide-none names ns n h = ap set.from_list (selected-nothing (member ns n) 0 names h)
 
 pub union-none : (s : HideSet) → set.union set.empty s ≡ s
 union-none s = same-by _ _ (λ q. set.contains-union nat_list_cmp_total set.empty s q ∙ (λ i. set.contains-empty (slice_cmp nat_cmp) q i || set.contains s q))
 
 -- A set with added names has them, and its own.
-pub insert-gained : (s : HideSet) (r : Name) → set.insert s r ≡ set.union s (set.insert s r)
-insert-gained s r = same-by _ _ (λ q.
+pub insert-hsadd : (s : HideSet) (r : Name) → set.insert s r ≡ set.union s (set.insert s r)
+insert-hsadd s r = same-by _ _ (λ q.
     set.contains-insert nat_list_cmp_total s r q
     ∙ once (same_name q r) (set.contains s q)
     ∙ (λ i. set.contains s q || sym (set.contains-insert nat_list_cmp_total s r q) i)
@@ -276,15 +276,15 @@ pub made-members : (o : Operation) (names : List Name) (ns : List Node) (a b n :
     → n < length ns
     → hide_set names ns n ≡ made_of o (hide_set names ns a) (hide_set names ns b)
     → (x : ℕ)
-    → member ns n x ≡ joined o (member ns a x) (member ns b x)
+    → member ns n x ≡ member_rule o (member ns a x) (member ns b x)
 made-members o names ns a b n d la lb ln e x = split (cases_lt x (length names))
   where
-    split : (x < length names) ⊎ (length names ≤ x) → member ns n x ≡ joined o (member ns a x) (member ns b x)
+    split : (x < length names) ⊎ (length names ≤ x) → member ns n x ≡ member_rule o (member ns a x) (member ns b x)
     split (inl l) =
         let q = get_or names x [] in
         let at : (k : ℕ) → member ns k x ≡ set.contains (hide_set names ns k) q = λ k. has-own names ns k x q d.distinct l refl in
-        at n ∙ ap (λ s. set.contains s q) e ∙ contains-made o (hide_set names ns a) (hide_set names ns b) q ∙ (λ i. joined o (sym (at a) i) (sym (at b) i))
-    split (inr l) = past-names names ns d n x ln l ∙ sym ((λ i. joined o (past-names names ns d a x la l i) (past-names names ns d b x lb l i)) ∙ joined-none o)
+        at n ∙ ap (λ s. set.contains s q) e ∙ contains-made o (hide_set names ns a) (hide_set names ns b) q ∙ (λ i. member_rule o (sym (at a) i) (sym (at b) i))
+    split (inr l) = past-names names ns d n x ln l ∙ sym ((λ i. member_rule o (past-names names ns d a x la l i) (past-names names ns d b x lb l i)) ∙ member_rule-none o)
 
 -- a node with the names of a set and one more has the set's members and that of the name
 pub more-members : (names : List Name) (ns : List Node) (a x n : ℕ) (r : Name)

@@ -5,22 +5,22 @@ use Rattle.std.proofs.lemmas.List.{map-append, drop_more}
 use Rattle.std.specs.Option.{option_map}
 use Rattle.pptext.specs.declared.tokens.Place.{Place}
 use Rattle.pptext.specs.declared.tokens.Fault.{Fault}
-use Rattle.ppmacro.specs.Numbered.{Numbered}
+use Rattle.ppmacro.specs.HideSetPool.{HideSetPool}
 use Rattle.ppmacro.specs.Hiding.{Hiding}
-use Rattle.ppmacro.specs.HideSets.{hiding, hidings, HasSets, AllKnown, Keeps}
+use Rattle.ppmacro.specs.HideSets.{hiding, hidings, HasSets, AllKnown, KeepsSets}
 use Rattle.ppmacro.specs.Substitution.{after_ok, pasted, join, join_all, argument_at, expanded_at}
 use Rattle.ppmacro.specs.Substituting.{tokens_of, lists_of, option_of, options_of}
-use Rattle.ppmacro.specs.declared.flying.Hidden.{Hidden}
-use Rattle.ppmacro.specs.declared.flying.Expansion.{Expansion}
-use Rattle.ppmacro.proofs.KeepLemmas.{hidings-keeps, known-keeps, known-append, known-front, known-behind}
+use Rattle.ppmacro.specs.declared.hidden_token.Hidden.{Hidden}
+use Rattle.ppmacro.specs.declared.hidden_token.Expansion.{Expansion}
+use Rattle.ppmacro.proofs.KeepLemmas.{hidings-keeps, known-keeps, known-append, known-front, known-rest}
 
 -- ---- arguments
 
-pub tokens-in : (s : Numbered) (hs : List Hidden) → tokens_of hs ≡ map (λ t. t.token) (hidings s hs)
+pub tokens-in : (s : HideSetPool) (hs : List Hidden) → tokens_of hs ≡ map (λ t. t.token) (hidings s hs)
 tokens-in s [] = refl
 tokens-in s (h ∷ hs) = ap (λ ts. h.token ∷ ts) (tokens-in s hs)
 
-pub argument-in : (s : Numbered) (given : List (Vec Hidden Global)) (i : ℕ) → hidings s (argument_at (lists_of given) i) ≡ argument_at (map (hidings s) (lists_of given)) i
+pub argument-in : (s : HideSetPool) (given : List (Vec Hidden Global)) (i : ℕ) → hidings s (argument_at (lists_of given) i) ≡ argument_at (map (hidings s) (lists_of given)) i
 argument-in s [] i = refl
 argument-in s (v ∷ vs) zero = refl
 argument-in s (v ∷ vs) (suc i) = argument-in s vs i
@@ -41,13 +41,13 @@ expansion-at (v ∷ vs) (x ∷ es) zero e h is = ap (λ y. unwrap_or (option_of 
 expansion-at [] (x ∷ es) (suc i) e h is = expansion-at [] es i e (omega arith) is
 expansion-at (v ∷ vs) (x ∷ es) (suc i) e h is = expansion-at vs es i e (omega arith) is
 
-pub expansion-behind : (given : List (Vec Hidden Global)) (es : List Expansion) (i : ℕ) → length es ≤ i → [] ≡ expanded_at (options_of given es) i
-expansion-behind given [] i h = refl
-expansion-behind given (x ∷ es) zero h = absurd (omega arith)
-expansion-behind [] (x ∷ es) (suc i) h = expansion-behind [] es i (omega arith)
-expansion-behind (v ∷ vs) (x ∷ es) (suc i) h = expansion-behind vs es i (omega arith)
+pub expansion-following : (given : List (Vec Hidden Global)) (es : List Expansion) (i : ℕ) → length es ≤ i → [] ≡ expanded_at (options_of given es) i
+expansion-following given [] i h = refl
+expansion-following given (x ∷ es) zero h = absurd (omega arith)
+expansion-following [] (x ∷ es) (suc i) h = expansion-following [] es i (omega arith)
+expansion-following (v ∷ vs) (x ∷ es) (suc i) h = expansion-following vs es i (omega arith)
 
-pub expansion-in : (s : Numbered) (expanded : List (Option (List Hidden))) (i : ℕ) → hidings s (expanded_at expanded i) ≡ expanded_at (map (λ o. option_map (hidings s) o) expanded) i
+pub expansion-in : (s : HideSetPool) (expanded : List (Option (List Hidden))) (i : ℕ) → hidings s (expanded_at expanded i) ≡ expanded_at (map (λ o. option_map (hidings s) o) expanded) i
 expansion-in s [] i = refl
 expansion-in s (None ∷ os) zero = refl
 expansion-in s (Some hs ∷ os) zero = refl
@@ -66,7 +66,7 @@ join-last (x ∷ (y ∷ ls)) l r rs used =
     ap (λ e. after_ok e (λ ts. Ok (x ∷ ts))) (join-last (y ∷ ls) l r rs used)
     ∙ after-twice (pasted l r used) x (y ∷ ls) rs
 
-opened : (s : Numbered) (ls : List Hidden) (last first : Hidden) (rest : List Hidden) (used : Place)
+opened : (s : HideSetPool) (ls : List Hidden) (last first : Hidden) (rest : List Hidden) (used : Place)
     → join (hidings s (ls ++ last ∷ [])) (hidings s (first ∷ rest)) used
     ≡ after_ok (pasted (hiding s last) (hiding s first) used) (λ t. Ok (hidings s ls ++ t ∷ hidings s rest))
 opened s ls last first rest used =
@@ -88,43 +88,43 @@ pub join-nothing : (ls : List Hiding) (used : Place) → Ok ls ≡ join ls [] us
 join-nothing [] used = refl
 join-nothing (l ∷ ls) used = refl
 
-pub join-pasted : (s t : Numbered) (ls : List Hidden) (last first hidden : Hidden) (rest : List Hidden) (used : Place)
-    → Keeps s t
+pub join-pasted : (s t : HideSetPool) (ls : List Hidden) (last first hidden : Hidden) (rest : List Hidden) (used : Place)
+    → KeepsSets s t
     → AllKnown s (ls ++ last ∷ [])
     → AllKnown s (first ∷ rest)
     → Ok (hiding t hidden) ≡ pasted (hiding s last) (hiding s first) used
     → Ok (hidings t (ls ++ hidden ∷ rest)) ≡ join (hidings s (ls ++ last ∷ [])) (hidings s (first ∷ rest)) used
 join-pasted s t ls last first hidden rest used k left right p =
     let front : hidings t ls ≡ hidings s ls = hidings-keeps ls k (known-front ls (last ∷ []) left) in
-    let behind : hidings t rest ≡ hidings s rest = hidings-keeps rest k (record { each = right.each.1 }) in
+    let following : hidings t rest ≡ hidings s rest = hidings-keeps rest k (record { each = right.each.1 }) in
     ap Ok (map-append (hiding t) ls (hidden ∷ rest))
-    ∙ (λ i. Ok (front i ++ hiding t hidden ∷ behind i))
+    ∙ (λ i. Ok (front i ++ hiding t hidden ∷ following i))
     ∙ ap (λ r. after_ok r (λ u. Ok (hidings s ls ++ u ∷ hidings s rest))) p
     ∙ sym (opened s ls last first rest used)
 
-pub join-refused : (s : Numbered) (ls : List Hidden) (last first : Hidden) (rest : List Hidden) (used : Place) (f : Fault)
+pub join-refused : (s : HideSetPool) (ls : List Hidden) (last first : Hidden) (rest : List Hidden) (used : Place) (f : Fault)
     → Err f ≡ pasted (hiding s last) (hiding s first) used
     → Err f ≡ join (hidings s (ls ++ last ∷ [])) (hidings s (first ∷ rest)) used
 join-refused s ls last first rest used f p =
     ap (λ r. after_ok r (λ u. Ok (hidings s ls ++ u ∷ hidings s rest))) p
     ∙ sym (opened s ls last first rest used)
 
-pub known-joined : (s t : Numbered) (ls : List Hidden) (last first hidden : Hidden) (rest : List Hidden)
-    → Keeps s t
+pub known-joined : (s t : HideSetPool) (ls : List Hidden) (last first hidden : Hidden) (rest : List Hidden)
+    → KeepsSets s t
     → AllKnown s (ls ++ last ∷ [])
     → AllKnown s (first ∷ rest)
     → HasSets t hidden
     → AllKnown t (ls ++ hidden ∷ rest)
 known-joined s t ls last first hidden rest k left right here =
-    let behind : AllKnown t rest = known-keeps rest k (record { each = right.each.1 }) in
-    known-append ls (hidden ∷ rest) (known-keeps ls k (known-front ls (last ∷ []) left)) (record { each = (here, behind.each) })
+    let following : AllKnown t rest = known-keeps rest k (record { each = right.each.1 }) in
+    known-append ls (hidden ∷ rest) (known-keeps ls k (known-front ls (last ∷ []) left)) (record { each = (here, following.each) })
 
-pub known-last : (s : Numbered) (ls : List Hidden) (last : Hidden) → AllKnown s (ls ++ last ∷ []) → HasSets s last
-known-last s ls last known = (known-behind ls (last ∷ []) known).each.0
+pub known-last : (s : HideSetPool) (ls : List Hidden) (last : Hidden) → AllKnown s (ls ++ last ∷ []) → HasSets s last
+known-last s ls last known = (known-rest ls (last ∷ []) known).each.0
 
 -- ---- all lists
 
-pub join_all-more : (s t : Numbered) (left next : List Hiding) (right : List Hidden) (rest : List (List Hiding)) (used : Place)
+pub join_all-more : (s t : HideSetPool) (left next : List Hiding) (right : List Hidden) (rest : List (List Hiding)) (used : Place)
     → Ok next ≡ join left (hidings s right) used
     → join_all next rest used ≡ join_all left (hidings s right ∷ rest) used
 join_all-more s t left next right rest used h = ap (λ r. after_ok r (λ ts. join_all ts rest used)) h

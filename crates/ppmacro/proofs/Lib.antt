@@ -3,7 +3,7 @@
 -- The entries of a table as a finite map.
 pub mod TableLemmas
 -- The filter of a table's names.
-pub mod Marked
+pub mod NameFilterLemmas
 -- Chains that are built from the front.
 pub mod ChainLemmas
 -- The kind of a text that is one token.

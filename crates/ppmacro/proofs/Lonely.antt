@@ -7,14 +7,14 @@ use Rattle.pptext.specs.declared.tokens.Token.{Token}
 use Rattle.pptext.specs.declared.tokens.Place.{Place}
 use Rattle.pptext.specs.Tokens.{is_identifier}
 use Rattle.ppmacro.specs.Names.{HideSet}
-use Rattle.ppmacro.specs.Spellings.{is_paste}
-use Rattle.ppmacro.specs.declared.macros.Shape.{Shape}
-use Rattle.ppmacro.specs.declared.macros.Shape.TheVariants.{Predefined, ObjectLike, FunctionLike}
+use Rattle.ppmacro.specs.HashOperators.{is_paste}
+use Rattle.ppmacro.specs.declared.macros.MacroKind.{MacroKind}
+use Rattle.ppmacro.specs.declared.macros.MacroKind.TheVariants.{Predefined, ObjectLike, FunctionLike}
 use Rattle.ppmacro.specs.declared.macros.Operand.TheVariants.{Tok}
-use Rattle.ppmacro.specs.Chains.{Item, Operates, items_at, items_behind, plain_item, parameter_of, begins_joined, grouped, hash_sign, with_rest}
-use Rattle.ppmacro.specs.Lone.{is_object_like, lone_chain}
-use Rattle.ppmacro.specs.Substitution.{Arguments, plain, with_mark, gained, chains_tokens, substituted_by}
-use Rattle.ppmacro.proofs.ChainLemmas.{grouped-alone}
+use Rattle.ppmacro.specs.Chains.{ChainPart, Operates, parts_at, parts_after, plain_part, parameter_of, begins_joined, group_parts, hash_sign, with_rest}
+use Rattle.ppmacro.specs.PasteFree.{is_object_like, lone_chain}
+use Rattle.ppmacro.specs.Substitution.{Arguments, plain, with_flag, hsadd, chains_tokens, chains_replacement}
+use Rattle.ppmacro.proofs.ChainLemmas.{group_parts-alone}
 
 -- ---- the chains
 
@@ -23,28 +23,28 @@ unnamed : (t : Token) → parameter_of ObjectLike t ≡ None
 unnamed t = elim (is_identifier t) as (λ b. if◌then◌else◌ {A = Option ℕ} b None None ≡ None) [ true ↦ refl | false ↦ refl ]
 
 -- The parts after a token, whether or not it is a `#`.
-abbrev behind_hash : Token → List Token → List Item
-behind_hash t ts = items_behind ObjectLike (Some (hash_sign t)) ts
+abbrev after_hash : Token → List Token → List ChainPart
+after_hash t ts = parts_after ObjectLike (Some (hash_sign t)) ts
 
-one_item : (t : Token) (ts : List Token) → is_paste t ≡ false → items_behind ObjectLike None (t ∷ ts) ≡ Operates t.space (Tok t) ∷ items_behind ObjectLike None ts
+one_item : (t : Token) (ts : List Token) → is_paste t ≡ false → parts_after ObjectLike None (t ∷ ts) ≡ Operates t.space (Tok t) ∷ parts_after ObjectLike None ts
 one_item t ts h =
-    (λ i. items_at (h i) false (plain_item (parameter_of ObjectLike t) t) (items_behind ObjectLike None ts) (behind_hash t ts))
-    ∙ (λ i. plain_item (unnamed t i) t ∷ items_behind ObjectLike None ts)
+    (λ i. parts_at (h i) false (plain_part (parameter_of ObjectLike t) t) (parts_after ObjectLike None ts) (after_hash t ts))
+    ∙ (λ i. plain_part (unnamed t i) t ∷ parts_after ObjectLike None ts)
 
-unjoined : (ts : List Token) → list_any is_paste ts ≡ false → begins_joined (items_behind ObjectLike None ts) ≡ false
+unjoined : (ts : List Token) → list_any is_paste ts ≡ false → begins_joined (parts_after ObjectLike None ts) ≡ false
 unjoined [] a = refl
 unjoined (t ∷ ts) a = ap begins_joined (one_item t ts (or_parts (is_paste t) (list_any is_paste ts) a).0)
 
-all_alone : (ts : List Token) → list_any is_paste ts ≡ false → grouped (items_behind ObjectLike None ts) ≡ map lone_chain ts
+all_alone : (ts : List Token) → list_any is_paste ts ≡ false → group_parts (parts_after ObjectLike None ts) ≡ map lone_chain ts
 all_alone [] a = refl
 all_alone (t ∷ ts) a =
     let none = or_parts (is_paste t) (list_any is_paste ts) a in
-    ap grouped (one_item t ts none.0)
-    ∙ grouped-alone t.space (Tok t) (items_behind ObjectLike None ts) (unjoined ts none.1)
+    ap group_parts (one_item t ts none.0)
+    ∙ group_parts-alone t.space (Tok t) (parts_after ObjectLike None ts) (unjoined ts none.1)
     ∙ ap (λ cs. lone_chain t ∷ cs) (all_alone ts none.1)
 
-pub lone_chains : (ts : List Token) → list_any is_paste ts ≡ false → map (with_rest None) (grouped (items_behind ObjectLike None ts)) ≡ map lone_chain ts
-lone_chains ts a = map-id (grouped (items_behind ObjectLike None ts)) ∙ all_alone ts a
+pub lone_chains : (ts : List Token) → list_any is_paste ts ≡ false → map (with_rest None) (group_parts (parts_after ObjectLike None ts)) ≡ map lone_chain ts
+lone_chains ts a = map-id (group_parts (parts_after ObjectLike None ts)) ∙ all_alone ts a
 
 -- ---- their tokens
 
@@ -53,27 +53,27 @@ others args used [] = refl
 others args used (t ∷ ts) = rw (others args used ts) refl
 
 marked_first : (args : Arguments) (used : Place) (space : Bool) (t : Token) (ts : List Token)
-    → chains_tokens args used space true (map lone_chain (t ∷ ts)) ≡ Ok (record { tokens = with_mark space (plain t) ∷ map plain ts; pending = false })
+    → chains_tokens args used space true (map lone_chain (t ∷ ts)) ≡ Ok (record { tokens = with_flag space (plain t) ∷ map plain ts; pending = false })
 marked_first args used true t ts = rw (others args used ts) refl
 marked_first args used false t ts = rw (others args used ts) refl
 
-gained_each : (gain : HideSet) (used : Place) (ts : List Token) → map (gained gain used) (map plain ts) ≡ map (λ t. gained gain used (plain t)) ts
-gained_each gain used [] = refl
-gained_each gain used (t ∷ ts) = ap (λ hs. gained gain used (plain t) ∷ hs) (gained_each gain used ts)
+gained_each : (added : HideSet) (used : Place) (ts : List Token) → map (hsadd added used) (map plain ts) ≡ map (λ t. hsadd added used (plain t)) ts
+gained_each added used [] = refl
+gained_each added used (t ∷ ts) = ap (λ hs. hsadd added used (plain t) ∷ hs) (gained_each added used ts)
 
 -- An empty list leaves the flag pending.
-pub lone_none : (args : Arguments) (gain : HideSet) (used : Place) (space : Bool) → substituted_by (map lone_chain []) args gain used space ≡ Ok (record { tokens = []; pending = space })
-lone_none args gain used space = refl
+pub lone_none : (args : Arguments) (added : HideSet) (used : Place) (space : Bool) → chains_replacement (map lone_chain []) args added used space ≡ Ok (record { tokens = []; pending = space })
+lone_none args added used space = refl
 
-pub lone_substituted : (args : Arguments) (gain : HideSet) (used : Place) (space : Bool) (t : Token) (ts : List Token)
-    → substituted_by (map lone_chain (t ∷ ts)) args gain used space
-    ≡ Ok (record { tokens = gained gain used (with_mark space (plain t)) ∷ map (λ t. gained gain used (plain t)) ts; pending = false })
-lone_substituted args gain used space t ts =
-    rw (marked_first args used space t ts) (λ i. Ok (record { tokens = gained gain used (with_mark space (plain t)) ∷ gained_each gain used ts i; pending = false }))
+pub lone_substituted : (args : Arguments) (added : HideSet) (used : Place) (space : Bool) (t : Token) (ts : List Token)
+    → chains_replacement (map lone_chain (t ∷ ts)) args added used space
+    ≡ Ok (record { tokens = hsadd added used (with_flag space (plain t)) ∷ map (λ t. hsadd added used (plain t)) ts; pending = false })
+lone_substituted args added used space t ts =
+    rw (marked_first args used space t ts) (λ i. Ok (record { tokens = hsadd added used (with_flag space (plain t)) ∷ gained_each added used ts i; pending = false }))
 
 -- ---- the macros that have such lists
 
-pub object_like : (s : Shape) → is_object_like s ≡ true → s ≡ ObjectLike
+pub object_like : (s : MacroKind) → is_object_like s ≡ true → s ≡ ObjectLike
 object_like ObjectLike e = refl
 object_like (Predefined builtin) e = absurd (false≢true e)
 object_like (FunctionLike parameters variadic) e = absurd (false≢true e)

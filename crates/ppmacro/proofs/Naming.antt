@@ -9,7 +9,7 @@ use Rattle.std.specs.List.{position_from}
 use Rattle.std.proofs.lemmas.Map.Text.{is_eq-slice_cmp}
 use Rattle.std.proofs.lemmas.Slice.Eq.{bytes_eq-Decides}
 use Rattle.ppmacro.specs.Names.{Name}
-use Rattle.ppmacro.specs.Members.{same_name}
+use Rattle.ppmacro.specs.code.Members.{same_name}
 
 -- The result of a search from i on.
 pub Found : Name → ℕ → List Name → Option ℕ → Type 0

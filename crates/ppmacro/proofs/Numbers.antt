@@ -6,9 +6,9 @@ use Rattle.pptext.specs.declared.tokens.Token.{Token}
 use Rattle.pptext.specs.declared.tokens.Fault.{Fault}
 use Rattle.pptext.specs.Tokens.{is_identifier, fault}
 use Rattle.ppmacro.specs.Names.{Name, Macros}
-use Rattle.ppmacro.specs.declared.macros.Definition.{Definition}
+use Rattle.ppmacro.specs.declared.macros.Macro.{Macro}
 use Rattle.ppmacro.specs.Define.{Named, Refusal, ParameterList, Spacing, Pasting, Stringizing, VariableArguments, Redefinition}
-use Rattle.ppmacro.specs.Define.{is_reserved, read_definition, fitting, number_of, under_name, judged, entered, after_define, undefined, taken_out, after_undef}
+use Rattle.ppmacro.specs.Define.{is_reserved, read_definition, check_body, number_of, with_macro_name, check_define, insert_definition, after_define, undefined, remove_name, after_undef}
 
 -- The fault of a result, if it is one, has at most this number.
 abbrev IsUpTo : {A : Type 0} → ℕ → Result A Fault → Type 0
@@ -27,20 +27,20 @@ refusal_up_to Stringizing = omega arith
 refusal_up_to VariableArguments = omega arith
 refusal_up_to Redefinition = omega arith
 
-named_up_to : (at : Place) (name : Name) (d : Result Definition Refusal) → IsUpTo 16 (under_name at name d)
+named_up_to : (at : Place) (name : Name) (d : Result Macro Refusal) → IsUpTo 16 (with_macro_name at name d)
 named_up_to at name (Ok d) = tt
 named_up_to at name (Err r) = refusal_up_to r
 
-judged_up_to : (profile : Profile) (macros : Macros) (at : Place) (line : List Token) → IsUpTo 16 (judged profile macros at line)
+judged_up_to : (profile : Profile) (macros : Macros) (at : Place) (line : List Token) → IsUpTo 16 (check_define profile macros at line)
 judged_up_to profile macros at [] = omega arith
 judged_up_to profile macros at (t ∷ ts) =
     let reserved : Result Named Fault = Err (fault 10 at t.text) in
-    let malformed : Result Named Fault = judged profile macros at [] in
-    let named : Result Named Fault = under_name at t.text (fitting profile macros t.text (read_definition profile ts)) in
+    let malformed : Result Named Fault = check_define profile macros at [] in
+    let named : Result Named Fault = with_macro_name at t.text (check_body profile macros t.text (read_definition profile ts)) in
     up_to_either 16 (is_identifier t) (if is_reserved profile macros t.text then reserved else named) malformed
-    (up_to_either 16 (is_reserved profile macros t.text) reserved named (omega arith) (named_up_to at t.text (fitting profile macros t.text (read_definition profile ts)))) (omega arith)
+    (up_to_either 16 (is_reserved profile macros t.text) reserved named (omega arith) (named_up_to at t.text (check_body profile macros t.text (read_definition profile ts)))) (omega arith)
 
-entered_up_to : (macros : Macros) (r : Result Named Fault) → IsUpTo 16 r → IsUpTo 16 (entered macros r)
+entered_up_to : (macros : Macros) (r : Result Named Fault) → IsUpTo 16 r → IsUpTo 16 (insert_definition macros r)
 entered_up_to macros (Ok n) h = tt
 entered_up_to macros (Err f) h = h
 
@@ -52,12 +52,12 @@ undefined_up_to profile macros at (t ∷ []) =
     up_to_either 16 (is_identifier t) (if is_reserved profile macros t.text then reserved else Ok t.text) malformed (up_to_either 16 (is_reserved profile macros t.text) reserved (Ok t.text) (omega arith) tt) (omega arith)
 undefined_up_to profile macros at (t ∷ u ∷ us) = omega arith
 
-taken_out_up_to : (macros : Macros) (r : Result Name Fault) → IsUpTo 16 r → IsUpTo 16 (taken_out macros r)
+taken_out_up_to : (macros : Macros) (r : Result Name Fault) → IsUpTo 16 r → IsUpTo 16 (remove_name macros r)
 taken_out_up_to macros (Ok name) h = tt
 taken_out_up_to macros (Err f) h = h
 
 pub define_number : (profile : Profile) (macros : Macros) (at : Place) (line : List Token) (f : Fault) → after_define profile macros at line ≡ Err f → f.number ≤ 16
-define_number profile macros at line f e = subst (IsUpTo 16) e (entered_up_to macros (judged profile macros at line) (judged_up_to profile macros at line))
+define_number profile macros at line f e = subst (IsUpTo 16) e (entered_up_to macros (check_define profile macros at line) (judged_up_to profile macros at line))
 
 pub undef_number : (profile : Profile) (macros : Macros) (at : Place) (line : List Token) (f : Fault) → after_undef profile macros at line ≡ Err f → f.number ≤ 16
 undef_number profile macros at line f e = subst (IsUpTo 16) e (taken_out_up_to macros (undefined profile macros at line) (undefined_up_to profile macros at line))

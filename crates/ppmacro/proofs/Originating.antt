@@ -9,10 +9,10 @@ use Rattle.pptext.specs.Tokens.{fault}
 use Rattle.ppmacro.specs.Names.{HideSet}
 use Rattle.ppmacro.specs.Hiding.{Hiding}
 use Rattle.ppmacro.specs.Lexing.{kind_of}
-use Rattle.ppmacro.specs.Substitution.{Arguments, Marked, argument_at, expanded_at, stringized, is_string_literal, string_text, string_token, pasted, pasted_as, after_ok, join, join_all}
-use Rattle.ppmacro.specs.Substitution.{operand_tokens, operands_tokens, is_joined, before_rest, rest_of, rest_behind_comma, with_rest_tokens, chain_tokens, mark_first, chains_tokens}
-use Rattle.ppmacro.specs.Substitution.{gained, substituted_by}
-use Rattle.ppmacro.specs.Origins.{ComesFrom, listed, expanded, given, rest, literal, paste, own_mark, Waits, at_front, behind_tokens, behind_none, IsReplacing}
+use Rattle.ppmacro.specs.Substitution.{Arguments, Replacement, argument_at, expanded_at, stringized, is_string_literal, string_text, string_token, pasted, pasted_as, after_ok, join, join_all}
+use Rattle.ppmacro.specs.Substitution.{operand_tokens, operands_tokens, is_joined, before_rest, rest_of, rest_after_comma, with_rest_tokens, chain_tokens, flag_first, chains_tokens}
+use Rattle.ppmacro.specs.Substitution.{hsadd, chains_replacement}
+use Rattle.ppmacro.specs.Origins.{ComesFrom, listed, expanded, given, rest, literal, paste, own_flag, LeavesPending, at_front, behind_tokens, behind_none, IsReplacementToken}
 use Rattle.ppmacro.specs.declared.macros.Chain.{Chain}
 use Rattle.ppmacro.specs.declared.macros.Operand.{Operand}
 use Rattle.ppmacro.specs.declared.macros.Operand.TheVariants.{Tok, Param, Str, Rest}
@@ -97,12 +97,12 @@ module _ (args : Arguments) (used : Place) (operands : List Operand) where
         | false ↦ λ e. absurd (no-ok _ t e)
       ] e
 
-  operand_each : (beside : Bool) → is_joined operands ≡ beside → (o : Operand) → Contains operands o → (ts : List Hiding) → operand_tokens beside args used o ≡ Ok ts → AllByRecursion Comes ts
-  operand_each beside joined (Tok t) h ts e = subst (AllByRecursion Comes) (ok-same _ ts e) (listed h, tt)
+  operand_each : (next_to_paste : Bool) → is_joined operands ≡ next_to_paste → (o : Operand) → Contains operands o → (ts : List Hiding) → operand_tokens next_to_paste args used o ≡ Ok ts → AllByRecursion Comes ts
+  operand_each next_to_paste joined (Tok t) h ts e = subst (AllByRecursion Comes) (ok-same _ ts e) (listed h, tt)
   operand_each true joined (Param i) h ts e = subst (AllByRecursion Comes) (ok-same _ ts e) (each-of Comes (argument_at args.given i) (λ x k. given joined h k))
   operand_each false joined (Param i) h ts e = subst (AllByRecursion Comes) (ok-same _ ts e) (each-of Comes (expanded_at args.expanded i) (λ x k. expanded joined h k))
-  operand_each beside joined (Rest i) h ts e = subst (AllByRecursion Comes) (ok-same _ ts e) (each-of Comes (argument_at args.given i) (λ x k. rest h k))
-  operand_each beside joined (Str i at) h ts e =
+  operand_each next_to_paste joined (Rest i) h ts e = subst (AllByRecursion Comes) (ok-same _ ts e) (each-of Comes (argument_at args.given i) (λ x k. rest h k))
+  operand_each next_to_paste joined (Str i at) h ts e =
       let made = after (stringized (map (λ t. t.token) (argument_at args.given i)) at used) (λ t. Ok (t ∷ [])) ts e in
       subst (AllByRecursion Comes) (ok-same _ ts made.2) (literal_comes i at made.0 h made.1, tt)
 
@@ -116,7 +116,7 @@ module _ (args : Arguments) (used : Place) (operands : List Operand) where
         operands_each os (λ p h. within p (there o p os h)) others.0 others.1,
       )
 
-  rest_each : (i : ℕ) → Contains operands (Rest i) → (o : Option (List Hiding)) → slice_get args.given i ≡ o → (ts : List Hiding) → AllByRecursion Comes ts → AllByRecursion Comes (rest_behind_comma o ts)
+  rest_each : (i : ℕ) → Contains operands (Rest i) → (o : Option (List Hiding)) → slice_get args.given i ≡ o → (ts : List Hiding) → AllByRecursion Comes ts → AllByRecursion Comes (rest_after_comma o ts)
   rest_each i h None e ts all = all-take Comes (length ts - 1) ts all
   rest_each i h (Some argument) e ts all =
       let is : argument_at args.given i ≡ argument = ap (λ o. unwrap_or o []) e in
@@ -169,41 +169,41 @@ not_nil [] x = refl
 not_nil (y ∷ ys) x = refl
 
 -- The leading-space flag of a chain's first token.
-mark_is : (first : Bool) (before : List Chain) (c : Chain) → first ≡ is_nil before → (not first && c.mark) ≡ own_mark before c
+mark_is : (first : Bool) (before : List Chain) (c : Chain) → first ≡ is_nil before → (not first && c.flag) ≡ own_flag before c
 mark_is first [] c e = rw e refl
 mark_is first (b ∷ bs) c e = rw e refl
 
 -- Each element with its index, which counts from n.
-abbrev pub Numbered : {X : Type 0} → (ℕ → X → Type 0) → ℕ → List X → Type 0
-Numbered P n [] = Unit {0}
-Numbered P n (x ∷ xs) = P n x × Numbered P (suc n) xs
+abbrev pub Indexed : {X : Type 0} → (ℕ → X → Type 0) → ℕ → List X → Type 0
+Indexed P n [] = Unit {0}
+Indexed P n (x ∷ xs) = P n x × Indexed P (suc n) xs
 
-numbered-append : {X : Type 0} (P : ℕ → X → Type 0) (n : ℕ) (xs ys : List X) → Numbered P n xs → Numbered P (n + length xs) ys → Numbered P n (xs ++ ys)
-numbered-append P n [] ys h k = subst (λ m. Numbered P m ys) (omega arith) k
-numbered-append P n (x ∷ xs) ys h k = (h.0, numbered-append P (suc n) xs ys h.1 (subst (λ m. Numbered P m ys) (omega arith) k))
+numbered-append : {X : Type 0} (P : ℕ → X → Type 0) (n : ℕ) (xs ys : List X) → Indexed P n xs → Indexed P (n + length xs) ys → Indexed P n (xs ++ ys)
+numbered-append P n [] ys h k = subst (λ m. Indexed P m ys) (omega arith) k
+numbered-append P n (x ∷ xs) ys h k = (h.0, numbered-append P (suc n) xs ys h.1 (subst (λ m. Indexed P m ys) (omega arith) k))
 
-numbered-at : {X : Type 0} (P : ℕ → X → Type 0) (n : ℕ) (front : List X) (x : X) (behind : List X) → Numbered P n (front ++ x ∷ behind) → P (n + length front) x
-numbered-at P n [] x behind h = subst (λ m. P m x) (omega arith) h.0
-numbered-at P n (y ∷ front) x behind h = subst (λ m. P m x) (omega arith) (numbered-at P (suc n) front x behind h.1)
+numbered-at : {X : Type 0} (P : ℕ → X → Type 0) (n : ℕ) (front : List X) (x : X) (following : List X) → Indexed P n (front ++ x ∷ following) → P (n + length front) x
+numbered-at P n [] x following h = subst (λ m. P m x) (omega arith) h.0
+numbered-at P n (y ∷ front) x following h = subst (λ m. P m x) (omega arith) (numbered-at P (suc n) front x following h.1)
 
-module _ (args : Arguments) (gain : HideSet) (used : Place) (space : Bool) where
+module _ (args : Arguments) (added : HideSet) (used : Place) (space : Bool) where
   abbrev Replacing : List Chain → ℕ → Hiding → Type 0
-  Replacing cs n t = IsReplacing cs args gain used space n (gained gain used t)
+  Replacing cs n t = IsReplacementToken cs args added used space n (hsadd added used t)
 
   -- The tokens of a chain after its first.
-  later_each : (before : List Chain) (c : Chain) (behind : List Chain) (count : ℕ) (waiting : Bool)
-      → Waits args used space before count waiting
+  later_each : (before : List Chain) (c : Chain) (following : List Chain) (count : ℕ) (waiting : Bool)
+      → LeavesPending args used space before count waiting
       → (t : Hiding) (ts us : List Hiding)
       → chain_tokens args used c ≡ Ok ((t ∷ ts) ++ us)
       → (n : ℕ)
       → n ≡ count + length (t ∷ ts)
-      → Numbered (Replacing (before ++ c ∷ behind)) n us
-  later_each before c behind count waiting w t ts [] e n at = tt
-  later_each before c behind count waiting w t ts (u ∷ us) e n at = (
+      → Indexed (Replacing (before ++ c ∷ following)) n us
+  later_each before c following count waiting w t ts [] e n at = tt
+  later_each before c following count waiting w t ts (u ∷ us) e n at = (
     record {
       before = before;
       chain = c;
-      behind = behind;
+      following = following;
       laid_out = refl;
       front = t ∷ ts;
       own = u;
@@ -216,26 +216,26 @@ module _ (args : Arguments) (gain : HideSet) (used : Place) (space : Bool) where
       token = refl;
       hide = refl;
     },
-    later_each before c behind count waiting w t (ts ++ u ∷ []) us (e ∙ ap (λ xs. Ok (t ∷ xs)) (sym (append_assoc ts (u ∷ []) us))) (suc n) (omega (arith, at, length-append ts (u ∷ []))),
+    later_each before c following count waiting w t (ts ++ u ∷ []) us (e ∙ ap (λ xs. Ok (t ∷ xs)) (sym (append_assoc ts (u ∷ []) us))) (suc n) (omega (arith, at, length-append ts (u ∷ []))),
   )
 
   -- The tokens of a chain, and the flag that is pending after it.
-  chain_replacing : (before : List Chain) (c : Chain) (behind : List Chain) (count : ℕ) (waiting mark : Bool)
-      → Waits args used space before count waiting
-      → mark ≡ (waiting || own_mark before c)
+  chain_replacing : (before : List Chain) (c : Chain) (following : List Chain) (count : ℕ) (waiting flag : Bool)
+      → LeavesPending args used space before count waiting
+      → flag ≡ (waiting || own_flag before c)
       → (ts : List Hiding)
       → chain_tokens args used c ≡ Ok ts
-      → Numbered (Replacing (before ++ c ∷ behind)) count (mark_first mark ts).tokens
-      × Waits args used space (before ++ c ∷ []) (count + length (mark_first mark ts).tokens) (mark_first mark ts).pending
-  chain_replacing before c behind count waiting mark w m [] e =
+      → Indexed (Replacing (before ++ c ∷ following)) count (flag_first flag ts).tokens
+      × LeavesPending args used space (before ++ c ∷ []) (count + length (flag_first flag ts).tokens) (flag_first flag ts).pending
+  chain_replacing before c following count waiting flag w m [] e =
       let none : count ≡ count + 0 = omega arith in
-      (tt, subst (λ n. Waits args used space (before ++ c ∷ []) n mark) none (subst (Waits args used space (before ++ c ∷ []) count) (sym m) (behind_none before c w e)))
-  chain_replacing before c behind count waiting mark w m (t ∷ ts) e = (
+      (tt, subst (λ n. LeavesPending args used space (before ++ c ∷ []) n flag) none (subst (LeavesPending args used space (before ++ c ∷ []) count) (sym m) (behind_none before c w e)))
+  chain_replacing before c following count waiting flag w m (t ∷ ts) e = (
     (
       record {
         before = before;
         chain = c;
-        behind = behind;
+        following = following;
         laid_out = refl;
         front = [];
         own = t;
@@ -248,67 +248,67 @@ module _ (args : Arguments) (gain : HideSet) (used : Place) (space : Bool) where
         token = ap (λ b. record t.token { used = used; space = b }) m;
         hide = refl;
       },
-      later_each before c behind count waiting w t [] ts e (suc count) (omega arith),
+      later_each before c following count waiting w t [] ts e (suc count) (omega arith),
     ),
     behind_tokens before c w e,
   )
 
-  abbrev Walked : List Chain → ℕ → Marked → Type 0
-  Walked cs count m = Numbered (Replacing cs) count m.tokens × Waits args used space cs (count + length m.tokens) m.pending
+  abbrev Walked : List Chain → ℕ → Replacement → Type 0
+  Walked cs count m = Indexed (Replacing cs) count m.tokens × LeavesPending args used space cs (count + length m.tokens) m.pending
 
-  walk : (before : List Chain) (count : ℕ) (waiting first : Bool) (cs : List Chain) (m : Marked)
+  walk : (before : List Chain) (count : ℕ) (waiting first : Bool) (cs : List Chain) (m : Replacement)
       → first ≡ is_nil before
-      → Waits args used space before count waiting
+      → LeavesPending args used space before count waiting
       → chains_tokens args used waiting first cs ≡ Ok m
       → Walked (before ++ cs) count m
   walk before count waiting first [] m f w e =
       let is : record { tokens = []; pending = waiting } ≡ m = ok-same _ m e in
       let none : count ≡ count + 0 = omega arith in
-      subst (Walked (before ++ []) count) is (tt, subst (λ n. Waits args used space (before ++ []) n waiting) none (subst (λ cs. Waits args used space cs count waiting) (sym (append-nil before)) w))
+      subst (Walked (before ++ []) count) is (tt, subst (λ n. LeavesPending args used space (before ++ []) n waiting) none (subst (λ cs. LeavesPending args used space cs count waiting) (sym (append-nil before)) w))
   walk before count waiting first (c ∷ cs) m f w e =
       let one = after (chain_tokens args used c) (λ ts.
-      let at : Marked = mark_first (waiting || (not first && c.mark)) ts in
+      let at : Replacement = flag_first (waiting || (not first && c.flag)) ts in
       after_ok (chains_tokens args used at.pending false cs) (λ more. Ok (record { tokens = at.tokens ++ more.tokens; pending = more.pending }))) m e in
-      let at : Marked = mark_first (waiting || (not first && c.mark)) one.0 in
+      let at : Replacement = flag_first (waiting || (not first && c.flag)) one.0 in
       let others = after (chains_tokens args used at.pending false cs) (λ more. Ok (record { tokens = at.tokens ++ more.tokens; pending = more.pending })) m one.2 in
       let is : record { tokens = at.tokens ++ others.0.tokens; pending = others.0.pending } ≡ m = ok-same _ m others.2 in
-      let own = chain_replacing before c cs count waiting (waiting || (not first && c.mark)) w (ap (λ b. waiting || b) (mark_is first before c f)) one.0 one.1 in
+      let own = chain_replacing before c cs count waiting (waiting || (not first && c.flag)) w (ap (λ b. waiting || b) (mark_is first before c f)) one.0 one.1 in
       let more = walk (before ++ c ∷ []) (count + length at.tokens) at.pending false cs others.0 (not_nil before c) own.1 others.1 in
       let all : Walked (before ++ c ∷ cs) (count + length at.tokens) others.0 = subst (λ xs. Walked xs (count + length at.tokens) others.0) (append_assoc before (c ∷ []) cs) more in
       let total : count + length at.tokens + length others.0.tokens ≡ count + length (at.tokens ++ others.0.tokens) = omega (arith, length-append at.tokens others.0.tokens) in
       subst (Walked (before ++ c ∷ cs) count) is (
         numbered-append (Replacing (before ++ c ∷ cs)) count at.tokens others.0.tokens own.0 all.0,
-        subst (λ n. Waits args used space (before ++ c ∷ cs) n others.0.pending) total all.1,
+        subst (λ n. LeavesPending args used space (before ++ c ∷ cs) n others.0.pending) total all.1,
       )
 
-  all-gained : (cs : List Chain) (n : ℕ) (ts : List Hiding) → Numbered (Replacing cs) n ts → Numbered (IsReplacing cs args gain used space) n (map (gained gain used) ts)
-  all-gained cs n [] h = tt
-  all-gained cs n (t ∷ ts) h = (h.0, all-gained cs (suc n) ts h.1)
+  all-hsadd : (cs : List Chain) (n : ℕ) (ts : List Hiding) → Indexed (Replacing cs) n ts → Indexed (IsReplacementToken cs args added used space) n (map (hsadd added used) ts)
+  all-hsadd cs n [] h = tt
+  all-hsadd cs n (t ∷ ts) h = (h.0, all-hsadd cs (suc n) ts h.1)
 
-  length-gained : (ts : List Hiding) → length ts ≡ length (map (gained gain used) ts)
-  length-gained [] = refl
-  length-gained (t ∷ ts) = ap suc (length-gained ts)
+  length-hsadd : (ts : List Hiding) → length ts ≡ length (map (hsadd added used) ts)
+  length-hsadd [] = refl
+  length-hsadd (t ∷ ts) = ap suc (length-hsadd ts)
 
-  replaced_all : (cs : List Chain) (m : Marked)
-      → substituted_by cs args gain used space ≡ Ok m
-      → Numbered (IsReplacing cs args gain used space) 0 m.tokens × Waits args used space cs (length m.tokens) m.pending
+  replaced_all : (cs : List Chain) (m : Replacement)
+      → chains_replacement cs args added used space ≡ Ok m
+      → Indexed (IsReplacementToken cs args added used space) 0 m.tokens × LeavesPending args used space cs (length m.tokens) m.pending
   replaced_all cs m e =
-      let made = after (chains_tokens args used space true cs) (λ n. Ok (record n { tokens = map (gained gain used) n.tokens })) m e in
-      let is : record made.0 { tokens = map (gained gain used) made.0.tokens } ≡ m = ok-same _ m made.2 in
+      let made = after (chains_tokens args used space true cs) (λ n. Ok (record n { tokens = map (hsadd added used) n.tokens })) m e in
+      let is : record made.0 { tokens = map (hsadd added used) made.0.tokens } ≡ m = ok-same _ m made.2 in
       let all = walk [] 0 space true cs made.0 refl at_front made.1 in
-      let total : 0 + length made.0.tokens ≡ length (map (gained gain used) made.0.tokens) = omega (arith, length-gained made.0.tokens) in
-      subst (λ n. Numbered (IsReplacing cs args gain used space) 0 n.tokens × Waits args used space cs (length n.tokens) n.pending) is
-      (all-gained cs 0 made.0.tokens all.0, subst (λ n. Waits args used space cs n made.0.pending) total all.1)
+      let total : 0 + length made.0.tokens ≡ length (map (hsadd added used) made.0.tokens) = omega (arith, length-hsadd made.0.tokens) in
+      subst (λ n. Indexed (IsReplacementToken cs args added used space) 0 n.tokens × LeavesPending args used space cs (length n.tokens) n.pending) is
+      (all-hsadd cs 0 made.0.tokens all.0, subst (λ n. LeavesPending args used space cs n made.0.pending) total all.1)
 
-  pub replaced_each : (cs : List Chain) (m : Marked)
-      → substituted_by cs args gain used space ≡ Ok m
-      → (front : List Hiding) (t : Hiding) (behind : List Hiding)
-      → m.tokens ≡ front ++ t ∷ behind
-      → IsReplacing cs args gain used space (length front) t
-  replaced_each cs m e front t behind is =
+  pub replaced_each : (cs : List Chain) (m : Replacement)
+      → chains_replacement cs args added used space ≡ Ok m
+      → (front : List Hiding) (t : Hiding) (following : List Hiding)
+      → m.tokens ≡ front ++ t ∷ following
+      → IsReplacementToken cs args added used space (length front) t
+  replaced_each cs m e front t following is =
       let same : 0 + length front ≡ length front = omega arith in
-      subst (λ n. IsReplacing cs args gain used space n t) same
-      (numbered-at (IsReplacing cs args gain used space) 0 front t behind (subst (Numbered (IsReplacing cs args gain used space) 0) is (replaced_all cs m e).0))
+      subst (λ n. IsReplacementToken cs args added used space n t) same
+      (numbered-at (IsReplacementToken cs args added used space) 0 front t following (subst (Indexed (IsReplacementToken cs args added used space) 0) is (replaced_all cs m e).0))
 
-  pub waits_behind : (cs : List Chain) (m : Marked) → substituted_by cs args gain used space ≡ Ok m → Waits args used space cs (length m.tokens) m.pending
+  pub waits_behind : (cs : List Chain) (m : Replacement) → chains_replacement cs args added used space ≡ Ok m → LeavesPending args used space cs (length m.tokens) m.pending
   waits_behind cs m e = (replaced_all cs m e).1

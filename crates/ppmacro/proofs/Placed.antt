@@ -3,12 +3,12 @@ use Rattle.std.proofs.Common.{◌≡◌, Bool, true, false, not, ◌&&◌, ◌||
 use Rattle.std.proofs.Common.{◌↔◌, sym}
 use Rattle.pptext.specs.declared.tokens.Token.{Token}
 use Rattle.pptext.specs.Tokens.{is_punct}
-use Rattle.ppmacro.specs.Spellings.{is_hash, is_paste}
+use Rattle.ppmacro.specs.HashOperators.{is_hash, is_paste}
 use Rattle.ppmacro.specs.Chains.{parameter_of, is_function_like, is_operator_hash, chains_of}
 use Rattle.ppmacro.specs.Define.{is_empty, misplaces_paste, begins_with_parameter, misplaces_hash}
 use Rattle.ppmacro.specs.Laws.{IsOperand, token, parameter, stringized, AreJoined, last, pasted, AreChains, none, chain, places_operators}
-use Rattle.ppmacro.specs.declared.macros.Shape.{Shape}
-use Rattle.ppmacro.specs.declared.macros.Definition.{Definition}
+use Rattle.ppmacro.specs.declared.macros.MacroKind.{MacroKind}
+use Rattle.ppmacro.specs.declared.macros.Macro.{Macro}
 use Rattle.ppmacro.specs.declared.macros.Chain.{Chain}
 use Rattle.ppmacro.specs.declared.macros.Operand.{Operand}
 use Rattle.ppmacro.proofs.Layouts.{other_punct}
@@ -41,23 +41,23 @@ before_parameter false h m g = refl
 before_parameter true true m g = g
 before_parameter true false m g = g
 
-module _ (shape : Shape) where
-  operand_pastes : {mark : Bool} {ts : List Token} {o : Operand} → IsOperand shape mark ts o → (b : Bool) (rest : List Token) → misplaces_paste b (ts ++ rest) ≡ misplaces_paste false rest
+module _ (kind : MacroKind) where
+  operand_pastes : {flag : Bool} {ts : List Token} {o : Operand} → IsOperand kind flag ts o → (b : Bool) (rest : List Token) → misplaces_paste b (ts ++ rest) ≡ misplaces_paste false rest
   operand_pastes (token {t = t} p h e) b rest = after_no_paste b t rest p
-  operand_pastes (parameter {t = t} {i = i} e) b rest = after_no_paste b t rest (parameter_no_paste shape t i e)
+  operand_pastes (parameter {t = t} {i = i} e) b rest = after_no_paste b t rest (parameter_no_paste kind t i e)
   operand_pastes (stringized {hash = hash} {t = t} {i = i} h e) b rest =
-      after_no_paste b hash (t ∷ rest) (hash_no_paste shape hash h) ∙ after_no_paste false t rest (parameter_no_paste shape t i e)
+      after_no_paste b hash (t ∷ rest) (hash_no_paste kind hash h) ∙ after_no_paste false t rest (parameter_no_paste kind t i e)
 
-  operand_filled : {mark : Bool} {ts : List Token} {o : Operand} → IsOperand shape mark ts o → (rest : List Token) → is_empty (ts ++ rest) ≡ false
+  operand_filled : {flag : Bool} {ts : List Token} {o : Operand} → IsOperand kind flag ts o → (rest : List Token) → is_empty (ts ++ rest) ≡ false
   operand_filled (token p h e) rest = refl
   operand_filled (parameter e) rest = refl
   operand_filled (stringized h e) rest = refl
 
-  joined_filled : {mark : Bool} {ts : List Token} {os : List Operand} → AreJoined shape mark ts os → (rest : List Token) → is_empty (ts ++ rest) ≡ false
+  joined_filled : {flag : Bool} {ts : List Token} {os : List Operand} → AreJoined kind flag ts os → (rest : List Token) → is_empty (ts ++ rest) ≡ false
   joined_filled (last o) rest = operand_filled o rest
   joined_filled (pasted ts p more other o e j) rest = ap is_empty (append_assoc ts (p ∷ more) rest) ∙ operand_filled o (p ∷ (more ++ rest))
 
-  joined_pastes : {mark : Bool} {ts : List Token} {os : List Operand} → AreJoined shape mark ts os → (b : Bool) (rest : List Token) → misplaces_paste b (ts ++ rest) ≡ misplaces_paste false rest
+  joined_pastes : {flag : Bool} {ts : List Token} {os : List Operand} → AreJoined kind flag ts os → (b : Bool) (rest : List Token) → misplaces_paste b (ts ++ rest) ≡ misplaces_paste false rest
   joined_pastes (last o) b rest = operand_pastes o b rest
   joined_pastes (pasted ts p more other o e j) b rest =
       ap (misplaces_paste b) (append_assoc ts (p ∷ more) rest)
@@ -65,34 +65,34 @@ module _ (shape : Shape) where
       ∙ after_paste p (more ++ rest) e (joined_filled j rest)
       ∙ joined_pastes j true rest
 
-  chains_paste : {ts : List Token} {cs : List Chain} → AreChains shape ts cs → (b : Bool) → misplaces_paste b ts ≡ false
+  chains_paste : {ts : List Token} {cs : List Chain} → AreChains kind ts cs → (b : Bool) → misplaces_paste b ts ≡ false
   chains_paste none b = refl
   chains_paste (chain ts rest j more) b = joined_pastes j b rest ∙ chains_paste more false
 
   abbrev HashesStand : List Token → Type 0
-  HashesStand ts = (is_function_like shape && misplaces_hash shape ts) ≡ false
+  HashesStand ts = (is_function_like kind && misplaces_hash kind ts) ≡ false
 
-  free_before : (t : Token) (rest : List Token) → is_operator_hash shape t ≡ false → HashesStand rest → HashesStand (t ∷ rest)
-  free_before t rest e h = no_hash (is_function_like shape) (is_hash t) (not (begins_with_parameter shape rest)) (misplaces_hash shape rest) e h
+  free_before : (t : Token) (rest : List Token) → is_operator_hash kind t ≡ false → HashesStand rest → HashesStand (t ∷ rest)
+  free_before t rest e h = no_hash (is_function_like kind) (is_hash t) (not (begins_with_parameter kind rest)) (misplaces_hash kind rest) e h
 
-  hash_before : (hash t : Token) (rest : List Token) → is_some (parameter_of shape t) ≡ true → HashesStand (t ∷ rest) → HashesStand (hash ∷ (t ∷ rest))
+  hash_before : (hash t : Token) (rest : List Token) → is_some (parameter_of kind t) ≡ true → HashesStand (t ∷ rest) → HashesStand (hash ∷ (t ∷ rest))
   hash_before hash t rest e h =
-      subst (λ b. (is_function_like shape && ((is_hash hash && not b) || misplaces_hash shape (t ∷ rest))) ≡ false) (sym e)
-      (before_parameter (is_function_like shape) (is_hash hash) (misplaces_hash shape (t ∷ rest)) h)
+      subst (λ b. (is_function_like kind && ((is_hash hash && not b) || misplaces_hash kind (t ∷ rest))) ≡ false) (sym e)
+      (before_parameter (is_function_like kind) (is_hash hash) (misplaces_hash kind (t ∷ rest)) h)
 
-  operand_hashes : {mark : Bool} {ts : List Token} {o : Operand} → IsOperand shape mark ts o → (rest : List Token) → HashesStand rest → HashesStand (ts ++ rest)
+  operand_hashes : {flag : Bool} {ts : List Token} {o : Operand} → IsOperand kind flag ts o → (rest : List Token) → HashesStand rest → HashesStand (ts ++ rest)
   operand_hashes (token {t = t} p h e) rest s = free_before t rest h s
-  operand_hashes (parameter {t = t} {i = i} e) rest s = free_before t rest (parameter_no_hash shape t i e) s
-  operand_hashes (stringized {hash = hash} {t = t} {i = i} h e) rest s = hash_before hash t rest (ap is_some e) (free_before t rest (parameter_no_hash shape t i e) s)
+  operand_hashes (parameter {t = t} {i = i} e) rest s = free_before t rest (parameter_no_hash kind t i e) s
+  operand_hashes (stringized {hash = hash} {t = t} {i = i} h e) rest s = hash_before hash t rest (ap is_some e) (free_before t rest (parameter_no_hash kind t i e) s)
 
-  paste_free : (p : Token) → is_paste p ≡ true → is_operator_hash shape p ≡ false
-  paste_free p e = by_shape (is_function_like shape) (is_hash p) (paste_no_hash p e)
+  paste_free : (p : Token) → is_paste p ≡ true → is_operator_hash kind p ≡ false
+  paste_free p e = by_shape (is_function_like kind) (is_hash p) (paste_no_hash p e)
     where
       by_shape : (f h : Bool) → h ≡ false → (f && h) ≡ false
       by_shape true h e = e
       by_shape false h e = refl
 
-  joined_hashes : {mark : Bool} {ts : List Token} {os : List Operand} → AreJoined shape mark ts os → (rest : List Token) → HashesStand rest → HashesStand (ts ++ rest)
+  joined_hashes : {flag : Bool} {ts : List Token} {os : List Operand} → AreJoined kind flag ts os → (rest : List Token) → HashesStand rest → HashesStand (ts ++ rest)
   joined_hashes (last o) rest s = operand_hashes o rest s
   joined_hashes (pasted ts p more other o e j) rest s =
       subst HashesStand (sym (append_assoc ts (p ∷ more) rest)) (operand_hashes o (p ∷ (more ++ rest)) (free_before p (more ++ rest) (paste_free p e) (joined_hashes j rest s)))
@@ -101,12 +101,12 @@ module _ (shape : Shape) where
   nothing_stands true = refl
   nothing_stands false = refl
 
-  chains_hash : {ts : List Token} {cs : List Chain} → AreChains shape ts cs → HashesStand ts
-  chains_hash none = nothing_stands (is_function_like shape)
+  chains_hash : {ts : List Token} {cs : List Chain} → AreChains kind ts cs → HashesStand ts
+  chains_hash none = nothing_stands (is_function_like kind)
   chains_hash (chain ts rest j more) = joined_hashes j rest (chains_hash more)
 
-pub in_place : (d : Definition) (cs : List Chain) → AreChains d.shape d.body cs → places_operators d ≡ true
-in_place d cs l = ap (λ b. not b && not (is_function_like d.shape && misplaces_hash d.shape d.body)) (chains_paste d.shape l true) ∙ ap not (chains_hash d.shape l)
+pub in_place : (d : Macro) (cs : List Chain) → AreChains d.kind d.body cs → places_operators d ≡ true
+in_place d cs l = ap (λ b. not b && not (is_function_like d.kind && misplaces_hash d.kind d.body)) (chains_paste d.kind l true) ∙ ap not (chains_hash d.kind l)
 
-pub exactly : (d : Definition) → (places_operators d ≡ true) ↔ ((cs : List Chain) × AreChains d.shape d.body cs)
+pub exactly : (d : Macro) → (places_operators d ≡ true) ↔ ((cs : List Chain) × AreChains d.kind d.body cs)
 exactly d = (λ e. (chains_of d, lays_out d e), λ l. in_place d l.0 l.1)

@@ -2,26 +2,26 @@
 use Rattle.std.proofs.Common.{◌≡◌, ℕ, ◌<◌, Bool, true, false, cond, ◌&&◌, ◌||◌, nat_eq, List, [], ◌∷◌, ◌++◌, Option, Some, None, length, refl, sym, ap, ◌∙◌, subst, if◌then◌else◌}
 use Rattle.std.proofs.Math.Bool as bool
 use Rattle.std.proofs.lemmas.Bool.{eqb-true, eq-eqb, and_parts}
-use Rattle.ppmacro.specs.Nodes.{Node, member, word, IsPool, Keeps}
-use Rattle.ppmacro.specs.Operations.{Operation, Union, Meet, joined, joined_word, known}
-use Rattle.ppmacro.specs.Pairs.{Answered, same_pair, answer_of}
-use Rattle.ppmacro.specs.Remembered.{IsAnswer, AreAnswers}
+use Rattle.ppmacro.specs.code.Nodes.{Node, member, word, IsPool, KeepsNodes}
+use Rattle.ppmacro.specs.code.Operations.{Operation, Union, Meet, member_rule, word_rule, known}
+use Rattle.ppmacro.specs.PairCache.{CachedPairs, same_pair, cached_result}
+use Rattle.ppmacro.specs.code.PoolInvariant.{IsAnswer, AreAnswers}
 use Rattle.std.specs.Int.RustNames.{bit_or, bit_and}
 use Rattle.ppmacro.proofs.Tries.{member-keeps, length-keeps, member-none, word-none, or_none, none_or, or_self, none_and, and_none, and_self}
 
-pub answer-put : (ps : Answered) (a b n : ℕ) → answer_of ps a b ≡ None → answer_of (ps ++ ((a, b), n) ∷ []) a b ≡ Some n
+pub answer-put : (ps : CachedPairs) (a b n : ℕ) → cached_result ps a b ≡ None → cached_result (ps ++ ((a, b), n) ∷ []) a b ≡ Some n
 answer-put [] a b n h = ap (λ t. cond t (Some n) None) (λ i. eq-eqb a a refl i && eq-eqb b b refl i)
-answer-put (e ∷ ps) a b n h = elim (same_pair (a, b) e.0) as (λ t. cond t (Some e.1) (answer_of ps a b) ≡ None → cond t (Some e.1) (answer_of (ps ++ ((a, b), n) ∷ []) a b) ≡ Some n) [
+answer-put (e ∷ ps) a b n h = elim (same_pair (a, b) e.0) as (λ t. cond t (Some e.1) (cached_result ps a b) ≡ None → cond t (Some e.1) (cached_result (ps ++ ((a, b), n) ∷ []) a b) ≡ Some n) [
   | true ↦ λ g. absurd (cc g)
   | false ↦ λ g. answer-put ps a b n g
 ] h
 
 -- A pair that is neither trivial nor cached.
-pub record IsUnknown (ps : Answered) (a b : ℕ) : Type 0 where
+pub record IsUnknown (ps : CachedPairs) (a b : ℕ) : Type 0 where
   pub left : nat_eq a 0 ≡ false
   pub right : nat_eq b 0 ≡ false
   pub apart : nat_eq a b ≡ false
-  pub none : answer_of ps a b ≡ None
+  pub none : cached_result ps a b ≡ None
 
 none-chosen : (x y z : Bool) (p q r : ℕ) (o : Option ℕ) → (if x then Some p else (if y then Some q else (if z then Some r else o))) ≡ None → (x ≡ false) × (y ≡ false) × (z ≡ false) × (o ≡ None)
 none-chosen true y z p q r o h = absurd (cc h)
@@ -29,15 +29,15 @@ none-chosen false true z p q r o h = absurd (cc h)
 none-chosen false false true p q r o h = absurd (cc h)
 none-chosen false false false p q r o h = (refl, refl, refl, h)
 
-pub unknown : (o : Operation) (ps : Answered) (a b : ℕ) → known o ps a b ≡ None → IsUnknown ps a b
-unknown Union ps a b h = let c = none-chosen (nat_eq a 0) (nat_eq b 0) (nat_eq a b) b a a (answer_of ps a b) h in record { left = c.0; right = c.1; apart = c.2; none = c.3 }
-unknown Meet ps a b h = let c = none-chosen (nat_eq a 0) (nat_eq b 0) (nat_eq a b) a b a (answer_of ps a b) h in record { left = c.0; right = c.1; apart = c.2; none = c.3 }
+pub unknown : (o : Operation) (ps : CachedPairs) (a b : ℕ) → known o ps a b ≡ None → IsUnknown ps a b
+unknown Union ps a b h = let c = none-chosen (nat_eq a 0) (nat_eq b 0) (nat_eq a b) b a a (cached_result ps a b) h in record { left = c.0; right = c.1; apart = c.2; none = c.3 }
+unknown Meet ps a b h = let c = none-chosen (nat_eq a 0) (nat_eq b 0) (nat_eq a b) a b a (cached_result ps a b) h in record { left = c.0; right = c.1; apart = c.2; none = c.3 }
 
 -- A result is known if it is trivial or cached.
-pub split_memory-known : (o : Operation) (ps : Answered) (a b n : ℕ) → known o [] a b ≡ Some n → known o ps a b ≡ Some n
+pub split_memory-known : (o : Operation) (ps : CachedPairs) (a b n : ℕ) → known o [] a b ≡ Some n → known o ps a b ≡ Some n
 split_memory-known o ps a b n = at o
   where
-    from : (x y z : Bool) (p q r : ℕ) → (if x then Some p else (if y then Some q else (if z then Some r else None))) ≡ Some n → (if x then Some p else (if y then Some q else (if z then Some r else answer_of ps a b))) ≡ Some n
+    from : (x y z : Bool) (p q r : ℕ) → (if x then Some p else (if y then Some q else (if z then Some r else None))) ≡ Some n → (if x then Some p else (if y then Some q else (if z then Some r else cached_result ps a b))) ≡ Some n
     from true y z p q r e = e
     from false true z p q r e = e
     from false false true p q r e = e
@@ -47,18 +47,18 @@ split_memory-known o ps a b n = at o
     at Union = from (nat_eq a 0) (nat_eq b 0) (nat_eq a b) b a a
     at Meet = from (nat_eq a 0) (nat_eq b 0) (nat_eq a b) a b a
 
-pub unsettled-known : (o : Operation) (ps : Answered) (a b : ℕ) → known o [] a b ≡ None → known o ps a b ≡ answer_of ps a b
-unsettled-known Union ps a b h = let u = unknown Union [] a b h in λ i. if u.left i then Some b else (if u.right i then Some a else (if u.apart i then Some a else answer_of ps a b))
-unsettled-known Meet ps a b h = let u = unknown Meet [] a b h in λ i. if u.left i then Some a else (if u.right i then Some b else (if u.apart i then Some a else answer_of ps a b))
+pub unsettled-known : (o : Operation) (ps : CachedPairs) (a b : ℕ) → known o [] a b ≡ None → known o ps a b ≡ cached_result ps a b
+unsettled-known Union ps a b h = let u = unknown Union [] a b h in λ i. if u.left i then Some b else (if u.right i then Some a else (if u.apart i then Some a else cached_result ps a b))
+unsettled-known Meet ps a b h = let u = unknown Meet [] a b h in λ i. if u.left i then Some a else (if u.right i then Some b else (if u.apart i then Some a else cached_result ps a b))
 
 -- A pair that wasn't known is, once it has a result.
-pub known-by : (o : Operation) (old new : Answered) (a b n : ℕ) → IsUnknown old a b → answer_of new a b ≡ Some n → known o new a b ≡ Some n
+pub known-by : (o : Operation) (old new : CachedPairs) (a b n : ℕ) → IsUnknown old a b → cached_result new a b ≡ Some n → known o new a b ≡ Some n
 known-by Union old new a b n u h = rw (u.left, u.right, u.apart) h
 known-by Meet old new a b n u h = rw (u.left, u.right, u.apart) h
 
 -- ---- results
 
-pub answers-keep : (op : Bool → Bool → Bool) (old new : List Node) (ps : Answered) → IsPool old → Keeps old new → AreAnswers op old ps → AreAnswers op new ps
+pub answers-keep : (op : Bool → Bool → Bool) (old new : List Node) (ps : CachedPairs) → IsPool old → KeepsNodes old new → AreAnswers op old ps → AreAnswers op new ps
 answers-keep op old new [] p k h = record { each = tt }
 answers-keep op old new (e ∷ ps) p k h =
     let rest = answers-keep op old new ps p k (record { each = h.each.1 }) in
@@ -75,15 +75,15 @@ answers-keep op old new (e ∷ ps) p k h =
       );
     }
 
-pub answers-put : (op : Bool → Bool → Bool) (ns : List Node) (ps : Answered) (e : (ℕ × ℕ) × ℕ) → AreAnswers op ns ps → IsAnswer op ns e → AreAnswers op ns (ps ++ e ∷ [])
+pub answers-put : (op : Bool → Bool → Bool) (ns : List Node) (ps : CachedPairs) (e : (ℕ × ℕ) × ℕ) → AreAnswers op ns ps → IsAnswer op ns e → AreAnswers op ns (ps ++ e ∷ [])
 answers-put op ns [] e h k = record { each = (k, tt) }
 answers-put op ns (f ∷ ps) e h k =
     let rest = answers-put op ns ps e (record { each = h.each.1 }) k in
     record { each = (h.each.0, rest.each) }
 
-found : (op : Bool → Bool → Bool) (ns : List Node) (ps : Answered) (a b n : ℕ) → AreAnswers op ns ps → answer_of ps a b ≡ Some n → IsAnswer op ns ((a, b), n)
+found : (op : Bool → Bool → Bool) (ns : List Node) (ps : CachedPairs) (a b n : ℕ) → AreAnswers op ns ps → cached_result ps a b ≡ Some n → IsAnswer op ns ((a, b), n)
 found op ns [] a b n h e = absurd (cc e)
-found op ns (f ∷ ps) a b n h e = elim (same_pair (a, b) f.0) as (λ t. same_pair (a, b) f.0 ≡ t → cond t (Some f.1) (answer_of ps a b) ≡ Some n → IsAnswer op ns ((a, b), n)) [
+found op ns (f ∷ ps) a b n h e = elim (same_pair (a, b) f.0) as (λ t. same_pair (a, b) f.0 ≡ t → cond t (Some f.1) (cached_result ps a b) ≡ Some n → IsAnswer op ns ((a, b), n)) [
   | true ↦ λ p g. (let parts = and_parts (nat_eq a f.0.0) (nat_eq b f.0.1) p in
       let one : a ≡ f.0.0 = eqb-true a f.0.0 parts.0 in
       let two : b ≡ f.0.1 = eqb-true b f.0.1 parts.1 in
@@ -116,21 +116,21 @@ by-case P a b p q r n o first second same other e = at (nat_eq a 0) (nat_eq b 0)
 none-at : (ns : List Node) (a x : ℕ) → IsPool ns → a ≡ 0 → member ns a x ≡ false
 none-at ns a x pool e = (λ i. member ns (e i) x) ∙ member-none ns x pool.empty
 
-pub known-is : (o : Operation) (ns : List Node) (ps : Answered) (a b n : ℕ) → IsPool ns → AreAnswers (joined o) ns ps → a < length ns → b < length ns → known o ps a b ≡ Some n → IsMade (joined o) ns a b n
-known-is Union ns ps a b n pool h la lb = by-case (IsMade (joined Union) ns a b) a b b a a n (answer_of ps a b)
+pub known-is : (o : Operation) (ns : List Node) (ps : CachedPairs) (a b n : ℕ) → IsPool ns → AreAnswers (member_rule o) ns ps → a < length ns → b < length ns → known o ps a b ≡ Some n → IsMade (member_rule o) ns a b n
+known-is Union ns ps a b n pool h la lb = by-case (IsMade (member_rule Union) ns a b) a b b a a n (cached_result ps a b)
     (λ e. record { within = lb; is = λ x i. sym (none-at ns a x pool e) i || member ns b x })
     (λ e. record { within = la; is = λ x. sym (bool.or-false (member ns a x)) ∙ (λ i. member ns a x || sym (none-at ns b x pool e) i) })
     (λ e. record { within = la; is = λ x. sym (bool.or_self (member ns a x)) ∙ (λ i. member ns a x || member ns (e i) x) })
-    (λ e. let k = found (joined Union) ns ps a b n h e in record { within = k.within; is = k.is })
-known-is Meet ns ps a b n pool h la lb = by-case (IsMade (joined Meet) ns a b) a b a b a n (answer_of ps a b)
+    (λ e. let k = found (member_rule Union) ns ps a b n h e in record { within = k.within; is = k.is })
+known-is Meet ns ps a b n pool h la lb = by-case (IsMade (member_rule Meet) ns a b) a b a b a n (cached_result ps a b)
     (λ e. record { within = la; is = λ x. none-at ns a x pool e ∙ (λ i. sym (none-at ns a x pool e) i && member ns b x) })
     (λ e. record { within = lb; is = λ x. none-at ns b x pool e ∙ sym (bool.and-false (member ns a x)) ∙ (λ i. member ns a x && sym (none-at ns b x pool e) i) })
     (λ e. record { within = la; is = λ x. sym (bool.and_self (member ns a x)) ∙ (λ i. member ns a x && member ns (e i) x) })
-    (λ e. let k = found (joined Meet) ns ps a b n h e in record { within = k.within; is = k.is })
+    (λ e. let k = found (member_rule Meet) ns ps a b n h e in record { within = k.within; is = k.is })
 
 pub is-answer : (op : Bool → Bool → Bool) (old new : List Node) (a b n : ℕ)
     → IsPool old
-    → Keeps old new
+    → KeepsNodes old new
     → a < length old
     → b < length old
     → n < length new
@@ -146,7 +146,7 @@ is-answer op old new a b n p k la lb ln is = record {
 -- A trivial result has the words of the result.
 pub record IsSettled (o : Operation) (ns : List Node) (a b n : ℕ) : Type 0 where
   pub within : n < length ns
-  pub is : (w : ℕ) → word ns n w ≡ joined_word o (word ns a w) (word ns b w)
+  pub is : (w : ℕ) → word ns n w ≡ word_rule o (word ns a w) (word ns b w)
 
 no-word : (ns : List Node) (a w : ℕ) → IsPool ns → a ≡ 0 → word ns a w ≡ 0
 no-word ns a w pool e = (λ i. word ns (e i) w) ∙ word-none ns w pool.empty

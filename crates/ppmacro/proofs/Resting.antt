@@ -5,16 +5,16 @@ use Rattle.std.proofs.lemmas.List.{map-append, take-map, length-map, take-append
 use Rattle.std.specs.Option.{option_map}
 use Rattle.pptext.specs.declared.tokens.Place.{Place}
 use Rattle.pptext.specs.declared.tokens.Fault.{Fault}
-use Rattle.ppmacro.specs.Numbered.{Numbered}
+use Rattle.ppmacro.specs.HideSetPool.{HideSetPool}
 use Rattle.ppmacro.specs.Hiding.{Hiding}
-use Rattle.ppmacro.specs.HideSets.{hiding, hidings, AllKnown, Keeps}
-use Rattle.ppmacro.specs.declared.flying.Hidden.{Hidden}
-use Rattle.ppmacro.specs.declared.flying.Expansion.{Expansion}
+use Rattle.ppmacro.specs.HideSets.{hiding, hidings, AllKnown, KeepsSets}
+use Rattle.ppmacro.specs.declared.hidden_token.Hidden.{Hidden}
+use Rattle.ppmacro.specs.declared.hidden_token.Expansion.{Expansion}
 use Rattle.ppmacro.specs.declared.macros.Chain.{Chain}
 use Rattle.ppmacro.specs.declared.macros.Operand.{Operand}
 use Rattle.ppmacro.specs.declared.macros.Operand.TheVariants.{Tok, Param, Str, Rest}
-use Rattle.ppmacro.specs.Chains.{rest_behind, ending_in_rest}
-use Rattle.ppmacro.specs.Substitution.{Arguments, after_ok, argument_at, join_all, operands_tokens, is_joined, before_rest, rest_of, rest_behind_comma, with_rest_tokens, chain_tokens}
+use Rattle.ppmacro.specs.Chains.{rest_after, ending_in_rest}
+use Rattle.ppmacro.specs.Substitution.{Arguments, after_ok, argument_at, join_all, operands_tokens, is_joined, before_rest, rest_of, rest_after_comma, with_rest_tokens, chain_tokens}
 use Rattle.ppmacro.specs.Substituting.{lists_of, ArgumentsKnown, arguments_in}
 use Rattle.ppmacro.proofs.KeepLemmas.{known-append, known-front}
 use Rattle.ppmacro.proofs.WalkLemmas.{arguments-keeps, arguments-known}
@@ -30,10 +30,10 @@ ending-two : (i n : ℕ) (os : List Operand) (before last : Operand)
     → length os ≡ suc (suc n)
     → before ≡ get_or os n before
     → last ≡ get_or os (suc n) last
-    → set os (suc n) (rest_behind i before last) ≡ ending_in_rest i os
+    → set os (suc n) (rest_after i before last) ≡ ending_in_rest i os
 ending-two i n [] before last h e f = absurd (omega arith)
 ending-two i n (o ∷ []) before last h e f = absurd (omega arith)
-ending-two i zero (o ∷ (p ∷ [])) before last h e f = λ k. o ∷ (rest_behind i (e k) (f k) ∷ [])
+ending-two i zero (o ∷ (p ∷ [])) before last h e f = λ k. o ∷ (rest_after i (e k) (f k) ∷ [])
 ending-two i (suc n) (o ∷ (p ∷ [])) before last h e f = absurd (omega arith)
 ending-two i zero (o ∷ (p ∷ (q ∷ os))) before last h e f = absurd (omega arith)
 ending-two i (suc n) (o ∷ (p ∷ (q ∷ os))) before last h e f = ap (λ ps. o ∷ ps) (ending-two i n (p ∷ (q ∷ os)) before last (omega arith) e f)
@@ -43,11 +43,11 @@ pub ending-last : (i : ℕ) (os : List Operand) (before last : Operand)
     → 2 ≤ length os
     → before ≡ get_or os (length os - 2) before
     → last ≡ get_or os (length os - 1) last
-    → set os (length os - 1) (rest_behind i before last) ≡ ending_in_rest i os
+    → set os (length os - 1) (rest_after i before last) ≡ ending_in_rest i os
 ending-last i os before last h e f =
     let n : ℕ = length os - 2 in
     let next : length os - 1 ≡ suc n = omega arith in
-    ap (λ m. set os m (rest_behind i before last)) next
+    ap (λ m. set os m (rest_after i before last)) next
     ∙ ending-two i n os before last (omega arith) e (f ∙ ap (λ m. get_or os m last) next)
 
 -- ---- the operands before a rest
@@ -94,28 +94,28 @@ option-in f [] i = refl
 option-in f (x ∷ xs) zero = refl
 option-in f (x ∷ xs) (suc i) = option-in f xs i
 
-behind-in : (s : Numbered) (o : Option (List Hidden)) (hs : List Hidden) → hidings s (rest_behind_comma o hs) ≡ rest_behind_comma (option_map (hidings s) o) (hidings s hs)
-behind-in s None hs = sym (take-map (hiding s) (length hs - 1) hs) ∙ ap (λ n. take (n - 1) (hidings s hs)) (sym (length-map hs (hiding s)))
-behind-in s (Some argument) hs = map-append (hiding s) hs argument
+following-in : (s : HideSetPool) (o : Option (List Hidden)) (hs : List Hidden) → hidings s (rest_after_comma o hs) ≡ rest_after_comma (option_map (hidings s) o) (hidings s hs)
+following-in s None hs = sym (take-map (hiding s) (length hs - 1) hs) ∙ ap (λ n. take (n - 1) (hidings s hs)) (sym (length-map hs (hiding s)))
+following-in s (Some argument) hs = map-append (hiding s) hs argument
 
-rest-in : (s : Numbered) (given : List (List Hidden)) (rest : Option ℕ) (hs : List Hidden)
+rest-in : (s : HideSetPool) (given : List (List Hidden)) (rest : Option ℕ) (hs : List Hidden)
     → hidings s (with_rest_tokens given rest hs) ≡ with_rest_tokens (map (hidings s) given) rest (hidings s hs)
 rest-in s given None hs = refl
-rest-in s given (Some i) hs = behind-in s (slice_get given i) hs ∙ ap (λ o. rest_behind_comma o (hidings s hs)) (option-in (hidings s) given i)
+rest-in s given (Some i) hs = following-in s (slice_get given i) hs ∙ ap (λ o. rest_after_comma o (hidings s hs)) (option-in (hidings s) given i)
 
-known-taken : {s : Numbered} (n : ℕ) (hs : List Hidden) → AllKnown s hs → AllKnown s (take n hs)
+known-taken : {s : HideSetPool} (n : ℕ) (hs : List Hidden) → AllKnown s hs → AllKnown s (take n hs)
 known-taken {s = s} n hs known = known-front (take n hs) (drop n hs) (subst (AllKnown s) (sym (take-append-drop n hs)) known)
 
-known-behind : {s : Numbered} (o : Option (List Hidden)) (hs : List Hidden) → AllKnown s (unwrap_or o []) → AllKnown s hs → AllKnown s (rest_behind_comma o hs)
-known-behind None hs more known = known-taken (length hs - 1) hs known
-known-behind (Some argument) hs more known = known-append hs argument known more
+known-rest : {s : HideSetPool} (o : Option (List Hidden)) (hs : List Hidden) → AllKnown s (unwrap_or o []) → AllKnown s hs → AllKnown s (rest_after_comma o hs)
+known-rest None hs more known = known-taken (length hs - 1) hs known
+known-rest (Some argument) hs more known = known-append hs argument known more
 
-rest-known : {s : Numbered} (given : List (List Hidden)) (rest : Option ℕ) (hs : List Hidden)
+rest-known : {s : HideSetPool} (given : List (List Hidden)) (rest : Option ℕ) (hs : List Hidden)
     → ((i : ℕ) → AllKnown s (argument_at given i))
     → AllKnown s hs
     → AllKnown s (with_rest_tokens given rest hs)
 rest-known given None hs arguments known = known
-rest-known given (Some i) hs arguments known = known-behind (slice_get given i) hs (arguments i) known
+rest-known given (Some i) hs arguments known = known-rest (slice_get given i) hs (arguments i) known
 
 -- ---- the tokens of a chain
 
@@ -130,16 +130,16 @@ chain-laid args used c lists ts l j =
     ap (λ r. after_ok r (λ us. Ok (with_rest_tokens args.given (rest_of c.operands) us))) j ∙ ap (λ r. after_ok r (joined args used c)) l
 
 -- A rest that is appended while hide sets are added.
-pub rest-laid : {s t : Numbered} (given : List (Vec Hidden Global)) (expanded : List Expansion) (rest : Option ℕ) (hs new : List Hidden)
-    → Keeps s t
+pub rest-laid : {s t : HideSetPool} (given : List (Vec Hidden Global)) (expanded : List Expansion) (rest : Option ℕ) (hs new : List Hidden)
+    → KeepsSets s t
     → ArgumentsKnown s given expanded
     → new ≡ with_rest_tokens (lists_of given) rest hs
     → hidings t new ≡ with_rest_tokens (arguments_in s given expanded).given rest (hidings t hs)
 rest-laid {t = t} given expanded rest hs new k known e =
     ap (hidings t) e ∙ rest-in t (lists_of given) rest hs ∙ ap (λ (args : Arguments). with_rest_tokens args.given rest (hidings t hs)) (arguments-keeps given expanded k known)
 
-pub rest-laid-known : {s t : Numbered} (given : List (Vec Hidden Global)) (expanded : List Expansion) (rest : Option ℕ) (hs new : List Hidden)
-    → Keeps s t
+pub rest-laid-known : {s t : HideSetPool} (given : List (Vec Hidden Global)) (expanded : List Expansion) (rest : Option ℕ) (hs new : List Hidden)
+    → KeepsSets s t
     → ArgumentsKnown s given expanded
     → new ≡ with_rest_tokens (lists_of given) rest hs
     → AllKnown t hs

@@ -2,10 +2,10 @@
 use Rattle.std.proofs.Common.{◌≡◌, ℕ, zero, suc, ◌<◌, ◌+◌, ◌-◌, ◌*◌, ◌/◌, ◌%◌, ◌^◌, ◌||◌, Bool, true, false, nat_eq, List, length, Result, Ok, Err, IsErr, IfOk, OnErr, refl, sym, ◌∙◌, subst, arith, if◌then◌else◌}
 use Rattle.std.proofs.lemmas.Nat.{and_le_l, or_lt, pow_below}
 use Rattle.std.specs.Int.RustNames.{bit_or}
-use Rattle.ppmacro.specs.Operations.{Operation, Union, Meet, joined, joined_word}
-use Rattle.ppmacro.specs.Nodes.{Node, node_at, made, word, word_with, member, IsPool}
-use Rattle.ppmacro.proofs.Tries.{or_none, differs, node-same, word-made, word-odd, word-even, word-lt, words-lawful, words-of, within-at, pos-of}
-use Rattle.ppmacro.proofs.Tries.{made-odd, made-even, one-left, one-right, inserted-bits, joined-bits}
+use Rattle.ppmacro.specs.code.Operations.{Operation, Union, Meet, member_rule, word_rule}
+use Rattle.ppmacro.specs.code.Nodes.{Node, node_at, made, word, word_with, member, IsPool}
+use Rattle.ppmacro.proofs.Tries.{or_none, differs, node-same, word-made, word-odd, word-even, word-lt, words-sets_are_unique, words-of, within-at, pos-of}
+use Rattle.ppmacro.proofs.Tries.{made-odd, made-even, one-left, one-right, inserted-bits, member_rule-bits}
 
 -- the words of a set are those of another with one bit more
 abbrev pub HasMore : List Node → ℕ → ℕ → ℕ → ℕ → Type 0
@@ -29,8 +29,8 @@ node-by ns n here l r p ln ll lr h left right =
     let s = node_at ns n in
     let w = within-at ns n p ln in
     node-same s (record { here = here; left = l; right = r }) (sym (word-made ns n 0) ∙ h)
-    (words-lawful ns s.left l p w.left ll (λ y. sym (word-odd ns n y) ∙ left y))
-    (words-lawful ns s.right r p w.right lr (λ y. sym (word-even ns n y) ∙ right y))
+    (words-sets_are_unique ns s.left l p w.left ll (λ y. sym (word-odd ns n y) ∙ left y))
+    (words-sets_are_unique ns s.right r p w.right lr (λ y. sym (word-even ns n y) ∙ right y))
 
 -- ---- with one bit more
 
@@ -174,15 +174,15 @@ right-found old mid n set index bit right node at p ln ls pos odd h is same = (
 
 -- ---- made of two
 
-pub join-left : (op : ℕ → ℕ → ℕ) (ns : List Node) (n one two : ℕ) → IsJoin op ns n one two → IsJoin op ns (node_at ns n).left (node_at ns one).left (node_at ns two).left
-join-left op ns n one two h = λ y. sym (word-odd ns n y) ∙ h (suc (2 * y)) ∙ (λ i. op (word-odd ns one y i) (word-odd ns two y i))
+pub combine-left : (op : ℕ → ℕ → ℕ) (ns : List Node) (n one two : ℕ) → IsJoin op ns n one two → IsJoin op ns (node_at ns n).left (node_at ns one).left (node_at ns two).left
+combine-left op ns n one two h = λ y. sym (word-odd ns n y) ∙ h (suc (2 * y)) ∙ (λ i. op (word-odd ns one y i) (word-odd ns two y i))
 
-pub join-right : (op : ℕ → ℕ → ℕ) (ns : List Node) (n one two : ℕ) → IsJoin op ns n one two → IsJoin op ns (node_at ns n).right (node_at ns one).right (node_at ns two).right
-join-right op ns n one two h = λ y. sym (word-even ns n y) ∙ h (suc (2 * y + 1)) ∙ (λ i. op (word-even ns one y i) (word-even ns two y i))
+pub combine-right : (op : ℕ → ℕ → ℕ) (ns : List Node) (n one two : ℕ) → IsJoin op ns n one two → IsJoin op ns (node_at ns n).right (node_at ns one).right (node_at ns two).right
+combine-right op ns n one two h = λ y. sym (word-even ns n y) ∙ h (suc (2 * y + 1)) ∙ (λ i. op (word-even ns one y i) (word-even ns two y i))
 
-pub join-there : (op : ℕ → ℕ → ℕ) (ns : List Node) (n one two : ℕ) → IsJoin op ns n one two
+pub combine-there : (op : ℕ → ℕ → ℕ) (ns : List Node) (n one two : ℕ) → IsJoin op ns n one two
     → node_at ns n ≡ record { here = op (node_at ns one).here (node_at ns two).here; left = (node_at ns n).left; right = (node_at ns n).right }
-join-there op ns n one two h =
+combine-there op ns n one two h =
     let s = node_at ns n in
     node-same s (record { here = op (node_at ns one).here (node_at ns two).here; left = s.left; right = s.right })
     (sym (word-made ns n 0) ∙ h 0 ∙ (λ i. op (word-made ns one 0 i) (word-made ns two 0 i))) refl refl
@@ -197,7 +197,7 @@ pub lefts-asked : (op : ℕ → ℕ → ℕ) (ns : List Node) (n one two : ℕ) 
     → ((node_at ns n).left < length ns) × IsJoin op ns (node_at ns n).left first.left second.left
 lefts-asked op ns n one two first second a b p ln h = (
   (within-at ns n p ln).left,
-  λ w. join-left op ns n one two h w ∙ (λ i. op (word ns (sym a i).left w) (word ns (sym b i).left w)),
+  λ w. combine-left op ns n one two h w ∙ (λ i. op (word ns (sym a i).left w) (word ns (sym b i).left w)),
 )
 
 pub rights-asked : (op : ℕ → ℕ → ℕ) (old mid : List Node) (n one two : ℕ) (first second : Node)
@@ -210,9 +210,9 @@ pub rights-asked : (op : ℕ → ℕ → ℕ) (old mid : List Node) (n one two :
     → ((node_at old n).right < length mid) × IsJoin op mid (node_at old n).right first.right second.right
 rights-asked op old mid n one two first second a b p ln h same =
     subst (λ ns. ((node_at old n).right < length ns) × IsJoin op ns (node_at old n).right first.right second.right) (sym same)
-    ((within-at old n p ln).right, λ w. join-right op old n one two h w ∙ (λ i. op (word old (sym a i).right w) (word old (sym b i).right w)))
+    ((within-at old n p ln).right, λ w. combine-right op old n one two h w ∙ (λ i. op (word old (sym a i).right w) (word old (sym b i).right w)))
 
-pub joined-found : (op : ℕ → ℕ → ℕ) (old mid after : List Node) (n one two here left right : ℕ) (first second : Node)
+pub member_rule-found : (op : ℕ → ℕ → ℕ) (old mid after : List Node) (n one two here left right : ℕ) (first second : Node)
     → first ≡ node_at old one
     → second ≡ node_at old two
     → n < length old
@@ -223,23 +223,23 @@ pub joined-found : (op : ℕ → ℕ → ℕ) (old mid after : List Node) (n one
     → mid ≡ old
     → after ≡ mid
     → (n < length after) × (node_at after n ≡ record { here = here; left = left; right = right })
-joined-found op old mid after n one two here left right first second a b ln h hs ls rs m k =
+member_rule-found op old mid after n one two here left right first second a b ln h hs ls rs m k =
     let same = k ∙ m in (
       subst (λ ns. n < length ns) (sym same) ln,
       (λ i. node_at (same i) n)
-          ∙ join-there op old n one two h
+          ∙ combine-there op old n one two h
           ∙ (λ i. record { here = (sym (hs ∙ (λ j. op (a j).here (b j).here))) i; left = sym ls i; right = sym rs i }),
     )
 
-joined-below : (o : Operation) (a b : ℕ) → a < 2 ^ 64 → b < 2 ^ 64 → joined_word o a b < 2 ^ 64
-joined-below Union a b k l = or_lt 64 a b k l
-joined-below Meet a b k l = let m = and_le_l a b in omega (arith, m, k)
+member_rule-below : (o : Operation) (a b : ℕ) → a < 2 ^ 64 → b < 2 ^ 64 → word_rule o a b < 2 ^ 64
+member_rule-below Union a b k l = or_lt 64 a b k l
+member_rule-below Meet a b k l = let m = and_le_l a b in omega (arith, m, k)
 
 -- by their members
-pub join-words : (o : Operation) (ns : List Node) (n one two : ℕ) → IsPool ns → n < length ns → one < length ns → two < length ns → ((x : ℕ) → member ns n x ≡ joined o (member ns one x) (member ns two x)) → IsJoin (joined_word o) ns n one two
-join-words o ns n one two p ln lo lt h =
-    words-of ns n (λ w. joined_word o (word ns one w) (word ns two w)) p ln (λ w. joined-below o (word ns one w) (word ns two w) (word-lt ns one w p lo) (word-lt ns two w p lt))
-    (λ x. h x ∙ sym (joined-bits o ns one two x))
+pub combine-words : (o : Operation) (ns : List Node) (n one two : ℕ) → IsPool ns → n < length ns → one < length ns → two < length ns → ((x : ℕ) → member ns n x ≡ member_rule o (member ns one x) (member ns two x)) → IsJoin (word_rule o) ns n one two
+combine-words o ns n one two p ln lo lt h =
+    words-of ns n (λ w. word_rule o (word ns one w) (word ns two w)) p ln (λ w. member_rule-below o (word ns one w) (word ns two w) (word-lt ns one w p lo) (word-lt ns two w p lt))
+    (λ x. h x ∙ sym (member_rule-bits o ns one two x))
 
 -- what a call that is refused answers
 pub refused : {A E : Type 0} (r : Result A E) (P : A → Type 0) (X : Type 0) → IsErr r → X → IfOk r P × OnErr r X

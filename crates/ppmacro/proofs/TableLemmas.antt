@@ -8,11 +8,11 @@ use Rattle.std.specs.Cmp.Lexicographic.{slice_cmp, nat_list_eq_equiv}
 use Rattle.std.specs.Str.{bytes_eq}
 use Rattle.std.proofs.lemmas.Map.Text.{is_eq-slice_cmp}
 use Rattle.std.proofs.lemmas.Cmp.{nat_list_cmp_total}
-use Rattle.ppmacro.specs.declared.macros.Definition.{Definition}
+use Rattle.ppmacro.specs.declared.macros.Macro.{Macro}
 use Rattle.ppmacro.specs.Names.{Name, Macros}
 
 abbrev pub Entries : Type 0
-Entries = List (Name × Definition)
+Entries = List (Name × Macro)
 
 lookup-find : (name : Name) (es : Entries) → lookup (bytes_eq name) es ≡ table.find (slice_cmp nat_cmp) name es
 lookup-find name [] = refl
@@ -28,7 +28,7 @@ swap a b = symm a b ∙ sym (is_eq-slice_cmp b a)
     symm = nat_list_eq_equiv.symm
 
 -- An update that gives a name another value, and keeps the others, does the same to the finite map.
-pub updates-get : (old new : Entries) (name : Name) (value : Option Definition) (m : Macros)
+pub updates-get : (old new : Entries) (name : Name) (value : Option Macro) (m : Macros)
     → ((q : Name) → lookup (bytes_eq q) new ≡ cond (bytes_eq name q) value (lookup (bytes_eq q) old))
     → ((q : Name) → table.get m q ≡ cond (eq_by_cmp (slice_cmp nat_cmp) q name) value (table.get (table.from_entries {R = slice_cmp nat_cmp} old) q))
     → table.from_entries new ≡ m
@@ -38,10 +38,10 @@ updates-get old new name value m updates gets = table.same_map nat_list_cmp_tota
     ∙ (λ i. cond (swap name q i) value (lookup-get q old i))
     ∙ sym (gets q))
 
-pub none-of : (o : Option Definition) → false ≡ is_some o → None ≡ o
+pub none-of : (o : Option Macro) → false ≡ is_some o → None ≡ o
 none-of None e = refl
 none-of (Some d) e = absurd (true≢false (sym e))
 
 -- The second part of an entry is its value.
-pub second-at : (es : Entries) (place : ℕ) (name : Name) (d : Definition) (o : Option Definition) → Some (name, d) ≡ slice_get es place → slice_get (map (λ e. e.1) es) place ≡ o → Some d ≡ o
+pub second-at : (es : Entries) (place : ℕ) (name : Name) (d : Macro) (o : Option Macro) → Some (name, d) ≡ slice_get es place → slice_get (map (λ e. e.1) es) place ≡ o → Some d ≡ o
 second-at es place name d o entry value = ap (option_map (λ e. e.1)) entry ∙ sym (slice_get-map (λ e. e.1) es place) ∙ value

@@ -13,8 +13,8 @@ use Rattle.std.specs.Int.RustNames.{bit_or, bit_and}
 use Rattle.std.specs.List.{list_any, position}
 use Rattle.std.specs.Bool.{Decides}
 use Rattle.indexmap.specs.IndexSet.{insert_key}
-use Rattle.ppmacro.specs.Operations.{Operation, Union, Meet, joined, joined_word}
-use Rattle.ppmacro.specs.Nodes.{Node, no_node, node_at, made, word_below, word, word_with, has_bit, member, IsWithin, IsPool, Keeps, IsBounded, first}
+use Rattle.ppmacro.specs.code.Operations.{Operation, Union, Meet, member_rule, word_rule}
+use Rattle.ppmacro.specs.code.Nodes.{Node, no_node, node_at, made, word_below, word, word_with, has_bit, member, PointsBelow, IsPool, KeepsNodes, IsBounded, first}
 
 -- ---- words
 
@@ -58,8 +58,8 @@ same-bit a b i = same (bit_at a i) (bit_at b i) (bit_at-lt a i) (bit_at-lt b i)
     ] refl e
 
 -- A bit of the result of two words.
-bit-joined : (o : Operation) (a b i : ℕ) → has_bit (joined_word o a b) i ≡ joined o (has_bit a i) (has_bit b i)
-bit-joined Union a b i = (λ j. nat_eq (bit_at_or a b i j) 1) ∙ either-one (bit_at a i) (bit_at b i) (bit_at-lt a i) (bit_at-lt b i)
+bit-member_rule : (o : Operation) (a b i : ℕ) → has_bit (word_rule o a b) i ≡ member_rule o (has_bit a i) (has_bit b i)
+bit-member_rule Union a b i = (λ j. nat_eq (bit_at_or a b i j) 1) ∙ either-one (bit_at a i) (bit_at b i) (bit_at-lt a i) (bit_at-lt b i)
   where
     either-one : (p q : ℕ) → p < 2 → q < 2 → nat_eq (max p q) 1 ≡ (nat_eq p 1 || nat_eq q 1)
     either-one zero zero k l = refl
@@ -68,7 +68,7 @@ bit-joined Union a b i = (λ j. nat_eq (bit_at_or a b i j) 1) ∙ either-one (bi
     either-one (suc zero) (suc zero) k l = refl
     either-one (suc (suc p)) q k l = absurd (omega (arith, k))
     either-one p (suc (suc q)) k l = absurd (omega (arith, l))
-bit-joined Meet a b i = (λ j. nat_eq (bit_at_and a b i j) 1) ∙ both-one (bit_at a i) (bit_at b i) (bit_at-lt a i) (bit_at-lt b i)
+bit-member_rule Meet a b i = (λ j. nat_eq (bit_at_and a b i j) 1) ∙ both-one (bit_at a i) (bit_at b i) (bit_at-lt a i) (bit_at-lt b i)
   where
     both-one : (p q : ℕ) → p < 2 → q < 2 → nat_eq (min p q) 1 ≡ (nat_eq p 1 && nat_eq q 1)
     both-one zero zero k l = refl
@@ -186,20 +186,20 @@ member-at ns n w i l =
 
 -- ---- pools
 
-pub within-at : (ns : List Node) (n : ℕ) → IsPool ns → n < length ns → IsWithin (length ns) (node_at ns n)
-within-at ns zero p l = subst (IsWithin (length ns)) (sym p.empty) (record { here = omega arith; left = p.some; right = p.some })
+pub within-at : (ns : List Node) (n : ℕ) → IsPool ns → n < length ns → PointsBelow (length ns) (node_at ns n)
+within-at ns zero p l = subst (PointsBelow (length ns)) (sym p.empty) (record { here = omega arith; left = p.some; right = p.some })
 within-at ns (suc n) p l = let k = p.older (suc n) (omega arith) l in record { here = k.here; left = omega (arith, k.left, l); right = omega (arith, k.right, l) }
 
-pub at-keeps : (old new : List Node) (n : ℕ) → Keeps old new → n < length old → node_at new n ≡ node_at old n
+pub at-keeps : (old new : List Node) (n : ℕ) → KeepsNodes old new → n < length old → node_at new n ≡ node_at old n
 at-keeps old new n k l = ap (λ ns. node_at ns n) k.is ∙ get_or_append_left old k.more no_node n l
 
-pub length-keeps : (old new : List Node) (n : ℕ) → Keeps old new → n < length old → n < length new
+pub length-keeps : (old new : List Node) (n : ℕ) → KeepsNodes old new → n < length old → n < length new
 length-keeps old new n k l = omega (arith, ap length k.is, length-append old k.more, l)
 
-pub keeps-itself : (ns : List Node) → Keeps ns ns
+pub keeps-itself : (ns : List Node) → KeepsNodes ns ns
 keeps-itself ns = record { more = []; is = sym (append-nil ns) }
 
-below-keeps : (old new : List Node) (f n x : ℕ) → IsPool old → Keeps old new → n < length old → word_below new f n x ≡ word_below old f n x
+below-keeps : (old new : List Node) (f n x : ℕ) → IsPool old → KeepsNodes old new → n < length old → word_below new f n x ≡ word_below old f n x
 below-keeps old new zero n x p k l = refl
 below-keeps old new (suc f) n x p k l =
     let e = at-keeps old new n k l in
@@ -208,11 +208,11 @@ below-keeps old new (suc f) n x p k l =
     (λ i. made (e i).here (word_below new f (e i).left) (word_below new f (e i).right) x)
     ∙ made-same s.here (word_below new f s.left) (word_below new f s.right) (word_below old f s.left) (word_below old f s.right) x (λ y _. below-keeps old new f s.left y p k w.left) (λ y _. below-keeps old new f s.right y p k w.right)
 
-pub word-keeps : (old new : List Node) (n x : ℕ) → IsPool old → Keeps old new → n < length old → word new n x ≡ word old n x
+pub word-keeps : (old new : List Node) (n x : ℕ) → IsPool old → KeepsNodes old new → n < length old → word new n x ≡ word old n x
 unfolding word
 word-keeps old new n x p k l = below-keeps old new (suc x) n x p k l
 
-pub member-keeps : (old new : List Node) (n x : ℕ) → IsPool old → Keeps old new → n < length old → member new n x ≡ member old n x
+pub member-keeps : (old new : List Node) (n x : ℕ) → IsPool old → KeepsNodes old new → n < length old → member new n x ≡ member old n x
 unfolding member
 member-keeps old new n x p k l = λ i. has_bit (word-keeps old new n (x / 64) p k l i) (x % 64)
 
@@ -233,8 +233,8 @@ at-end : (ns : List Node) (node : Node) → node_at (ns ++ node ∷ []) (length 
 at-end [] node = refl
 at-end (n ∷ ns) node = at-end ns node
 
-child : (ns : List Node) (k m n : ℕ) → IsPool ns → m < length ns → m < suc k → n < suc k → (0 < m) ⊎ (0 < n) → IsWithin k (node_at ns m)
-child ns k zero n p l a b h = subst (IsWithin k) (sym p.empty) (record { here = omega arith; left = pos h; right = pos h })
+child : (ns : List Node) (k m n : ℕ) → IsPool ns → m < length ns → m < suc k → n < suc k → (0 < m) ⊎ (0 < n) → PointsBelow k (node_at ns m)
+child ns k zero n p l a b h = subst (PointsBelow k) (sym p.empty) (record { here = omega arith; left = pos h; right = pos h })
   where
     pos : (0 < 0) ⊎ (0 < n) → 0 < k
     pos (inl z) = absurd (omega (arith, z))
@@ -250,8 +250,8 @@ Alike ns m n = (w : ℕ) → word ns m w ≡ word ns n w
 abbrev LawfulBelow : List Node → ℕ → Type 0
 LawfulBelow ns k = (m n : ℕ) → m < length ns → n < length ns → m < k → n < k → Alike ns m n → m ≡ n
 
-lawful-step : (ns : List Node) (k m n : ℕ) → LawfulBelow ns k → IsPool ns → m < length ns → n < length ns → m < suc k → n < suc k → ((0 < m) ⊎ (0 < n)) → ((0 < n) ⊎ (0 < m)) → Alike ns m n → m ≡ n
-lawful-step ns k m n below p lm ln a b u v h =
+sets_are_unique-step : (ns : List Node) (k m n : ℕ) → LawfulBelow ns k → IsPool ns → m < length ns → n < length ns → m < suc k → n < suc k → ((0 < m) ⊎ (0 < n)) → ((0 < n) ⊎ (0 < m)) → Alike ns m n → m ≡ n
+sets_are_unique-step ns k m n below p lm ln a b u v h =
     let s = node_at ns m in
     let t = node_at ns n in
     let ws = within-at ns m p lm in
@@ -262,14 +262,14 @@ lawful-step ns k m n below p lm ln a b u v h =
     (below s.left t.left ws.left wt.left cs.left ct.left (λ y. sym (word-odd ns m y) ∙ h (suc (2 * y)) ∙ word-odd ns n y))
     (below s.right t.right ws.right wt.right cs.right ct.right (λ y. sym (word-even ns m y) ∙ h (suc (2 * y + 1)) ∙ word-even ns n y)))
 
-lawful-below : (ns : List Node) → IsPool ns → (k : ℕ) → LawfulBelow ns k
-lawful-below ns p zero m n lm ln a b h = absurd (omega (arith, a))
-lawful-below ns p (suc k) zero zero lm ln a b h = refl
-lawful-below ns p (suc k) zero (suc n) lm ln a b h = lawful-step ns k zero (suc n) (lawful-below ns p k) p lm ln a b (inr (omega arith)) (inl (omega arith)) h
-lawful-below ns p (suc k) (suc m) n lm ln a b h = lawful-step ns k (suc m) n (lawful-below ns p k) p lm ln a b (inl (omega arith)) (inr (omega arith)) h
+sets_are_unique-below : (ns : List Node) → IsPool ns → (k : ℕ) → LawfulBelow ns k
+sets_are_unique-below ns p zero m n lm ln a b h = absurd (omega (arith, a))
+sets_are_unique-below ns p (suc k) zero zero lm ln a b h = refl
+sets_are_unique-below ns p (suc k) zero (suc n) lm ln a b h = sets_are_unique-step ns k zero (suc n) (sets_are_unique-below ns p k) p lm ln a b (inr (omega arith)) (inl (omega arith)) h
+sets_are_unique-below ns p (suc k) (suc m) n lm ln a b h = sets_are_unique-step ns k (suc m) n (sets_are_unique-below ns p k) p lm ln a b (inl (omega arith)) (inr (omega arith)) h
 
-pub words-lawful : (ns : List Node) (m n : ℕ) → IsPool ns → m < length ns → n < length ns → Alike ns m n → m ≡ n
-words-lawful ns m n p lm ln h = lawful-below ns p (suc (m + n)) m n lm ln (omega arith) (omega arith) h
+pub words-sets_are_unique : (ns : List Node) (m n : ℕ) → IsPool ns → m < length ns → n < length ns → Alike ns m n → m ≡ n
+words-sets_are_unique ns m n p lm ln h = sets_are_unique-below ns p (suc (m + n)) m n lm ln (omega arith) (omega arith) h
 
 -- a set's words by its members
 pub words-of : (ns : List Node) (n : ℕ) (f : ℕ → ℕ)
@@ -284,8 +284,8 @@ words-of ns n f p l b h w = same_from_bits_below 64 (word ns n w) (f w) (word-lt
     let rem : (w * 64 + i) % 64 ≡ i = omega (arith, k) in
     same-bit (word ns n w) (f w) i (sym (member-at ns n w i k) ∙ h (w * 64 + i) ∙ (λ j. has_bit (f (div j)) (rem j))))
 
-pub lawful : (ns : List Node) (m n : ℕ) → IsPool ns → m < length ns → n < length ns → ((x : ℕ) → member ns m x ≡ member ns n x) → m ≡ n
-lawful ns m n p lm ln h = words-lawful ns m n p lm ln (words-of ns m (word ns n) p lm (λ w. word-lt ns n w p ln) (λ x. h x ∙ sym (member-bit ns n x)))
+pub sets_are_unique : (ns : List Node) (m n : ℕ) → IsPool ns → m < length ns → n < length ns → ((x : ℕ) → member ns m x ≡ member ns n x) → m ≡ n
+sets_are_unique ns m n p lm ln h = words-sets_are_unique ns m n p lm ln (words-of ns m (word ns n) p lm (λ w. word-lt ns n w p ln) (λ x. h x ∙ sym (member-bit ns n x)))
 
 -- ---- one node more
 
@@ -299,10 +299,10 @@ at-new ns node n l = split (dec n (length ns))
     split (inl h) = inl h
     split (inr h) = inr (omega (arith, length-append ns (node ∷ []), l, h))
 
-keeps-push : (ns : List Node) (node : Node) → Keeps ns (ns ++ node ∷ [])
+keeps-push : (ns : List Node) (node : Node) → KeepsNodes ns (ns ++ node ∷ [])
 keeps-push ns node = record { more = node ∷ []; is = refl }
 
-pub pool-push : (ns : List Node) (node : Node) → IsPool ns → length ns < 4294967295 → IsWithin (length ns) node → ((n : ℕ) → n < length ns → ¬ (node_at ns n ≡ node)) → IsPool (ns ++ node ∷ [])
+pub pool-push : (ns : List Node) (node : Node) → IsPool ns → length ns < 4294967295 → PointsBelow (length ns) node → ((n : ℕ) → n < length ns → ¬ (node_at ns n ≡ node)) → IsPool (ns ++ node ∷ [])
 pool-push ns node p room w new =
     let keeps = keeps-push ns node in
     let at : (n : ℕ) → n < length ns → node_at (ns ++ node ∷ []) n ≡ node_at ns n = λ n l. at-keeps ns (ns ++ node ∷ []) n keeps l in
@@ -312,8 +312,8 @@ pool-push ns node p room w new =
       few = omega (arith, length-append ns (node ∷ []), room);
       empty = at 0 p.some ∙ p.empty;
       older = λ n z l. elim (at-new ns node n l) [
-        | inl h ↦ subst (IsWithin n) (sym (at n h)) (p.older n z h)
-        | inr e ↦ subst (IsWithin n) (sym (last n e)) (subst (λ k. IsWithin k node) (sym e) w)
+        | inl h ↦ subst (PointsBelow n) (sym (at n h)) (p.older n z h)
+        | inr e ↦ subst (PointsBelow n) (sym (last n e)) (subst (λ k. PointsBelow k node) (sym e) w)
       ];
       different = λ m n lm ln e. elim (at-new ns node m lm) [
         | inl h ↦ elim (at-new ns node n ln) [
@@ -328,14 +328,14 @@ pool-push ns node p room w new =
     }
 
 module _ (eq : Node → Node → Bool) (exact : (s t : Node) → Decides (eq s t) (s ≡ t)) where
-  pub pool-insert : (ns : List Node) (node : Node) → IsPool ns → length ns < 4294967295 → IsWithin (length ns) node → IsPool (insert_key eq ns node)
+  pub pool-insert : (ns : List Node) (node : Node) → IsPool ns → length ns < 4294967295 → PointsBelow (length ns) node → IsPool (insert_key eq ns node)
   pool-insert ns node p room w = elim (list_any (eq node) ns) as (λ b. list_any (eq node) ns ≡ b → IsPool (if b then ns else ns ++ node ∷ [])) [
     | true ↦ λ _. p
     | false ↦ λ e. pool-push ns node p room w (λ n l same. true≢false (sym (list_any_at (eq node) ns n no_node l ((exact node (node_at ns n)).1 (sym same))) ∙ e))
   ] refl
 
-  pub keeps-insert : (ns : List Node) (node : Node) → Keeps ns (insert_key eq ns node)
-  keeps-insert ns node = elim (list_any (eq node) ns) as (λ b. Keeps ns (if b then ns else ns ++ node ∷ [])) [
+  pub keeps-insert : (ns : List Node) (node : Node) → KeepsNodes ns (insert_key eq ns node)
+  keeps-insert ns node = elim (list_any (eq node) ns) as (λ b. KeepsNodes ns (if b then ns else ns ++ node ∷ [])) [
     | true ↦ keeps-itself ns
     | false ↦ keeps-push ns node
   ]
@@ -362,10 +362,10 @@ same_node-self s = λ i. eq-eqb s.here s.here refl i && (eq-eqb s.left s.left re
 pub same_node-Decides : (s t : Node) → (same_node s t ≡ true) ↔ (s ≡ t)
 same_node-Decides s t = (same_node-true s t, λ e. ap (same_node s) (sym e) ∙ same_node-self s)
 
-pub pool-after : (ns : List Node) (node : Node) → IsPool ns → length ns < 4294967295 → IsWithin (length ns) node → IsPool (insert_key same_node ns node)
+pub pool-after : (ns : List Node) (node : Node) → IsPool ns → length ns < 4294967295 → PointsBelow (length ns) node → IsPool (insert_key same_node ns node)
 pool-after = pool-insert same_node same_node-Decides
 
-pub keeps-insert_node : (ns : List Node) (node : Node) → Keeps ns (insert_key same_node ns node)
+pub keeps-insert_node : (ns : List Node) (node : Node) → KeepsNodes ns (insert_key same_node ns node)
 keeps-insert_node = keeps-insert same_node same_node-Decides
 
 -- ---- a step down
@@ -431,7 +431,7 @@ at-node ns n node x e = word-made ns n x ∙ (λ i. made (e i).here (word ns (e 
 pub insert-here : (old new : List Node) (set n bit x : ℕ)
     → IsPool old
     → set < length old
-    → Keeps old new
+    → KeepsNodes old new
     → node_at new n ≡ record { here = bit_or (node_at old set).here (2 ^ bit); left = (node_at old set).left; right = (node_at old set).right }
     → word new n x ≡ bit_or (word old set x) (word_with 0 bit x)
 insert-here old new set n bit x p l k e =
@@ -456,8 +456,8 @@ pub insert-left : (old mid new : List Node) (set l n index bit x : ℕ)
     → IsPool mid
     → set < length old
     → l < length mid
-    → Keeps old mid
-    → Keeps mid new
+    → KeepsNodes old mid
+    → KeepsNodes mid new
     → 0 < index
     → (index - 1) % 2 ≡ 0
     → ((y : ℕ) → word mid l y ≡ bit_or (word old (node_at old set).left y) (word_with ((index - 1) / 2) bit y))
@@ -481,8 +481,8 @@ pub insert-right : (old mid new : List Node) (set r n index bit x : ℕ)
     → IsPool mid
     → set < length old
     → r < length mid
-    → Keeps old mid
-    → Keeps mid new
+    → KeepsNodes old mid
+    → KeepsNodes mid new
     → 0 < index
     → (¬ ((index - 1) % 2 ≡ 0))
     → ((y : ℕ) → word mid r y ≡ bit_or (word old (node_at old set).right y) (word_with ((index - 1) / 2) bit y))
@@ -518,7 +518,7 @@ with-is index bit x l = elim (nat_eq (x / 64) index) as (λ t. nat_eq (x / 64) i
 pub inserted-bits : (ns : List Node) (set index bit : ℕ) → bit < 64 → (x : ℕ) → has_bit (bit_or (word ns set (x / 64)) (word_with index bit (x / 64))) (x % 64) ≡ (nat_eq x (index * 64 + bit) || member ns set x)
 unfolding member
 inserted-bits ns set index bit l x =
-    bit-joined Union (word ns set (x / 64)) (word_with index bit (x / 64)) (x % 64)
+    bit-member_rule Union (word ns set (x / 64)) (word_with index bit (x / 64)) (x % 64)
     ∙ turned (has_bit (word ns set (x / 64)) (x % 64)) (has_bit (word_with index bit (x / 64)) (x % 64))
     ∙ (λ i. with-is index bit x l i || has_bit (word ns set (x / 64)) (x % 64))
   where
@@ -539,7 +539,7 @@ member-inserted old new set n index bit l is x = (λ i. has_bit (is (x / 64) i) 
 
 -- ---- two sets together
 
-pub join-set : (op : ℕ → ℕ → ℕ) (old mid after new : List Node) (one two l r n x : ℕ)
+pub combine-set : (op : ℕ → ℕ → ℕ) (old mid after new : List Node) (one two l r n x : ℕ)
     → IsPool old
     → IsPool mid
     → IsPool after
@@ -547,14 +547,14 @@ pub join-set : (op : ℕ → ℕ → ℕ) (old mid after new : List Node) (one t
     → two < length old
     → l < length mid
     → r < length after
-    → Keeps old mid
-    → Keeps mid after
-    → Keeps after new
+    → KeepsNodes old mid
+    → KeepsNodes mid after
+    → KeepsNodes after new
     → ((y : ℕ) → word mid l y ≡ op (word old (node_at old one).left y) (word old (node_at old two).left y))
     → ((y : ℕ) → word after r y ≡ op (word mid (node_at old one).right y) (word mid (node_at old two).right y))
     → node_at new n ≡ record { here = op (node_at old one).here (node_at old two).here; left = l; right = r }
     → word new n x ≡ op (word old one x) (word old two x)
-join-set op old mid after new one two l r n x p q u k1 k2 kl kr km ka kn isl isr e =
+combine-set op old mid after new one two l r n x p q u k1 k2 kl kr km ka kn isl isr e =
     let s = node_at old one in
     let t = node_at old two in
     let ws = within-at old one p k1 in
@@ -567,17 +567,17 @@ join-set op old mid after new one two l r n x p q u k1 k2 kl kr km ka kn isl isr
     ∙ (λ i. op (sym (word-made old one x) i) (sym (word-made old two x) i))
 
 -- the bits of what is made of two words
-pub joined-bits : (o : Operation) (ns : List Node) (one two x : ℕ) → has_bit (joined_word o (word ns one (x / 64)) (word ns two (x / 64))) (x % 64) ≡ joined o (member ns one x) (member ns two x)
+pub member_rule-bits : (o : Operation) (ns : List Node) (one two x : ℕ) → has_bit (word_rule o (word ns one (x / 64)) (word ns two (x / 64))) (x % 64) ≡ member_rule o (member ns one x) (member ns two x)
 unfolding member
-joined-bits o ns one two x = bit-joined o (word ns one (x / 64)) (word ns two (x / 64)) (x % 64)
+member_rule-bits o ns one two x = bit-member_rule o (word ns one (x / 64)) (word ns two (x / 64)) (x % 64)
 
 -- The result of two sets' words has the result of their members.
-pub member-joined : (o : Operation) (old new : List Node) (one two n : ℕ)
-    → ((w : ℕ) → word new n w ≡ joined_word o (word old one w) (word old two w))
+pub member-member_rule : (o : Operation) (old new : List Node) (one two n : ℕ)
+    → ((w : ℕ) → word new n w ≡ word_rule o (word old one w) (word old two w))
     → (x : ℕ)
-    → member new n x ≡ joined o (member old one x) (member old two x)
+    → member new n x ≡ member_rule o (member old one x) (member old two x)
 unfolding member
-member-joined o old new one two n is x = (λ i. has_bit (is (x / 64) i) (x % 64)) ∙ joined-bits o old one two x
+member-member_rule o old new one two n is x = (λ i. has_bit (is (x / 64) i) (x % 64)) ∙ member_rule-bits o old one two x
 
 pub word-zero : (ns : List Node) (n x : ℕ) → x ≤ 0 → word ns n x ≡ (node_at ns n).here
 word-zero ns n zero h = word-made ns n 0
@@ -590,10 +590,10 @@ nodes-assoc : (xs ys zs : List Node) → (xs ++ ys) ++ zs ≡ xs ++ (ys ++ zs)
 nodes-assoc [] ys zs = refl
 nodes-assoc (x ∷ xs) ys zs = ap (λ t. x ∷ t) (nodes-assoc xs ys zs)
 
-pub keeps-on : (xs ys zs : List Node) → Keeps xs ys → Keeps ys zs → Keeps xs zs
+pub keeps-on : (xs ys zs : List Node) → KeepsNodes xs ys → KeepsNodes ys zs → KeepsNodes xs zs
 keeps-on xs ys zs a b = record { more = a.more ++ b.more; is = b.is ∙ ap (λ t. t ++ b.more) a.is ∙ nodes-assoc xs a.more b.more }
 
-pub below-one : (ns : List Node) (n : ℕ) → IsPool ns → n < length ns → nat_eq n 0 ≡ false → IsWithin n (node_at ns n)
+pub below-one : (ns : List Node) (n : ℕ) → IsPool ns → n < length ns → nat_eq n 0 ≡ false → PointsBelow n (node_at ns n)
 below-one ns n p l h = p.older n (pos-of n (λ z. true≢false (sym (eq-eqb n 0 z) ∙ h))) l
 
 pub lt-apart : (a b : ℕ) → a < b → ¬ (b ≡ a)
@@ -618,7 +618,7 @@ fresh-after ns node n = elim (list_any (same_node node) ns) as (λ b. length ns 
 
 pub bounded-on : (limit : ℕ) (old new : List Node) (m : ℕ)
     → IsPool old
-    → Keeps old new
+    → KeepsNodes old new
     → IsBounded limit old
     → ((n : ℕ) → length old ≤ n → n < length new → n ≡ m)
     → ((x : ℕ) → member new m x ≡ true → x < limit)
@@ -648,19 +648,19 @@ bounded-insert limit number old new set m l b k is x e = elim (either (nat_eq x 
 ]
 
 -- The result has no member that neither set has.
-one-of : (o : Operation) (a b : Bool) → joined o a b ≡ true → (a ≡ true) ⊎ (b ≡ true)
+one-of : (o : Operation) (a b : Bool) → member_rule o a b ≡ true → (a ≡ true) ⊎ (b ≡ true)
 one-of Union a b h = either a b h
 one-of Meet a b h = inl (and_parts a b h).0
 
-pub bounded-join : (o : Operation) (limit : ℕ) (old new : List Node) (one two m : ℕ)
+pub bounded-combine : (o : Operation) (limit : ℕ) (old new : List Node) (one two m : ℕ)
     → IsBounded limit old
     → one < length old
     → two < length old
-    → ((x : ℕ) → member new m x ≡ joined o (member old one x) (member old two x))
+    → ((x : ℕ) → member new m x ≡ member_rule o (member old one x) (member old two x))
     → (x : ℕ)
     → member new m x ≡ true
     → x < limit
-bounded-join o limit old new one two m b k l is x e = elim (one-of o (member old one x) (member old two x) (sym (is x) ∙ e)) [
+bounded-combine o limit old new one two m b k l is x e = elim (one-of o (member old one x) (member old two x) (sym (is x) ∙ e)) [
   | inl h ↦ b.each one x k h
   | inr h ↦ b.each two x l h
 ]

@@ -4,57 +4,57 @@ use Rattle.std.specs.FinSet as set
 use Rattle.std.specs.List.{IsDistinct}
 use Rattle.ppmacro.specs.declared.hide_sets.HideSets.TheInside.{Inside}
 use Rattle.ppmacro.specs.Names.{Name}
-use Rattle.ppmacro.specs.Nodes as nodes
-use Rattle.ppmacro.specs.Nodes.{Node, IsPool, member, IsBounded}
-use Rattle.ppmacro.specs.Members.{same_name, hide_set, hide_sets, counted}
-use Rattle.ppmacro.specs.Operations.{Operation, Union, Meet, joined}
-use Rattle.ppmacro.specs.Pairs.{Answered, KeepsPairs}
-use Rattle.ppmacro.specs.Numbered.{Numbered}
-use Rattle.ppmacro.specs.HideSets.{set_at, IsKnown, Keeps}
-use Rattle.ppmacro.specs.Remembered.{AreAnswers, AreKept}
-use Rattle.ppmacro.proofs.Hiding.{IsNamed, made_of, set-at, known-at, at-known, sets-keep, past-by, made-is, lawful-names, sets-named, bounded-more, insert-is, set-named, hide-none, made-members, more-members}
+use Rattle.ppmacro.specs.code.Nodes as nodes
+use Rattle.ppmacro.specs.code.Nodes.{Node, IsPool, member, IsBounded}
+use Rattle.ppmacro.specs.code.Members.{same_name, hide_set, hide_sets, counted}
+use Rattle.ppmacro.specs.code.Operations.{Operation, Union, Meet, member_rule}
+use Rattle.ppmacro.specs.PairCache.{CachedPairs, KeepsPairs}
+use Rattle.ppmacro.specs.HideSetPool.{HideSetPool}
+use Rattle.ppmacro.specs.HideSets.{set_at, IsKnown, KeepsSets}
+use Rattle.ppmacro.specs.code.PoolInvariant.{AreAnswers, IsPoolKept}
+use Rattle.ppmacro.proofs.Hiding.{IsNamed, made_of, set-at, known-at, at-known, sets-keep, past-by, made-is, sets_are_unique-names, sets-named, bounded-more, insert-is, set-named, hide-none, made-members, more-members}
 use Rattle.ppmacro.proofs.KeepLemmas.{pairs-are}
 use Rattle.ppmacro.proofs.Remembering.{answers-keep}
 use Rattle.ppmacro.proofs.Tries.{member-none}
 
 -- A known number is that of a node.
-pub node-known : (names : List Name) (ns : List Node) (v : Numbered) (n m : ℕ) → hide_sets names ns ≡ v.sets → n ≡ m → IsKnown v m → n < length ns
+pub node-known : (names : List Name) (ns : List Node) (v : HideSetPool) (n m : ℕ) → hide_sets names ns ≡ v.sets → n ≡ m → IsKnown v m → n < length ns
 node-known names ns v n m is same k = at-known names ns n (subst (λ ss. n < length ss) (sym is) (subst (IsKnown v) (sym same) k))
 
-pub known-seen : (names : List Name) (ns : List Node) (v : Numbered) (n m : ℕ) → hide_sets names ns ≡ v.sets → n ≡ m → n < length ns → IsKnown v m
+pub known-seen : (names : List Name) (ns : List Node) (v : HideSetPool) (n m : ℕ) → hide_sets names ns ≡ v.sets → n ≡ m → n < length ns → IsKnown v m
 known-seen names ns v n m is same l = subst (IsKnown v) same (subst (λ ss. n < length ss) is (known-at names ns n l))
 
-pub set-seen : (names : List Name) (ns : List Node) (v : Numbered) (n m : ℕ) → hide_sets names ns ≡ v.sets → n ≡ m → n < length ns → hide_set names ns n ≡ set_at v m
+pub set-seen : (names : List Name) (ns : List Node) (v : HideSetPool) (n m : ℕ) → hide_sets names ns ≡ v.sets → n ≡ m → n < length ns → hide_set names ns n ≡ set_at v m
 set-seen names ns v n m is same l = sym (set-at names ns n l) ∙ (λ i. get_or (is i) (same i) set.empty)
 
 -- The first node is the empty set.
-pub empty-seen : (names : List Name) (ns : List Node) (v : Numbered) (m : ℕ) → hide_sets names ns ≡ v.sets → 0 ≡ m → IsPool ns → set_at v m ≡ set.empty
+pub empty-seen : (names : List Name) (ns : List Node) (v : HideSetPool) (m : ℕ) → hide_sets names ns ≡ v.sets → 0 ≡ m → IsPool ns → set_at v m ≡ set.empty
 empty-seen names ns v m is same p = sym (set-seen names ns v 0 m is same p.some) ∙ hide-none names ns 0 (λ x. member-none ns x p.empty)
 
-pub lawful-seen : (names : List Name) (ns : List Node) (us ms : Answered) (v : Numbered) (m n : ℕ) → hide_sets names ns ≡ v.sets → AreKept names ns us ms → IsKnown v m → IsKnown v n → set_at v m ≡ set_at v n → m ≡ n
-lawful-seen names ns us ms v m n is k km kn e =
+pub sets_are_unique-seen : (names : List Name) (ns : List Node) (us ms : CachedPairs) (v : HideSetPool) (m n : ℕ) → hide_sets names ns ≡ v.sets → IsPoolKept names ns us ms → IsKnown v m → IsKnown v n → set_at v m ≡ set_at v n → m ≡ n
+sets_are_unique-seen names ns us ms v m n is k km kn e =
     let named : IsNamed names ns = record { distinct = k.distinct; within = λ n x l e. k.bounded.each n x l e } in
     let lm = node-known names ns v m m is refl km in
     let ln = node-known names ns v n n is refl kn in
-    lawful-names names ns m n k.pool named lm ln (set-seen names ns v m m is refl lm ∙ e ∙ sym (set-seen names ns v n n is refl ln))
+    sets_are_unique-names names ns m n k.pool named lm ln (set-seen names ns v m m is refl lm ∙ e ∙ sym (set-seen names ns v n n is refl ln))
 
 -- ---- nodes are added by an operation
 
 -- The fields as callers see them.
-abbrev seen : Inside → Numbered
+abbrev seen : Inside → HideSetPool
 seen s = record { sets = hide_sets s.names s.nodes.keys; unions = s.unions; meets = s.meets }
 
 -- A number in a precondition is that of a node.
-pub node-asked : (s : Inside) {v : Numbered} {n m : ℕ} → seen s ≡ v → n ≡ m → IsKnown v m → n < length s.nodes.keys
+pub node-asked : (s : Inside) {v : HideSetPool} {n m : ℕ} → seen s ≡ v → n ≡ m → IsKnown v m → n < length s.nodes.keys
 node-asked s {v = v} is same k = node-known s.names s.nodes.keys v _ _ (ap (λ v. v.sets) is) same k
 
-pub keeps-seen : (s : Inside) (new : List Node) {v : Numbered} {us ms : Answered}
+pub keeps-seen : (s : Inside) (new : List Node) {v : HideSetPool} {us ms : CachedPairs}
     → seen s ≡ v
     → IsPool s.nodes.keys
-    → nodes.Keeps s.nodes.keys new
+    → nodes.KeepsNodes s.nodes.keys new
     → KeepsPairs s.unions us
     → KeepsPairs s.meets ms
-    → Keeps v (record { sets = hide_sets s.names new; unions = us; meets = ms })
+    → KeepsSets v (record { sets = hide_sets s.names new; unions = us; meets = ms })
 keeps-seen s new {us = us} {ms = ms} is p k unions meets = record {
   more = counted (hide_set s.names new) (past-by 0 s.nodes.keys) k.more;
   is = sets-keep s.names s.nodes.keys new p k ∙ ap (λ v. v.sets ++ counted (hide_set s.names new) (past-by 0 s.nodes.keys) k.more) is;
@@ -63,7 +63,7 @@ keeps-seen s new {us = us} {ms = ms} is p k unions meets = record {
 }
 
 -- The result of an operation on two sets.
-pub made-seen : (o : Operation) (s : Inside) (new : List Node) {v : Numbered} {a b a' b' n : ℕ}
+pub made-seen : (o : Operation) (s : Inside) (new : List Node) {v : HideSetPool} {a b a' b' n : ℕ}
     → seen s ≡ v
     → IsDistinct same_name s.names
     → a ≡ a'
@@ -71,7 +71,7 @@ pub made-seen : (o : Operation) (s : Inside) (new : List Node) {v : Numbered} {a
     → IsKnown v a'
     → IsKnown v b'
     → n < length new
-    → ((x : ℕ) → member new n x ≡ joined o (member s.nodes.keys a x) (member s.nodes.keys b x))
+    → ((x : ℕ) → member new n x ≡ member_rule o (member s.nodes.keys a x) (member s.nodes.keys b x))
     → get_or (hide_sets s.names new) n set.empty ≡ made_of o (set_at v a') (set_at v b')
 made-seen o s new {v = v} {a = a} {b = b} {n = n} is d sa sb ka kb ln h =
     let old = s.nodes.keys in
@@ -80,31 +80,31 @@ made-seen o s new {v = v} {a = a} {b = b} {n = n} is d sa sb ka kb ln h =
     ∙ (λ i. made_of o (set-seen s.names old v _ _ sets sa (node-asked s is sa ka) i) (set-seen s.names old v _ _ sets sb (node-asked s is sb kb) i))
 
 -- The fields keep their invariant, with other pairs for this operation.
-abbrev AreKeptThen : Operation → Inside → List Node → Answered → Type 0
-AreKeptThen Union s new ps = AreKept s.names new ps s.meets
-AreKeptThen Meet s new ps = AreKept s.names new s.unions ps
+abbrev AreKeptThen : Operation → Inside → List Node → CachedPairs → Type 0
+AreKeptThen Union s new ps = IsPoolKept s.names new ps s.meets
+AreKeptThen Meet s new ps = IsPoolKept s.names new s.unions ps
 
-pub kept-made : (o : Operation) (s : Inside) {new : List Node} {ps : Answered}
-    → AreKept s.names s.nodes.keys s.unions s.meets
+pub selected-made : (o : Operation) (s : Inside) {new : List Node} {ps : CachedPairs}
+    → IsPoolKept s.names s.nodes.keys s.unions s.meets
     → IsPool new
-    → nodes.Keeps s.nodes.keys new
+    → nodes.KeepsNodes s.nodes.keys new
     → ((limit : ℕ) → IsBounded limit s.nodes.keys → IsBounded limit new)
-    → AreAnswers (joined o) new ps
+    → AreAnswers (member_rule o) new ps
     → AreKeptThen o s new ps
-kept-made Union s {new = new} k p keeps bounded answers =
-    record { distinct = k.distinct; pool = p; bounded = bounded (length s.names) k.bounded; unions = answers; meets = answers-keep (joined Meet) s.nodes.keys new s.meets k.pool keeps k.meets }
-kept-made Meet s {new = new} k p keeps bounded answers =
-    record { distinct = k.distinct; pool = p; bounded = bounded (length s.names) k.bounded; unions = answers-keep (joined Union) s.nodes.keys new s.unions k.pool keeps k.unions; meets = answers }
+selected-made Union s {new = new} k p keeps bounded answers =
+    record { distinct = k.distinct; pool = p; bounded = bounded (length s.names) k.bounded; unions = answers; meets = answers-keep (member_rule Meet) s.nodes.keys new s.meets k.pool keeps k.meets }
+selected-made Meet s {new = new} k p keeps bounded answers =
+    record { distinct = k.distinct; pool = p; bounded = bounded (length s.names) k.bounded; unions = answers-keep (member_rule Union) s.nodes.keys new s.unions k.pool keeps k.unions; meets = answers }
 
 -- ---- names and nodes are added
 
-pub keeps-named : (names more after : List Name) (old new : List Node) (us ms : Answered) (v w : Numbered)
+pub keeps-named : (names more after : List Name) (old new : List Node) (us ms : CachedPairs) (v w : HideSetPool)
     → after ≡ names ++ more
     → record { sets = hide_sets names old; unions = us; meets = ms } ≡ v
     → record { sets = hide_sets after new; unions = us; meets = ms } ≡ w
-    → AreKept names old us ms
-    → nodes.Keeps old new
-    → Keeps v w
+    → IsPoolKept names old us ms
+    → nodes.KeepsNodes old new
+    → KeepsSets v w
 keeps-named names more after old new us ms v w grown is now p k = record {
   more = counted (hide_set after new) (past-by 0 old) k.more;
   is = sym (ap (λ w. w.sets) now) ∙ sets-keep after old new p.pool k
@@ -113,24 +113,24 @@ keeps-named names more after old new us ms v w grown is now p k = record {
   meets = pairs-are (sym (ap (λ v. v.meets) is) ∙ ap (λ w. w.meets) now);
 }
 
-pub kept-named : (names more after : List Name) (old new : List Node) (us ms : Answered) (n : ℕ)
+pub selected-named : (names more after : List Name) (old new : List Node) (us ms : CachedPairs) (n : ℕ)
     → after ≡ names ++ more
     → IsDistinct same_name after
     → n < length after
-    → AreKept names old us ms
+    → IsPoolKept names old us ms
     → IsPool new
-    → nodes.Keeps old new
+    → nodes.KeepsNodes old new
     → ((limit : ℕ) → n < limit → IsBounded limit old → IsBounded limit new)
-    → AreKept after new us ms
-kept-named names more after old new us ms n grown d l k p keeps bounded = record {
+    → IsPoolKept after new us ms
+selected-named names more after old new us ms n grown d l k p keeps bounded = record {
   distinct = d;
   pool = p;
   bounded = bounded (length after) l (subst (λ ms. IsBounded (length ms) old) (sym grown) (bounded-more names more old k.bounded));
-  unions = answers-keep (joined Union) old new us k.pool keeps k.unions;
-  meets = answers-keep (joined Meet) old new ms k.pool keeps k.meets;
+  unions = answers-keep (member_rule Union) old new us k.pool keeps k.unions;
+  meets = answers-keep (member_rule Meet) old new ms k.pool keeps k.meets;
 }
 
-pub with-seen : (names more after : List Name) (old new : List Node) (v : Numbered) (a a' x n : ℕ) (q : Name)
+pub with-seen : (names more after : List Name) (old new : List Node) (v : HideSetPool) (a a' x n : ℕ) (q : Name)
     → after ≡ names ++ more
     → IsDistinct same_name after
     → x < length after
@@ -148,11 +148,11 @@ with-seen names more after old new v a a' x n q grown d lx at is bounded same la
 
 -- ---- sets that are there
 
-named-by : {names : List Name} {ns : List Node} {us ms : Answered} → AreKept names ns us ms → IsNamed names ns
+named-by : {names : List Name} {ns : List Node} {us ms : CachedPairs} → IsPoolKept names ns us ms → IsNamed names ns
 named-by k = record { distinct = k.distinct; within = λ n x l e. k.bounded.each n x l e }
 
 -- a set that is there with one name more
-pub more-there : (s : Inside) {v : Numbered} {a a' : ℕ} (n : ℕ) (q : Name)
+pub more-there : (s : Inside) {v : HideSetPool} {a a' : ℕ} (n : ℕ) (q : Name)
     → seen s ≡ v
     → a ≡ a'
     → IsKnown v a'
@@ -165,9 +165,9 @@ more-there s {v = v} {a = a} {a' = a'} n q is same ka kn e =
     ∙ e
     ∙ ap (λ t. set.insert t q) (sym (set-seen s.names s.nodes.keys v a a' sets same (node-asked s is same ka)))
 
-pub more-seen : (s : Inside) {v : Numbered} {a a' : ℕ} (n x : ℕ) (q : Name)
+pub more-seen : (s : Inside) {v : HideSetPool} {a a' : ℕ} (n x : ℕ) (q : Name)
     → seen s ≡ v
-    → AreKept s.names s.nodes.keys s.unions s.meets
+    → IsPoolKept s.names s.nodes.keys s.unions s.meets
     → a ≡ a'
     → IsKnown v a'
     → IsKnown v n
@@ -180,9 +180,9 @@ more-seen s {a = a} n x q is k same ka kn lx at e =
     more-members s.names s.nodes.keys a x n q (named-by k) (node-asked s is same ka) (node-asked s is refl kn) lx at (more-there s n q is same ka kn e)
 
 -- a set that is there and made of two
-pub both-seen : (o : Operation) (s : Inside) {v : Numbered} {a b a' b' : ℕ} (n : ℕ)
+pub both-seen : (o : Operation) (s : Inside) {v : HideSetPool} {a b a' b' : ℕ} (n : ℕ)
     → seen s ≡ v
-    → AreKept s.names s.nodes.keys s.unions s.meets
+    → IsPoolKept s.names s.nodes.keys s.unions s.meets
     → a ≡ a'
     → b ≡ b'
     → IsKnown v a'
@@ -190,7 +190,7 @@ pub both-seen : (o : Operation) (s : Inside) {v : Numbered} {a b a' b' : ℕ} (n
     → IsKnown v n
     → set_at v n ≡ made_of o (set_at v a') (set_at v b')
     → (x : ℕ)
-    → member s.nodes.keys n x ≡ joined o (member s.nodes.keys a x) (member s.nodes.keys b x)
+    → member s.nodes.keys n x ≡ member_rule o (member s.nodes.keys a x) (member s.nodes.keys b x)
 both-seen o s {v = v} {a = a} {b = b} n is k sa sb ka kb kn e =
     let sets = ap (λ v. v.sets) is in
     let la = node-asked s is sa ka in

@@ -6,20 +6,20 @@ use Rattle.std.specs.Option.{option_map}
 use Rattle.std.specs.FinSet as set
 use Rattle.pptext.specs.declared.tokens.Place.{Place}
 use Rattle.pptext.specs.declared.tokens.Fault.{Fault}
-use Rattle.ppmacro.specs.Numbered.{Numbered}
+use Rattle.ppmacro.specs.HideSetPool.{HideSetPool}
 use Rattle.ppmacro.specs.Hiding.{Hiding}
-use Rattle.ppmacro.specs.HideSets.{set_at, IsKnown, hiding, hidings, HasSets, AllKnown, Keeps}
-use Rattle.ppmacro.specs.Substitution.{Arguments, Marked, after_ok, argument_at, expanded_at, chain_tokens, mark_first, chains_tokens, gained}
-use Rattle.ppmacro.specs.Substituting.{lists_of, options_of, ArgumentsKnown, arguments_in, pushed, IsWithin}
-use Rattle.ppmacro.specs.declared.flying.Hidden.{Hidden}
-use Rattle.ppmacro.specs.declared.flying.Expansion.{Expansion}
+use Rattle.ppmacro.specs.HideSets.{set_at, IsKnown, hiding, hidings, HasSets, AllKnown, KeepsSets}
+use Rattle.ppmacro.specs.Substitution.{Arguments, Replacement, after_ok, argument_at, expanded_at, chain_tokens, flag_first, chains_tokens, hsadd}
+use Rattle.ppmacro.specs.Substituting.{lists_of, options_of, ArgumentsKnown, arguments_in, pushed, IsSubset}
+use Rattle.ppmacro.specs.declared.hidden_token.Hidden.{Hidden}
+use Rattle.ppmacro.specs.declared.hidden_token.Expansion.{Expansion}
 use Rattle.ppmacro.specs.declared.macros.Chain.{Chain}
 use Rattle.ppmacro.proofs.KeepLemmas.{set-keeps, hiding-keeps, hidings-keeps, known-keeps}
 
 -- Tokens before the result of the others.
-abbrev pub behind : {A : Type 0} → List A → Result (List A) Fault → Result (List A) Fault
-behind xs (Ok ys) = Ok (xs ++ ys)
-behind xs (Err f) = Err f
+abbrev pub following : {A : Type 0} → List A → Result (List A) Fault → Result (List A) Fault
+following xs (Ok ys) = Ok (xs ++ ys)
+following xs (Err f) = Err f
 
 pub drop-item : {X : Type 0} (xs : List X) (i : ℕ) (x : X) → i < length xs → x ≡ get_or xs i x → drop i xs ≡ x ∷ drop (i + 1) xs
 drop-item xs i x h e = drop_more xs i x h ∙ ap (λ y. y ∷ drop (i + 1) xs) (sym e)
@@ -27,78 +27,78 @@ drop-item xs i x h e = drop_more xs i x h ∙ ap (λ y. y ∷ drop (i + 1) xs) (
 pub take-item : {X : Type 0} (xs : List X) (i : ℕ) (x : X) → i < length xs → x ≡ get_or xs i x → take (i + 1) xs ≡ take i xs ++ x ∷ []
 take-item xs i x h e = take_more xs i x h ∙ ap (λ y. take i xs ++ y ∷ []) (sym e)
 
-pub known-each : (s : Numbered) (hs : List Hidden) (i : ℕ) (h : Hidden) → i < length hs → h ≡ get_or hs i h → AllKnown s hs → HasSets s h
+pub known-each : (s : HideSetPool) (hs : List Hidden) (i : ℕ) (h : Hidden) → i < length hs → h ≡ get_or hs i h → AllKnown s hs → HasSets s h
 known-each s [] i h less e known = absurd (omega arith)
 known-each s (x ∷ hs) zero h less e known = rw e known.each.0
 known-each s (x ∷ hs) (suc i) h less e known = known-each s hs i h (omega arith) e (record { each = known.each.1 })
 
 -- ---- arguments keep their hide sets
 
-given-keeps : {s t : Numbered} (given : List (Vec Hidden Global)) → Keeps s t → ((i : ℕ) → AllKnown s (argument_at (lists_of given) i)) → map (hidings t) (lists_of given) ≡ map (hidings s) (lists_of given)
+given-keeps : {s t : HideSetPool} (given : List (Vec Hidden Global)) → KeepsSets s t → ((i : ℕ) → AllKnown s (argument_at (lists_of given) i)) → map (hidings t) (lists_of given) ≡ map (hidings s) (lists_of given)
 given-keeps [] k known = refl
 given-keeps (v ∷ vs) k known = λ i. hidings-keeps v.items k (known 0) i ∷ given-keeps vs k (λ n. known (suc n)) i
 
-option-keeps : {s t : Numbered} (o : Option (List Hidden)) (os : List (Option (List Hidden))) → Keeps s t → AllKnown s (expanded_at (o ∷ os) 0) → option_map (hidings t) o ≡ option_map (hidings s) o
+option-keeps : {s t : HideSetPool} (o : Option (List Hidden)) (os : List (Option (List Hidden))) → KeepsSets s t → AllKnown s (expanded_at (o ∷ os) 0) → option_map (hidings t) o ≡ option_map (hidings s) o
 option-keeps None os k known = refl
 option-keeps (Some hs) os k known = ap Some (hidings-keeps hs k known)
 
-expanded-keeps : {s t : Numbered} (expanded : List (Option (List Hidden)))
-    → Keeps s t
+expanded-keeps : {s t : HideSetPool} (expanded : List (Option (List Hidden)))
+    → KeepsSets s t
     → ((i : ℕ) → AllKnown s (expanded_at expanded i))
     → map (λ o. option_map (hidings t) o) expanded ≡ map (λ o. option_map (hidings s) o) expanded
 expanded-keeps [] k known = refl
 expanded-keeps (o ∷ os) k known = λ i. option-keeps o os k (known 0) i ∷ expanded-keeps os k (λ n. known (suc n)) i
 
-pub arguments-keeps : {s t : Numbered} (given : List (Vec Hidden Global)) (expanded : List Expansion) → Keeps s t → ArgumentsKnown s given expanded → arguments_in t given expanded ≡ arguments_in s given expanded
+pub arguments-keeps : {s t : HideSetPool} (given : List (Vec Hidden Global)) (expanded : List Expansion) → KeepsSets s t → ArgumentsKnown s given expanded → arguments_in t given expanded ≡ arguments_in s given expanded
 arguments-keeps given expanded k known = λ i. record { given = given-keeps given k known.given_known i; expanded = expanded-keeps (options_of given expanded) k known.expanded_known i }
 
-pub arguments-known : {s t : Numbered} (given : List (Vec Hidden Global)) (expanded : List Expansion) → Keeps s t → ArgumentsKnown s given expanded → ArgumentsKnown t given expanded
+pub arguments-known : {s t : HideSetPool} (given : List (Vec Hidden Global)) (expanded : List Expansion) → KeepsSets s t → ArgumentsKnown s given expanded → ArgumentsKnown t given expanded
 arguments-known given expanded k known = record { given_known = λ i. known-keeps _ k (known.given_known i); expanded_known = λ i. known-keeps _ k (known.expanded_known i) }
 
 -- ---- chains
 
-abbrev goes_on : Arguments → Place → Bool → List Chain → List Hiding → Result Marked Fault
-goes_on args used mark cs ts = after_ok (chains_tokens args used (mark_first mark ts).pending false cs) (λ rest. Ok (record { tokens = (mark_first mark ts).tokens ++ rest.tokens; pending = rest.pending }))
+abbrev goes_on : Arguments → Place → Bool → List Chain → List Hiding → Result Replacement Fault
+goes_on args used flag cs ts = after_ok (chains_tokens args used (flag_first flag ts).pending false cs) (λ rest. Ok (record { tokens = (flag_first flag ts).tokens ++ rest.tokens; pending = rest.pending }))
 
 -- Tokens before the replacement by the other chains.
-abbrev pub marked_behind : List Hiding → Result Marked Fault → Result Marked Fault
+abbrev pub marked_behind : List Hiding → Result Replacement Fault → Result Replacement Fault
 marked_behind ts (Ok m) = Ok (record { tokens = ts ++ m.tokens; pending = m.pending })
 marked_behind ts (Err f) = Err f
 
-behind-behind : (xs ys : List Hiding) (r : Result Marked Fault) → marked_behind xs (after_ok r (λ m. Ok (record { tokens = ys ++ m.tokens; pending = m.pending }))) ≡ marked_behind (xs ++ ys) r
-behind-behind xs ys (Ok m) = λ i. Ok (record { tokens = sym (append_assoc xs ys m.tokens) i; pending = m.pending })
-behind-behind xs ys (Err f) = refl
+following-following : (xs ys : List Hiding) (r : Result Replacement Fault) → marked_behind xs (after_ok r (λ m. Ok (record { tokens = ys ++ m.tokens; pending = m.pending }))) ≡ marked_behind (xs ++ ys) r
+following-following xs ys (Ok m) = λ i. Ok (record { tokens = sym (append_assoc xs ys m.tokens) i; pending = m.pending })
+following-following xs ys (Err f) = refl
 
 chains-more : (args : Arguments) (used : Place) (pending first : Bool) (c : Chain) (cs : List Chain) (front ts : List Hiding)
     → Ok ts ≡ chain_tokens args used c
-    → marked_behind (front ++ (mark_first (pending || (not first && c.mark)) ts).tokens)
-    (chains_tokens args used (mark_first (pending || (not first && c.mark)) ts).pending false cs)
+    → marked_behind (front ++ (flag_first (pending || (not first && c.flag)) ts).tokens)
+    (chains_tokens args used (flag_first (pending || (not first && c.flag)) ts).pending false cs)
     ≡ marked_behind front (chains_tokens args used pending first (c ∷ cs))
 chains-more args used pending first c cs front ts h =
-    sym (behind-behind front (mark_first (pending || (not first && c.mark)) ts).tokens (chains_tokens args used (mark_first (pending || (not first && c.mark)) ts).pending false cs))
-    ∙ ap (λ r. marked_behind front (after_ok r (goes_on args used (pending || (not first && c.mark)) cs))) h
+    sym (following-following front (flag_first (pending || (not first && c.flag)) ts).tokens (chains_tokens args used (flag_first (pending || (not first && c.flag)) ts).pending false cs))
+    ∙ ap (λ r. marked_behind front (after_ok r (goes_on args used (pending || (not first && c.flag)) cs))) h
 
 chains-refused : (args : Arguments) (used : Place) (pending first : Bool) (c : Chain) (cs : List Chain) (front : List Hiding) (f : Fault)
     → Err f ≡ chain_tokens args used c
     → Err f ≡ marked_behind front (chains_tokens args used pending first (c ∷ cs))
-chains-refused args used pending first c cs front f h = ap (λ r. marked_behind front (after_ok r (goes_on args used (pending || (not first && c.mark)) cs))) h
+chains-refused args used pending first c cs front f h = ap (λ r. marked_behind front (after_ok r (goes_on args used (pending || (not first && c.flag)) cs))) h
 
 -- One chain is appended, and the others after it.
 pub chains-pushed : (args : Arguments) (used : Place) (pending first : Bool) (c : Chain) (cs : List Chain) (front new : List Hiding) (left : Bool)
     (r : Result (List Hiding) Fault)
     → r ≡ chain_tokens args used c
-    → Ok (record { tokens = new; pending = left }) ≡ pushed front (pending || (not first && c.mark)) r
+    → Ok (record { tokens = new; pending = left }) ≡ pushed front (pending || (not first && c.flag)) r
     → marked_behind new (chains_tokens args used left false cs) ≡ marked_behind front (chains_tokens args used pending first (c ∷ cs))
 chains-pushed args used pending first c cs front new left (Ok ts) h e =
-    let here : Marked = mark_first (pending || (not first && c.mark)) ts in
+    let here : Replacement = flag_first (pending || (not first && c.flag)) ts in
     let same : record { tokens = new; pending = left } ≡ record { tokens = front ++ here.tokens; pending = here.pending } = cc in
-    ap (λ (m : Marked). marked_behind m.tokens (chains_tokens args used m.pending false cs)) same ∙ chains-more args used pending first c cs front ts h
+    ap (λ (m : Replacement). marked_behind m.tokens (chains_tokens args used m.pending false cs)) same ∙ chains-more args used pending first c cs front ts h
 chains-pushed args used pending first c cs front new left (Err f) h e = absurd (cc)
 
 pub chains-refused-pushed : (args : Arguments) (used : Place) (pending first : Bool) (c : Chain) (cs : List Chain) (front : List Hiding) (f : Fault)
     (r : Result (List Hiding) Fault)
     → r ≡ chain_tokens args used c
-    → Err f ≡ pushed front (pending || (not first && c.mark)) r
+    → Err f ≡ pushed front (pending || (not first && c.flag)) r
     → Err f ≡ marked_behind front (chains_tokens args used pending first (c ∷ cs))
 chains-refused-pushed args used pending first c cs front f (Ok ts) h e = absurd (cc)
 chains-refused-pushed args used pending first c cs front f (Err g) h e =
@@ -107,25 +107,25 @@ chains-refused-pushed args used pending first c cs front f (Err g) h e =
 
 -- ---- added names
 
-pub gained-more : (s t u : Numbered) (g : ℕ) (used : Place) (done earlier : List Hidden) (item one : Hidden)
-    → Keeps s t
-    → Keeps t u
+pub hsadd-more : (s t u : HideSetPool) (g : ℕ) (used : Place) (done earlier : List Hidden) (item one : Hidden)
+    → KeepsSets s t
+    → KeepsSets t u
     → IsKnown s g
     → AllKnown t done
     → HasSets s item
-    → hiding u one ≡ gained (set_at t g) used (hiding t item)
-    → hidings t done ≡ map (gained (set_at s g) used) (hidings s earlier)
-    → hidings u (done ++ one ∷ []) ≡ map (gained (set_at s g) used) (hidings s (earlier ++ item ∷ []))
-gained-more s t u g used done earlier item one k l gain known here is so_far =
-    let last : hiding u one ≡ gained (set_at s g) used (hiding s item) = is ∙ (λ i. gained (set-keeps g k gain i) used (hiding-keeps item k here i)) in
+    → hiding u one ≡ hsadd (set_at t g) used (hiding t item)
+    → hidings t done ≡ map (hsadd (set_at s g) used) (hidings s earlier)
+    → hidings u (done ++ one ∷ []) ≡ map (hsadd (set_at s g) used) (hidings s (earlier ++ item ∷ []))
+hsadd-more s t u g used done earlier item one k l added known here is so_far =
+    let last : hiding u one ≡ hsadd (set_at s g) used (hiding s item) = is ∙ (λ i. hsadd (set-keeps g k added i) used (hiding-keeps item k here i)) in
     map-append (hiding u) done (one ∷ [])
     ∙ (λ i. (hidings-keeps done l known ∙ so_far) i ++ last i ∷ [])
-    ∙ sym (map-append (gained (set_at s g) used) (hidings s earlier) (hiding s item ∷ []))
-    ∙ ap (map (gained (set_at s g) used)) (sym (map-append (hiding s) earlier (item ∷ [])))
+    ∙ sym (map-append (hsadd (set_at s g) used) (hidings s earlier) (hiding s item ∷ []))
+    ∙ ap (map (hsadd (set_at s g) used)) (sym (map-append (hiding s) earlier (item ∷ [])))
 
-pub within-keeps : {s t : Numbered} (gain n : ℕ) → Keeps s t → IsKnown s gain → IsKnown s n → IsWithin s gain n → IsWithin t gain n
-within-keeps gain n k gain_known known h =
-    let more = set-keeps gain k gain_known in
+pub within-keeps : {s t : HideSetPool} (added n : ℕ) → KeepsSets s t → IsKnown s added → IsKnown s n → IsSubset s added n → IsSubset t added n
+within-keeps added n k gain_known known h =
+    let more = set-keeps added k gain_known in
     (λ i. set.union (set-keeps n k known i) (more i)) ∙ h ∙ sym more
 
 -- A list by its next element.
@@ -135,7 +135,7 @@ next-item [] (suc i) x rest e = absurd (cc e)
 next-item (y ∷ ys) zero x rest e = let is : y ≡ x = cc e in let left : ys ≡ rest = cc e in (ap (λ z. z ∷ []) is, left)
 next-item (y ∷ ys) (suc i) x rest e = let after = next-item ys i x rest e in (ap (λ zs. y ∷ zs) after.0, after.1)
 
-pub known-drop : (s : Numbered) (i : ℕ) (hs : List Hidden) → AllKnown s hs → AllKnown s (drop i hs)
+pub known-drop : (s : HideSetPool) (i : ℕ) (hs : List Hidden) → AllKnown s hs → AllKnown s (drop i hs)
 known-drop s zero hs k = k
 known-drop s (suc i) [] k = k
 known-drop s (suc i) (h ∷ hs) k = known-drop s i hs (record { each = k.each.1 })

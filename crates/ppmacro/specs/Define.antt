@@ -13,18 +13,18 @@ use Rattle.pptext.specs.declared.tokens.Token.{Token}
 use Rattle.pptext.specs.declared.tokens.Fault.{Fault}
 use Rattle.pptext.specs.Tokens.{is_identifier, is_identifier_named, is_punct, fault}
 use Rattle.ppmacro.specs.Names.{Name, Macros}
-use Rattle.ppmacro.specs.Spellings.{is_hash, is_paste}
-use Rattle.ppmacro.specs.Headings.{Heading}
-use Rattle.ppmacro.specs.Chains.{names_in, parameter_of, is_function_like}
-use Rattle.ppmacro.specs.declared.macros.Builtin.{Builtin}
-use Rattle.ppmacro.specs.declared.macros.Builtin.TheVariants.{StdcVersion}
+use Rattle.ppmacro.specs.HashOperators.{is_hash, is_paste}
+use Rattle.ppmacro.specs.ParsedParameters.{ParsedParameters}
+use Rattle.ppmacro.specs.Chains.{parameter_names, parameter_of, is_function_like}
+use Rattle.ppmacro.specs.declared.macros.PredefinedMacro.{PredefinedMacro}
+use Rattle.ppmacro.specs.declared.macros.PredefinedMacro.TheVariants.{StdcVersion}
 use Rattle.ppmacro.specs.declared.macros.Variadic.{Variadic}
 use Rattle.ppmacro.specs.declared.macros.Variadic.TheVariants.{No, Strict, Lenient}
-use Rattle.ppmacro.specs.declared.defining.headings.Ending.{Ending}
-use Rattle.ppmacro.specs.declared.defining.headings.Ending.TheVariants.{Plain, Dots, NamedDots}
-use Rattle.ppmacro.specs.declared.macros.Shape.{Shape}
-use Rattle.ppmacro.specs.declared.macros.Shape.TheVariants.{Predefined, ObjectLike, FunctionLike}
-use Rattle.ppmacro.specs.declared.macros.Definition.{Definition}
+use Rattle.ppmacro.specs.declared.defining.parameter_lists.Ending.{Ending}
+use Rattle.ppmacro.specs.declared.defining.parameter_lists.Ending.TheVariants.{NoEllipsis, Ellipsis, NamedEllipsis}
+use Rattle.ppmacro.specs.declared.macros.MacroKind.{MacroKind}
+use Rattle.ppmacro.specs.declared.macros.MacroKind.TheVariants.{Predefined, ObjectLike, FunctionLike}
+use Rattle.ppmacro.specs.declared.macros.Macro.{Macro}
 
 -- Why a definition with a permitted name is invalid.
 pub data Refusal : Type 0 where
@@ -38,36 +38,36 @@ pub data Refusal : Type 0 where
 -- A definition with the macro's name.
 pub record Named : Type 0 where
   pub name : Name
-  pub definition : Definition
+  pub definition : Macro
 
 -- ---- the parameter list (6.10p1, 6.10.3p10)
 
 -- Expects `)`. The replacement list follows it.
-abbrev pub closed : Ending → List Token → Option Heading
-closed ending [] = None
-closed ending (t ∷ ts) = if is_punct (codes ")") t then Some (record { names = []; ending = ending; body = ts }) else None
+abbrev pub close_parameters : Ending → List Token → Option ParsedParameters
+close_parameters ending [] = None
+close_parameters ending (t ∷ ts) = if is_punct (codes ")") t then Some (record { names = []; ending = ending; body = ts }) else None
 
-abbrev pub with_name : Name → Heading → Heading
+abbrev pub with_name : Name → ParsedParameters → ParsedParameters
 with_name n h = record h { names = n ∷ h.names }
 
 -- After a parameter's name that no comma follows. In GNU C `...` may be next.
-abbrev pub behind_name : Bool → List Token → Option Heading
-behind_name gnu [] = None
-behind_name gnu (t ∷ ts) = if gnu && is_punct (codes "...") t then closed NamedDots ts else closed Plain (t ∷ ts)
+abbrev pub after_parameter_name : Bool → List Token → Option ParsedParameters
+after_parameter_name gnu [] = None
+after_parameter_name gnu (t ∷ ts) = if gnu && is_punct (codes "...") t then close_parameters NamedEllipsis ts else close_parameters NoEllipsis (t ∷ ts)
 
 -- After a name (`named`), expects `,` or `)`, and in GNU C also `...`. Otherwise expects a name or `...`.
-abbrev pub parameters_from : (gnu named : Bool) → List Token → Option Heading
+abbrev pub parameters_from : (gnu named : Bool) → List Token → Option ParsedParameters
 parameters_from gnu named [] = None
-parameters_from gnu true (t ∷ ts) = if is_punct (codes ",") t then parameters_from gnu false ts else behind_name gnu (t ∷ ts)
+parameters_from gnu true (t ∷ ts) = if is_punct (codes ",") t then parameters_from gnu false ts else after_parameter_name gnu (t ∷ ts)
 parameters_from gnu false (t ∷ ts) =
-    if is_punct (codes "...") t then closed Dots ts else (
+    if is_punct (codes "...") t then close_parameters Ellipsis ts else (
     if is_identifier t then option_map (with_name t.text) (parameters_from gnu true ts) else None)
 
 -- The parameter list in the tokens after `(`.
-abbrev pub parameter_list : Profile → List Token → Option Heading
-parameter_list profile [] = None
-parameter_list profile (t ∷ ts) =
-    if is_punct (codes ")") t then Some (record { names = []; ending = Plain; body = ts }) else parameters_from (is_gnu profile) false (t ∷ ts)
+abbrev pub read_parameter_list : Profile → List Token → Option ParsedParameters
+read_parameter_list profile [] = None
+read_parameter_list profile (t ∷ ts) =
+    if is_punct (codes ")") t then Some (record { names = []; ending = NoEllipsis; body = ts }) else parameters_from (is_gnu profile) false (t ∷ ts)
 
 abbrev pub repeats : List Name → Bool
 repeats [] = false
@@ -75,41 +75,41 @@ repeats (n ∷ ns) = list_any (λ m. bytes_eq m n) ns || repeats ns
 
 -- All parameters. `__VA_ARGS__` is the last if the list ends in `...` (6.10.3.1p2).
 abbrev pub all_parameters : Ending → List Name → List Name
-all_parameters Plain names = names
-all_parameters Dots names = names ++ codes "__VA_ARGS__" ∷ []
-all_parameters NamedDots names = names
+all_parameters NoEllipsis names = names
+all_parameters Ellipsis names = names ++ codes "__VA_ARGS__" ∷ []
+all_parameters NamedEllipsis names = names
 
 -- How the last parameter takes arguments. In GNU C a variable argument may be absent.
 abbrev pub variadic_by : (gnu : Bool) → Ending → Variadic
-variadic_by gnu Plain = No
-variadic_by false Dots = Strict
-variadic_by true Dots = Lenient
-variadic_by false NamedDots = Strict
-variadic_by true NamedDots = Lenient
+variadic_by gnu NoEllipsis = No
+variadic_by false Ellipsis = Strict
+variadic_by true Ellipsis = Lenient
+variadic_by false NamedEllipsis = Strict
+variadic_by true NamedEllipsis = Lenient
 
 -- Whether `__VA_ARGS__` is among the names.
 abbrev pub has_variable_arguments : List Name → Bool
 has_variable_arguments names = list_any (λ n. bytes_eq n (codes "__VA_ARGS__")) names
 
-abbrev pub function_like : Profile → Option Heading → Result Definition Refusal
+abbrev pub function_like : Profile → Option ParsedParameters → Result Macro Refusal
 function_like profile None = Err ParameterList
 function_like profile (Some h) =
     if repeats h.names then Err ParameterList else (
     if has_variable_arguments h.names then Err VariableArguments else
-    Ok (record { shape = FunctionLike (all_parameters h.ending h.names) (variadic_by (is_gnu profile) h.ending); body = h.body }))
+    Ok (record { kind = FunctionLike (all_parameters h.ending h.names) (variadic_by (is_gnu profile) h.ending); body = h.body }))
 
 -- The definition in the tokens after the macro's name.
-abbrev pub read_definition : Profile → List Token → Result Definition Refusal
-read_definition profile [] = Ok (record { shape = ObjectLike; body = [] })
+abbrev pub read_definition : Profile → List Token → Result Macro Refusal
+read_definition profile [] = Ok (record { kind = ObjectLike; body = [] })
 read_definition profile (t ∷ ts) =
-    if t.space then Ok (record { shape = ObjectLike; body = t ∷ ts }) else (
-    if is_punct (codes "(") t then function_like profile (parameter_list profile ts) else Err Spacing)
+    if t.space then Ok (record { kind = ObjectLike; body = t ∷ ts }) else (
+    if is_punct (codes "(") t then function_like profile (read_parameter_list profile ts) else Err Spacing)
 
 -- ---- the replacement list
 
 -- Whether there is a `__VA_ARGS__`, but no `...` in the parameter list (6.10.3p5).
-abbrev pub misplaces_variable_arguments : Shape → List Token → Bool
-misplaces_variable_arguments shape ts = list_any (is_identifier_named (codes "__VA_ARGS__")) ts && not (has_variable_arguments (names_in shape))
+abbrev pub misplaces_variable_arguments : MacroKind → List Token → Bool
+misplaces_variable_arguments kind ts = list_any (is_identifier_named (codes "__VA_ARGS__")) ts && not (has_variable_arguments (parameter_names kind))
 
 abbrev pub is_empty : List Token → Bool
 is_empty [] = true
@@ -121,14 +121,14 @@ abbrev pub misplaces_paste : Bool → List Token → Bool
 misplaces_paste bare [] = false
 misplaces_paste bare (t ∷ ts) = if is_paste t then bare || (is_empty ts || misplaces_paste true ts) else misplaces_paste false ts
 
-abbrev pub begins_with_parameter : Shape → List Token → Bool
-begins_with_parameter shape [] = false
-begins_with_parameter shape (t ∷ ts) = is_some (parameter_of shape t)
+abbrev pub begins_with_parameter : MacroKind → List Token → Bool
+begins_with_parameter kind [] = false
+begins_with_parameter kind (t ∷ ts) = is_some (parameter_of kind t)
 
 -- Whether there is a `#` without a parameter directly after it (6.10.3.2p1).
-abbrev pub misplaces_hash : Shape → List Token → Bool
-misplaces_hash shape [] = false
-misplaces_hash shape (t ∷ ts) = (is_hash t && not (begins_with_parameter shape ts)) || misplaces_hash shape ts
+abbrev pub misplaces_hash : MacroKind → List Token → Bool
+misplaces_hash kind [] = false
+misplaces_hash kind (t ∷ ts) = (is_hash t && not (begins_with_parameter kind ts)) || misplaces_hash kind ts
 
 -- ---- identical definitions (6.10.3p1, p2)
 
@@ -146,33 +146,33 @@ same_body (t ∷ ts) (u ∷ us) = bytes_eq t.text u.text && pointwise same_token
 same_body _ _ = false
 
 -- The names show whether there is a `...`.
-abbrev pub same_shape : Shape → Shape → Bool
-same_shape ObjectLike ObjectLike = true
-same_shape (FunctionLike ms v) (FunctionLike ns w) = pointwise bytes_eq ms ns
-same_shape _ _ = false
+abbrev pub same_kind : MacroKind → MacroKind → Bool
+same_kind ObjectLike ObjectLike = true
+same_kind (FunctionLike ms v) (FunctionLike ns w) = pointwise bytes_eq ms ns
+same_kind _ _ = false
 
-abbrev pub agrees : Definition → Definition → Bool
-agrees d e = same_shape d.shape e.shape && same_body d.body e.body
+abbrev pub is_identical : Macro → Macro → Bool
+is_identical d e = same_kind d.kind e.kind && same_body d.body e.body
 
-abbrev pub clashes : Option Definition → Definition → Bool
-clashes None d = false
-clashes (Some e) d = not (agrees e d)
+abbrev pub is_conflicting : Option Macro → Macro → Bool
+is_conflicting None d = false
+is_conflicting (Some e) d = not (is_identical e d)
 
 -- ---- the whole line
 
 -- Whether a predefined macro can't be redefined. In GNU C `__STDC_VERSION__` can, because a list uses it for the `-std` of a
 -- build.
-abbrev pub is_fixed_builtin : (gnu : Bool) → Builtin → Bool
-is_fixed_builtin gnu StdcVersion = not gnu
-is_fixed_builtin gnu _ = true
+abbrev pub is_fixed_predefined : (gnu : Bool) → PredefinedMacro → Bool
+is_fixed_predefined gnu StdcVersion = not gnu
+is_fixed_predefined gnu _ = true
 
-abbrev pub is_fixed_shape : (gnu : Bool) → Shape → Bool
-is_fixed_shape gnu (Predefined b) = is_fixed_builtin gnu b
-is_fixed_shape gnu _ = false
+abbrev pub is_fixed_kind : (gnu : Bool) → MacroKind → Bool
+is_fixed_kind gnu (Predefined b) = is_fixed_predefined gnu b
+is_fixed_kind gnu _ = false
 
-abbrev pub is_fixed : (gnu : Bool) → Option Definition → Bool
+abbrev pub is_fixed : (gnu : Bool) → Option Macro → Bool
 is_fixed gnu None = false
-is_fixed gnu (Some d) = is_fixed_shape gnu d.shape
+is_fixed gnu (Some d) = is_fixed_kind gnu d.kind
 
 -- Whether a name can never be a macro.
 abbrev pub is_barred : Name → Bool
@@ -183,20 +183,20 @@ abbrev pub is_reserved : Profile → Macros → Name → Bool
 is_reserved profile macros name = is_fixed (is_gnu profile) (table.get macros name) || is_barred name
 
 -- Why a definition is invalid, if it is. In GNU C a name may be redefined with any definition.
-abbrev pub refusal_of : Profile → Macros → Name → Definition → Option Refusal
+abbrev pub refusal_of : Profile → Macros → Name → Macro → Option Refusal
 refusal_of profile macros name d =
-    if misplaces_variable_arguments d.shape d.body then Some VariableArguments else (
+    if misplaces_variable_arguments d.kind d.body then Some VariableArguments else (
     if misplaces_paste true d.body then Some Pasting else (
-    if is_function_like d.shape && misplaces_hash d.shape d.body then Some Stringizing else (
-    if not (is_gnu profile) && clashes (table.get macros name) d then Some Redefinition else None)))
+    if is_function_like d.kind && misplaces_hash d.kind d.body then Some Stringizing else (
+    if not (is_gnu profile) && is_conflicting (table.get macros name) d then Some Redefinition else None)))
 
-abbrev pub unless_refused : Option Refusal → Definition → Result Definition Refusal
+abbrev pub unless_refused : Option Refusal → Macro → Result Macro Refusal
 unless_refused None d = Ok d
 unless_refused (Some r) d = Err r
 
-abbrev pub fitting : Profile → Macros → Name → Result Definition Refusal → Result Definition Refusal
-fitting profile macros name (Ok d) = unless_refused (refusal_of profile macros name d) d
-fitting profile macros name (Err r) = Err r
+abbrev pub check_body : Profile → Macros → Name → Result Macro Refusal → Result Macro Refusal
+check_body profile macros name (Ok d) = unless_refused (refusal_of profile macros name d) d
+check_body profile macros name (Err r) = Err r
 
 -- The number of a fault.
 abbrev pub number_of : Refusal → ℕ
@@ -207,29 +207,29 @@ number_of Stringizing = 14
 number_of VariableArguments = 15
 number_of Redefinition = 16
 
-abbrev pub under_name : Place → Name → Result Definition Refusal → Result Named Fault
-under_name at name (Ok d) = Ok (record { name = name; definition = d })
-under_name at name (Err r) = Err (fault (number_of r) at name)
+abbrev pub with_macro_name : Place → Name → Result Macro Refusal → Result Named Fault
+with_macro_name at name (Ok d) = Ok (record { name = name; definition = d })
+with_macro_name at name (Err r) = Err (fault (number_of r) at name)
 
 -- The definition in the tokens after `define`, or the fault. `at` is the location of `#`.
-abbrev pub judged : Profile → Macros → Place → List Token → Result Named Fault
-judged profile macros at [] = Err (fault 9 at (codes "define"))
-judged profile macros at (t ∷ ts) =
+abbrev pub check_define : Profile → Macros → Place → List Token → Result Named Fault
+check_define profile macros at [] = Err (fault 9 at (codes "define"))
+check_define profile macros at (t ∷ ts) =
     if is_identifier t then (
     if is_reserved profile macros t.text then Err (fault 10 at t.text) else
-    under_name at t.text (fitting profile macros t.text (read_definition profile ts))) else Err (fault 9 at (codes "define"))
+    with_macro_name at t.text (check_body profile macros t.text (read_definition profile ts))) else Err (fault 9 at (codes "define"))
 
 -- The fault of a private function's result, which has only its number and text.
-abbrev pub faulted : {A : Type 0} → Place → Result A (ℕ × Name) → Result A Fault
-faulted at (Ok x) = Ok x
-faulted at (Err r) = Err (fault r.0 at r.1)
+abbrev pub with_place : {A : Type 0} → Place → Result A (ℕ × Name) → Result A Fault
+with_place at (Ok x) = Ok x
+with_place at (Err r) = Err (fault r.0 at r.1)
 
-abbrev pub entered : Macros → Result Named Fault → Result Macros Fault
-entered macros (Ok n) = Ok (table.insert macros n.name n.definition)
-entered macros (Err f) = Err f
+abbrev pub insert_definition : Macros → Result Named Fault → Result Macros Fault
+insert_definition macros (Ok n) = Ok (table.insert macros n.name n.definition)
+insert_definition macros (Err f) = Err f
 
 abbrev pub after_define : Profile → Macros → Place → List Token → Result Macros Fault
-after_define profile macros at line = entered macros (judged profile macros at line)
+after_define profile macros at line = insert_definition macros (check_define profile macros at line)
 
 -- The name in the tokens after `undef`, or the fault.
 abbrev pub undefined : Profile → Macros → Place → List Token → Result Name Fault
@@ -237,12 +237,12 @@ undefined profile macros at (t ∷ []) =
     if is_identifier t then (if is_reserved profile macros t.text then Err (fault 10 at t.text) else Ok t.text) else Err (fault 9 at (codes "undef"))
 undefined profile macros at _ = Err (fault 9 at (codes "undef"))
 
-abbrev pub taken_out : Macros → Result Name Fault → Result Macros Fault
-taken_out macros (Ok name) = Ok (table.remove macros name)
-taken_out macros (Err f) = Err f
+abbrev pub remove_name : Macros → Result Name Fault → Result Macros Fault
+remove_name macros (Ok name) = Ok (table.remove macros name)
+remove_name macros (Err f) = Err f
 
 abbrev pub after_undef : Profile → Macros → Place → List Token → Result Macros Fault
-after_undef profile macros at line = taken_out macros (undefined profile macros at line)
+after_undef profile macros at line = remove_name macros (undefined profile macros at line)
 
 -- The effect of a call on the table: the table of `r`, or its fault and the old table.
 abbrev pub Leaves : Macros → Macros → Result (Unit {0}) Fault → Result Macros Fault → Type 0

@@ -4,50 +4,50 @@ use Rattle.std.specs.FinSet as set
 use Rattle.std.specs.List.{AllByRecursion}
 use Rattle.ppmacro.specs.Names.{HideSet}
 use Rattle.ppmacro.specs.Hiding.{Hiding}
-use Rattle.ppmacro.specs.Numbered.{Numbered}
-use Rattle.ppmacro.specs.Pairs.{KeepsPairs}
-use Rattle.ppmacro.specs.declared.flying.Hidden.{Hidden}
+use Rattle.ppmacro.specs.HideSetPool.{HideSetPool}
+use Rattle.ppmacro.specs.PairCache.{KeepsPairs}
+use Rattle.ppmacro.specs.declared.hidden_token.Hidden.{Hidden}
 
 -- The pool with only the empty set.
-abbrev pub starting : Numbered
+abbrev pub starting : HideSetPool
 starting = record { sets = set.empty ∷ []; unions = []; meets = [] }
 
 -- The set with this number.
-abbrev pub set_at : Numbered → ℕ → HideSet
+abbrev pub set_at : HideSetPool → ℕ → HideSet
 set_at sets n = slice_index_or sets.sets n set.empty
 
 -- A set has this number.
-abbrev pub IsKnown : Numbered → ℕ → Type 0
+abbrev pub IsKnown : HideSetPool → ℕ → Type 0
 IsKnown sets n = n < length sets.sets
 
 -- Each set keeps its number, and each pair its result. There may be more.
-pub record Keeps (old new : Numbered) : Type 0 where
+pub record KeepsSets (old new : HideSetPool) : Type 0 where
   pub more : List HideSet
   pub is : new.sets ≡ old.sets ++ more
   pub unions : KeepsPairs old.unions new.unions
   pub meets : KeepsPairs old.meets new.meets
 
 -- The names of a set, and of an extra set if there is one.
-abbrev pub names_in : Numbered → ℕ → Option ℕ → HideSet
-names_in sets n None = set_at sets n
-names_in sets n (Some m) = set.union (set_at sets n) (set_at sets m)
+abbrev pub hidden_names : HideSetPool → ℕ → Option ℕ → HideSet
+hidden_names sets n None = set_at sets n
+hidden_names sets n (Some m) = set.union (set_at sets n) (set_at sets m)
 
 -- The names that hide a token.
-abbrev pub hide_of : Numbered → Hidden → HideSet
-hide_of sets h = names_in sets h.hide h.also
+abbrev pub hide_of : HideSetPool → Hidden → HideSet
+hide_of sets h = hidden_names sets h.hide h.extra
 
 -- A token with its hide set.
-abbrev pub hiding : Numbered → Hidden → Hiding
+abbrev pub hiding : HideSetPool → Hidden → Hiding
 hiding sets h = record { token = h.token; hide = hide_of sets h }
 
 -- The numbers of a token's sets are known.
-pub record HasSets (sets : Numbered) (h : Hidden) : Type 0 where
+pub record HasSets (sets : HideSetPool) (h : Hidden) : Type 0 where
   pub hide : IsKnown sets h.hide
-  pub also : IfSome h.also (IsKnown sets)
+  pub extra : IfSome h.extra (IsKnown sets)
 
-abbrev pub hidings : Numbered → List Hidden → List Hiding
+abbrev pub hidings : HideSetPool → List Hidden → List Hiding
 hidings sets hs = map (hiding sets) hs
 
 -- The numbers of all these tokens' sets are known.
-pub record AllKnown (sets : Numbered) (hs : List Hidden) : Type 0 where
+pub record AllKnown (sets : HideSetPool) (hs : List Hidden) : Type 0 where
   pub each : AllByRecursion (HasSets sets) hs

@@ -6,14 +6,14 @@ use Rattle.pptext.specs.declared.sources.Profile.{Profile}
 use Rattle.pptext.specs.Profiles.{is_gnu}
 use Rattle.pptext.specs.Tokens.{is_identifier, is_punct}
 use Rattle.ppmacro.specs.Names.{Name}
-use Rattle.ppmacro.specs.Spellings.{is_paste}
-use Rattle.ppmacro.specs.Headings.{Heading}
+use Rattle.ppmacro.specs.HashOperators.{is_paste}
+use Rattle.ppmacro.specs.ParsedParameters.{ParsedParameters}
 use Rattle.ppmacro.specs.Chains.{parameter_of, is_function_like, is_operator_hash, lenient_parameter, with_rest}
 use Rattle.ppmacro.specs.Define.{misplaces_paste, misplaces_hash}
-use Rattle.ppmacro.specs.declared.defining.headings.Ending.{Ending}
-use Rattle.ppmacro.specs.declared.defining.headings.Ending.TheVariants.{Plain, Dots, NamedDots}
-use Rattle.ppmacro.specs.declared.macros.Shape.{Shape}
-use Rattle.ppmacro.specs.declared.macros.Definition.{Definition}
+use Rattle.ppmacro.specs.declared.defining.parameter_lists.Ending.{Ending}
+use Rattle.ppmacro.specs.declared.defining.parameter_lists.Ending.TheVariants.{NoEllipsis, Ellipsis, NamedEllipsis}
+use Rattle.ppmacro.specs.declared.macros.MacroKind.{MacroKind}
+use Rattle.ppmacro.specs.declared.macros.Macro.{Macro}
 use Rattle.ppmacro.specs.declared.macros.Chain.{Chain}
 use Rattle.ppmacro.specs.declared.macros.Operand.{Operand}
 use Rattle.ppmacro.specs.declared.macros.Operand.TheVariants.{Tok, Param, Str, Rest}
@@ -33,72 +33,72 @@ pub data IdentifierList : List Token → List Name → Type 0 where
 
 -- What may be between the parentheses, with its names and how it ends.
 pub data Parameters (profile : Profile) : List Token → List Name → Ending → Type 0 where
-  nothing : Parameters profile [] [] Plain
+  nothing : Parameters profile [] [] NoEllipsis
   names : {ts : List Token} {ns : List Name}
       → IdentifierList ts ns
-      → Parameters profile ts ns Plain
+      → Parameters profile ts ns NoEllipsis
   ellipsis : {t : Token}
       → is_punct (codes "...") t ≡ true
-      → Parameters profile (t ∷ []) [] Dots
+      → Parameters profile (t ∷ []) [] Ellipsis
   names_and_ellipsis : (ts : List Token) (comma t : Token) {ns : List Name}
       → IdentifierList ts ns
       → is_punct (codes ",") comma ≡ true
       → is_punct (codes "...") t ≡ true
-      → Parameters profile (ts ++ comma ∷ (t ∷ [])) ns Dots
+      → Parameters profile (ts ++ comma ∷ (t ∷ [])) ns Ellipsis
   -- In GNU C only.
   names_with_ellipsis : (ts : List Token) (t : Token) {ns : List Name}
       → is_gnu profile ≡ true
       → IdentifierList ts ns
       → is_punct (codes "...") t ≡ true
-      → Parameters profile (ts ++ t ∷ []) ns NamedDots
+      → Parameters profile (ts ++ t ∷ []) ns NamedEllipsis
 
 -- A line after `(`: the parameters, `)` and the replacement list.
-pub record IsHeading (profile : Profile) (line : List Token) (heading : Heading) : Type 0 where
+pub record IsParameterList (profile : Profile) (line : List Token) (parsed : ParsedParameters) : Type 0 where
   pub inside : List Token
   pub close : Token
-  pub laid_out : line ≡ inside ++ close ∷ heading.body
+  pub laid_out : line ≡ inside ++ close ∷ parsed.body
   pub closes : is_punct (codes ")") close ≡ true
-  pub parameters : Parameters profile inside heading.names heading.ending
+  pub parameters : Parameters profile inside parsed.names parsed.ending
 
 -- ---- the replacement list (6.10.3.2, 6.10.3.3)
 
 -- Tokens that are one operand, with the leading-space flag of the first.
-pub data IsOperand (shape : Shape) : Bool → List Token → Operand → Type 0 where
+pub data IsOperand (kind : MacroKind) : Bool → List Token → Operand → Type 0 where
   token : {t : Token}
       → is_paste t ≡ false
-      → is_operator_hash shape t ≡ false
-      → parameter_of shape t ≡ None
-      → IsOperand shape t.space (t ∷ []) (Tok t)
+      → is_operator_hash kind t ≡ false
+      → parameter_of kind t ≡ None
+      → IsOperand kind t.space (t ∷ []) (Tok t)
   parameter : {t : Token} {i : ℕ}
-      → parameter_of shape t ≡ Some i
-      → IsOperand shape t.space (t ∷ []) (Param i)
+      → parameter_of kind t ≡ Some i
+      → IsOperand kind t.space (t ∷ []) (Param i)
   stringized : {hash t : Token} {i : ℕ}
-      → is_operator_hash shape hash ≡ true
-      → parameter_of shape t ≡ Some i
-      → IsOperand shape hash.space (hash ∷ (t ∷ [])) (Str i hash.at)
+      → is_operator_hash kind hash ≡ true
+      → parameter_of kind t ≡ Some i
+      → IsOperand kind hash.space (hash ∷ (t ∷ [])) (Str i hash.at)
 
 -- Tokens that are operands with `##` between them, with the leading-space flag of the first.
-pub data AreJoined (shape : Shape) : Bool → List Token → List Operand → Type 0 where
-  last : {mark : Bool} {ts : List Token} {o : Operand}
-      → IsOperand shape mark ts o
-      → AreJoined shape mark ts (o ∷ [])
-  pasted : {mark : Bool} {o : Operand} {os : List Operand} (ts : List Token) (paste : Token) (rest : List Token) (other : Bool)
-      → IsOperand shape mark ts o
+pub data AreJoined (kind : MacroKind) : Bool → List Token → List Operand → Type 0 where
+  last : {flag : Bool} {ts : List Token} {o : Operand}
+      → IsOperand kind flag ts o
+      → AreJoined kind flag ts (o ∷ [])
+  pasted : {flag : Bool} {o : Operand} {os : List Operand} (ts : List Token) (paste : Token) (rest : List Token) (other : Bool)
+      → IsOperand kind flag ts o
       → is_paste paste ≡ true
-      → AreJoined shape other rest os
-      → AreJoined shape mark (ts ++ paste ∷ rest) (o ∷ os)
+      → AreJoined kind other rest os
+      → AreJoined kind flag (ts ++ paste ∷ rest) (o ∷ os)
 
 -- Tokens that are chains, laid end to end. The last operand of a chain may be a rest.
-pub data AreChains (shape : Shape) : List Token → List Chain → Type 0 where
-  none : AreChains shape [] []
-  chain : {mark : Bool} {os : List Operand} {cs : List Chain} (ts rest : List Token)
-      → AreJoined shape mark ts os
-      → AreChains shape rest cs
-      → AreChains shape (ts ++ rest) (with_rest (lenient_parameter shape) (record { mark = mark; operands = os }) ∷ cs)
+pub data AreChains (kind : MacroKind) : List Token → List Chain → Type 0 where
+  none : AreChains kind [] []
+  chain : {flag : Bool} {os : List Operand} {cs : List Chain} (ts rest : List Token)
+      → AreJoined kind flag ts os
+      → AreChains kind rest cs
+      → AreChains kind (ts ++ rest) (with_rest (lenient_parameter kind) (record { flag = flag; operands = os }) ∷ cs)
 
 -- `##` and `#` are in valid positions (6.10.3.2p1, 6.10.3.3p1, p3).
-abbrev pub places_operators : Definition → Bool
-places_operators d = not (misplaces_paste true d.body) && not (is_function_like d.shape && misplaces_hash d.shape d.body)
+abbrev pub places_operators : Macro → Bool
+places_operators d = not (misplaces_paste true d.body) && not (is_function_like d.kind && misplaces_hash d.kind d.body)
 
 -- ---- variable arguments that may be absent (gcc's manual, "Variadic Macros")
 

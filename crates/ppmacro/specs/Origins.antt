@@ -49,44 +49,44 @@ pub data ComesFrom (args : Arguments) (used : Place) (operands : List Operand) :
       })
 
 -- The flag of a chain after these. That of the first chain of the replacement list doesn't count.
-abbrev pub own_mark : List Chain → Chain → Bool
-own_mark [] c = false
-own_mark (b ∷ bs) c = c.mark
+abbrev pub own_flag : List Chain → Chain → Bool
+own_flag [] c = false
+own_flag (b ∷ bs) c = c.flag
 
 -- The number of tokens of these chains, and whether a leading-space flag is pending after them. At the front the flag of the
 -- macro name is pending. A chain without tokens leaves the pending flag, or its own, to the next.
-pub data Waits (args : Arguments) (used : Place) (space : Bool) : List Chain → ℕ → Bool → Type 0 where
-  at_front : Waits args used space [] 0 space
+pub data LeavesPending (args : Arguments) (used : Place) (space : Bool) : List Chain → ℕ → Bool → Type 0 where
+  at_front : LeavesPending args used space [] 0 space
   behind_tokens : (before : List Chain) (c : Chain) {count : ℕ} {waiting : Bool} {t : Hiding} {ts : List Hiding}
-      → Waits args used space before count waiting
+      → LeavesPending args used space before count waiting
       → chain_tokens args used c ≡ Ok (t ∷ ts)
-      → Waits args used space (before ++ c ∷ []) (count + length (t ∷ ts)) false
+      → LeavesPending args used space (before ++ c ∷ []) (count + length (t ∷ ts)) false
   behind_none : (before : List Chain) (c : Chain) {count : ℕ} {waiting : Bool}
-      → Waits args used space before count waiting
+      → LeavesPending args used space before count waiting
       → chain_tokens args used c ≡ Ok []
-      → Waits args used space (before ++ c ∷ []) count (waiting || own_mark before c)
+      → LeavesPending args used space (before ++ c ∷ []) count (waiting || own_flag before c)
 
 -- The leading-space flag of a token after these of its own chain. The first token has the flag `leading` of the chain; another
 -- has its own.
-abbrev pub mark_behind : Bool → List Hiding → Hiding → Bool
-mark_behind leading [] t = leading
-mark_behind leading (f ∷ fs) t = t.token.space
+abbrev pub flag_after : Bool → List Hiding → Hiding → Bool
+flag_after leading [] t = leading
+flag_after leading (f ∷ fs) t = t.token.space
 
 -- The token with this index in the replacement. It is a token of one of the chains, after those of the chains before it and those
 -- before it in its own. Its expansion location is that of the macro name, and its hide set has the names that the invocation
 -- adds.
-pub record IsReplacing (chains : List Chain) (args : Arguments) (gain : HideSet) (used : Place) (space : Bool) (index : ℕ) (t : Hiding) : Type 0 where
+pub record IsReplacementToken (chains : List Chain) (args : Arguments) (added : HideSet) (used : Place) (space : Bool) (index : ℕ) (t : Hiding) : Type 0 where
   pub before : List Chain
   pub chain : Chain
-  pub behind : List Chain
-  pub laid_out : chains ≡ before ++ chain ∷ behind
+  pub following : List Chain
+  pub laid_out : chains ≡ before ++ chain ∷ following
   pub front : List Hiding
   pub own : Hiding
   pub more : List Hiding
   pub gives : chain_tokens args used chain ≡ Ok (front ++ own ∷ more)
   pub count : ℕ
   pub waiting : Bool
-  pub waits : Waits args used space before count waiting
+  pub waits : LeavesPending args used space before count waiting
   pub stands : index ≡ count + length front
-  pub token : t.token ≡ record own.token { used = used; space = mark_behind (waiting || own_mark before chain) front own }
-  pub hide : t.hide ≡ set.union own.hide gain
+  pub token : t.token ≡ record own.token { used = used; space = flag_after (waiting || own_flag before chain) front own }
+  pub hide : t.hide ≡ set.union own.hide added

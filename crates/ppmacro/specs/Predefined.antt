@@ -1,16 +1,16 @@
 -- The macro table at the start of a unit (6.10.8.1).
 use Rattle.std.specs.Prelude.{[], ◌∷◌, codes}
 use Rattle.std.specs.FinMap.{from_entries}
-use Rattle.ppmacro.specs.declared.macros.Builtin.{Builtin}
-use Rattle.ppmacro.specs.declared.macros.Builtin.TheVariants.{File, Line, Date, Time, Stdc, StdcHosted, StdcVersion}
-use Rattle.ppmacro.specs.declared.macros.Shape.TheVariants.{Predefined}
-use Rattle.ppmacro.specs.declared.macros.Definition.{Definition}
+use Rattle.ppmacro.specs.declared.macros.PredefinedMacro.{PredefinedMacro}
+use Rattle.ppmacro.specs.declared.macros.PredefinedMacro.TheVariants.{File, Line, Date, Time, Stdc, StdcHosted, StdcVersion}
+use Rattle.ppmacro.specs.declared.macros.MacroKind.TheVariants.{Predefined}
+use Rattle.ppmacro.specs.declared.macros.Macro.{Macro}
 use Rattle.ppmacro.specs.Names.{Name, Macros}
 
-abbrev pub predefined_as : Builtin → Definition
-predefined_as b = record { shape = Predefined b; body = [] }
+abbrev pub predefined_as : PredefinedMacro → Macro
+predefined_as b = record { kind = Predefined b; body = [] }
 
-abbrev pub predefined_entry : Name → Builtin → Name × Definition
+abbrev pub predefined_entry : Name → PredefinedMacro → Name × Macro
 predefined_entry name b = (name, predefined_as b)
 
 abbrev pub predefined : Macros

@@ -6,29 +6,29 @@ use Rattle.std.specs.List.{AllByRecursion}
 use Rattle.std.specs.Option.{option_map}
 use Rattle.pptext.specs.declared.tokens.Token.{Token}
 use Rattle.pptext.specs.declared.tokens.Fault.{Fault}
-use Rattle.ppmacro.specs.Numbered.{Numbered}
+use Rattle.ppmacro.specs.HideSetPool.{HideSetPool}
 use Rattle.ppmacro.specs.Hiding.{Hiding}
 use Rattle.ppmacro.specs.HideSets.{set_at, hiding, hidings, AllKnown}
 use Rattle.ppmacro.specs.Lexing.{kind_of}
-use Rattle.ppmacro.specs.Substitution.{Arguments, Marked, argument_at, expanded_at, mark_first}
-use Rattle.ppmacro.specs.declared.flying.Hidden.{Hidden}
-use Rattle.ppmacro.specs.declared.flying.Expansion.{Expansion}
-use Rattle.ppmacro.specs.declared.flying.Expansion.TheVariants.{Unused, AsGiven, Made}
+use Rattle.ppmacro.specs.Substitution.{Arguments, Replacement, argument_at, expanded_at, flag_first}
+use Rattle.ppmacro.specs.declared.hidden_token.Hidden.{Hidden}
+use Rattle.ppmacro.specs.declared.hidden_token.Expansion.{Expansion}
+use Rattle.ppmacro.specs.declared.hidden_token.Expansion.TheVariants.{Unused, AsGiven, Made}
 
 abbrev pub tokens_of : List Hidden → List Token
 tokens_of hs = map (λ h. h.token) hs
 
-abbrev pub hidden_in : Numbered → Result Hidden Fault → Result Hiding Fault
+abbrev pub hidden_in : HideSetPool → Result Hidden Fault → Result Hiding Fault
 hidden_in sets (Ok h) = Ok (hiding sets h)
 hidden_in sets (Err f) = Err f
 
 -- The token's kind is the kind of its spelling.
-abbrev pub IsWhole : Hidden → Type 0
-IsWhole h = kind_of h.token.text ≡ Some h.token.kind
+abbrev pub HasSpelledKind : Hidden → Type 0
+HasSpelledKind h = kind_of h.token.text ≡ Some h.token.kind
 
 -- The last token's kind is the kind of its spelling.
-abbrev pub EndsWhole : List Hidden → Type 0
-EndsWhole hs = (front : List Hidden) (last : Hidden) → hs ≡ front ++ last ∷ [] → IsWhole last
+abbrev pub EndsWithSpelledKind : List Hidden → Type 0
+EndsWithSpelledKind hs = (front : List Hidden) (last : Hidden) → hs ≡ front ++ last ∷ [] → HasSpelledKind last
 
 abbrev pub lists_of : List (Vec Hidden Global) → List (List Hidden)
 lists_of vs = map (λ v. v.items) vs
@@ -46,30 +46,30 @@ options_of [] (e ∷ es) = option_of [] e ∷ options_of [] es
 options_of (v ∷ vs) (e ∷ es) = option_of v.items e ∷ options_of vs es
 
 -- The numbers of the hide sets in all lists are known.
-pub record ListsKnown (sets : Numbered) (vs : List (Vec Hidden Global)) : Type 0 where
+pub record ListsKnown (sets : HideSetPool) (vs : List (Vec Hidden Global)) : Type 0 where
   pub each : AllByRecursion (λ v. AllKnown sets v.items) vs
 
 -- The numbers of the hide sets in all arguments are known.
-pub record ArgumentsKnown (sets : Numbered) (given : List (Vec Hidden Global)) (expanded : List Expansion) : Type 0 where
+pub record ArgumentsKnown (sets : HideSetPool) (given : List (Vec Hidden Global)) (expanded : List Expansion) : Type 0 where
   pub given_known : (i : ℕ) → AllKnown sets (argument_at (lists_of given) i)
   pub expanded_known : (i : ℕ) → AllKnown sets (expanded_at (options_of given expanded) i)
 
-abbrev pub arguments_in : Numbered → List (Vec Hidden Global) → List Expansion → Arguments
+abbrev pub arguments_in : HideSetPool → List (Vec Hidden Global) → List Expansion → Arguments
 arguments_in sets given expanded = record { given = map (hidings sets) (lists_of given); expanded = map (λ o. option_map (hidings sets) o) (options_of given expanded) }
 
-abbrev pub marked_in : Numbered → Result (Vec Hidden Global × Bool) Fault → Result Marked Fault
-marked_in sets (Ok m) = Ok (record { tokens = hidings sets m.0.items; pending = m.1 })
-marked_in sets (Err f) = Err f
+abbrev pub replacement_in : HideSetPool → Result (Vec Hidden Global × Bool) Fault → Result Replacement Fault
+replacement_in sets (Ok m) = Ok (record { tokens = hidings sets m.0.items; pending = m.1 })
+replacement_in sets (Err f) = Err f
 
 -- A list followed by the tokens of a chain, the first with this leading-space flag.
-abbrev pub pushed : List Hiding → Bool → Result (List Hiding) Fault → Result Marked Fault
-pushed front mark (Ok ts) = Ok (record { tokens = front ++ (mark_first mark ts).tokens; pending = (mark_first mark ts).pending })
-pushed front mark (Err f) = Err f
+abbrev pub pushed : List Hiding → Bool → Result (List Hiding) Fault → Result Replacement Fault
+pushed front flag (Ok ts) = Ok (record { tokens = front ++ (flag_first flag ts).tokens; pending = (flag_first flag ts).pending })
+pushed front flag (Err f) = Err f
 
 -- The tokens that a call leaves, with the pending flag that it returns.
-abbrev pub left_with : Numbered → List Hidden → Bool → Marked
+abbrev pub left_with : HideSetPool → List Hidden → Bool → Replacement
 left_with sets hs pending = record { tokens = hidings sets hs; pending = pending }
 
--- The set with number n is a subset of the set with number `gain`.
-abbrev pub IsWithin : Numbered → ℕ → ℕ → Type 0
-IsWithin sets gain n = set.union (set_at sets n) (set_at sets gain) ≡ set_at sets gain
+-- The set with number n is a subset of the set with number `added`.
+abbrev pub IsSubset : HideSetPool → ℕ → ℕ → Type 0
+IsSubset sets added n = set.union (set_at sets n) (set_at sets added) ≡ set_at sets added

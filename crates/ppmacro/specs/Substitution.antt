@@ -11,7 +11,7 @@ use Rattle.ppmacro.specs.Names.{HideSet}
 use Rattle.ppmacro.specs.Hiding.{Hiding}
 use Rattle.ppmacro.specs.Chains.{chains_of}
 use Rattle.ppmacro.specs.Lexing.{kind_of}
-use Rattle.ppmacro.specs.declared.macros.Definition.{Definition}
+use Rattle.ppmacro.specs.declared.macros.Macro.{Macro}
 use Rattle.ppmacro.specs.declared.macros.Chain.{Chain}
 use Rattle.ppmacro.specs.declared.macros.Operand.{Operand}
 use Rattle.ppmacro.specs.declared.macros.Operand.TheVariants.{Tok, Param, Str, Rest}
@@ -100,17 +100,17 @@ expanded_at expanded i = unwrap_or (unwrap_or (slice_get expanded i) None) []
 abbrev pub plain : Token → Hiding
 plain t = record { token = t; hide = set.empty }
 
--- The tokens of an operand. An argument next to `##` (`beside`) isn't expanded (6.10.3.1).
+-- The tokens of an operand. An argument next to `##` (`next_to_paste`) isn't expanded (6.10.3.1).
 abbrev pub operand_tokens : Bool → Arguments → Place → Operand → Result (List Hiding) Fault
-operand_tokens beside args used (Tok t) = Ok (plain t ∷ [])
+operand_tokens next_to_paste args used (Tok t) = Ok (plain t ∷ [])
 operand_tokens true args used (Param i) = Ok (argument_at args.given i)
 operand_tokens false args used (Param i) = Ok (expanded_at args.expanded i)
-operand_tokens beside args used (Rest i) = Ok (argument_at args.given i)
-operand_tokens beside args used (Str i at) = after_ok (stringized (map (λ t. t.token) (argument_at args.given i)) at used) (λ t. Ok (t ∷ []))
+operand_tokens next_to_paste args used (Rest i) = Ok (argument_at args.given i)
+operand_tokens next_to_paste args used (Str i at) = after_ok (stringized (map (λ t. t.token) (argument_at args.given i)) at used) (λ t. Ok (t ∷ []))
 
 abbrev pub operands_tokens : Bool → Arguments → Place → List Operand → Result (List (List Hiding)) Fault
-operands_tokens beside args used [] = Ok []
-operands_tokens beside args used (o ∷ os) = after_ok (operand_tokens beside args used o) (λ ts. after_ok (operands_tokens beside args used os) (λ rest. Ok (ts ∷ rest)))
+operands_tokens next_to_paste args used [] = Ok []
+operands_tokens next_to_paste args used (o ∷ os) = after_ok (operand_tokens next_to_paste args used o) (λ ts. after_ok (operands_tokens next_to_paste args used os) (λ rest. Ok (ts ∷ rest)))
 
 abbrev pub is_joined : List Operand → Bool
 is_joined (o ∷ p ∷ os) = true
@@ -133,13 +133,13 @@ abbrev pub without_last : {X : Type 0} → List X → List X
 without_last ts = take (length ts - 1) ts
 
 -- Appends the argument without a paste. If it is absent, removes the last token, which is the comma.
-abbrev pub rest_behind_comma : {X : Type 0} → Option (List X) → List X → List X
-rest_behind_comma None ts = without_last ts
-rest_behind_comma (Some argument) ts = ts ++ argument
+abbrev pub rest_after_comma : {X : Type 0} → Option (List X) → List X → List X
+rest_after_comma None ts = without_last ts
+rest_after_comma (Some argument) ts = ts ++ argument
 
 abbrev pub with_rest_tokens : {X : Type 0} → List (List X) → Option ℕ → List X → List X
 with_rest_tokens given None ts = ts
-with_rest_tokens given (Some i) ts = rest_behind_comma (slice_get given i) ts
+with_rest_tokens given (Some i) ts = rest_after_comma (slice_get given i) ts
 
 -- The tokens of a chain: first each `#`, then each `##` from the left, and last the variable argument after a comma at its end.
 abbrev pub chain_tokens : Arguments → Place → Chain → Result (List Hiding) Fault
@@ -150,36 +150,36 @@ chain_tokens args used c =
 -- ---- the replacement
 
 -- Tokens, and whether a leading-space flag is pending for the next one.
-pub record Marked : Type 0 where
+pub record Replacement : Type 0 where
   pub tokens : List Hiding
   pub pending : Bool
 
-abbrev pub with_mark : Bool → Hiding → Hiding
-with_mark mark t = record t { token = record t.token { space = mark } }
+abbrev pub with_flag : Bool → Hiding → Hiding
+with_flag flag t = record t { token = record t.token { space = flag } }
 
 -- Gives the pending flag to the first token.
-abbrev pub mark_first : Bool → List Hiding → Marked
-mark_first mark [] = record { tokens = []; pending = mark }
-mark_first mark (t ∷ ts) = record { tokens = with_mark mark t ∷ ts; pending = false }
+abbrev pub flag_first : Bool → List Hiding → Replacement
+flag_first flag [] = record { tokens = []; pending = flag }
+flag_first flag (t ∷ ts) = record { tokens = with_flag flag t ∷ ts; pending = false }
 
 -- The tokens of chains. `first`: the next chain is the first of the replacement list. White space before it isn't part of the list
 -- (6.10.3), so its own flag doesn't count.
-abbrev pub chains_tokens : Arguments → Place → Bool → Bool → List Chain → Result Marked Fault
+abbrev pub chains_tokens : Arguments → Place → Bool → Bool → List Chain → Result Replacement Fault
 chains_tokens args used pending first [] = Ok (record { tokens = []; pending = pending })
 chains_tokens args used pending first (c ∷ cs) =
     after_ok (chain_tokens args used c) (λ ts.
-    let here : Marked = mark_first (pending || (not first && c.mark)) ts in
+    let here : Replacement = flag_first (pending || (not first && c.flag)) ts in
     after_ok (chains_tokens args used here.pending false cs) (λ rest. Ok (record { tokens = here.tokens ++ rest.tokens; pending = rest.pending })))
 
 -- A token of the replacement, with more names in its hide set and the macro name's location as its expansion location (Prosser's
 -- hsadd).
-abbrev pub gained : HideSet → Place → Hiding → Hiding
-gained gain used t = record { token = record t.token { used = used }; hide = set.union t.hide gain }
+abbrev pub hsadd : HideSet → Place → Hiding → Hiding
+hsadd added used t = record { token = record t.token { used = used }; hide = set.union t.hide added }
 
 -- The replacement by these chains with the pending flag, or its first fault, 19 or 20.
-abbrev pub substituted_by : List Chain → Arguments → HideSet → Place → Bool → Result Marked Fault
-substituted_by cs args gain used space = after_ok (chains_tokens args used space true cs) (λ m. Ok (record m { tokens = map (gained gain used) m.tokens }))
+abbrev pub chains_replacement : List Chain → Arguments → HideSet → Place → Bool → Result Replacement Fault
+chains_replacement cs args added used space = after_ok (chains_tokens args used space true cs) (λ m. Ok (record m { tokens = map (hsadd added used) m.tokens }))
 
 -- The replacement by the chains of a macro.
-abbrev pub substituted : Definition → Arguments → HideSet → Place → Bool → Result Marked Fault
-substituted d args gain used space = substituted_by (chains_of d) args gain used space
+abbrev pub macro_replacement : Macro → Arguments → HideSet → Place → Bool → Result Replacement Fault
+macro_replacement d args added used space = chains_replacement (chains_of d) args added used space

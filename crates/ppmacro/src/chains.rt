@@ -2,16 +2,16 @@
 ghost use Rattle.std.specs.Prelude.{◌≡◌, IfOk, OnOk, None, List, [], ◌∷◌, ◌++◌, map, false, position};
 ghost use Rattle.std.specs.Str.{bytes_eq};
 ghost use Rattle.std.specs.Option.{option_map};
-ghost use Rattle.ppmacro.specs.Chains as definitions;
-ghost use Rattle.ppmacro.specs.Chains.{names_in, parameter_named, parameter_of, is_function_like, is_operator_hash, plain_item, stringized_item, items_behind, grouped, lenient_parameter, with_rest, chains_of};
-ghost use Rattle.ppmacro.specs.Items.{led_by, resumed};
+ghost use Rattle.ppmacro.specs.Chains as specification;
+ghost use Rattle.ppmacro.specs.Chains.{parameter_names, parameter_named, parameter_of, is_function_like, is_operator_hash, plain_part, stringized_part, parts_after, group_parts, lenient_parameter, with_rest, chains_of};
+ghost use Rattle.ppmacro.specs.code.ChainParts.{led_by, resumed};
 ghost use Rattle.pptext.specs.declared.tokens.Token.{Token};
 
-use crate::borrowed::Leaf;
-use crate::keys::Key;
-use crate::macros::{Chain, Chains, Definition, Operand, Operands, Shape, Variadic};
-use crate::places::{FEW, index_of_each};
-use crate::spellings::{is_hash, is_paste};
+use crate::replacement_list::BodyToken;
+use crate::name_key::NameKey;
+use crate::macros::{Chain, Chains, Macro, Operand, Operands, MacroKind, Variadic};
+use crate::parameter_index::{MAX_SCANNED, index_names};
+use crate::hash_operators::{is_hash, is_paste};
 use indexmap::IndexSet;
 use pptext::{Hashing, Place, Spelling, Token};
 use std::alloc::{AllocError, Global};
@@ -20,7 +20,7 @@ use std::marker::Model;
 /// The leading-space flag and the location of a `#` operator.
 #[derive(Clone, Copy)]
 pub(crate) struct HashSign {
-    mark: bool,
+    flag: bool,
     at: Place,
 }
 
@@ -29,14 +29,14 @@ impl Model for HashSign {
 
     ghost Value = { HashSign };
 
-    ghost view = { λ h. record { mark = h.mark; at = h.at } };
+    ghost view = { λ h. record { flag = h.flag; at = h.at } };
 
-    ghost inverse = { λ h. record { mark = h.mark; at = h.at } };
+    ghost inverse = { λ h. record { flag = h.flag; at = h.at } };
 }
 
 /// A part of a replacement list: an operand with the leading-space flag of its first token, or `##`.
 #[derive(Drop)]
-pub(crate) enum Item<'a> {
+pub(crate) enum ChainPart<'a> {
     Operates(bool, Operand<'a>),
     Joins,
 }
@@ -44,59 +44,59 @@ pub(crate) enum Item<'a> {
 /// The kind of a macro, with an index of its parameters if there are many. Contracts see only the kind.
 #[derive(Drop)]
 pub(crate) struct Parameters<'p> {
-    shape: &'p Shape,
-    index: Option<IndexSet<Key<'p>, Hashing>>,
+    kind: &'p MacroKind,
+    index: Option<IndexSet<NameKey<'p>, Hashing>>,
 }
 
 impl<'p> Model for Parameters<'p> {
     ghost use Rattle.std.specs.Prelude.{◌≡◌};
     ghost use Rattle.std.specs.Option.{IfSome};
-    ghost use Rattle.ppmacro.specs.Chains.{names_in};
-    ghost use Rattle.ppmacro.specs.declared.macros.Shape.{Shape};
+    ghost use Rattle.ppmacro.specs.Chains.{parameter_names};
+    ghost use Rattle.ppmacro.specs.declared.macros.MacroKind.{MacroKind};
 
-    ghost Value = { Shape };
+    ghost Value = { MacroKind };
 
-    ghost view = { λ p. p.shape.now };
+    ghost view = { λ p. p.kind.now };
 
-    ghost invariant = { λ p. IfSome p.index (λ s. s.keys ≡ names_in p.shape.now) };
+    ghost invariant = { λ p. IfSome p.index (λ s. s.keys ≡ parameter_names p.kind.now) };
 }
 
 /// Returns the names of the parameters. The name of the variable argument is the last.
-pub(crate) fn names_in(shape: &Shape) -> &[Spelling]
-    ensures { result.now ≡ names_in shape.now }
+pub(crate) fn parameter_names(kind: &MacroKind) -> &[Spelling]
+    ensures { result.now ≡ parameter_names kind.now }
 {
-    match shape {
-        Shape::FunctionLike { parameters, .. } => parameters.as_slice(),
+    match kind {
+        MacroKind::FunctionLike { parameters, .. } => parameters.as_slice(),
         _ => &[],
     }
 }
 
 impl<'p> Parameters<'p> {
-    /// Creates the parameters of a macro of kind `shape`. `compared` is the number of tokens that are going to be looked up. The
+    /// Creates the parameters of a macro of kind `kind`. `compared` is the number of tokens that are going to be looked up. The
     /// names are indexed, with hash function `hashing`, only if there are many names and many tokens.
     pub(crate) fn new(
         alloc: Global,
-        shape: &'p Shape,
+        kind: &'p MacroKind,
         compared: usize,
         hashing: Hashing,
     ) -> Result<Parameters<'p>, AllocError>
-        ensures { IfOk result (λ p. p ≡ shape.now) }
+        ensures { IfOk result (λ p. p ≡ kind.now) }
     {
-        let names = names_in(shape);
-        if names.len() <= FEW || compared <= FEW {
-            return Ok(Parameters { shape, index: None });
+        let names = parameter_names(kind);
+        if names.len() <= MAX_SCANNED || compared <= MAX_SCANNED {
+            return Ok(Parameters { kind, index: None });
         }
-        let index = index_of_each(alloc, names, hashing)?;
-        Ok(Parameters { shape, index })
+        let index = index_names(alloc, names, hashing)?;
+        Ok(Parameters { kind, index })
     }
 
     /// Returns the index of the parameter with this name.
     fn index_of(&self, name: &[u8]) -> Option<usize>
-        ensures { result ≡ position (λ n. bytes_eq n name.now) (names_in self.now) }
+        ensures { result ≡ position (λ n. bytes_eq n name.now) (parameter_names self.now) }
     {
         match &self.index {
-            Some(index) => index.get_index_of(&Key { bytes: name }),
-            None => names_in(self.shape)
+            Some(index) => index.get_index_of(&NameKey { bytes: name }),
+            None => parameter_names(self.kind)
                 .iter()
                 .position(|n| n.as_bytes() == name),
         }
@@ -105,91 +105,91 @@ impl<'p> Parameters<'p> {
 
 /// Returns the index of the parameter with this name. Only identifiers need the call.
 #[inline(never)]
-fn parameter_named(shape: &Parameters, name: &[u8]) -> Option<usize>
-    ensures { result ≡ parameter_named shape.now name.now }
+fn parameter_named(kind: &Parameters, name: &[u8]) -> Option<usize>
+    ensures { result ≡ parameter_named kind.now name.now }
 {
-    shape.index_of(name)
+    kind.index_of(name)
 }
 
 /// Returns the index of the parameter that a token names.
 #[inline(always)]
-pub(crate) fn parameter_of(shape: &Parameters, token: &Token) -> Option<usize>
-    ensures { result ≡ parameter_of shape.now token.now }
+pub(crate) fn parameter_of(kind: &Parameters, token: &Token) -> Option<usize>
+    ensures { result ≡ parameter_of kind.now token.now }
 {
     if token.is_identifier() {
-        parameter_named(shape, token.text.as_bytes())
+        parameter_named(kind, token.text.as_bytes())
     } else {
         None
     }
 }
 
 /// Returns whether a macro is function-like.
-pub(crate) fn is_function_like(shape: &Shape) -> bool
-    ensures { result ≡ is_function_like shape.now }
+pub(crate) fn is_function_like(kind: &MacroKind) -> bool
+    ensures { result ≡ is_function_like kind.now }
 {
-    matches!(shape, Shape::FunctionLike { .. })
+    matches!(kind, MacroKind::FunctionLike { .. })
 }
 
 /// Returns whether a token is the operator `#`. In an object-like macro `#` is no operator.
-pub(crate) fn is_operator_hash(shape: &Parameters, token: &Token) -> bool
-    ensures { result ≡ is_operator_hash shape.now token.now }
+pub(crate) fn is_operator_hash(kind: &Parameters, token: &Token) -> bool
+    ensures { result ≡ is_operator_hash kind.now token.now }
 {
-    is_function_like(shape.shape) && is_hash(token)
+    is_function_like(kind.kind) && is_hash(token)
 }
 
 /// Returns a token as an operand, with its leading-space flag.
-fn plain_operand<'a>(shape: &Parameters, token: &'a Token) -> (bool, Operand<'a>)
-    ensures { definitions.Operates result.0 result.1 ≡ plain_item (parameter_of shape.now token.now) token.now }
+fn plain_operand<'a>(kind: &Parameters, token: &'a Token) -> (bool, Operand<'a>)
+    ensures { specification.Operates result.0 result.1 ≡ plain_part (parameter_of kind.now token.now) token.now }
 {
-    let Some(index) = parameter_of(shape, token) else {
-        return (token.space, Operand::Tok(Leaf::new(token)));
+    let Some(index) = parameter_of(kind, token) else {
+        return (token.space, Operand::Tok(BodyToken::new(token)));
     };
     (token.space, Operand::Param(index))
 }
 
 /// Returns the token after a `#` as an operand, with the leading-space flag of the `#`.
 fn stringized_operand<'a>(
-    shape: &Parameters,
+    kind: &Parameters,
     hash: HashSign,
     token: &'a Token,
 ) -> (bool, Operand<'a>)
-    ensures { definitions.Operates result.0 result.1 ≡ stringized_item (parameter_of shape.now token.now) hash token.now }
+    ensures { specification.Operates result.0 result.1 ≡ stringized_part (parameter_of kind.now token.now) hash token.now }
 {
-    let Some(index) = parameter_of(shape, token) else {
-        return (token.space, Operand::Tok(Leaf::new(token)));
+    let Some(index) = parameter_of(kind, token) else {
+        return (token.space, Operand::Tok(BodyToken::new(token)));
     };
-    (hash.mark, Operand::Str(index, hash.at))
+    (hash.flag, Operand::Str(index, hash.at))
 }
 
 /// Returns the next part. There is none at a `#`: it belongs to the token after it.
-fn next_item<'a>(shape: &Parameters, hash: Option<HashSign>, token: &'a Token) -> Option<Item<'a>>
-    ensures { (ts : List Token) → items_behind shape.now hash (token.now ∷ ts) ≡ led_by shape.now token.now
-        (option_map (elim [ Item.Operates mark operand ↦ definitions.Operates mark operand | Item.Joins ↦ definitions.Joins ]) result) ts }
+fn next_part<'a>(kind: &Parameters, hash: Option<HashSign>, token: &'a Token) -> Option<ChainPart<'a>>
+    ensures { (ts : List Token) → parts_after kind.now hash (token.now ∷ ts) ≡ led_by kind.now token.now
+        (option_map (elim [ ChainPart.Operates flag operand ↦ specification.Operates flag operand | ChainPart.Joins ↦ specification.Joins ]) result) ts }
 {
     if let Some(sign) = hash {
-        let (mark, operand) = stringized_operand(shape, sign, token);
-        return Some(Item::Operates(mark, operand));
+        let (flag, operand) = stringized_operand(kind, sign, token);
+        return Some(ChainPart::Operates(flag, operand));
     }
     if is_paste(token) {
-        return Some(Item::Joins);
+        return Some(ChainPart::Joins);
     }
-    if is_operator_hash(shape, token) {
+    if is_operator_hash(kind, token) {
         return None;
     }
-    let (mark, operand) = plain_operand(shape, token);
-    Some(Item::Operates(mark, operand))
+    let (flag, operand) = plain_operand(kind, token);
+    Some(ChainPart::Operates(flag, operand))
 }
 
 /// Appends a chain of one operand.
 fn begin_chain<'a>(
     chains: &mut Vec<Chain<'a>>,
-    mark: bool,
+    flag: bool,
     operand: Operand<'a>,
 ) -> Result<(), AllocError>
-    ensures { OnOk result (chains.new.items ≡ chains.old.items ++ record { mark = mark; operands = operand.entry ∷ [] } ∷ []) }
+    ensures { OnOk result (chains.new.items ≡ chains.old.items ++ record { flag = flag; operands = operand.entry ∷ [] } ∷ []) }
 {
     let operands = Operands::new(operand);
-    chains.push(Chain { mark, operands })?;
+    chains.push(Chain { flag, operands })?;
     Ok(())
 }
 
@@ -197,17 +197,17 @@ fn begin_chain<'a>(
 fn put<'a>(
     chains: &mut Vec<Chain<'a>>,
     joined: bool,
-    mark: bool,
+    flag: bool,
     operand: Operand<'a>,
 ) -> Result<(), AllocError>
-    ensures { OnOk result ((is : List definitions.Item) →
-        resumed false chains.new.items is ≡ resumed joined chains.old.items (definitions.Operates mark operand.entry ∷ is)) }
+    ensures { OnOk result ((is : List specification.ChainPart) →
+        resumed false chains.new.items is ≡ resumed joined chains.old.items (specification.Operates flag operand.entry ∷ is)) }
 {
     if !joined {
-        return begin_chain(chains, mark, operand);
+        return begin_chain(chains, flag, operand);
     }
     let Some(last) = chains.len().checked_sub(1) else {
-        return begin_chain(chains, mark, operand);
+        return begin_chain(chains, flag, operand);
     };
     let alloc = *chains.allocator();
     let chain = &mut chains[last];
@@ -216,52 +216,52 @@ fn put<'a>(
 }
 
 /// Appends a part to the chains. Returns whether the part is `##`, so that the next operand is joined.
-fn put_item<'a>(
+fn put_part<'a>(
     chains: &mut Vec<Chain<'a>>,
     joined: bool,
-    item: Item<'a>,
+    item: ChainPart<'a>,
 ) -> Result<bool, AllocError>
-    ensures { IfOk result (λ j. (is : List definitions.Item) → resumed j chains.new.items is ≡ resumed joined chains.old.items
-        ((elim item.entry [ Item.Operates mark operand ↦ definitions.Operates mark operand | Item.Joins ↦ definitions.Joins ]) ∷ is)) }
+    ensures { IfOk result (λ j. (is : List specification.ChainPart) → resumed j chains.new.items is ≡ resumed joined chains.old.items
+        ((elim item.entry [ ChainPart.Operates flag operand ↦ specification.Operates flag operand | ChainPart.Joins ↦ specification.Joins ]) ∷ is)) }
 {
-    let Item::Operates(mark, operand) = item else {
+    let ChainPart::Operates(flag, operand) = item else {
         return Ok(true);
     };
-    put(chains, joined, mark, operand)?;
+    put(chains, joined, flag, operand)?;
     Ok(false)
 }
 
 /// Returns the chains of a replacement list, before `end_in_rest`.
 fn chains_in<'a>(
     alloc: Global,
-    shape: &Parameters,
+    kind: &Parameters,
     body: &'a [Token],
 ) -> Result<Vec<Chain<'a>>, AllocError>
-    ensures { IfOk result (λ v. v.items ≡ grouped (items_behind shape.now None body.now)) }
+    ensures { IfOk result (λ v. v.items ≡ group_parts (parts_after kind.now None body.now)) }
 {
     let mut chains = Vec::with_capacity(alloc, body.len())?;
     let mut joined = false;
     let mut hash = None;
     for token in body {
-        let Some(item) = next_item(shape, hash, token) else {
+        let Some(item) = next_part(kind, hash, token) else {
             hash = Some(HashSign {
-                mark: token.space,
+                flag: token.space,
                 at: token.at,
             });
             continue;
         };
         hash = None;
-        joined = put_item(&mut chains, joined, item)?;
+        joined = put_part(&mut chains, joined, item)?;
     }
     Ok(chains)
 }
 
 /// Returns the index of the parameter whose argument may be absent.
-fn lenient_parameter(shape: &Shape) -> Option<usize>
-    ensures { result ≡ lenient_parameter shape.now }
+fn lenient_parameter(kind: &MacroKind) -> Option<usize>
+    ensures { result ≡ lenient_parameter kind.now }
 {
-    match shape {
-        Shape::FunctionLike {
+    match kind {
+        MacroKind::FunctionLike {
             parameters,
             variadic: Variadic::Lenient,
         } => Some(parameters.as_slice().len().saturating_sub(1)),
@@ -270,10 +270,10 @@ fn lenient_parameter(shape: &Shape) -> Option<usize>
 }
 
 /// Turns the last operand of a chain into a rest, if it is the parameter that may be absent and follows a comma.
-fn end_in_rest(shape: &Shape, chains: &mut [Chain])
-    ensures { chains.new ≡ map (with_rest (lenient_parameter shape.now)) chains.old }
+fn end_in_rest(kind: &MacroKind, chains: &mut [Chain])
+    ensures { chains.new ≡ map (with_rest (lenient_parameter kind.now)) chains.old }
 {
-    let Some(index) = lenient_parameter(shape) else {
+    let Some(index) = lenient_parameter(kind) else {
         return;
     };
     for chain in chains.iter_mut() {
@@ -284,14 +284,14 @@ fn end_in_rest(shape: &Shape, chains: &mut [Chain])
 /// Returns the chains of a definition's replacement list. Many parameters are indexed with hash function `hashing`.
 pub(crate) fn chains_of<'a>(
     alloc: Global,
-    definition: &Definition<'a>,
+    definition: &Macro<'a>,
     hashing: Hashing,
 ) -> Result<Chains<'a>, AllocError>
     ensures { IfOk result (λ c. c ≡ chains_of definition.now) }
 {
     let body = definition.body.as_slice();
-    let shape = Parameters::new(alloc, &definition.shape, body.len(), hashing)?;
-    let mut chains = chains_in(alloc, &shape, body)?;
-    end_in_rest(&definition.shape, chains.as_mut_slice());
+    let kind = Parameters::new(alloc, &definition.kind, body.len(), hashing)?;
+    let mut chains = chains_in(alloc, &kind, body)?;
+    end_in_rest(&definition.kind, chains.as_mut_slice());
     Ok(Chains::new(chains))
 }

@@ -1,21 +1,21 @@
 //! `#define` and `#undef` (6.10.3, 6.10.3.5).
 ghost use Rattle.std.specs.Prelude.{◌≡◌, IfOk, OnOk, OnErr};
 ghost use Rattle.std.specs.FinMap as finite_map;
-ghost use Rattle.ppmacro.specs.declared.macros.Shape.TheVariants.{ObjectLike};
+ghost use Rattle.ppmacro.specs.declared.macros.MacroKind.TheVariants.{ObjectLike};
 ghost use Rattle.pptext.specs.Tokens.{fault};
 ghost use Rattle.pptext.specs.declared.tokens.Place.{Place};
-ghost use Rattle.ppmacro.specs.Define.{parameter_list, read_definition, function_like, refusal_of, fitting, number_of, faulted, under_name, judged, after_define, undefined, after_undef, Leaves};
+ghost use Rattle.ppmacro.specs.Define.{read_parameter_list, read_definition, function_like, refusal_of, check_body, number_of, with_place, with_macro_name, check_define, after_define, undefined, after_undef, Leaves};
 
-mod agreement;
-mod bodies;
-mod headings;
+mod redefinition;
+mod body_checks;
+mod parameter_lists;
 
-use self::agreement::clashes;
-use self::bodies::{misplaces_hash, misplaces_paste, misplaces_variable_arguments};
-use self::headings::{all_parameters, has_variable_arguments, read_heading, repeats, variadic_by};
-use crate::borrowed::{Body, Text};
+use self::redefinition::is_conflicting;
+use self::body_checks::{misplaces_hash, misplaces_paste, misplaces_variable_arguments};
+use self::parameter_lists::{all_parameters, has_variable_arguments, read_parameter_list, repeats, variadic_by};
+use crate::replacement_list::{ReplacementList, SpellingRef};
 use crate::chains::is_function_like;
-use crate::macros::{Definition, Shape};
+use crate::macros::{Macro, MacroKind};
 use crate::tables::Table;
 use pptext::{Fault, Hashing, Memory, Place, Profile, Token};
 use std::alloc::{AllocError, Global};
@@ -39,29 +39,29 @@ pub(crate) struct Refusal {
 }
 
 impl Model for Refusal {
-    ghost use Rattle.ppmacro.specs.Define as definitions;
+    ghost use Rattle.ppmacro.specs.Define as specification;
     ghost use Rattle.ppmacro.specs.declared.defining.Wrong.TheVariants.{ParameterList, Spacing, Pasting, Stringizing, VariableArguments, Redefinition};
 
-    ghost Value = { definitions.Refusal };
+    ghost Value = { specification.Refusal };
 
     ghost view = { λ r. elim r.wrong [
-      | ParameterList ↦ definitions.ParameterList
-      | Spacing ↦ definitions.Spacing
-      | Pasting ↦ definitions.Pasting
-      | Stringizing ↦ definitions.Stringizing
-      | VariableArguments ↦ definitions.VariableArguments
-      | Redefinition ↦ definitions.Redefinition
+      | ParameterList ↦ specification.ParameterList
+      | Spacing ↦ specification.Spacing
+      | Pasting ↦ specification.Pasting
+      | Stringizing ↦ specification.Stringizing
+      | VariableArguments ↦ specification.VariableArguments
+      | Redefinition ↦ specification.Redefinition
     ] };
 }
 
 /// The number and the text of a fault that isn't built yet. The text is a literal or borrowed from the file.
 #[derive(Drop)]
-struct Refused<'a> {
+struct FaultParts<'a> {
     number: u8,
     text: &'a [u8],
 }
 
-impl<'a> Model for Refused<'a> {
+impl<'a> Model for FaultParts<'a> {
     ghost use Rattle.std.specs.Prelude.{ℕ, List};
 
     ghost Value = { ℕ × List ℕ };
@@ -69,7 +69,7 @@ impl<'a> Model for Refused<'a> {
     ghost view = { λ r. (r.number, r.text.now) };
 }
 
-impl<'a> Refused<'a> {
+impl<'a> FaultParts<'a> {
     /// Builds the fault at this location.
     fn fault_at(&self, alloc: Global, at: Place) -> Result<Fault, AllocError>
         ensures { IfOk result (λ f. f ≡ fault self.now.0 at self.now.1) }
@@ -80,7 +80,7 @@ impl<'a> Refused<'a> {
 
 impl Refusal {
     /// Returns the fault for the macro of this name.
-    fn of<'a>(&self, name: &'a Token) -> Refused<'a>
+    fn of<'a>(&self, name: &'a Token) -> FaultParts<'a>
         ensures { result ≡ (number_of self.now, name.now.text) }
     {
         let number = match self.wrong {
@@ -91,7 +91,7 @@ impl Refusal {
             Wrong::VariableArguments => 15,
             Wrong::Redefinition => 16,
         };
-        Refused {
+        FaultParts {
             number,
             text: name.text.as_bytes(),
         }
@@ -101,8 +101,8 @@ impl Refusal {
 /// A definition with the macro's name.
 #[derive(Drop)]
 pub(crate) struct Named<'a> {
-    name: Text<'a>,
-    definition: Definition<'a>,
+    name: SpellingRef<'a>,
+    definition: Macro<'a>,
 }
 
 impl<'a> Model for Named<'a> {
@@ -119,40 +119,40 @@ fn function_like<'a>(
     profile: Profile,
     line: &'a [Token],
     hashing: Hashing,
-) -> Result<Result<Definition<'a>, Refusal>, AllocError>
-    ensures { IfOk result (λ r. r ≡ function_like profile (parameter_list profile line.now)) }
+) -> Result<Result<Macro<'a>, Refusal>, AllocError>
+    ensures { IfOk result (λ r. r ≡ function_like profile (read_parameter_list profile line.now)) }
 {
-    let Some(heading) = read_heading(alloc, profile, line)? else {
+    let Some(parsed) = read_parameter_list(alloc, profile, line)? else {
         return Ok(Err(Refusal {
             wrong: Wrong::ParameterList,
         }));
     };
-    if repeats(alloc, heading.names.as_slice(), hashing)? {
+    if repeats(alloc, parsed.names.as_slice(), hashing)? {
         return Ok(Err(Refusal {
             wrong: Wrong::ParameterList,
         }));
     }
-    if has_variable_arguments(heading.names.as_slice()) {
+    if has_variable_arguments(parsed.names.as_slice()) {
         return Ok(Err(Refusal {
             wrong: Wrong::VariableArguments,
         }));
     }
-    Ok(Ok(Definition {
-        shape: Shape::FunctionLike {
-            parameters: all_parameters(alloc, heading.ending, heading.names)?,
-            variadic: variadic_by(profile.is_gnu(), heading.ending),
+    Ok(Ok(Macro {
+        kind: MacroKind::FunctionLike {
+            parameters: all_parameters(alloc, parsed.ending, parsed.names)?,
+            variadic: variadic_by(profile.is_gnu(), parsed.ending),
         },
-        body: heading.body,
+        body: parsed.body,
     }))
 }
 
 /// Returns an object-like definition with this replacement list.
-fn object_like<'a>(body: &'a [Token]) -> Definition<'a>
-    ensures { result ≡ record { shape = ObjectLike; body = body.now } }
+fn object_like<'a>(body: &'a [Token]) -> Macro<'a>
+    ensures { result ≡ record { kind = ObjectLike; body = body.now } }
 {
-    Definition {
-        shape: Shape::ObjectLike,
-        body: Body::new(body),
+    Macro {
+        kind: MacroKind::ObjectLike,
+        body: ReplacementList::new(body),
     }
 }
 
@@ -162,7 +162,7 @@ fn read_definition<'a>(
     profile: Profile,
     line: &'a [Token],
     hashing: Hashing,
-) -> Result<Result<Definition<'a>, Refusal>, AllocError>
+) -> Result<Result<Macro<'a>, Refusal>, AllocError>
     ensures { IfOk result (λ r. r ≡ read_definition profile line.now) }
 {
     let Some(first) = line.first() else {
@@ -185,13 +185,13 @@ fn refusal_of(
     profile: Profile,
     table: &Table,
     name: &[u8],
-    definition: &Definition,
+    definition: &Macro,
 ) -> Result<Option<Refusal>, AllocError>
     ensures { IfOk result (λ r. r ≡ refusal_of profile table.now.macros name.now definition.now) }
 {
-    let shape = &definition.shape;
+    let kind = &definition.kind;
     let body = definition.body.as_slice();
-    if misplaces_variable_arguments(shape, body) {
+    if misplaces_variable_arguments(kind, body) {
         return Ok(Some(Refusal {
             wrong: Wrong::VariableArguments,
         }));
@@ -201,12 +201,12 @@ fn refusal_of(
             wrong: Wrong::Pasting,
         }));
     }
-    if is_function_like(shape) && misplaces_hash(alloc, shape, body, table.hashing())? {
+    if is_function_like(kind) && misplaces_hash(alloc, kind, body, table.hashing())? {
         return Ok(Some(Refusal {
             wrong: Wrong::Stringizing,
         }));
     }
-    if !profile.is_gnu() && clashes(table, name, definition) {
+    if !profile.is_gnu() && is_conflicting(table, name, definition) {
         return Ok(Some(Refusal {
             wrong: Wrong::Redefinition,
         }));
@@ -215,14 +215,14 @@ fn refusal_of(
 }
 
 /// Returns the definition of a permitted name from the tokens after the name, or its fault.
-fn fitting<'a>(
+fn check_body<'a>(
     alloc: Global,
     profile: Profile,
     table: &Table,
     name: &'a Token,
     line: &'a [Token],
-) -> Result<Result<Named<'a>, Refused<'a>>, AllocError>
-    ensures { (at : Place) → IfOk result (λ r. faulted at r ≡ under_name at name.now.text (fitting profile table.now.macros name.now.text (read_definition profile line.now))) }
+) -> Result<Result<Named<'a>, FaultParts<'a>>, AllocError>
+    ensures { (at : Place) → IfOk result (λ r. with_place at r ≡ with_macro_name at name.now.text (check_body profile table.now.macros name.now.text (read_definition profile line.now))) }
 {
     let definition = match read_definition(alloc, profile, line, table.hashing())? {
         Ok(definition) => definition,
@@ -231,44 +231,44 @@ fn fitting<'a>(
     match refusal_of(alloc, profile, table, name.text.as_bytes(), &definition)? {
         Some(refusal) => Ok(Err(refusal.of(name))),
         None => Ok(Ok(Named {
-            name: Text::of(name),
+            name: SpellingRef::of(name),
             definition,
         })),
     }
 }
 
 /// Returns the definition from the tokens after `define`, or its fault.
-fn judged<'a>(
+fn check_define<'a>(
     alloc: Global,
     profile: Profile,
     table: &Table,
     line: &'a [Token],
-) -> Result<Result<Named<'a>, Refused<'a>>, AllocError>
-    ensures { (at : Place) → IfOk result (λ r. faulted at r ≡ judged profile table.now.macros at line.now) }
+) -> Result<Result<Named<'a>, FaultParts<'a>>, AllocError>
+    ensures { (at : Place) → IfOk result (λ r. with_place at r ≡ check_define profile table.now.macros at line.now) }
 {
     let Some(name) = line.first() else {
-        return Ok(Err(Refused {
+        return Ok(Err(FaultParts {
             number: 9,
             text: b"define",
         }));
     };
     if !name.is_identifier() {
-        return Ok(Err(Refused {
+        return Ok(Err(FaultParts {
             number: 9,
             text: b"define",
         }));
     }
     if table.is_reserved(profile, name.text.as_bytes()) {
-        return Ok(Err(Refused {
+        return Ok(Err(FaultParts {
             number: 10,
             text: name.text.as_bytes(),
         }));
     }
-    fitting(alloc, profile, table, name, &line[1..])
+    check_body(alloc, profile, table, name, &line[1..])
 }
 
 /// Inserts a definition into the table.
-fn enter<'a>(table: &mut Table<'a>, named: Named<'a>) -> Result<(), AllocError>
+fn insert_definition<'a>(table: &mut Table<'a>, named: Named<'a>) -> Result<(), AllocError>
     ensures ok { OnOk result (table.new.macros ≡ finite_map.insert table.old.macros named.entry.name named.entry.definition) }
     ensures hashing { table.new.hashing ≡ table.old.hashing }
     ensures err { OnErr result (table.new ≡ table.old) }
@@ -307,9 +307,9 @@ pub fn define<'a>(
     ensures hashing { table.new.hashing ≡ table.old.hashing }
     ensures memory { OnErr result (table.new ≡ table.old) }
 {
-    match judged(alloc, profile, table, line)? {
+    match check_define(alloc, profile, table, line)? {
         Ok(named) => {
-            enter(table, named)?;
+            insert_definition(table, named)?;
             Ok(Ok(()))
         }
         Err(refused) => Ok(Err(refused.fault_at(alloc, at)?)),
@@ -321,28 +321,28 @@ fn undefined<'a>(
     profile: Profile,
     table: &Table,
     line: &'a [Token],
-) -> Result<Text<'a>, Refused<'a>>
-    ensures { (at : Place) → faulted at result ≡ undefined profile table.now.macros at line.now }
+) -> Result<SpellingRef<'a>, FaultParts<'a>>
+    ensures { (at : Place) → with_place at result ≡ undefined profile table.now.macros at line.now }
 {
     let [name] = line else {
-        return Err(Refused {
+        return Err(FaultParts {
             number: 9,
             text: b"undef",
         });
     };
     if !name.is_identifier() {
-        return Err(Refused {
+        return Err(FaultParts {
             number: 9,
             text: b"undef",
         });
     }
     if table.is_reserved(profile, name.text.as_bytes()) {
-        return Err(Refused {
+        return Err(FaultParts {
             number: 10,
             text: name.text.as_bytes(),
         });
     }
-    Ok(Text::of(name))
+    Ok(SpellingRef::of(name))
 }
 
 /// Removes the macro of a name, if there is one (6.10.3.5p2). `at` is the location of `#`, and `line` holds the tokens after

@@ -1,17 +1,17 @@
 //! Hide sets: the names that may not replace a token (Prosser's algorithm).
 ghost use Rattle.std.specs.Prelude.{◌≡◌, ◌↔◌, IsTrue, ℕ, Some, Ok, IfOk, OnErr};
 ghost use Rattle.std.specs.FinSet as set;
-ghost use Rattle.ppmacro.specs.HideSets.{set_at, IsKnown, Keeps, starting};
-ghost use Rattle.ppmacro.specs.Pairs.{union_known, meet_known, KeepsPairs};
+ghost use Rattle.ppmacro.specs.HideSets.{set_at, IsKnown, KeepsSets, starting};
+ghost use Rattle.ppmacro.specs.PairCache.{union_known, meet_known, KeepsPairs};
 
 mod names;
 mod nodes;
-mod pairs;
+mod pair_cache;
 
 use indexmap::IndexSet;
 use names::NameNumbers;
 use nodes::{Node, Operation, OperationKind};
-use pairs::Pairs;
+use pair_cache::PairCache;
 use pptext::{Hashing, Memory};
 use std::alloc::Global;
 use std::marker::Model;
@@ -39,22 +39,22 @@ pub struct HideSets {
     alloc: Global,
     names: NameNumbers,
     nodes: IndexSet<Node, Hashing>,
-    unions: Pairs,
-    meets: Pairs,
+    unions: PairCache,
+    meets: PairCache,
 }
 
 impl Model for HideSets {
-    ghost use Rattle.ppmacro.specs.Members.{hide_sets};
-    ghost use Rattle.ppmacro.specs.Numbered.{Numbered, numbered_code};
-    ghost use Rattle.ppmacro.specs.Remembered.{AreKept};
+    ghost use Rattle.ppmacro.specs.code.Members.{hide_sets};
+    ghost use Rattle.ppmacro.specs.HideSetPool.{HideSetPool, numbered_code};
+    ghost use Rattle.ppmacro.specs.code.PoolInvariant.{IsPoolKept};
 
-    ghost Value = { Numbered };
+    ghost Value = { HideSetPool };
 
     ghost coded = { numbered_code };
 
     ghost view = { λ s. record { sets = hide_sets s.names s.nodes.keys; unions = s.unions; meets = s.meets } };
 
-    ghost invariant = { λ s. AreKept s.names s.nodes.keys s.unions s.meets };
+    ghost invariant = { λ s. IsPoolKept s.names s.nodes.keys s.unions s.meets };
 }
 
 impl HideSets {
@@ -73,8 +73,8 @@ impl HideSets {
             alloc,
             names: NameNumbers::new(alloc, hashing),
             nodes: nodes::start(alloc, hashing)?,
-            unions: Pairs::new(alloc, hashing),
-            meets: Pairs::new(alloc, hashing),
+            unions: PairCache::new(alloc, hashing),
+            meets: PairCache::new(alloc, hashing),
         })
     }
 
@@ -89,7 +89,7 @@ impl HideSets {
     }
 
     /// Proves that sets with equal members have equal numbers. It does nothing.
-    pub fn lawful(&self)
+    pub fn sets_are_unique(&self)
         ensures { (m n : ℕ) → IsKnown self.now m → IsKnown self.now n → set_at self.now m ≡ set_at self.now n → m ≡ n }
     {
         let _nodes = &self.nodes;
@@ -123,7 +123,7 @@ impl HideSets {
         requires { IsKnown self.old hide }
         ensures set { IfOk result (λ s. set_at self.new s ≡ set.insert (set_at self.old hide) name.now) }
         ensures known { IfOk result (λ s. IsKnown self.new s) }
-        ensures keeps { Keeps self.old self.new }
+        ensures keeps { KeepsSets self.old self.new }
         ensures pairs { (self.new.unions ≡ self.old.unions) × (self.new.meets ≡ self.old.meets) }
         ensures there { (n : ℕ) → IsKnown self.old n → set_at self.old n ≡ set.insert (set_at self.old hide) name.now → (result ≡ Ok n) × (self.new ≡ self.old) }
     {
@@ -140,7 +140,7 @@ impl HideSets {
         requires right { IsKnown self.old right }
         ensures set { IfOk result (λ s. set_at self.new s ≡ set.union (set_at self.old left) (set_at self.old right)) }
         ensures known { IfOk result (λ s. IsKnown self.new s) }
-        ensures keeps { Keeps self.old self.new }
+        ensures keeps { KeepsSets self.old self.new }
         ensures remembered { IfOk result (λ n. union_known self.new.unions left right ≡ Some n) }
         ensures again { (n : ℕ) → union_known self.old.unions left right ≡ Some n → (result ≡ Ok n) × (self.new ≡ self.old) }
         ensures unions { KeepsPairs self.old.unions self.new.unions }
@@ -152,7 +152,7 @@ impl HideSets {
         let operation = Operation {
             kind: OperationKind::Union,
         };
-        let number = nodes::join(nodes, pairs, operation, left.number, right.number)?;
+        let number = nodes::combine(nodes, pairs, operation, left.number, right.number)?;
         Ok(Set { number })
     }
 
@@ -163,7 +163,7 @@ impl HideSets {
         requires right { IsKnown self.old right }
         ensures set { IfOk result (λ s. set_at self.new s ≡ set.intersection (set_at self.old left) (set_at self.old right)) }
         ensures known { IfOk result (λ s. IsKnown self.new s) }
-        ensures keeps { Keeps self.old self.new }
+        ensures keeps { KeepsSets self.old self.new }
         ensures remembered { IfOk result (λ n. meet_known self.new.meets left right ≡ Some n) }
         ensures again { (n : ℕ) → meet_known self.old.meets left right ≡ Some n → (result ≡ Ok n) × (self.new ≡ self.old) }
         ensures meets { KeepsPairs self.old.meets self.new.meets }
@@ -175,7 +175,7 @@ impl HideSets {
         let operation = Operation {
             kind: OperationKind::Meet,
         };
-        let number = nodes::join(nodes, pairs, operation, left.number, right.number)?;
+        let number = nodes::combine(nodes, pairs, operation, left.number, right.number)?;
         Ok(Set { number })
     }
 }

@@ -2,16 +2,16 @@
 ghost use Rattle.std.specs.Prelude.{◌≡◌, OnOk, IfOk, IfSome, ◌++◌, ◌∷◌, [], map, if◌then◌else◌};
 ghost use Rattle.std.specs.List.{list_any};
 ghost use Rattle.std.specs.Option.{option_copied};
-ghost use Rattle.ppmacro.specs.Chains.{is_comma, rest_behind, ending_in_rest, chains_of};
+ghost use Rattle.ppmacro.specs.Chains.{is_comma, rest_after, ending_in_rest, chains_of};
 ghost use Rattle.ppmacro.specs.declared.macros.Operand.TheVariants.{Rest};
-ghost use Rattle.ppmacro.specs.Lone.{is_object_like, lone_tokens, lone_chain};
+ghost use Rattle.ppmacro.specs.PasteFree.{is_object_like, lone_tokens, lone_chain};
 ghost use Rattle.ppmacro.specs.Patterns.{listed};
-ghost use Rattle.ppmacro.specs.Spellings.{is_paste};
+ghost use Rattle.ppmacro.specs.HashOperators.{is_paste};
 
-use crate::borrowed::{Body, Leaf};
+use crate::replacement_list::{ReplacementList, BodyToken};
 use crate::chains::chains_of;
 use crate::patterns::{Pattern, pattern_of};
-use crate::spellings::is_paste;
+use crate::hash_operators::is_paste;
 use pptext::{Hashing, Place, Sequence, Spelling, Token};
 use std::alloc::{AllocError, Global};
 use std::marker::Model;
@@ -19,7 +19,7 @@ use std::{mem, slice};
 
 /// The predefined macros (6.10.8.1).
 #[derive(Clone, Copy, Debug, PartialEq, Eq)]
-pub enum Builtin {
+pub enum PredefinedMacro {
     File,
     Line,
     Date,
@@ -45,8 +45,8 @@ pub enum Variadic {
 
 /// The kind of a macro.
 #[derive(Drop)]
-pub enum Shape {
-    Predefined(Builtin),
+pub enum MacroKind {
+    Predefined(PredefinedMacro),
     ObjectLike,
     /// Has the names of its parameters. `__VA_ARGS__` is the last if the parameter list ends in `...`.
     FunctionLike {
@@ -57,16 +57,16 @@ pub enum Shape {
 
 /// The kind and the replacement list of a macro.
 #[derive(Drop)]
-pub struct Definition<'a> {
-    pub shape: Shape,
-    pub body: Body<'a>,
+pub struct Macro<'a> {
+    pub kind: MacroKind,
+    pub body: ReplacementList<'a>,
 }
 
 /// An operand of `##` (6.10.3.3), or a part that isn't joined.
 #[derive(Drop)]
 pub enum Operand<'a> {
     /// A token of the replacement list.
-    Tok(Leaf<'a>),
+    Tok(BodyToken<'a>),
     /// A parameter, by its index.
     Param(usize),
     /// A stringized parameter, by its index, with the location of the `#`.
@@ -99,7 +99,7 @@ fn is_comma(operand: &Operand) -> bool
 
 /// Returns whether the last operand is this parameter and follows a comma.
 fn is_rest(before: &Operand, last: &Operand, index: usize) -> bool
-    ensures { rest_behind index before.now last.now ≡ (if result then Rest index else last.now) }
+    ensures { rest_after index before.now last.now ≡ (if result then Rest index else last.now) }
 {
     match last {
         Operand::Param(parameter) => *parameter == index && is_comma(before),
@@ -122,25 +122,25 @@ fn end_in_rest(operands: &mut [Operand], index: usize)
 
 /// One operand without memory of its own, or a list of operands.
 #[derive(Drop)]
-pub(crate) enum Held<'a> {
-    Lone(Operand<'a>),
-    Joined(Vec<Operand<'a>>),
+pub(crate) enum OperandStorage<'a> {
+    One(Operand<'a>),
+    Many(Vec<Operand<'a>>),
 }
 
 /// A list of operands. Contracts see the list. One operand, the usual case, needs no allocation.
 #[derive(Drop)]
 pub struct Operands<'a> {
-    held: Held<'a>,
+    storage: OperandStorage<'a>,
 }
 
 impl<'a> Model for Operands<'a> {
     ghost use Rattle.std.specs.Prelude.{List, [], ◌∷◌};
     ghost use Rattle.ppmacro.specs.declared.macros.Operand.{Operand};
-    ghost use Rattle.ppmacro.specs.declared.macros.Held.TheVariants.{Lone, Joined};
+    ghost use Rattle.ppmacro.specs.declared.macros.OperandStorage.TheVariants.{One, Many};
 
     ghost Value = { List Operand };
 
-    ghost view = { λ s. elim s.held [ Lone o ↦ o ∷ [] | Joined os ↦ os.items ] };
+    ghost view = { λ s. elim s.storage [ One o ↦ o ∷ [] | Many os ↦ os.items ] };
 }
 
 impl<'a> Operands<'a> {
@@ -149,7 +149,7 @@ impl<'a> Operands<'a> {
         ensures { result ≡ operand.entry ∷ [] }
     {
         Operands {
-            held: Held::Lone(operand),
+            storage: OperandStorage::One(operand),
         }
     }
 
@@ -157,11 +157,11 @@ impl<'a> Operands<'a> {
     pub(crate) fn push(&mut self, alloc: Global, operand: Operand<'a>) -> Result<(), AllocError>
         ensures ok { OnOk result (self.new ≡ self.old ++ operand.entry ∷ []) }
     {
-        match &mut self.held {
-            Held::Joined(operands) => operands.push(operand)?,
-            Held::Lone(first) => {
+        match &mut self.storage {
+            OperandStorage::Many(operands) => operands.push(operand)?,
+            OperandStorage::One(first) => {
                 let operands = Vec::from_array(alloc, [mem::take(first), operand])?;
-                self.held = Held::Joined(operands);
+                self.storage = OperandStorage::Many(operands);
             }
         }
         Ok(())
@@ -171,7 +171,7 @@ impl<'a> Operands<'a> {
     pub(crate) fn end_in_rest(&mut self, index: usize)
         ensures { self.new ≡ ending_in_rest index self.old }
     {
-        if let Held::Joined(operands) = &mut self.held {
+        if let OperandStorage::Many(operands) = &mut self.storage {
             end_in_rest(operands.as_mut_slice(), index);
         }
     }
@@ -180,9 +180,9 @@ impl<'a> Operands<'a> {
     pub fn as_slice(&self) -> &[Operand<'a>]
         ensures { result.now ≡ self.now }
     {
-        match &self.held {
-            Held::Lone(operand) => slice::from_ref(operand),
-            Held::Joined(operands) => operands.as_slice(),
+        match &self.storage {
+            OperandStorage::One(operand) => slice::from_ref(operand),
+            OperandStorage::Many(operands) => operands.as_slice(),
         }
     }
 }
@@ -190,7 +190,7 @@ impl<'a> Operands<'a> {
 /// Operands that `##` joins, with the leading-space flag of the first token.
 #[derive(Drop)]
 pub struct Chain<'a> {
-    pub mark: bool,
+    pub flag: bool,
     pub operands: Operands<'a>,
 }
 
@@ -198,10 +198,10 @@ pub struct Chain<'a> {
 pub type Chains<'a> = Sequence<Chain<'a>>;
 
 /// Returns whether a macro is object-like. Predefined macros aren't.
-fn is_object_like(shape: &Shape) -> bool
-    ensures { result ≡ is_object_like shape.now }
+fn is_object_like(kind: &MacroKind) -> bool
+    ensures { result ≡ is_object_like kind.now }
 {
-    matches!(shape, Shape::ObjectLike)
+    matches!(kind, MacroKind::ObjectLike)
 }
 
 /// Returns whether the tokens contain `##`.
@@ -211,14 +211,14 @@ fn has_paste(tokens: &[Token]) -> bool
     tokens.iter().any(|token| is_paste(token))
 }
 
-impl<'a> Definition<'a> {
+impl<'a> Macro<'a> {
     /// Returns the replacement list of an object-like macro without `##`. Each token is a chain of its own.
     pub fn lone_tokens(&self) -> Option<&'a [Token]>
         ensures is { option_copied result ≡ lone_tokens self.now }
         ensures chains { IfSome result (λ body. chains_of self.now ≡ map lone_chain body.now) }
     {
         let body = self.body.as_slice();
-        if !is_object_like(&self.shape) || has_paste(body) {
+        if !is_object_like(&self.kind) || has_paste(body) {
             return None;
         }
         Some(body)

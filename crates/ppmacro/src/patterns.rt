@@ -4,10 +4,10 @@ ghost use Rattle.std.specs.List.{list_any};
 ghost use Rattle.ppmacro.specs.Chains.{parameter_of, chains_of};
 ghost use Rattle.ppmacro.specs.Patterns.{is_operator, entry_of, entry_chain, listed};
 
-use crate::borrowed::Leaf;
+use crate::replacement_list::BodyToken;
 use crate::chains::{Parameters, chains_of, parameter_of};
-use crate::macros::{Chains, Definition};
-use crate::spellings::{is_hash, is_paste};
+use crate::macros::{Chains, Macro};
+use crate::hash_operators::{is_hash, is_paste};
 use pptext::{Hashing, Kind, Token};
 use std::alloc::{AllocError, Global};
 
@@ -15,7 +15,7 @@ use std::alloc::{AllocError, Global};
 #[derive(Drop)]
 pub enum Entry<'a> {
     /// A token of the replacement list.
-    Tok(Leaf<'a>),
+    Tok(BodyToken<'a>),
     /// A parameter: the leading-space flag of its token, and its index.
     Param(bool, usize),
 }
@@ -24,9 +24,9 @@ pub enum Entry<'a> {
 #[derive(Drop)]
 pub enum Pattern<'a> {
     /// A list without `#` and `##`.
-    Alone(Vec<Entry<'a>>),
+    Plain(Vec<Entry<'a>>),
     /// The chains of another list.
-    Joined(Chains<'a>),
+    Pasted(Chains<'a>),
 }
 
 /// Returns whether a token is `#` or `##`.
@@ -52,25 +52,25 @@ fn has_operator(tokens: &[Token]) -> bool
 }
 
 /// Returns the entry for a token.
-fn entry_of<'a>(shape: &Parameters, token: &'a Token) -> Entry<'a>
-    ensures { result ≡ entry_of shape.now token.now }
+fn entry_of<'a>(kind: &Parameters, token: &'a Token) -> Entry<'a>
+    ensures { result ≡ entry_of kind.now token.now }
 {
-    match parameter_of(shape, token) {
+    match parameter_of(kind, token) {
         Some(index) => Entry::Param(token.space, index),
-        None => Entry::Tok(Leaf::new(token)),
+        None => Entry::Tok(BodyToken::new(token)),
     }
 }
 
 /// Appends the entries for tokens.
 fn push_entries<'a>(
     entries: &mut Vec<Entry<'a>>,
-    shape: &Parameters,
+    kind: &Parameters,
     tokens: &'a [Token],
 ) -> Result<(), AllocError>
-    ensures { OnOk result (entries.new.items ≡ entries.old.items ++ map (entry_of shape.now) tokens.now) }
+    ensures { OnOk result (entries.new.items ≡ entries.old.items ++ map (entry_of kind.now) tokens.now) }
 {
     for token in tokens {
-        entries.push(entry_of(shape, token))?;
+        entries.push(entry_of(kind, token))?;
     }
     Ok(())
 }
@@ -78,27 +78,27 @@ fn push_entries<'a>(
 /// Returns the entries for the tokens of a replacement list.
 fn entries_of<'a>(
     alloc: Global,
-    shape: &Parameters,
+    kind: &Parameters,
     body: &'a [Token],
 ) -> Result<Vec<Entry<'a>>, AllocError>
-    ensures { IfOk result (λ v. v.items ≡ map (entry_of shape.now) body.now) }
+    ensures { IfOk result (λ v. v.items ≡ map (entry_of kind.now) body.now) }
 {
     let mut entries = Vec::with_capacity(alloc, body.len())?;
-    push_entries(&mut entries, shape, body)?;
+    push_entries(&mut entries, kind, body)?;
     Ok(entries)
 }
 
 /// Returns the entries of a definition's replacement list. Many parameters are indexed with hash function `hashing`.
 fn entries_in<'a>(
     alloc: Global,
-    definition: &Definition<'a>,
+    definition: &Macro<'a>,
     hashing: Hashing,
 ) -> Result<Vec<Entry<'a>>, AllocError>
-    ensures { IfOk result (λ v. v.items ≡ map (entry_of definition.now.shape) definition.now.body) }
+    ensures { IfOk result (λ v. v.items ≡ map (entry_of definition.now.kind) definition.now.body) }
 {
     let body = definition.body.as_slice();
-    let shape = Parameters::new(alloc, &definition.shape, body.len(), hashing)?;
-    entries_of(alloc, &shape, body)
+    let kind = Parameters::new(alloc, &definition.kind, body.len(), hashing)?;
+    entries_of(alloc, &kind, body)
 }
 
 /// Returns a definition's replacement list. Many parameters are indexed with hash function `hashing`. Not inlined, to keep its
@@ -106,14 +106,14 @@ fn entries_in<'a>(
 #[inline(never)]
 pub(crate) fn pattern_of<'a>(
     alloc: Global,
-    definition: &Definition<'a>,
+    definition: &Macro<'a>,
     hashing: Hashing,
 ) -> Result<Pattern<'a>, AllocError>
     ensures { IfOk result (λ p. listed p ≡ chains_of definition.now) }
 {
     if has_operator(definition.body.as_slice()) {
-        return Ok(Pattern::Joined(chains_of(alloc, definition, hashing)?));
+        return Ok(Pattern::Pasted(chains_of(alloc, definition, hashing)?));
     }
     // Saves 8 % of the instructions of Boost.Preprocessor's `seq.c`.
-    Ok(Pattern::Alone(entries_in(alloc, definition, hashing)?))
+    Ok(Pattern::Plain(entries_in(alloc, definition, hashing)?))
 }

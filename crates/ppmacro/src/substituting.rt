@@ -1,14 +1,14 @@
 //! Substitution: the replacement of a macro invocation (6.10.3.1 to 6.10.3.3).
 ghost use Rattle.std.specs.Prelude.{◌≡◌, ◌++◌, ◌∷◌, IfOk, OnOk, [], true, not, ◌||◌, ◌&&◌};
 ghost use Rattle.std.specs.FinSet as set;
-ghost use Rattle.ppmacro.specs.Numbered.{Numbered};
-ghost use Rattle.ppmacro.specs.HideSets.{set_at, IsKnown, hidings, AllKnown, Keeps};
-ghost use Rattle.ppmacro.specs.Substitution.{is_joined, before_rest, rest_of, with_rest_tokens, chain_tokens, mark_first, with_mark, plain, chains_tokens, substituted_by};
+ghost use Rattle.ppmacro.specs.HideSetPool.{HideSetPool};
+ghost use Rattle.ppmacro.specs.HideSets.{set_at, IsKnown, hidings, AllKnown, KeepsSets};
+ghost use Rattle.ppmacro.specs.Substitution.{is_joined, before_rest, rest_of, with_rest_tokens, chain_tokens, flag_first, with_flag, plain, chains_tokens, chains_replacement};
 ghost use Rattle.pptext.specs.Errors.{Returns};
-ghost use Rattle.ppmacro.specs.Substituting.{lists_of, ArgumentsKnown, arguments_in, marked_in, pushed, left_with};
+ghost use Rattle.ppmacro.specs.Substituting.{lists_of, ArgumentsKnown, arguments_in, replacement_in, pushed, left_with};
 
 mod entries;
-mod gains;
+mod hsadd;
 mod joining;
 mod lexing;
 mod operands;
@@ -16,15 +16,15 @@ mod pasting;
 mod stringizing;
 
 pub use self::entries::substitute_pattern;
-use self::gains::gain_names;
+use self::hsadd::hsadd_names;
 use self::joining::{join_all, push_all};
 pub use self::lexing::tells_each_kind;
 use self::operands::{expansion, operands_tokens};
 pub use self::pasting::paste;
 pub use self::stringizing::{push_escaped, stringize};
-use crate::flying::Hidden;
+use crate::hidden_token::Hidden;
 use crate::hide_sets::HideSets;
-use crate::invoked::{Arguments, MacroName};
+use crate::invocation::{Arguments, MacroName};
 use crate::macros::{Chain, Operand};
 use pptext::{Fault, Memory, Place, Error, Token, split_memory};
 use std::alloc::{AllocError, Global};
@@ -51,7 +51,7 @@ fn split_rest<'s, 'a>(operands: &'s [Operand<'a>]) -> (&'s [Operand<'a>], Option
 }
 
 /// Appends the rest to the tokens of a chain, or removes the comma if the argument is absent.
-fn lay_rest<'a>(
+fn append_rest<'a>(
     tokens: &mut Vec<Hidden<'a>>,
     given: &[Vec<Hidden<'a>>],
     rest: Option<usize>,
@@ -81,23 +81,23 @@ fn chain_tokens<'x, 'a: 'x>(
     requires { ArgumentsKnown sets.old arguments.given.now arguments.expanded.now }
     ensures is { Returns result (λ v. hidings sets.new v.items) (chain_tokens (arguments_in sets.old arguments.entry.given.now arguments.entry.expanded.now) used chain.now) }
     ensures known { IfOk result (λ v. AllKnown sets.new v.items) }
-    ensures keeps { Keeps sets.old sets.new }
+    ensures keeps { KeepsSets sets.old sets.new }
 {
     let operands = chain.operands.as_slice();
-    let beside = is_joined(operands);
+    let next_to_paste = is_joined(operands);
     let (front, rest) = split_rest(operands);
-    let lists = operands_tokens(alloc, sets, beside, arguments, used, front)?;
+    let lists = operands_tokens(alloc, sets, next_to_paste, arguments, used, front)?;
     let mut tokens = join_all(alloc, sets, lists.as_slice(), used)?;
-    lay_rest(&mut tokens, arguments.given, rest)?;
+    append_rest(&mut tokens, arguments.given, rest)?;
     Ok(tokens)
 }
 
 /// Returns a copy of a token with this leading-space flag.
-fn marked_copy<'a>(token: &Hidden<'a>, mark: bool) -> Result<Hidden<'a>, AllocError>
-    ensures { IfOk result (λ h. h ≡ record token.now { token = record token.now.token { space = mark } }) }
+fn copy_with_flag<'a>(token: &Hidden<'a>, flag: bool) -> Result<Hidden<'a>, AllocError>
+    ensures { IfOk result (λ h. h ≡ record token.now { token = record token.now.token { space = flag } }) }
 {
     let mut hidden = token.clone()?;
-    hidden.mark(mark);
+    hidden.flag(flag);
     Ok(hidden)
 }
 
@@ -107,15 +107,15 @@ fn push_chain<'a>(
     pending: bool,
     more: &[Hidden<'a>],
 ) -> Result<bool, AllocError>
-    ensures tokens { IfOk result (λ p. (s : Numbered) → hidings s tokens.new.items ≡ hidings s tokens.old.items ++ (mark_first pending (hidings s more.now)).tokens) }
-    ensures pending { IfOk result (λ p. (s : Numbered) → p ≡ (mark_first pending (hidings s more.now)).pending) }
-    ensures known { OnOk result ((s : Numbered) → AllKnown s tokens.old.items → AllKnown s more.now → AllKnown s tokens.new.items) }
+    ensures tokens { IfOk result (λ p. (s : HideSetPool) → hidings s tokens.new.items ≡ hidings s tokens.old.items ++ (flag_first pending (hidings s more.now)).tokens) }
+    ensures pending { IfOk result (λ p. (s : HideSetPool) → p ≡ (flag_first pending (hidings s more.now)).pending) }
+    ensures known { OnOk result ((s : HideSetPool) → AllKnown s tokens.old.items → AllKnown s more.now → AllKnown s tokens.new.items) }
 {
     let Some((first, others)) = more.split_first() else {
         return Ok(pending);
     };
     tokens.reserve(more.len())?;
-    push_one(tokens, marked_copy(first, pending)?)?;
+    push_one(tokens, copy_with_flag(first, pending)?)?;
     push_all(tokens, others)?;
     Ok(false)
 }
@@ -124,45 +124,45 @@ fn push_chain<'a>(
 fn push_token<'a>(
     sets: &HideSets,
     tokens: &mut Vec<Hidden<'a>>,
-    mark: bool,
+    flag: bool,
     token: &'a Token,
 ) -> Result<(), AllocError>
-    ensures tokens { OnOk result (hidings sets.now tokens.new.items ≡ hidings sets.now tokens.old.items ++ with_mark mark (plain token.now) ∷ []) }
+    ensures tokens { OnOk result (hidings sets.now tokens.new.items ≡ hidings sets.now tokens.old.items ++ with_flag flag (plain token.now) ∷ []) }
     ensures known { OnOk result (AllKnown sets.now tokens.old.items → AllKnown sets.now tokens.new.items) }
 {
     let mut hidden = Hidden::new(token, sets.empty());
-    hidden.mark(mark);
+    hidden.flag(flag);
     push_one(tokens, hidden)
 }
 
-/// Appends the tokens of a chain. The first gets the flag `mark`. Returns the leading-space flag that is pending afterwards, or
+/// Appends the tokens of a chain. The first gets the flag `flag`. Returns the leading-space flag that is pending afterwards, or
 /// fault 19 or 20.
 fn push_chain_tokens<'x, 'a: 'x>(
     sets: &mut HideSets,
     arguments: Arguments<'_, 'x>,
     used: Place,
-    mark: bool,
+    flag: bool,
     chain: &Chain<'a>,
     tokens: &mut Vec<Hidden<'x>>,
 ) -> Result<bool, Error>
     requires arguments { ArgumentsKnown sets.old arguments.given.now arguments.expanded.now }
     requires tokens { AllKnown sets.old tokens.old.items }
     ensures is { Returns result (left_with sets.new tokens.new.items)
-        (pushed (hidings sets.old tokens.old.items) mark (chain_tokens (arguments_in sets.old arguments.entry.given.now arguments.entry.expanded.now) used chain.now)) }
+        (pushed (hidings sets.old tokens.old.items) flag (chain_tokens (arguments_in sets.old arguments.entry.given.now arguments.entry.expanded.now) used chain.now)) }
     ensures known { OnOk result (AllKnown sets.new tokens.new.items) }
-    ensures keeps { Keeps sets.old sets.new }
+    ensures keeps { KeepsSets sets.old sets.new }
 {
     // Most chains are one token or one parameter; their tokens need no list of their own.
     if let [operand] = chain.operands.as_slice() {
         match operand {
             Operand::Tok(token) => {
-                push_token(sets, tokens, mark, token.token())?;
+                push_token(sets, tokens, flag, token.token())?;
                 return Ok(false);
             }
             Operand::Param(index) => {
                 let pending = push_chain(
                     tokens,
-                    mark,
+                    flag,
                     expansion(arguments.given, arguments.expanded, *index),
                 )?;
                 return Ok(pending);
@@ -172,12 +172,12 @@ fn push_chain_tokens<'x, 'a: 'x>(
     }
     let alloc = *tokens.allocator();
     let more = chain_tokens(alloc, sets, arguments, used, chain)?;
-    let pending = push_chain(tokens, mark, more.as_slice())?;
+    let pending = push_chain(tokens, flag, more.as_slice())?;
     Ok(pending)
 }
 
 /// Returns the leading-space flag before a chain. The first chain's own flag doesn't count.
-fn mark_before(pending: bool, first: bool, own: bool) -> bool
+fn flag_before(pending: bool, first: bool, own: bool) -> bool
     ensures { result ≡ (pending || (not first && own)) }
 {
     pending || (!first && own)
@@ -196,14 +196,14 @@ fn chains_tokens<'x, 'a: 'x>(
     ensures is { Returns result (λ m. left_with sets.new m.0.items m.1)
         (chains_tokens (arguments_in sets.old arguments.entry.given.now arguments.entry.expanded.now) used space true chains.now) }
     ensures known { IfOk result (λ m. AllKnown sets.new m.0.items) }
-    ensures keeps { Keeps sets.old sets.new }
+    ensures keeps { KeepsSets sets.old sets.new }
 {
     let mut tokens = Vec::with_capacity(alloc, chains.len())?;
     let mut pending = space;
     let mut first = true;
     for chain in chains {
-        let mark = mark_before(pending, first, chain.mark);
-        pending = push_chain_tokens(sets, arguments, used, mark, chain, &mut tokens)?;
+        let flag = flag_before(pending, first, chain.flag);
+        pending = push_chain_tokens(sets, arguments, used, flag, chain, &mut tokens)?;
         first = false;
     }
     Ok((tokens, pending))
@@ -219,28 +219,28 @@ fn push_one<'a>(tokens: &mut Vec<Hidden<'a>>, hidden: Hidden<'a>) -> Result<(), 
 }
 
 /// Returns the replacement of an invocation and the leading-space flag that is pending afterwards, or fault 19 or 20.
-fn substituted_by<'x, 'a: 'x>(
+fn chains_replacement<'x, 'a: 'x>(
     alloc: Global,
     sets: &mut HideSets,
     chains: &[Chain<'a>],
     arguments: Arguments<'_, 'x>,
-    head: &MacroName,
+    macro_name: &MacroName,
 ) -> Result<(Vec<Hidden<'x>>, bool), Error>
     requires arguments { ArgumentsKnown sets.old arguments.given.now arguments.expanded.now }
-    requires base { IsKnown sets.old head.now.base }
+    requires base { IsKnown sets.old macro_name.now.base }
     ensures is { Returns result (λ m. left_with sets.new m.0.items m.1)
-        (substituted_by chains.now (arguments_in sets.old arguments.entry.given.now arguments.entry.expanded.now) (set.insert (set_at sets.old head.now.base) head.now.name.now) head.now.used head.now.space) }
+        (chains_replacement chains.now (arguments_in sets.old arguments.entry.given.now arguments.entry.expanded.now) (set.insert (set_at sets.old macro_name.now.base) macro_name.now.name.now) macro_name.now.used macro_name.now.space) }
     ensures known { IfOk result (λ m. AllKnown sets.new m.0.items) }
-    ensures keeps { Keeps sets.old sets.new }
+    ensures keeps { KeepsSets sets.old sets.new }
 {
     let MacroName {
         base,
         name,
         used,
         space,
-    } = *head;
+    } = *macro_name;
     let (mut tokens, pending) = chains_tokens(alloc, sets, arguments, used, space, chains)?;
-    gain_names(sets, &mut tokens, base, name, used)?;
+    hsadd_names(sets, &mut tokens, base, name, used)?;
     Ok((tokens, pending))
 }
 
@@ -253,14 +253,14 @@ pub fn substitute<'x, 'a: 'x>(
     alloc: Global,
     chains: &[Chain<'a>],
     arguments: Arguments<'_, 'x>,
-    head: &MacroName,
+    macro_name: &MacroName,
     sets: &mut HideSets,
 ) -> Result<Result<(Vec<Hidden<'x>>, bool), Fault>, Memory>
     requires arguments { ArgumentsKnown sets.old arguments.given.now arguments.expanded.now }
-    requires base { IsKnown sets.old head.now.base }
-    ensures is { IfOk result (λ r. marked_in sets.new r ≡ substituted_by chains.now (arguments_in sets.old arguments.entry.given.now arguments.entry.expanded.now) (set.insert (set_at sets.old head.now.base) head.now.name.now) head.now.used head.now.space) }
+    requires base { IsKnown sets.old macro_name.now.base }
+    ensures is { IfOk result (λ r. replacement_in sets.new r ≡ chains_replacement chains.now (arguments_in sets.old arguments.entry.given.now arguments.entry.expanded.now) (set.insert (set_at sets.old macro_name.now.base) macro_name.now.name.now) macro_name.now.used macro_name.now.space) }
     ensures known { IfOk result (λ r. IfOk r (λ m. AllKnown sets.new m.0.items)) }
-    ensures keeps { Keeps sets.old sets.new }
+    ensures keeps { KeepsSets sets.old sets.new }
 {
-    split_memory(substituted_by(alloc, sets, chains, arguments, head))
+    split_memory(chains_replacement(alloc, sets, chains, arguments, macro_name))
 }

@@ -2,28 +2,28 @@
 ghost use Rattle.std.specs.Prelude.{◌≡◌, IfOk, OnOk, OnErr};
 ghost use Rattle.std.specs.Option.{option_copied};
 ghost use Rattle.std.specs.FinMap as table;
-ghost use Rattle.ppmacro.specs.Define.{is_barred, is_fixed, is_fixed_shape, is_reserved};
+ghost use Rattle.ppmacro.specs.Define.{is_barred, is_fixed, is_fixed_kind, is_reserved};
 ghost use Rattle.ppmacro.specs.Predefined.{predefined_as, predefined};
 
-use crate::borrowed::Body;
-use crate::keys::Key;
-use crate::macros::{Builtin, Definition, Shape};
-use crate::marks::Marks;
+use crate::replacement_list::ReplacementList;
+use crate::name_key::NameKey;
+use crate::macros::{PredefinedMacro, Macro, MacroKind};
+use crate::name_filter::NameFilter;
 use indexmap::IndexMap;
 use pptext::{Hashing, Memory, Profile};
 use std::alloc::{AllocError, Global};
 use std::marker::Model;
 
 /// The initial capacity, about the number of macros of a unit in a large project. A table that grows moves its entries.
-const USUAL: usize = 4_096;
+const INITIAL_CAPACITY: usize = 4_096;
 
 /// The macros of a unit. Contracts see a finite map from names to definitions, and how the names are hashed.
 ///
 /// Most identifiers name no macro, and a filter rejects most of these at once.
 #[derive(Drop)]
 pub struct Table<'a> {
-    macros: IndexMap<Key<'a>, Definition<'a>, Hashing>,
-    marks: Marks,
+    macros: IndexMap<NameKey<'a>, Macro<'a>, Hashing>,
+    filter: NameFilter,
 }
 
 impl<'a> Model for Table<'a> {
@@ -35,7 +35,7 @@ impl<'a> Model for Table<'a> {
     ghost use Rattle.std.specs.Coded.{codes, coded_list, coded_ℕ};
     ghost use Rattle.std.specs.Ordering.{nat_cmp};
     ghost use Rattle.std.specs.Cmp.Lexicographic.{slice_cmp};
-    ghost use Rattle.ppmacro.specs.contracts.macros.Definition as macro_contract;
+    ghost use Rattle.ppmacro.specs.contracts.macros.Macro as macro_contract;
     ghost use Rattle.std.specs.Prelude.{[]};
     ghost use mir.Syntax.{named};
 
@@ -45,28 +45,28 @@ impl<'a> Model for Table<'a> {
 
     ghost view = { λ t. record { macros = table.from_entries t.macros.entries; hashing = hasher_of t.macros } };
 
-    ghost use Rattle.ppmacro.specs.Marks.{AreMarked};
+    ghost use Rattle.ppmacro.specs.code.NameFilter.{RejectsOnlyUnknown};
 
-    ghost invariant = { λ t. AreMarked t.marks (table.from_entries t.macros.entries) };
+    ghost invariant = { λ t. RejectsOnlyUnknown t.filter (table.from_entries t.macros.entries) };
 }
 
 /// Returns whether a macro is predefined and can't be redefined. In GNU C `__STDC_VERSION__` can.
-fn is_fixed_shape(gnu: bool, shape: &Shape) -> bool
-    ensures { result ≡ is_fixed_shape gnu shape.now }
+fn is_fixed_kind(gnu: bool, kind: &MacroKind) -> bool
+    ensures { result ≡ is_fixed_kind gnu kind.now }
 {
-    match shape {
-        Shape::Predefined(Builtin::StdcVersion) => !gnu,
-        Shape::Predefined(_) => true,
+    match kind {
+        MacroKind::Predefined(PredefinedMacro::StdcVersion) => !gnu,
+        MacroKind::Predefined(_) => true,
         _ => false,
     }
 }
 
 /// Returns whether a macro was found that can't be redefined.
-fn is_fixed(gnu: bool, found: Option<&Definition>) -> bool
+fn is_fixed(gnu: bool, found: Option<&Macro>) -> bool
     ensures { result ≡ is_fixed gnu (option_copied found.entry) }
 {
     match found {
-        Some(found) => is_fixed_shape(gnu, &found.shape),
+        Some(found) => is_fixed_kind(gnu, &found.kind),
         None => false,
     }
 }
@@ -110,9 +110,9 @@ impl<'a> Table<'a> {
         ensures macros { IfOk result (λ t. t.macros ≡ table.empty) }
         ensures hashing { IfOk result (λ t. t.hashing ≡ hashing) }
     {
-        let macros = IndexMap::with_capacity_and_hasher(alloc, USUAL, hashing)?;
-        let marks = Marks::new(alloc)?;
-        Ok(Table { macros, marks })
+        let macros = IndexMap::with_capacity_and_hasher(alloc, INITIAL_CAPACITY, hashing)?;
+        let filter = NameFilter::new(alloc)?;
+        Ok(Table { macros, filter })
     }
 
     /// Inserts the predefined macros into an empty table.
@@ -121,46 +121,46 @@ impl<'a> Table<'a> {
         ensures macros { OnOk result (self.new.macros ≡ predefined) }
         ensures hashing { self.new.hashing ≡ self.old.hashing }
     {
-        self.predefine(b"__STDC_VERSION__", Builtin::StdcVersion)?;
-        self.predefine(b"__STDC_HOSTED__", Builtin::StdcHosted)?;
-        self.predefine(b"__STDC__", Builtin::Stdc)?;
-        self.predefine(b"__TIME__", Builtin::Time)?;
-        self.predefine(b"__DATE__", Builtin::Date)?;
-        self.predefine(b"__LINE__", Builtin::Line)?;
-        self.predefine(b"__FILE__", Builtin::File)
+        self.predefine(b"__STDC_VERSION__", PredefinedMacro::StdcVersion)?;
+        self.predefine(b"__STDC_HOSTED__", PredefinedMacro::StdcHosted)?;
+        self.predefine(b"__STDC__", PredefinedMacro::Stdc)?;
+        self.predefine(b"__TIME__", PredefinedMacro::Time)?;
+        self.predefine(b"__DATE__", PredefinedMacro::Date)?;
+        self.predefine(b"__LINE__", PredefinedMacro::Line)?;
+        self.predefine(b"__FILE__", PredefinedMacro::File)
     }
 
     /// Inserts a predefined macro.
-    fn predefine(&mut self, name: &'a [u8], builtin: Builtin) -> Result<(), AllocError>
+    fn predefine(&mut self, name: &'a [u8], builtin: PredefinedMacro) -> Result<(), AllocError>
         ensures macros { OnOk result (self.new.macros ≡ table.insert self.old.macros name.now (predefined_as builtin)) }
         ensures hashing { self.new.hashing ≡ self.old.hashing }
     {
-        let definition = Definition {
-            shape: Shape::Predefined(builtin),
-            body: Body::new(&[]),
+        let definition = Macro {
+            kind: MacroKind::Predefined(builtin),
+            body: ReplacementList::new(&[]),
         };
         self.insert(name, definition)
     }
 
     /// Returns the macro of a name.
     #[inline(always)]
-    pub fn get(&self, name: &[u8]) -> Option<&Definition<'a>>
+    pub fn get(&self, name: &[u8]) -> Option<&Macro<'a>>
         ensures { option_copied result ≡ table.get self.now.macros name.now }
     {
         // The filter rejects most names without a call: this saves 9 % of the instructions of `deps` on Redis.
-        let mark = self.marks.at(name);
-        if mark == 0 {
+        let slot = self.filter.at(name);
+        if slot == 0 {
             return None;
         }
-        self.look_up(usize::from(mark) - 1, name)
+        self.look_up(usize::from(slot) - 1, name)
     }
 
-    /// Returns the macro of a name. Tries the index `place` first, which needs no hash.
+    /// Returns the macro of a name. Tries the index `position` first, which needs no hash.
     #[inline(never)]
-    fn look_up(&self, place: usize, name: &[u8]) -> Option<&Definition<'a>>
+    fn look_up(&self, position: usize, name: &[u8]) -> Option<&Macro<'a>>
         ensures { option_copied result ≡ table.get self.now.macros name.now }
     {
-        let Some((key, found)) = self.macros.get_index(place) else {
+        let Some((key, found)) = self.macros.get_index(position) else {
             return self.find(name);
         };
         if key.bytes == name {
@@ -171,10 +171,10 @@ impl<'a> Table<'a> {
 
     /// Returns the macro of a name, by its hash.
     #[inline(never)]
-    fn find(&self, name: &[u8]) -> Option<&Definition<'a>>
+    fn find(&self, name: &[u8]) -> Option<&Macro<'a>>
         ensures { option_copied result ≡ table.get self.now.macros name.now }
     {
-        let Some(index) = self.macros.get_index_of(&Key { bytes: name }) else {
+        let Some(index) = self.macros.get_index_of(&NameKey { bytes: name }) else {
             return None;
         };
         match self.macros.get_index(index) {
@@ -191,14 +191,14 @@ impl<'a> Table<'a> {
     }
 
     /// Inserts a macro, in place of the one before.
-    pub(crate) fn insert(&mut self, name: &'a [u8], definition: Definition<'a>) -> Result<(), AllocError>
+    pub(crate) fn insert(&mut self, name: &'a [u8], definition: Macro<'a>) -> Result<(), AllocError>
         ensures ok { OnOk result (self.new.macros ≡ table.insert self.old.macros name.now definition.entry) }
         ensures hashing { self.new.hashing ≡ self.old.hashing }
         ensures err { OnErr result (self.new ≡ self.old) }
     {
-        match self.macros.insert_full(Key { bytes: name }, definition) {
-            Ok((place, _)) => {
-                self.marks.put(name, place);
+        match self.macros.insert_full(NameKey { bytes: name }, definition) {
+            Ok((position, _)) => {
+                self.filter.put(name, position);
                 Ok(())
             }
             Err(_) => Err(AllocError),
@@ -210,6 +210,6 @@ impl<'a> Table<'a> {
         ensures macros { self.new.macros ≡ table.remove self.old.macros name.now }
         ensures hashing { self.new.hashing ≡ self.old.hashing }
     {
-        self.macros.swap_remove(&Key { bytes: name });
+        self.macros.swap_remove(&NameKey { bytes: name });
     }
 }

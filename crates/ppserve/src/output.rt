@@ -240,7 +240,7 @@ fn put_pragma_token<W: Sink>(page: &mut Page, writer: &mut W, token: &Token)
 fn put_hidden<W: Sink>(page: &mut Page, writer: &mut W, hidden: &Hidden)
     ensures { Puts W.written W.has_failed writer.old writer.new page.old page.new (token_line hidden.now.token) }
 {
-    let word = hidden.word();
+    let word = hidden.token();
     let head = LineHead {
         at: word.at,
         used: hidden.used(),

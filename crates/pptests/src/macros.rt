@@ -8,7 +8,7 @@ mod substitution;
 mod two_sets;
 
 use crate::defining::{directed, source_of};
-use ppmacro::{Definition, Hidden, HideSets, Set, Shape, Table, Variadic};
+use ppmacro::{Macro, Hidden, HideSets, Set, MacroKind, Table, Variadic};
 use pptext::{Memory, Place, Source, Token};
 use std::alloc::{AllocError, Global};
 use std::process::Abort;
@@ -38,7 +38,7 @@ fn table_of<'a>(rt: &impl Abort, alloc: Global, source: &'a Source) -> Result<Ta
 }
 
 /// Returns the macro that a `#define` line names.
-fn macro_of<'t, 'a>(table: &'t Table<'a>, line: &[Token]) -> Option<&'t Definition<'a>> {
+fn macro_of<'t, 'a>(table: &'t Table<'a>, line: &[Token]) -> Option<&'t Macro<'a>> {
     let name = line.get(2)?;
     table.get(name.text.as_bytes())
 }
@@ -80,8 +80,8 @@ fn is_hidden_by(rt: &impl Abort, sets: &HideSets, hidden: &Hidden, name: &[u8]) 
     if has(rt, sets, hidden.hide(), name) {
         return true;
     }
-    match hidden.also() {
-        Some(also) => has(rt, sets, also, name),
+    match hidden.extra() {
+        Some(extra) => has(rt, sets, extra, name),
         None => false,
     }
 }
@@ -95,11 +95,11 @@ fn push_spelled(text: &mut Vec<u8>, token: &Token) -> Result<(), AllocError> {
 }
 
 /// Appends a parameter list to a text.
-fn push_parameters(text: &mut Vec<u8>, shape: &Shape) -> Result<(), AllocError> {
-    let Shape::FunctionLike {
+fn push_parameters(text: &mut Vec<u8>, kind: &MacroKind) -> Result<(), AllocError> {
+    let MacroKind::FunctionLike {
         parameters,
         variadic,
-    } = shape
+    } = kind
     else {
         return Ok(());
     };
@@ -123,10 +123,10 @@ fn shown(alloc: Global, table: &Table, name: &str) -> Result<Vec<u8>, AllocError
         text.extend_from_slice(b"none")?;
         return Ok(text);
     };
-    if matches!(definition.shape, Shape::Predefined(_)) {
+    if matches!(definition.kind, MacroKind::Predefined(_)) {
         text.extend_from_slice(b"predefined")?;
     }
-    push_parameters(&mut text, &definition.shape)?;
+    push_parameters(&mut text, &definition.kind)?;
     for token in definition.body.as_slice() {
         push_spelled(&mut text, token)?;
     }

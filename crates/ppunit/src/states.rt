@@ -46,7 +46,7 @@ impl<'x> Model for State<'x> {
     ghost use Rattle.std.specs.Ordering.{nat_cmp};
     ghost use Rattle.std.specs.Cmp.Lexicographic.{slice_cmp};
     ghost use Rattle.std.specs.FinMap as table;
-    ghost use Rattle.ppmacro.specs.contracts.macros.Definition as macro_contract;
+    ghost use Rattle.ppmacro.specs.contracts.macros.Macro as macro_contract;
     ghost use mir.Syntax.{named};
 
     ghost coded = { Prim.hlevel (codes, table.code {R = slice_cmp nat_cmp} (coded_list coded_ℕ) ((macro_contract.the_row (record { mir = named 1; lft = [] })).coded)) };

@@ -1,9 +1,9 @@
 //! The names of hide sets, by number.
 ghost use Rattle.std.specs.Prelude.{◌≡◌, ◌<◌, ◌++◌, List, ℕ, false, IfOk, IfSome, IfNone, IsOk, OnErr, length, slice_index_or, []};
 ghost use Rattle.std.specs.List.{AllByRecursion, IsDistinct};
-ghost use Rattle.ppmacro.specs.Members.{same_name};
+ghost use Rattle.ppmacro.specs.code.Members.{same_name};
 
-use crate::keys::Key;
+use crate::name_key::NameKey;
 use indexmap::IndexSet;
 use pptext::Hashing;
 use std::alloc::{AllocError, Global};
@@ -34,14 +34,14 @@ impl<'n> Model for HiddenName<'n> {
 
 impl HiddenName<'_> {
     /// Returns the name as a key.
-    fn key(&self) -> Key<'_>
+    fn key(&self) -> NameKey<'_>
         ensures { result ≡ self.now }
     {
         let bytes = match &self.text {
             NameText::Kept(bytes) => bytes.as_slice(),
             NameText::Sought(bytes) => bytes,
         };
-        Key { bytes }
+        NameKey { bytes }
     }
 }
 
@@ -89,7 +89,7 @@ impl Model for NameNumbers {
     ghost use Rattle.std.specs.Prelude.{List, ℕ};
     ghost use Rattle.std.specs.Coded.{coded_list, coded_ℕ};
     ghost use Rattle.std.specs.List.{IsDistinct};
-    ghost use Rattle.ppmacro.specs.Members.{same_name};
+    ghost use Rattle.ppmacro.specs.code.Members.{same_name};
 
     ghost Value = { List (List ℕ) };
 

@@ -2,22 +2,22 @@
 //! common parts.
 ghost use Rattle.std.specs.Prelude.{◌≡◌, Some, None, Ok, ◌<◌, ◌||◌, ◌+◌, ◌*◌, ℕ, IfOk, IfSome, OnErr, ◌≤◌, [], length, nat_eq};
 ghost use Rattle.std.specs.Int.RustNames.{bit_or};
-ghost use Rattle.ppmacro.specs.Nodes.{node_at, word, word_with, member, IsPool, Keeps, IsWithin, IsBounded, first};
-ghost use Rattle.ppmacro.specs.Operations.{joined, joined_word, known};
-ghost use Rattle.ppmacro.specs.Pairs.{union_known, meet_known, KeepsPairs};
-ghost use Rattle.ppmacro.specs.Remembered.{AreAnswers};
+ghost use Rattle.ppmacro.specs.code.Nodes.{node_at, word, word_with, member, IsPool, KeepsNodes, PointsBelow, IsBounded, first};
+ghost use Rattle.ppmacro.specs.code.Operations.{member_rule, word_rule, known};
+ghost use Rattle.ppmacro.specs.PairCache.{union_known, meet_known, KeepsPairs};
+ghost use Rattle.ppmacro.specs.code.PoolInvariant.{AreAnswers};
 
-use super::pairs::Pairs;
+use super::pair_cache::PairCache;
 use indexmap::IndexSet;
 use pptext::Hashing;
 use std::alloc::{AllocError, Global};
 use std::marker::Model;
 
 /// The number of members that a word holds. The number n is bit n % 64 of the word n / 64.
-const WORD: usize = 64;
+const WORD_BITS: usize = 64;
 
 /// The maximum number of nodes. A new node beyond it fails like an allocation.
-const MOST: usize = 0xFFFF_FFFF;
+const MAX_NODES: usize = 0xFFFF_FFFF;
 
 /// A set of numbers. Word 0 of the set is `here`. Word 2w + 1 is word w of the set with the number `left`, and word 2w + 2 is
 /// word w of the set with the number `right`.
@@ -29,7 +29,7 @@ pub(crate) struct Node {
 }
 
 impl Model for Node {
-    ghost use Rattle.ppmacro.specs.Nodes.{Node};
+    ghost use Rattle.ppmacro.specs.code.Nodes.{Node};
 
     ghost Value = { Node };
 
@@ -53,22 +53,22 @@ pub(crate) struct Operation {
 
 impl Model for Operation {
     ghost use Rattle.std.specs.Prelude.{◌≡◌, refl};
-    ghost use Rattle.ppmacro.specs.Operations as definitions;
+    ghost use Rattle.ppmacro.specs.code.Operations as specification;
     ghost use Rattle.ppmacro.specs.declared.hide_sets.nodes.OperationKind.TheVariants.{Union, Meet};
 
-    ghost Value = { definitions.Operation };
+    ghost Value = { specification.Operation };
 
-    ghost view = { λ o. elim o.kind [ Union ↦ definitions.Union | Meet ↦ definitions.Meet ] };
+    ghost view = { λ o. elim o.kind [ Union ↦ specification.Union | Meet ↦ specification.Meet ] };
 
-    ghost inverse = { λ o. record { kind = elim o [ definitions.Union ↦ Union | definitions.Meet ↦ Meet ] } };
+    ghost inverse = { λ o. record { kind = elim o [ specification.Union ↦ Union | specification.Meet ↦ Meet ] } };
 
     ghost inverse_ok = { λ o h. elim o.kind as (λ k. inverse (view (record { kind = k })) ≡ record { kind = k }) [ Union ↦ refl | Meet ↦ refl ] };
 }
 
 impl Operation {
     /// Combines two words of members.
-    fn joins(self, left: u64, right: u64) -> u64
-        ensures { result ≡ joined_word self left right }
+    fn combine_words(self, left: u64, right: u64) -> u64
+        ensures { result ≡ word_rule self left right }
     {
         match self.kind {
             OperationKind::Union => left | right,
@@ -105,7 +105,7 @@ fn read(nodes: &IndexSet<Node, Hashing>, number: u32) -> Node
 
 /// Returns the number of an existing node. Used once the pool is full.
 #[inline(never)]
-fn number_among(nodes: &IndexSet<Node, Hashing>, node: Node) -> Result<u32, AllocError>
+fn existing_number(nodes: &IndexSet<Node, Hashing>, node: Node) -> Result<u32, AllocError>
     requires { IsPool nodes.now.keys }
     ensures known { IfOk result (λ n. n < length nodes.now.keys) }
     ensures is { IfOk result (λ n. node_at nodes.now.keys n ≡ node) }
@@ -120,17 +120,17 @@ fn number_among(nodes: &IndexSet<Node, Hashing>, node: Node) -> Result<u32, Allo
 /// Returns the number of a node. Adds the node if it is new.
 fn number_for(nodes: &mut IndexSet<Node, Hashing>, node: Node) -> Result<u32, AllocError>
     requires pool { IsPool nodes.old.keys }
-    requires within { IsWithin (length nodes.old.keys) node }
+    requires within { PointsBelow (length nodes.old.keys) node }
     ensures pool { IsPool nodes.new.keys }
-    ensures keeps { Keeps nodes.old.keys nodes.new.keys }
+    ensures keeps { KeepsNodes nodes.old.keys nodes.new.keys }
     ensures known { IfOk result (λ n. n < length nodes.new.keys) }
     ensures is { IfOk result (λ n. node_at nodes.new.keys n ≡ node) }
     ensures fresh { IfOk result (λ m. (n : ℕ) → length nodes.old.keys ≤ n → n < length nodes.new.keys → n ≡ m) }
     ensures err { OnErr result (nodes.new.keys ≡ nodes.old.keys) }
     ensures there { (n : ℕ) → n < length nodes.old.keys → node_at nodes.old.keys n ≡ node → (result ≡ Ok n) × (nodes.new.keys ≡ nodes.old.keys) }
 {
-    if nodes.len() >= MOST {
-        return number_among(nodes, node);
+    if nodes.len() >= MAX_NODES {
+        return existing_number(nodes, node);
     }
     let Ok((number, _)) = nodes.insert_full(node) else {
         return Err(AllocError);
@@ -139,18 +139,18 @@ fn number_for(nodes: &mut IndexSet<Node, Hashing>, node: Node) -> Result<u32, Al
 }
 
 /// Returns the number of a node. Looks at the nodes of two sets first, because the node may be one of them.
-fn number_beside(
+fn reuse_or_number(
     nodes: &mut IndexSet<Node, Hashing>,
     node: Node,
     one: u32,
     two: u32,
 ) -> Result<u32, AllocError>
     requires pool { IsPool nodes.old.keys }
-    requires within { IsWithin (length nodes.old.keys) node }
+    requires within { PointsBelow (length nodes.old.keys) node }
     requires one { one < length nodes.old.keys }
     requires two { two < length nodes.old.keys }
     ensures pool { IsPool nodes.new.keys }
-    ensures keeps { Keeps nodes.old.keys nodes.new.keys }
+    ensures keeps { KeepsNodes nodes.old.keys nodes.new.keys }
     ensures known { IfOk result (λ n. n < length nodes.new.keys) }
     ensures is { IfOk result (λ n. node_at nodes.new.keys n ≡ node) }
     ensures fresh { IfOk result (λ m. (n : ℕ) → length nodes.old.keys ≤ n → n < length nodes.new.keys → n ≡ m) }
@@ -189,8 +189,8 @@ pub(crate) fn has(nodes: &IndexSet<Node, Hashing>, set: u32, number: usize) -> b
     requires known { set < length nodes.now.keys }
     ensures { result ≡ member nodes.now.keys set number }
 {
-    let bits = word_of(nodes, set, number / WORD);
-    bits >> (number % WORD) & 1 == 1
+    let bits = word_of(nodes, set, number / WORD_BITS);
+    bits >> (number % WORD_BITS) & 1 == 1
 }
 
 /// Returns the set with one more member.
@@ -202,14 +202,14 @@ pub(crate) fn insert(
     requires pool { IsPool nodes.old.keys }
     requires known { set < length nodes.old.keys }
     ensures pool { IsPool nodes.new.keys }
-    ensures keeps { Keeps nodes.old.keys nodes.new.keys }
+    ensures keeps { KeepsNodes nodes.old.keys nodes.new.keys }
     ensures known { IfOk result (λ n. n < length nodes.new.keys) }
     ensures bounded { (limit : ℕ) → number < limit → IsBounded limit nodes.old.keys → IsBounded limit nodes.new.keys }
     ensures set { IfOk result (λ n. (x : ℕ) → member nodes.new.keys n x ≡ (nat_eq x number || member nodes.old.keys set x)) }
     ensures there { (n : ℕ) → n < length nodes.old.keys → ((x : ℕ) → member nodes.old.keys n x ≡ (nat_eq x number || member nodes.old.keys set x))
         → (result ≡ Ok n) × (nodes.new.keys ≡ nodes.old.keys) }
 {
-    let more = insert_bit(nodes, set, number / WORD, number % WORD)?;
+    let more = insert_bit(nodes, set, number / WORD_BITS, number % WORD_BITS)?;
     Ok(more)
 }
 
@@ -224,7 +224,7 @@ fn insert_bit(
     requires known { set < length nodes.old.keys }
     requires bit { bit < 64 }
     ensures pool { IsPool nodes.new.keys }
-    ensures keeps { Keeps nodes.old.keys nodes.new.keys }
+    ensures keeps { KeepsNodes nodes.old.keys nodes.new.keys }
     ensures known { IfOk result (λ n. n < length nodes.new.keys) }
     ensures bounded { (limit : ℕ) → index * 64 + bit < limit → IsBounded limit nodes.old.keys → IsBounded limit nodes.new.keys }
     ensures set { IfOk result (λ n. (w : ℕ) → word nodes.new.keys n w ≡ bit_or (word nodes.old.keys set w) (word_with index bit w)) }
@@ -250,7 +250,7 @@ fn insert_bit(
 }
 
 /// Returns the union if a set is empty or both are equal.
-fn settled_union(one: u32, two: u32) -> Option<u32>
+fn trivial_union(one: u32, two: u32) -> Option<u32>
     ensures { result ≡ union_known [] one two }
 {
     if one == 0 {
@@ -263,7 +263,7 @@ fn settled_union(one: u32, two: u32) -> Option<u32>
 }
 
 /// Returns the intersection if a set is empty or both are equal.
-fn settled_meet(one: u32, two: u32) -> Option<u32>
+fn trivial_meet(one: u32, two: u32) -> Option<u32>
     ensures { result ≡ meet_known [] one two }
 {
     if one == 0 {
@@ -283,13 +283,13 @@ fn split_memory(operation: Operation, one: u32, two: u32) -> Option<u32>
     ensures { result ≡ known operation [] one two }
 {
     match operation.kind {
-        OperationKind::Union => settled_union(one, two),
-        OperationKind::Meet => settled_meet(one, two),
+        OperationKind::Union => trivial_union(one, two),
+        OperationKind::Meet => trivial_meet(one, two),
     }
 }
 
 /// Returns the result of an operation if it is trivial or cached.
-fn known(pairs: &Pairs, operation: Operation, one: u32, two: u32) -> Option<u32>
+fn known(pairs: &PairCache, operation: Operation, one: u32, two: u32) -> Option<u32>
     ensures { result ≡ known operation pairs.now one two }
 {
     match split_memory(operation, one, two) {
@@ -301,7 +301,7 @@ fn known(pairs: &Pairs, operation: Operation, one: u32, two: u32) -> Option<u32>
 /// Computes the result of an operation word by word. Most parts are trivial and need no call.
 #[cycle(making)]
 #[inline(always)]
-fn make(
+fn compute(
     nodes: &mut IndexSet<Node, Hashing>,
     operation: Operation,
     one: u32,
@@ -311,24 +311,24 @@ fn make(
     requires one { one < length nodes.old.keys }
     requires two { two < length nodes.old.keys }
     ensures pool { IsPool nodes.new.keys }
-    ensures keeps { Keeps nodes.old.keys nodes.new.keys }
+    ensures keeps { KeepsNodes nodes.old.keys nodes.new.keys }
     ensures known { IfOk result (λ n. n < length nodes.new.keys) }
     ensures bounded { (limit : ℕ) → IsBounded limit nodes.old.keys → IsBounded limit nodes.new.keys }
-    ensures set { IfOk result (λ n. (w : ℕ) → word nodes.new.keys n w ≡ joined_word operation (word nodes.old.keys one w) (word nodes.old.keys two w)) }
+    ensures set { IfOk result (λ n. (w : ℕ) → word nodes.new.keys n w ≡ word_rule operation (word nodes.old.keys one w) (word nodes.old.keys two w)) }
     ensures there { (n : ℕ) → n < length nodes.old.keys
-        → ((w : ℕ) → word nodes.old.keys n w ≡ joined_word operation (word nodes.old.keys one w) (word nodes.old.keys two w))
+        → ((w : ℕ) → word nodes.old.keys n w ≡ word_rule operation (word nodes.old.keys one w) (word nodes.old.keys two w))
         → (result ≡ Ok n) × (nodes.new.keys ≡ nodes.old.keys) }
 {
     match split_memory(operation, one, two) {
         Some(number) => Ok(number),
-        None => make_node(nodes, operation, one, two),
+        None => compute_node(nodes, operation, one, two),
     }
 }
 
 /// Computes the result of an operation if no set is empty and the sets differ.
 #[cycle(making)]
 #[inline(never)]
-fn make_node(
+fn compute_node(
     nodes: &mut IndexSet<Node, Hashing>,
     operation: Operation,
     one: u32,
@@ -339,52 +339,52 @@ fn make_node(
     requires two { two < length nodes.old.keys }
     requires unsettled { known operation [] one two ≡ None }
     ensures pool { IsPool nodes.new.keys }
-    ensures keeps { Keeps nodes.old.keys nodes.new.keys }
+    ensures keeps { KeepsNodes nodes.old.keys nodes.new.keys }
     ensures known { IfOk result (λ n. n < length nodes.new.keys) }
     ensures bounded { (limit : ℕ) → IsBounded limit nodes.old.keys → IsBounded limit nodes.new.keys }
-    ensures set { IfOk result (λ n. (w : ℕ) → word nodes.new.keys n w ≡ joined_word operation (word nodes.old.keys one w) (word nodes.old.keys two w)) }
+    ensures set { IfOk result (λ n. (w : ℕ) → word nodes.new.keys n w ≡ word_rule operation (word nodes.old.keys one w) (word nodes.old.keys two w)) }
     ensures there { (n : ℕ) → n < length nodes.old.keys
-        → ((w : ℕ) → word nodes.old.keys n w ≡ joined_word operation (word nodes.old.keys one w) (word nodes.old.keys two w))
+        → ((w : ℕ) → word nodes.old.keys n w ≡ word_rule operation (word nodes.old.keys one w) (word nodes.old.keys two w))
         → (result ≡ Ok n) × (nodes.new.keys ≡ nodes.old.keys) }
 {
     let first = read(nodes, one);
     let second = read(nodes, two);
-    let left = make(nodes, operation, first.left, second.left)?;
-    let right = make(nodes, operation, first.right, second.right)?;
-    let here = operation.joins(first.here, second.here);
-    let both = number_beside(nodes, Node { here, left, right }, one, two)?;
+    let left = compute(nodes, operation, first.left, second.left)?;
+    let right = compute(nodes, operation, first.right, second.right)?;
+    let here = operation.combine_words(first.here, second.here);
+    let both = reuse_or_number(nodes, Node { here, left, right }, one, two)?;
     Ok(both)
 }
 
 /// Returns the result of an operation, and caches it.
-pub(crate) fn join(
+pub(crate) fn combine(
     nodes: &mut IndexSet<Node, Hashing>,
-    pairs: &mut Pairs,
+    pairs: &mut PairCache,
     operation: Operation,
     one: u32,
     two: u32,
 ) -> Result<u32, AllocError>
     requires pool { IsPool nodes.old.keys }
-    requires answers { AreAnswers (joined operation) nodes.old.keys pairs.old }
+    requires answers { AreAnswers (member_rule operation) nodes.old.keys pairs.old }
     requires one { one < length nodes.old.keys }
     requires two { two < length nodes.old.keys }
     ensures pool { IsPool nodes.new.keys }
-    ensures keeps { Keeps nodes.old.keys nodes.new.keys }
+    ensures keeps { KeepsNodes nodes.old.keys nodes.new.keys }
     ensures pairs { KeepsPairs pairs.old pairs.new }
-    ensures answers { AreAnswers (joined operation) nodes.new.keys pairs.new }
+    ensures answers { AreAnswers (member_rule operation) nodes.new.keys pairs.new }
     ensures known { IfOk result (λ n. n < length nodes.new.keys) }
     ensures bounded { (limit : ℕ) → IsBounded limit nodes.old.keys → IsBounded limit nodes.new.keys }
-    ensures set { IfOk result (λ n. (x : ℕ) → member nodes.new.keys n x ≡ joined operation (member nodes.old.keys one x) (member nodes.old.keys two x)) }
+    ensures set { IfOk result (λ n. (x : ℕ) → member nodes.new.keys n x ≡ member_rule operation (member nodes.old.keys one x) (member nodes.old.keys two x)) }
     ensures remembered { IfOk result (λ n. known operation pairs.new one two ≡ Some n) }
     ensures again { (n : ℕ) → known operation pairs.old one two ≡ Some n → (result ≡ Ok n) × (pairs.new ≡ pairs.old) × (nodes.new.keys ≡ nodes.old.keys) }
     ensures there { (n : ℕ) → n < length nodes.old.keys
-        → ((x : ℕ) → member nodes.old.keys n x ≡ joined operation (member nodes.old.keys one x) (member nodes.old.keys two x))
+        → ((x : ℕ) → member nodes.old.keys n x ≡ member_rule operation (member nodes.old.keys one x) (member nodes.old.keys two x))
         → IfOk result (λ m. m ≡ n) × (nodes.new.keys ≡ nodes.old.keys) × OnErr result (pairs.new ≡ pairs.old) }
 {
     match known(pairs, operation, one, two) {
         Some(number) => Ok(number),
         None => {
-            let both = make(nodes, operation, one, two)?;
+            let both = compute(nodes, operation, one, two)?;
             pairs.put(one, two, both)?;
             Ok(both)
         }

@@ -2,28 +2,28 @@
 ghost use Rattle.std.specs.Prelude.{◌≡◌, ◌||◌, ◌&&◌, not, IfOk, OnOk, Ok, true, map};
 ghost use Rattle.std.specs.FinSet as set;
 ghost use Rattle.pptext.specs.declared.tokens.Place.{Place};
-ghost use Rattle.ppmacro.specs.HideSets.{set_at, IsKnown, hidings, AllKnown, Keeps};
+ghost use Rattle.ppmacro.specs.HideSets.{set_at, IsKnown, hidings, AllKnown, KeepsSets};
 ghost use Rattle.ppmacro.specs.Patterns.{entry_chain, listed};
-ghost use Rattle.ppmacro.specs.Substitution.{chain_tokens, chains_tokens, substituted_by};
-ghost use Rattle.ppmacro.specs.Substituting.{ArgumentsKnown, arguments_in, marked_in, pushed, left_with};
+ghost use Rattle.ppmacro.specs.Substitution.{chain_tokens, chains_tokens, chains_replacement};
+ghost use Rattle.ppmacro.specs.Substituting.{ArgumentsKnown, arguments_in, replacement_in, pushed, left_with};
 
-use crate::flying::Hidden;
+use crate::hidden_token::Hidden;
 use crate::hide_sets::HideSets;
-use crate::invoked::{Arguments, MacroName};
+use crate::invocation::{Arguments, MacroName};
 use crate::patterns::{Entry, Pattern};
-use crate::substituting::gains::gain_names;
+use crate::substituting::hsadd::hsadd_names;
 use crate::substituting::operands::expansion;
-use crate::substituting::{mark_before, push_chain, push_token, substitute};
+use crate::substituting::{flag_before, push_chain, push_token, substitute};
 use pptext::{Fault, Memory};
 use std::alloc::{AllocError, Global};
 
 /// Returns the leading-space flag of an entry.
-fn mark_of(entry: &Entry) -> bool
-    ensures { result ≡ (entry_chain entry.now).mark }
+fn flag_of(entry: &Entry) -> bool
+    ensures { result ≡ (entry_chain entry.now).flag }
 {
     match entry {
         Entry::Tok(token) => token.token().space,
-        Entry::Param(mark, _) => *mark,
+        Entry::Param(flag, _) => *flag,
     }
 }
 
@@ -44,29 +44,29 @@ fn count_all(arguments: Arguments, entries: &[Entry]) -> usize {
     count
 }
 
-/// Appends the tokens of an entry. The first gets the flag `mark`. Returns the leading-space flag that is pending afterwards.
+/// Appends the tokens of an entry. The first gets the flag `flag`. Returns the leading-space flag that is pending afterwards.
 fn push_entry<'x, 'a: 'x>(
     sets: &HideSets,
     arguments: Arguments<'_, 'x>,
-    mark: bool,
+    flag: bool,
     entry: &Entry<'a>,
     tokens: &mut Vec<Hidden<'x>>,
 ) -> Result<bool, AllocError>
     requires arguments { ArgumentsKnown sets.now arguments.given.now arguments.expanded.now }
     requires tokens { AllKnown sets.now tokens.old.items }
     ensures is { IfOk result (λ pending. (used : Place) → Ok (left_with sets.now tokens.new.items pending)
-        ≡ pushed (hidings sets.now tokens.old.items) mark (chain_tokens (arguments_in sets.now arguments.entry.given.now arguments.entry.expanded.now) used (entry_chain entry.now))) }
+        ≡ pushed (hidings sets.now tokens.old.items) flag (chain_tokens (arguments_in sets.now arguments.entry.given.now arguments.entry.expanded.now) used (entry_chain entry.now))) }
     ensures known { OnOk result (AllKnown sets.now tokens.new.items) }
 {
     match entry {
         Entry::Tok(token) => {
-            push_token(sets, tokens, mark, token.token())?;
+            push_token(sets, tokens, flag, token.token())?;
             Ok(false)
         }
         Entry::Param(_, index) => {
             let pending = push_chain(
                 tokens,
-                mark,
+                flag,
                 expansion(arguments.given, arguments.expanded, *index),
             )?;
             Ok(pending)
@@ -91,8 +91,8 @@ fn entries_tokens<'x, 'a: 'x>(
     let mut pending = space;
     let mut first = true;
     for entry in entries {
-        let mark = mark_before(pending, first, mark_of(entry));
-        pending = push_entry(sets, arguments, mark, entry, &mut tokens)?;
+        let flag = flag_before(pending, first, flag_of(entry));
+        pending = push_entry(sets, arguments, flag, entry, &mut tokens)?;
         first = false;
     }
     Ok((tokens, pending))
@@ -103,24 +103,24 @@ fn substitute_entries<'x, 'a: 'x>(
     alloc: Global,
     entries: &[Entry<'a>],
     arguments: Arguments<'_, 'x>,
-    head: &MacroName,
+    macro_name: &MacroName,
     sets: &mut HideSets,
 ) -> Result<(Vec<Hidden<'x>>, bool), Memory>
     requires arguments { ArgumentsKnown sets.old arguments.given.now arguments.expanded.now }
-    requires base { IsKnown sets.old head.now.base }
+    requires base { IsKnown sets.old macro_name.now.base }
     ensures is { IfOk result (λ m. Ok (left_with sets.new m.0.items m.1)
-        ≡ substituted_by (map entry_chain entries.now) (arguments_in sets.old arguments.entry.given.now arguments.entry.expanded.now) (set.insert (set_at sets.old head.now.base) head.now.name.now) head.now.used head.now.space) }
+        ≡ chains_replacement (map entry_chain entries.now) (arguments_in sets.old arguments.entry.given.now arguments.entry.expanded.now) (set.insert (set_at sets.old macro_name.now.base) macro_name.now.name.now) macro_name.now.used macro_name.now.space) }
     ensures known { IfOk result (λ m. AllKnown sets.new m.0.items) }
-    ensures keeps { Keeps sets.old sets.new }
+    ensures keeps { KeepsSets sets.old sets.new }
 {
     let MacroName {
         base,
         name,
         used,
         space,
-    } = *head;
+    } = *macro_name;
     let (mut tokens, pending) = entries_tokens(alloc, sets, arguments, space, entries)?;
-    gain_names(sets, &mut tokens, base, name, used)?;
+    hsadd_names(sets, &mut tokens, base, name, used)?;
     Ok((tokens, pending))
 }
 
@@ -129,24 +129,24 @@ pub fn substitute_pattern<'x, 'a: 'x>(
     alloc: Global,
     pattern: &Pattern<'a>,
     arguments: Arguments<'_, 'x>,
-    head: &MacroName,
+    macro_name: &MacroName,
     sets: &mut HideSets,
 ) -> Result<Result<(Vec<Hidden<'x>>, bool), Fault>, Memory>
     requires arguments { ArgumentsKnown sets.old arguments.given.now arguments.expanded.now }
-    requires base { IsKnown sets.old head.now.base }
-    ensures is { IfOk result (λ r. marked_in sets.new r ≡ substituted_by (listed pattern.now) (arguments_in sets.old arguments.entry.given.now arguments.entry.expanded.now) (set.insert (set_at sets.old head.now.base) head.now.name.now) head.now.used head.now.space) }
+    requires base { IsKnown sets.old macro_name.now.base }
+    ensures is { IfOk result (λ r. replacement_in sets.new r ≡ chains_replacement (listed pattern.now) (arguments_in sets.old arguments.entry.given.now arguments.entry.expanded.now) (set.insert (set_at sets.old macro_name.now.base) macro_name.now.name.now) macro_name.now.used macro_name.now.space) }
     ensures known { IfOk result (λ r. IfOk r (λ m. AllKnown sets.new m.0.items)) }
-    ensures keeps { Keeps sets.old sets.new }
+    ensures keeps { KeepsSets sets.old sets.new }
 {
     match pattern {
-        Pattern::Alone(entries) => {
+        Pattern::Plain(entries) => {
             let entries = entries.as_slice();
-            let made = substitute_entries(alloc, entries, arguments, head, sets)?;
+            let made = substitute_entries(alloc, entries, arguments, macro_name, sets)?;
             Ok(Ok(made))
         }
-        Pattern::Joined(chains) => {
+        Pattern::Pasted(chains) => {
             let chains = chains.as_slice();
-            substitute(alloc, chains, arguments, head, sets)
+            substitute(alloc, chains, arguments, macro_name, sets)
         }
     }
 }

@@ -1,12 +1,12 @@
 //! Joins lists of tokens with `##` (6.10.3.3).
 ghost use Rattle.std.specs.Prelude.{◌≡◌, ◌++◌, ◌∷◌, IfOk, OnOk, IsTrue, [], map};
 ghost use Rattle.pptext.specs.Continuations.{ContinuesToken};
-ghost use Rattle.ppmacro.specs.HideSets.{hiding, hidings, HasSets, AllKnown, Keeps};
+ghost use Rattle.ppmacro.specs.HideSets.{hiding, hidings, HasSets, AllKnown, KeepsSets};
 ghost use Rattle.ppmacro.specs.Substitution.{pasted, join, join_all};
 ghost use Rattle.pptext.specs.Errors.{Returns};
-ghost use Rattle.ppmacro.specs.Substituting.{lists_of, ListsKnown, IsWhole, EndsWhole};
+ghost use Rattle.ppmacro.specs.Substituting.{lists_of, ListsKnown, HasSpelledKind, EndsWithSpelledKind};
 
-use crate::flying::Hidden;
+use crate::hidden_token::Hidden;
 use crate::hide_sets::HideSets;
 use crate::substituting::pasting::pasted;
 use pptext::{Place, Error, continues};
@@ -54,16 +54,16 @@ fn paste_onto<'a>(
 ) -> Result<Hidden<'a>, Error>
     requires last { HasSets sets.old last }
     requires first { HasSets sets.old first.now }
-    requires whole { IsTrue whole → IsWhole last }
+    requires whole { IsTrue whole → HasSpelledKind last }
     ensures is { Returns result (hiding sets.new) (pasted (hiding sets.old last.entry) (hiding sets.old first.now) used) }
     ensures known { IfOk result (λ h. HasSets sets.new h) }
-    ensures whole { IfOk result IsWhole }
-    ensures keeps { Keeps sets.old sets.new }
+    ensures whole { IfOk result HasSpelledKind }
+    ensures keeps { KeepsSets sets.old sets.new }
 {
     let mut last = last;
     if is_carried_on(&last, whole, first.text()) && last.extend(alloc, first.text())? {
-        let hide = sets.common(&last, first)?;
-        last.turn(used, hide);
+        let hide = sets.common_hide_set(&last, first)?;
+        last.set_use(used, hide);
         return Ok(last);
     }
     pasted(alloc, sets, &last, first, used)
@@ -80,12 +80,12 @@ fn join<'a>(
     used: Place,
 ) -> Result<bool, Error>
     requires left { AllKnown sets.old left.old.items }
-    requires whole { IsTrue whole → EndsWhole left.old.items }
+    requires whole { IsTrue whole → EndsWithSpelledKind left.old.items }
     requires right { AllKnown sets.old right.now }
     ensures is { Returns result (λ _. hidings sets.new left.new.items) (join (hidings sets.old left.old.items) (hidings sets.old right.now) used) }
     ensures known { OnOk result (AllKnown sets.new left.new.items) }
-    ensures whole { IfOk result (λ w. IsTrue w → EndsWhole left.new.items) }
-    ensures keeps { Keeps sets.old sets.new }
+    ensures whole { IfOk result (λ w. IsTrue w → EndsWithSpelledKind left.new.items) }
+    ensures keeps { KeepsSets sets.old sets.new }
 {
     let first = match right.first() {
         Some(first) => first,
@@ -113,7 +113,7 @@ pub(crate) fn join_all<'a>(
     requires { ListsKnown sets.old lists.now }
     ensures is { Returns result (λ v. hidings sets.new v.items) (join_all [] (map (hidings sets.old) (lists_of lists.now)) used) }
     ensures known { IfOk result (λ v. AllKnown sets.new v.items) }
-    ensures keeps { Keeps sets.old sets.new }
+    ensures keeps { KeepsSets sets.old sets.new }
 {
     let mut left = Vec::new(alloc);
     let mut whole = false;

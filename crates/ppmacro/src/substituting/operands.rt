@@ -5,9 +5,9 @@ ghost use Rattle.ppmacro.specs.Substitution.{argument_at, expanded_at, plain, af
 ghost use Rattle.pptext.specs.Errors.{Returns};
 ghost use Rattle.ppmacro.specs.Substituting.{lists_of, option_of, options_of, ArgumentsKnown, arguments_in, tokens_of, ListsKnown};
 
-use crate::flying::{Expansion, Hidden};
+use crate::hidden_token::{Expansion, Hidden};
 use crate::hide_sets::HideSets;
-use crate::invoked::Arguments;
+use crate::invocation::Arguments;
 use crate::macros::Operand;
 use crate::substituting::stringizing::stringized;
 use pptext::{Place, Error, Token};
@@ -25,7 +25,7 @@ fn argument<'g, 'a>(given: &'g [Vec<Hidden<'a>>], index: usize) -> &'g [Hidden<'
 }
 
 /// Returns the tokens of an argument's expansion.
-fn shown<'g, 'a>(argument: &'g [Hidden<'a>], expansion: &'g Expansion<'a>) -> &'g [Hidden<'a>]
+fn expansion_tokens<'g, 'a>(argument: &'g [Hidden<'a>], expansion: &'g Expansion<'a>) -> &'g [Hidden<'a>]
     ensures { result.now ≡ unwrap_or (option_of argument.now expansion.now) [] }
 {
     match expansion {
@@ -50,11 +50,11 @@ pub(crate) fn expansion<'g, 'a>(
         let none: &'g [Hidden<'a>] = Default::default();
         return none;
     };
-    shown(argument(given, index), expansion)
+    expansion_tokens(argument(given, index), expansion)
 }
 
 /// Returns a list of one token.
-fn lone<'a>(alloc: Global, hidden: Hidden<'a>) -> Result<Vec<Hidden<'a>>, AllocError>
+fn one_token<'a>(alloc: Global, hidden: Hidden<'a>) -> Result<Vec<Hidden<'a>>, AllocError>
     ensures { IfOk result (λ v. v.items ≡ hidden.entry ∷ []) }
 {
     let mut tokens = Vec::new(alloc);
@@ -71,7 +71,7 @@ fn plain<'a>(
     ensures is { IfOk result (λ v. hidings sets.now v.items ≡ plain token.now ∷ []) }
     ensures known { IfOk result (λ v. AllKnown sets.now v.items) }
 {
-    lone(alloc, Hidden::new(token, sets.empty()))
+    one_token(alloc, Hidden::new(token, sets.empty()))
 }
 
 /// Returns the string literal of an argument, as a list, or fault 20.
@@ -86,21 +86,21 @@ fn literal<'a>(
     ensures known { IfOk result (λ v. AllKnown sets.now v.items) }
 {
     let hidden = stringized(alloc, sets, argument, at, used)?;
-    Ok(lone(alloc, hidden)?)
+    Ok(one_token(alloc, hidden)?)
 }
 
-/// Returns the tokens of an operand, or fault 20. `beside`: it is next to `##`, where an argument isn't expanded.
+/// Returns the tokens of an operand, or fault 20. `next_to_paste`: it is next to `##`, where an argument isn't expanded.
 pub(crate) fn operand_tokens<'x, 'a: 'x>(
     alloc: Global,
     sets: &HideSets,
-    beside: bool,
+    next_to_paste: bool,
     arguments: Arguments<'_, 'x>,
     used: Place,
     operand: &Operand<'a>,
 ) -> Result<Vec<Hidden<'x>>, Error>
     requires { ArgumentsKnown sets.now arguments.given.now arguments.expanded.now }
     ensures is { Returns result (λ v. hidings sets.now v.items)
-        (operand_tokens beside (arguments_in sets.now arguments.entry.given.now arguments.entry.expanded.now) used operand.now) }
+        (operand_tokens next_to_paste (arguments_in sets.now arguments.entry.given.now arguments.entry.expanded.now) used operand.now) }
     ensures known { IfOk result (λ v. AllKnown sets.now v.items) }
 {
     let Arguments { given, expanded } = arguments;
@@ -108,7 +108,7 @@ pub(crate) fn operand_tokens<'x, 'a: 'x>(
         Operand::Tok(token) => Ok(plain(alloc, sets, token.token())?),
         Operand::Str(index, at) => literal(alloc, sets, argument(given, *index), *at, used),
         Operand::Param(index) => {
-            if beside {
+            if next_to_paste {
                 return Ok(Vec::from_clones(alloc, argument(given, *index))?);
             }
             Ok(Vec::from_clones(alloc, expansion(given, expanded, *index))?)
@@ -132,19 +132,19 @@ fn push_list<'a>(
 pub(crate) fn operands_tokens<'x, 'a: 'x>(
     alloc: Global,
     sets: &HideSets,
-    beside: bool,
+    next_to_paste: bool,
     arguments: Arguments<'_, 'x>,
     used: Place,
     operands: &[Operand<'a>],
 ) -> Result<Vec<Vec<Hidden<'x>>>, Error>
     requires { ArgumentsKnown sets.now arguments.given.now arguments.expanded.now }
     ensures is { Returns result (λ v. map (hidings sets.now) (lists_of v.items))
-        (operands_tokens beside (arguments_in sets.now arguments.entry.given.now arguments.entry.expanded.now) used operands.now) }
+        (operands_tokens next_to_paste (arguments_in sets.now arguments.entry.given.now arguments.entry.expanded.now) used operands.now) }
     ensures known { IfOk result (λ v. ListsKnown sets.now v.items) }
 {
     let mut lists = Vec::new(alloc);
     for operand in operands {
-        let tokens = operand_tokens(alloc, sets, beside, arguments, used, operand)?;
+        let tokens = operand_tokens(alloc, sets, next_to_paste, arguments, used, operand)?;
         push_list(&mut lists, tokens)?;
     }
     Ok(lists)

@@ -1,11 +1,11 @@
 //! The operator `##` (6.10.3.3).
 ghost use Rattle.std.specs.Prelude.{◌≡◌, ◌++◌, IfOk};
-ghost use Rattle.ppmacro.specs.HideSets.{hiding, HasSets, Keeps};
+ghost use Rattle.ppmacro.specs.HideSets.{hiding, HasSets, KeepsSets};
 ghost use Rattle.ppmacro.specs.Substitution.{pasted};
 ghost use Rattle.ppmacro.specs.Substituting.{hidden_in};
 ghost use Rattle.pptext.specs.Errors.{Returns};
 
-use crate::flying::Hidden;
+use crate::hidden_token::Hidden;
 use crate::hide_sets::HideSets;
 use crate::substituting::lexing::kind_of;
 use pptext::{Fault, Kind, Memory, Place, Spelling, Error, Token, split_memory};
@@ -21,7 +21,7 @@ fn both(alloc: Global, left: &Hidden, right: &Hidden) -> Result<Vec<u8>, AllocEr
 }
 
 /// Returns a token of this kind and spelling, with the spelling location and the leading-space flag of the left token.
-fn made_of(kind: Kind, text: Vec<u8>, left: &Hidden, used: Place) -> Result<Token, AllocError>
+fn synthesize(kind: Kind, text: Vec<u8>, left: &Hidden, used: Place) -> Result<Token, AllocError>
     ensures { IfOk result (λ t. t ≡ record { kind = kind; text = text.items; space = left.now.token.space; at = left.now.token.at; used = used }) }
 {
     Ok(Token {
@@ -45,15 +45,15 @@ pub(crate) fn pasted<'a>(
     requires right { HasSets sets.old right.now }
     ensures is { Returns result (hiding sets.new) (pasted (hiding sets.old left.now) (hiding sets.old right.now) used) }
     ensures known { IfOk result (λ h. HasSets sets.new h) }
-    ensures keeps { Keeps sets.old sets.new }
+    ensures keeps { KeepsSets sets.old sets.new }
 {
     let text = both(alloc, left, right)?;
     let Some(kind) = kind_of(text.as_slice()) else {
         return Err(Error::Fault(Fault::new(alloc, 19, used, text.as_slice())?));
     };
-    let hide = sets.common(left, right)?;
-    let token = made_of(kind, text, left, used)?;
-    Ok(Hidden::made(alloc, token, hide)?)
+    let hide = sets.common_hide_set(left, right)?;
+    let token = synthesize(kind, text, left, used)?;
+    Ok(Hidden::synthesized(alloc, token, hide)?)
 }
 
 /// Pastes two tokens (6.10.3.3). The result has the spelling location and the leading-space flag of the left token, and the
@@ -72,7 +72,7 @@ pub fn paste<'a>(
     requires right { HasSets sets.old right.now }
     ensures is { IfOk result (λ r. hidden_in sets.new r ≡ pasted (hiding sets.old left.now) (hiding sets.old right.now) used) }
     ensures known { IfOk result (λ r. IfOk r (λ h. HasSets sets.new h)) }
-    ensures keeps { Keeps sets.old sets.new }
+    ensures keeps { KeepsSets sets.old sets.new }
 {
     split_memory(pasted(alloc, sets, left, right, used))
 }

@@ -5,7 +5,7 @@ ghost use Rattle.pptext.specs.Errors.{Returns};
 ghost use Rattle.ppmacro.specs.Substitution.{escaped, spelled_space, spelled_in_string, string_text, stringized};
 ghost use Rattle.ppmacro.specs.Substituting.{tokens_of, hidden_in};
 
-use crate::flying::Hidden;
+use crate::hidden_token::Hidden;
 use crate::hide_sets::HideSets;
 use crate::substituting::lexing::kind_of;
 use pptext::{Fault, Kind, Memory, Place, Spelling, Error, Token, split_memory};
@@ -45,7 +45,7 @@ fn push_spelled(text: &mut Vec<u8>, token: &Hidden) -> Result<(), AllocError>
 }
 
 /// Appends a token's spelling, after a space if the token has a leading-space flag and isn't the first.
-fn push_marked(text: &mut Vec<u8>, first: bool, token: &Hidden) -> Result<(), AllocError>
+fn push_with_flag(text: &mut Vec<u8>, first: bool, token: &Hidden) -> Result<(), AllocError>
     ensures { OnOk result (text.new.items ≡ text.old.items ++ (spelled_space first token.now.token ++ spelled_in_string token.now.token)) }
 {
     if token.space() && !first {
@@ -62,7 +62,7 @@ fn string_text(alloc: Global, argument: &[Hidden]) -> Result<Vec<u8>, AllocError
     text.push(b'"')?;
     let mut first = true;
     for hidden in argument {
-        push_marked(&mut text, first, hidden)?;
+        push_with_flag(&mut text, first, hidden)?;
         first = false;
     }
     text.push(b'"')?;
@@ -92,7 +92,7 @@ pub(crate) fn stringized<'a>(
         at,
         used,
     };
-    Ok(Hidden::made(alloc, token, sets.empty())?)
+    Ok(Hidden::synthesized(alloc, token, sets.empty())?)
 }
 
 /// Returns the string literal of an argument (6.10.3.2), without a leading-space flag and with the empty hide set. `at` is the

@@ -2,13 +2,13 @@
 ghost use Rattle.std.specs.Prelude.{◌≡◌, IfOk, map, Some};
 ghost use Rattle.ppmacro.specs.HideSets.{IsKnown, AllKnown};
 ghost use Rattle.ppmacro.specs.Substituting.{ListsKnown, ArgumentsKnown};
-ghost use Rattle.ppmacro.specs.declared.flying.Expansion.TheVariants.{Made};
+ghost use Rattle.ppmacro.specs.declared.hidden_token.Expansion.TheVariants.{Made};
 
 use super::{HASH, has, is_hidden_by, macro_of, push_spelled, set_of, sources_of, table_of};
 use crate::defining::{direct, source_of};
 use crate::showing::{assert_shown, push_fault, push_fields};
 use ppmacro::{
-    Arguments, Chain, Definition, Expansion, Hidden, HideSets, MacroName, Pattern, Set, Table,
+    Arguments, Chain, Macro, Expansion, Hidden, HideSets, MacroName, Pattern, Set, Table,
     paste, stringize, substitute, substitute_pattern, tells_each_kind,
 };
 use pptext::{Fault, Memory, Place, Profile, Source, Token};
@@ -157,7 +157,7 @@ fn replaced<'x, 'a: 'x>(
     rt: &impl Abort,
     alloc: Global,
     sets: &mut HideSets,
-    (table, named): (&Table<'a>, &Definition<'a>),
+    (table, named): (&Table<'a>, &Macro<'a>),
     texts: &'x [Source],
     by: By,
     with: (Set, Set, bool),
@@ -243,7 +243,7 @@ fn told_over(
     rt: &impl Abort,
     alloc: Global,
     sets: &mut HideSets,
-    of: (&Table, &Definition),
+    of: (&Table, &Macro),
     texts: &[Source],
     (by, hides, space): With,
 ) -> Result<Vec<u8>, Memory> {
@@ -258,7 +258,7 @@ fn told_over(
 fn told_of(
     rt: &impl Abort,
     alloc: Global,
-    of: (&Table, &Definition),
+    of: (&Table, &Macro),
     texts: &[Source],
     with: With,
 ) -> Result<Vec<u8>, Memory> {
@@ -649,7 +649,7 @@ fn list_and_chains(
         Some(body) => Some(body.len()),
         None => None,
     };
-    Ok((lone, matches!(&pattern, Pattern::Joined(_))))
+    Ok((lone, matches!(&pattern, Pattern::Pasted(_))))
 }
 
 /// Macros, the number of tokens in the list if it replaces the name unchanged, and whether the pattern has chains.

@@ -15,7 +15,7 @@ fn hidden_by_both<'a>(sets: &HideSets, token: &'a Token, one: Set, two: Set) -> 
     ensures { HasSets sets.now result }
 {
     let mut hidden = Hidden::new(token, sets.empty());
-    hidden.turn_beside(HASH, one, two);
+    hidden.set_use_with_extra(HASH, one, two);
     hidden
 }
 
@@ -45,7 +45,7 @@ fn asked_of(
     match asked {
         Asked::Settled => sets.split_memory(&hidden),
         Asked::WithOwn => sets.with_own(&hidden),
-        Asked::Common => sets.common(&hidden, &Hidden::new(token, b)),
+        Asked::Common => sets.common_hide_set(&hidden, &Hidden::new(token, b)),
     }
 }
 

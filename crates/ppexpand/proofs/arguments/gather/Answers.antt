@@ -1,5 +1,5 @@
 use Rattle.std.proofs.Common.{◌≡◌, suc, ◌≤◌, [], ◌∷◌, length, sym, ap, ◌∙◌, subst, arith, length-append}
-use Rattle.ppmacro.specs.Numbered.{Numbered}
+use Rattle.ppmacro.specs.HideSetPool.{HideSetPool}
 use Rattle.ppmacro.specs.HideSets.{hiding, hidings, AllKnown}
 use Rattle.ppexpand.specs.Arguments.{gather, with_token, argument_role, ArgumentRole, Quote, Open, Close, Comma, Inner}
 use Rattle.ppexpand.specs.Shown.{given_in}
@@ -30,7 +30,7 @@ pub loop-hidden-preserved-in-Comma : goal.loop-hidden-preserved-in-Comma
 loop-hidden-preserved-in-Comma c =
     let front = c.loop-hidden in
     let is_comma : argument_role c.in-Some.hidden.token ≡ Comma = sym c.argument_role.ensures ∙ ap shown_mark c.in-Comma.is in
-    let list : (sets : Numbered) → AllKnown sets c.args.list.now → AllKnown sets (c.in-Some.hidden ∷ c.next.new.self) = λ sets known. subst (AllKnown sets) c.in-Some.ensures (c.loop-hidden.invariant.list_known sets known) in
+    let list : (sets : HideSetPool) → AllKnown sets c.args.list.now → AllKnown sets (c.in-Some.hidden ∷ c.next.new.self) = λ sets known. subst (AllKnown sets) c.in-Some.ensures (c.loop-hidden.invariant.list_known sets known) in
     record {
       same = λ sets.
           (let here = ap (λ hs. resumed (given_in sets front.arguments.items) (hidings sets front.argument.items) (gather front.depth front.commas (hidings sets hs))) c.in-Some.ensures in
@@ -49,18 +49,18 @@ loop-hidden-preserved-in-Comma c =
 pub loop-hidden-preserved : goal.loop-hidden-preserved
 loop-hidden-preserved c =
     let front = c.loop-hidden in
-    let mark : argument_role c.in-Some.hidden.token ≡ shown_mark c.argument_role.result = sym c.argument_role.ensures in
-    let list : (sets : Numbered) → AllKnown sets c.args.list.now → AllKnown sets (c.in-Some.hidden ∷ c.next.new.self) = λ sets known. subst (AllKnown sets) c.in-Some.ensures (c.loop-hidden.invariant.list_known sets known) in
-    let step : (sets : Numbered)
+    let flag : argument_role c.in-Some.hidden.token ≡ shown_mark c.argument_role.result = sym c.argument_role.ensures in
+    let list : (sets : HideSetPool) → AllKnown sets c.args.list.now → AllKnown sets (c.in-Some.hidden ∷ c.next.new.self) = λ sets known. subst (AllKnown sets) c.in-Some.ensures (c.loop-hidden.invariant.list_known sets known) in
+    let step : (sets : HideSetPool)
     → gather front.depth front.commas (hiding sets c.in-Some.hidden ∷ hidings sets c.next.new.self)
     ≡ with_token (hiding sets c.in-Some.hidden) (gather c.match-argument_role.depth front.commas (hidings sets c.next.new.self)) = λ sets.
     elim c.match-argument_role.branch [
       | in-Close-2 w ↦ (let deeper : front.depth ≡ suc c.match-argument_role.depth = omega (arith, w.depth-is, w.if-depth-eq0.false) in
-          rw deeper (at_close c.match-argument_role.depth front.commas (hiding sets c.in-Some.hidden) (hidings sets c.next.new.self) (mark ∙ ap shown_mark w.in-Close.is)))
-      | in-Comma+else-separates w ↦ rw w.depth-is (at_comma front.depth front.commas (hiding sets c.in-Some.hidden) (hidings sets c.next.new.self) (mark ∙ ap shown_mark w.in-Comma.is) (sym w.separates.ensures ∙ w.if-separates.false))
+          rw deeper (at_close c.match-argument_role.depth front.commas (hiding sets c.in-Some.hidden) (hidings sets c.next.new.self) (flag ∙ ap shown_mark w.in-Close.is)))
+      | in-Comma+else-separates w ↦ rw w.depth-is (at_comma front.depth front.commas (hiding sets c.in-Some.hidden) (hidings sets c.next.new.self) (flag ∙ ap shown_mark w.in-Comma.is) (sym w.separates.ensures ∙ w.if-separates.false))
       | in-Open w ↦ (let deeper : c.match-argument_role.depth ≡ suc front.depth = omega (arith, w.depth-is) in
-          rw deeper (at_open front.depth front.commas (hiding sets c.in-Some.hidden) (hidings sets c.next.new.self) (mark ∙ ap shown_mark w.in-Open.is)))
-      | in-Inner w ↦ rw w.depth-is (at_inner front.depth front.commas (hiding sets c.in-Some.hidden) (hidings sets c.next.new.self) (mark ∙ ap shown_mark w.in-Inner.is))
+          rw deeper (at_open front.depth front.commas (hiding sets c.in-Some.hidden) (hidings sets c.next.new.self) (flag ∙ ap shown_mark w.in-Open.is)))
+      | in-Inner w ↦ rw w.depth-is (at_inner front.depth front.commas (hiding sets c.in-Some.hidden) (hidings sets c.next.new.self) (flag ∙ ap shown_mark w.in-Inner.is))
     ] in
     let within : c.match-argument_role.depth ≤ suc (length front.argument.items) = elim c.match-argument_role.branch [
       | in-Close-2 w ↦ omega (arith, w.depth-is, front.invariant.within)

@@ -1,5 +1,5 @@
 use Rattle.std.proofs.Common.{◌≡◌, ◌≤◌, length}
-use Rattle.ppmacro.specs.Numbered.{Numbered}
+use Rattle.ppmacro.specs.HideSetPool.{HideSetPool}
 use Rattle.ppmacro.specs.HideSets.{hidings, AllKnown}
 use Rattle.ppmacro.specs.Substituting.{ListsKnown}
 use Rattle.ppexpand.specs.Arguments.{gather}
@@ -9,10 +9,10 @@ use Rattle.ppexpand.proofs.arguments.gather.Given as goal
 
 abbrev pub invariant-loop-hidden : goal.invariant-loop-hidden
 invariant-loop-hidden l = record {
-  same : (sets : Numbered) → resumed (given_in sets l.arguments.items) (hidings sets l.argument.items) (gather l.depth l.commas (hidings sets l.list)) ≡ gather 0 l.fn.commas (hidings sets l.initial.list);
-  arguments_known : (sets : Numbered) → AllKnown sets l.initial.list → ListsKnown sets l.arguments.items;
-  argument_known : (sets : Numbered) → AllKnown sets l.initial.list → AllKnown sets l.argument.items;
-  list_known : (sets : Numbered) → AllKnown sets l.initial.list → AllKnown sets l.list;
+  same : (sets : HideSetPool) → resumed (given_in sets l.arguments.items) (hidings sets l.argument.items) (gather l.depth l.commas (hidings sets l.list)) ≡ gather 0 l.fn.commas (hidings sets l.initial.list);
+  arguments_known : (sets : HideSetPool) → AllKnown sets l.initial.list → ListsKnown sets l.arguments.items;
+  argument_known : (sets : HideSetPool) → AllKnown sets l.initial.list → AllKnown sets l.argument.items;
+  list_known : (sets : HideSetPool) → AllKnown sets l.initial.list → AllKnown sets l.list;
   within : l.depth ≤ length l.argument.items;
 }
 

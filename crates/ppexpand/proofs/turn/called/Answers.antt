@@ -24,7 +24,7 @@ returns-clause-is c rest rest_known =
     let s = c.args.sets.now in
     let head = c.args.head in
     let keeps = c.in_ok-both.ensures.keeps in
-    let gains : set.insert (set_at c.common.new.self c.in_ok-both.both) head.token.text ≡ gain_of (hide_of s head) (hide_of s c.args.close.now) head.token.text = ap (λ b. set.insert b head.token.text) c.in_ok-both.ensures.set in
+    let gains : set.insert (set_at c.common_hide_set.new.self c.in_ok-both.both) head.token.text ≡ gain_of (hide_of s head) (hide_of s c.args.close.now) head.token.text = ap (λ b. set.insert b head.token.text) c.in_ok-both.ensures.set in
     ap Called (call_made (record { head = head; replaced = c.args.replaced; arguments = c.in-Some.arguments; both = c.in_ok-both.both })
     rest _ keeps c.requires.head (subst (FittingKnown s) c.in-Some.is c.requires.arguments) rest_known gains)
     ∙ ap (λ a. called (hiding s head) c.args.replaced.now (fitting_in s a) (hiding s c.args.close.now) (hidings s rest)) (sym c.in-Some.is)

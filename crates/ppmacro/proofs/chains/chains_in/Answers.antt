@@ -1,48 +1,48 @@
 use Rattle.std.proofs.Common.{◌≡◌, ◌∙◌, ◌+◌, sym, ap, subst, length, drop, ◌∷◌, None, Option, ◌≤◌, arith}
 use Rattle.std.proofs.lemmas.List.{at_drop_all}
 use Rattle.std.specs.Option.{option_map}
-use Rattle.ppmacro.specs.declared.chains.Item as code
-use Rattle.ppmacro.specs.declared.chains.Item.TheVariants as variant
-use Rattle.ppmacro.specs.Chains.{Item, Operates, Joins, items_behind}
-use Rattle.ppmacro.specs.Items.{led_by, resumed}
+use Rattle.ppmacro.specs.declared.chains.ChainPart as code
+use Rattle.ppmacro.specs.declared.chains.ChainPart.TheVariants as variant
+use Rattle.ppmacro.specs.Chains.{ChainPart, Operates, Joins, parts_after}
+use Rattle.ppmacro.specs.code.ChainParts.{led_by, resumed}
 use Rattle.ppmacro.proofs.ChainLemmas.{resumed-end}
 use Rattle.ppmacro.proofs.WalkLemmas.{drop-item}
 use Rattle.ppmacro.proofs.chains.chains_in.Goals as goal
 
 -- The meaning of a part.
-abbrev meant : code.Item → Item
-meant = elim [ variant.Operates mark operand ↦ Operates mark operand | variant.Joins ↦ Joins ]
+abbrev meant : code.ChainPart → ChainPart
+meant = elim [ variant.Operates flag operand ↦ Operates flag operand | variant.Joins ↦ Joins ]
 
 pub returns : goal.returns
 returns c =
-    let shape = c.args.shape.now in
+    let kind = c.args.kind.now in
     let body = c.args.body.now in
     let at_end : length body ≤ c.loop-token.token-index = omega (arith, c.loop-token-test.false) in
     sym (resumed-end c.loop-token.joined c.loop-token.chains.items)
-    ∙ sym (at_drop_all (λ ts. resumed c.loop-token.joined c.loop-token.chains.items (items_behind shape c.loop-token.hash ts)) body c.loop-token.token-index at_end)
+    ∙ sym (at_drop_all (λ ts. resumed c.loop-token.joined c.loop-token.chains.items (parts_after kind c.loop-token.hash ts)) body c.loop-token.token-index at_end)
     ∙ c.loop-token.invariant
 
 pub loop-token-preserved : goal.loop-token-preserved
 loop-token-preserved c =
-    let shape = c.args.shape.now in
+    let kind = c.args.kind.now in
     let i = c.loop-token.token-index in
     let body = c.args.body.now in
     let token = c.token-item.result in
     let rest = drop (i + 1) body in
     let items = resumed c.loop-token.joined c.loop-token.chains.items in
-    let P : Option code.Item → Type 0 = λ r. items_behind shape c.loop-token.hash (token ∷ rest) ≡ led_by shape token (option_map meant r) rest in
-    c.in_ok-joined.ensures (items_behind shape None rest)
-    ∙ ap items (sym (subst P c.in-Some.is (c.next_item.ensures rest)) ∙ ap (items_behind shape c.loop-token.hash) (sym (drop-item body i token c.loop-token-test.true c.token-item.is)))
+    let P : Option code.ChainPart → Type 0 = λ r. parts_after kind c.loop-token.hash (token ∷ rest) ≡ led_by kind token (option_map meant r) rest in
+    c.in_ok-joined.ensures (parts_after kind None rest)
+    ∙ ap items (sym (subst P c.in-Some.is (c.next_part.ensures rest)) ∙ ap (parts_after kind c.loop-token.hash) (sym (drop-item body i token c.loop-token-test.true c.token-item.is)))
     ∙ c.loop-token.invariant
 
 pub loop-token-preserved-in_default : goal.loop-token-preserved-in_default
 loop-token-preserved-in_default c =
-    let shape = c.args.shape.now in
+    let kind = c.args.kind.now in
     let i = c.loop-token.token-index in
     let body = c.args.body.now in
     let token = c.token-item.result in
     let rest = drop (i + 1) body in
     let items = resumed c.loop-token.joined c.loop-token.chains.items in
-    let P : Option code.Item → Type 0 = λ r. items_behind shape c.loop-token.hash (token ∷ rest) ≡ led_by shape token (option_map meant r) rest in
-    ap items (sym (subst P c.in_default.is (c.next_item.ensures rest)) ∙ ap (items_behind shape c.loop-token.hash) (sym (drop-item body i token c.loop-token-test.true c.token-item.is)))
+    let P : Option code.ChainPart → Type 0 = λ r. parts_after kind c.loop-token.hash (token ∷ rest) ≡ led_by kind token (option_map meant r) rest in
+    ap items (sym (subst P c.in_default.is (c.next_part.ensures rest)) ∙ ap (parts_after kind c.loop-token.hash) (sym (drop-item body i token c.loop-token-test.true c.token-item.is)))
     ∙ c.loop-token.invariant

@@ -7,7 +7,7 @@ use Rattle.ppmacro.proofs.chains.end_in_rest.Goals as goal
 pub returns-in_default : goal.returns-in_default
 returns-in_default c =
     let chains = c.args.chains.now in
-    let none : None ≡ lenient_parameter c.args.shape.now = search rules in
+    let none : None ≡ lenient_parameter c.args.kind.now = search rules in
     sym (map-id chains) ∙ ap (λ o. map (with_rest o) chains) none
 
 pub loop-chain-preserved : goal.loop-chain-preserved
@@ -16,6 +16,6 @@ loop-chain-preserved c =
     let chains = c.loop-chain.chains in
     let here = c.chain-item.result in
     let changed = with_rest (Some c.in-Some.index) in
-    let made : record { mark = (get_or chains i here).mark; operands = c.end_in_rest.new.self } ≡ changed here =
-    (λ k. record { mark = (get_or chains i here).mark; operands = c.end_in_rest.ensures k }) ∙ ap changed (sym c.chain-item.is) in
+    let made : record { flag = (get_or chains i here).flag; operands = c.end_in_rest.new.self } ≡ changed here =
+    (λ k. record { flag = (get_or chains i here).flag; operands = c.end_in_rest.ensures k }) ∙ ap changed (sym c.chain-item.is) in
     ap (set chains i) made ∙ map_over_more changed c.args.chains.now chains i here c.loop-chain-test.true c.loop-chain.invariant c.chain-item.is

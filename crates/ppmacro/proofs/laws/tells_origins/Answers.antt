@@ -2,10 +2,10 @@ use Rattle.ppmacro.proofs.Originating.{chain_each, replaced_each, waits_behind}
 use Rattle.ppmacro.proofs.laws.tells_origins.Goals as goal
 
 pub returns-clause-replaces : goal.returns-clause-replaces
-returns-clause-replaces c = λ chains args gain used space whole e. replaced_each args gain used space chains whole e
+returns-clause-replaces c = λ chains args added used space whole e. replaced_each args added used space chains whole e
 
 pub returns-clause-waits : goal.returns-clause-waits
-returns-clause-waits c = λ chains args gain used space whole e. waits_behind args gain used space chains whole e
+returns-clause-waits c = λ chains args added used space whole e. waits_behind args added used space chains whole e
 
 pub returns-clause-comes : goal.returns-clause-comes
 returns-clause-comes c = chain_each

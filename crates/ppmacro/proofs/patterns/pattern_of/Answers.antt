@@ -6,7 +6,7 @@ use Rattle.ppmacro.proofs.patterns.pattern_of.Goals as goal
 
 pub returns : goal.returns
 returns c =
-    let shape = c.args.definition.now.shape in
+    let kind = c.args.definition.now.kind in
     let body = c.args.definition.now.body in
     let none : list_any is_operator body ≡ false = search rules in
-    ap (map entry_chain) c.in_ok-entries_in.ensures ∙ entry_chains shape body none
+    ap (map entry_chain) c.in_ok-entries_in.ensures ∙ entry_chains kind body none

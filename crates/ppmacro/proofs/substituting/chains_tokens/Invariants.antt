@@ -1,5 +1,5 @@
 use Rattle.std.proofs.Common.{◌≡◌, drop, true}
-use Rattle.ppmacro.specs.HideSets.{hidings, AllKnown, Keeps}
+use Rattle.ppmacro.specs.HideSets.{hidings, AllKnown, KeepsSets}
 use Rattle.ppmacro.specs.Substitution.{chains_tokens}
 use Rattle.ppmacro.specs.Substituting.{arguments_in}
 use Rattle.ppmacro.proofs.WalkLemmas.{marked_behind}
@@ -11,5 +11,5 @@ invariant-loop-chain l = record {
       (chains_tokens (arguments_in l.initial.sets l.arguments.given.now l.arguments.expanded.now) l.used l.pending l.first (drop l.chain-index l.chains))
       ≡ chains_tokens (arguments_in l.initial.sets l.arguments.given.now l.arguments.expanded.now) l.used l.space true l.chains;
   tokens_known : AllKnown l.sets l.tokens.items;
-  keeps : Keeps l.initial.sets l.sets;
+  keeps : KeepsSets l.initial.sets l.sets;
 }

@@ -1,6 +1,6 @@
 use Rattle.std.proofs.Common.{◌≡◌, ◌∙◌, sym, ap, subst, ◌++◌, Ok}
 use Rattle.ppmacro.specs.HideSets.{hidings, AllKnown}
-use Rattle.ppmacro.specs.Substitution.{chain_tokens, mark_first}
+use Rattle.ppmacro.specs.Substitution.{chain_tokens, flag_first}
 use Rattle.ppmacro.specs.Substituting.{arguments_in, pushed}
 use Rattle.ppmacro.proofs.KeepLemmas.{hidings-keeps, known-keeps}
 use Rattle.ppmacro.proofs.substituting.push_chain_tokens.Goals as goal
@@ -16,14 +16,14 @@ returns-clause-is c =
     let u = c.chain_tokens.new.sets in
     let front = c.args.tokens.now.items in
     let more = c.in_ok-more.more.items in
-    let mark = c.args.mark in
+    let flag = c.args.flag in
     let args = arguments_in s c.args.arguments.given.now c.args.arguments.expanded.now in
     let made : Ok (hidings u more) ≡ chain_tokens args c.args.used c.args.chain.now = c.in_ok-more.ensures.is in
-    let tokens : hidings u c.push_chain-2.new.tokens.items ≡ hidings s front ++ (mark_first mark (hidings u more)).tokens =
-    c.in_ok-pending.ensures.tokens u ∙ (λ i. hidings-keeps front c.in_ok-more.ensures.keeps c.requires.tokens i ++ (mark_first mark (hidings u (c.as_slice-2.ensures.value i))).tokens) in
-    let pending : c.in_ok-pending.pending ≡ (mark_first mark (hidings u more)).pending =
-    c.in_ok-pending.ensures.pending u ∙ ap (λ hs. (mark_first mark (hidings u hs)).pending) c.as_slice-2.ensures.value in
-    (λ i. Ok (record { tokens = tokens i; pending = pending i })) ∙ ap (pushed (hidings s front) mark) made
+    let tokens : hidings u c.push_chain-2.new.tokens.items ≡ hidings s front ++ (flag_first flag (hidings u more)).tokens =
+    c.in_ok-pending.ensures.tokens u ∙ (λ i. hidings-keeps front c.in_ok-more.ensures.keeps c.requires.tokens i ++ (flag_first flag (hidings u (c.as_slice-2.ensures.value i))).tokens) in
+    let pending : c.in_ok-pending.pending ≡ (flag_first flag (hidings u more)).pending =
+    c.in_ok-pending.ensures.pending u ∙ ap (λ hs. (flag_first flag (hidings u hs)).pending) c.as_slice-2.ensures.value in
+    (λ i. Ok (record { tokens = tokens i; pending = pending i })) ∙ ap (pushed (hidings s front) flag) made
 
 pub returns-clause-known : goal.returns-clause-known
 returns-clause-known c =

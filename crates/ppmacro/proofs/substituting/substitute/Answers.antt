@@ -3,7 +3,7 @@ use Rattle.ppmacro.proofs.StopLemmas.{split_memory-marked}
 use Rattle.ppmacro.proofs.substituting.substitute.Goals as goal
 
 pub returns-clause-is : goal.returns-clause-is
-returns-clause-is c = rw c.split_memory.ensures (split_memory-marked c.substituted_by.new.sets c.substituted_by.result _ c.substituted_by.ensures.is)
+returns-clause-is c = rw c.split_memory.ensures (split_memory-marked c.chains_replacement.new.sets c.chains_replacement.result _ c.chains_replacement.ensures.is)
 
 pub returns-clause-known : goal.returns-clause-known
-returns-clause-known c = rw c.split_memory.ensures (split_memory-if_ok c.substituted_by.result _ c.substituted_by.ensures.known)
+returns-clause-known c = rw c.split_memory.ensures (split_memory-if_ok c.chains_replacement.result _ c.chains_replacement.ensures.known)

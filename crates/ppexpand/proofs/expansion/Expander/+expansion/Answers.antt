@@ -3,11 +3,11 @@ use Rattle.std.specs.Option.{option_map}
 use Rattle.std.proofs.lemmas.List.{length-append}
 use Rattle.std.proofs.lemmas.Result.{IfOk-weaker, on_ok_weaker}
 use Rattle.ppmacro.specs.HideSets.{hidings, AllKnown}
-use Rattle.ppmacro.specs.Chains.{names_in, chains_of}
+use Rattle.ppmacro.specs.Chains.{parameter_names, chains_of}
 use Rattle.ppmacro.specs.Patterns.{listed}
 use Rattle.ppmacro.specs.Substitution.{argument_at}
 use Rattle.ppmacro.specs.Substituting.{lists_of, option_of}
-use Rattle.ppmacro.specs.declared.flying.Expansion.TheVariants.{Unused}
+use Rattle.ppmacro.specs.declared.hidden_token.Expansion.TheVariants.{Unused}
 use Rattle.ppmacro.proofs.KeepLemmas.{hidings-keeps, known-keeps, keeps-all, keeps-after}
 use Rattle.ppexpand.specs.Turn.{finished, wanted, uses_alone}
 use Rattle.ppexpand.specs.Expansion.{ExpandsArguments}
@@ -155,7 +155,7 @@ expand_arguments-loop-parameter-preserved-then-not-alone m c =
     let i = c.loop-parameter.parameter in
     let vs = c.args.call.now.arguments.items in
     let cs = chains_of c.args.call.now.replaced.now in
-    let names = names_in c.args.call.now.replaced.now.shape in
+    let names = parameter_names c.args.call.now.replaced.now.kind in
     let done = c.loop-parameter.expanded.items in
     let less : i < length names = subst (λ n. i < n) (ap length c.deref-alone-items.ensures.value ∙ c.in_ok-used.ensures.len) c.loop-parameter-test.true in
     let unused : uses_alone i cs ≡ false = marked-alone c.in_ok-used.used.items c.deref-alone-items.result.now (length names) i (listed c.args.pattern.now) cs false
@@ -191,7 +191,7 @@ expand_arguments-returns-in-None-clause-is m c =
     let i = c.loop-parameter.parameter in
     let vs = c.args.call.now.arguments.items in
     let cs = chains_of c.args.call.now.replaced.now in
-    let names = names_in c.args.call.now.replaced.now.shape in
+    let names = parameter_names c.args.call.now.replaced.now.kind in
     let done = c.loop-parameter.expanded.items in
     let less : i < length names = subst (λ n. i < n) (ap length c.deref-alone-items.ensures.value ∙ c.in_ok-used.ensures.len) c.loop-parameter-test.true in
     let is_used : uses_alone i cs ≡ true = marked-alone c.in_ok-used.used.items c.deref-alone-items.result.now (length names) i (listed c.args.pattern.now) cs true
@@ -219,7 +219,7 @@ expand_arguments-loop-parameter-preserved m c =
     let i = c.loop-parameter.parameter in
     let vs = c.args.call.now.arguments.items in
     let cs = chains_of c.args.call.now.replaced.now in
-    let names = names_in c.args.call.now.replaced.now.shape in
+    let names = parameter_names c.args.call.now.replaced.now.kind in
     let done = c.loop-parameter.expanded.items in
     let less : i < length names = subst (λ n. i < n) (ap length c.deref-alone-items.ensures.value ∙ c.in_ok-used.ensures.len) c.loop-parameter-test.true in
     let is_used : uses_alone i cs ≡ true = marked-alone c.in_ok-used.used.items c.deref-alone-items.result.now (length names) i (listed c.args.pattern.now) cs true
@@ -257,7 +257,7 @@ expand_arguments-returns-clause-is m c =
     let u = c.loop-parameter.self.replacer.sets in
     let i = c.loop-parameter.parameter in
     let vs = c.args.call.now.arguments.items in
-    let names = names_in c.args.call.now.replaced.now.shape in
+    let names = parameter_names c.args.call.now.replaced.now.kind in
     let done = c.loop-parameter.expanded.items in
     let end : length names ≤ i =
     subst (λ n. n ≤ i) (ap length c.deref-alone-items.ensures.value ∙ c.in_ok-used.ensures.len) (omega (arith, c.loop-parameter-test.false)) in

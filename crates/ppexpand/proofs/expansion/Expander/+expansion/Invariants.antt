@@ -1,7 +1,7 @@
 use Rattle.std.proofs.Common.{◌≡◌, None, ◌≤◌, ◌-◌, ◌+◌, ◌*◌, List, drop, length}
-use Rattle.ppmacro.specs.HideSets.{hidings, AllKnown, Keeps}
-use Rattle.ppmacro.specs.Chains.{names_in, chains_of}
-use Rattle.ppmacro.specs.declared.flying.Hidden.{Hidden}
+use Rattle.ppmacro.specs.HideSets.{hidings, AllKnown, KeepsSets}
+use Rattle.ppmacro.specs.Chains.{parameter_names, chains_of}
+use Rattle.ppmacro.specs.declared.hidden_token.Hidden.{Hidden}
 use Rattle.ppexpand.specs.Turn.{wanted, to_expand}
 use Rattle.ppexpand.specs.Shown.{given_in, expanded_in, ExpansionsKnown}
 use Rattle.ppexpand.proofs.Keeping.{call_of}
@@ -30,7 +30,7 @@ invariant-expand_list-loop-named l = record {
   list_known : AllKnown l.self.replacer.sets l.list;
   passed_known : AllKnown l.self.replacer.sets l.passed;
   no_fault : l.self.fault ≡ None;
-  keeps : Keeps l.fn.self.replacer.sets l.self.replacer.sets;
+  keeps : KeepsSets l.fn.self.replacer.sets l.self.replacer.sets;
   follows : Follows l.context.table.now.macros l.context.env.now l.context.level l.fn.self.left (hidings l.fn.self.replacer.sets l.fn.list) (hidings l.self.replacer.sets l.passed) l.self.left (hidings l.self.replacer.sets l.list);
 }
 
@@ -43,9 +43,9 @@ invariant-expand_arguments-loop-parameter l = record {
   known : ExpansionsKnown l.self.replacer.sets l.expanded.items;
   count : length l.expanded.items ≡ l.parameter;
   no_fault : l.self.fault ≡ None;
-  keeps : Keeps l.fn.self.replacer.sets l.self.replacer.sets;
+  keeps : KeepsSets l.fn.self.replacer.sets l.self.replacer.sets;
   follows : (behind : List Hidden)
       → ArgumentsFollow l.context.table.now.macros l.context.env.now l.context.level (call_of l.fn.self.replacer.sets l.call behind) l.fn.self.left (wanted (call_of l.fn.self.replacer.sets l.call behind))
       (expanded_in l.self.replacer.sets l.call.arguments.items l.expanded.items) l.self.left
-      (to_expand l.parameter (chains_of l.call.replaced.now) (drop l.parameter (names_in l.call.replaced.now.shape)) (given_in l.fn.self.replacer.sets l.call.arguments.items));
+      (to_expand l.parameter (chains_of l.call.replaced.now) (drop l.parameter (parameter_names l.call.replaced.now.kind)) (given_in l.fn.self.replacer.sets l.call.arguments.items));
 }

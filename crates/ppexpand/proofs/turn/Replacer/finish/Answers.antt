@@ -2,7 +2,7 @@ use Rattle.std.proofs.Common.{◌∙◌, sym, ap, subst}
 use Rattle.std.specs.FinSet as set
 use Rattle.ppmacro.specs.HideSets.{set_at, hidings}
 use Rattle.ppmacro.specs.Substituting.{ArgumentsKnown, arguments_in}
-use Rattle.ppmacro.specs.Substitution.{substituted_by}
+use Rattle.ppmacro.specs.Substitution.{chains_replacement}
 use Rattle.ppexpand.specs.Turn.{replaced_by, finished}
 use Rattle.ppexpand.specs.Shown.{replaced_in}
 use Rattle.ppexpand.proofs.Keeping.{arguments_known}
@@ -18,7 +18,7 @@ returns-in-Ok-clause-is c =
     let s = c.args.self.now.sets in
     let call = c.args.call.now in
     rw c.requires.no_fault (ap (replaced_in c.replace.new.self.sets c.replace.new.list) (sym c.in-Ok.is) ∙ c.in_ok-replace.ensures.is
-    ∙ (λ i. replaced_by (substituted_by (c.requires.chains i) (arguments_in s (c.as_slice.ensures.value i) c.args.expanded.now)
+    ∙ (λ i. replaced_by (chains_replacement (c.requires.chains i) (arguments_in s (c.as_slice.ensures.value i) c.args.expanded.now)
     (set.insert (set_at s call.both) call.head.token.text) call.head.token.used call.head.token.space)
     (hidings s c.args.list.now)))
 
@@ -28,6 +28,6 @@ returns-in-Err-clause-is c =
     let s = c.args.self.now.sets in
     let call = c.args.call.now in
     (ap (replaced_in c.replace.new.self.sets c.replace.new.list) (sym c.in-Err.is) ∙ c.in_ok-replace.ensures.is
-    ∙ (λ i. replaced_by (substituted_by (c.requires.chains i) (arguments_in s (c.as_slice.ensures.value i) c.args.expanded.now)
+    ∙ (λ i. replaced_by (chains_replacement (c.requires.chains i) (arguments_in s (c.as_slice.ensures.value i) c.args.expanded.now)
     (set.insert (set_at s call.both) call.head.token.text) call.head.token.used call.head.token.space)
     (hidings s c.args.list.now)))

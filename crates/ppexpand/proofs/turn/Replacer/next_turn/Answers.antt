@@ -7,8 +7,8 @@ use Rattle.ppmacro.specs.Names.{Macros}
 use Rattle.ppmacro.specs.Hiding.{Hiding}
 use Rattle.ppmacro.specs.HideSets.{hide_of, hiding, hidings, AllKnown}
 use Rattle.ppmacro.specs.Substituting.{tokens_of}
-use Rattle.ppmacro.specs.declared.flying.Hidden.{Hidden}
-use Rattle.ppmacro.specs.declared.macros.Definition.{Definition}
+use Rattle.ppmacro.specs.declared.hidden_token.Hidden.{Hidden}
+use Rattle.ppmacro.specs.declared.macros.Macro.{Macro}
 use Rattle.ppexpand.specs.declared.env.Env.{Env}
 use Rattle.ppexpand.specs.Turn.{Refused, named_turn, macro_turn, macro_of, turn, quote_fault}
 use Rattle.ppexpand.specs.Budget.{within}
@@ -19,12 +19,12 @@ use Rattle.ppexpand.proofs.TurnLemmas.{turn-quote, turn-hidden, turn-named, turn
 use Rattle.ppexpand.proofs.turn.Replacer.next_turn.Goals as goal
 
 -- the step of a macro's name that is not hidden
-named : (macros : Macros) (env : Env) (left : Option ℕ) (t : Hiding) (rest : List Hiding) (d : Definition) → is_unmatched_quote t.token ≡ false → set.contains t.hide t.token.text ≡ false → macro_of macros t.token ≡ Some d
-    → turn_within macros env left (t ∷ rest) ≡ within left (t ∷ rest) (macro_turn env t rest d d.shape)
+named : (macros : Macros) (env : Env) (left : Option ℕ) (t : Hiding) (rest : List Hiding) (d : Macro) → is_unmatched_quote t.token ≡ false → set.contains t.hide t.token.text ≡ false → macro_of macros t.token ≡ Some d
+    → turn_within macros env left (t ∷ rest) ≡ within left (t ∷ rest) (macro_turn env t rest d d.kind)
 named macros env left t rest d quote free found = ap (within left (t ∷ rest)) (turn-named macros env t rest quote free ∙ ap (named_turn env t rest) found)
 
 -- what the next token names is what the list's next token does
-named_next : {named : Option Definition} (macros : Macros) (h : Hidden) (rest list : List Hidden) → list ≡ h ∷ rest → named ≡ next_macro macros (tokens_of list)
+named_next : {named : Option Macro} (macros : Macros) (h : Hidden) (rest list : List Hidden) → list ≡ h ∷ rest → named ≡ next_macro macros (tokens_of list)
     → macro_of macros h.token ≡ named
 named_next macros h rest list is named = ap (λ l. next_macro macros (tokens_of l)) (sym is) ∙ sym named
 

@@ -1,7 +1,7 @@
 use Rattle.std.proofs.Common.{◌∙◌, sym, ap}
 use Rattle.std.specs.FinSet as set
 use Rattle.ppmacro.proofs.KeepLemmas.{hidings-keeps, known-keeps}
-use Rattle.ppmacro.specs.Substitution.{substituted}
+use Rattle.ppmacro.specs.Substitution.{macro_replacement}
 use Rattle.ppexpand.specs.Turn.{replaced_by, no_arguments}
 use Rattle.ppexpand.specs.Shown.{replaced_in}
 use Rattle.ppexpand.proofs.turn.Replacer.object_turn.Goals as goal
@@ -14,11 +14,11 @@ returns-in-Ok-clause-is c =
     let head = c.args.head.now in
     let rest = hidings-keeps c.args.list.now c.in_ok-base.ensures.keeps c.requires.list in
     ap (replaced_in c.replace_object.new.self.sets c.replace_object.new.list) (sym c.in-Ok.is) ∙ c.in_ok-replace_object.ensures.is
-    ∙ (λ i. replaced_by (substituted c.args.replaced.now no_arguments (set.insert (c.in_ok-base.ensures.set i) head.token.text) head.token.used head.token.space) (rest i))
+    ∙ (λ i. replaced_by (macro_replacement c.args.replaced.now no_arguments (set.insert (c.in_ok-base.ensures.set i) head.token.text) head.token.used head.token.space) (rest i))
 
 pub returns-in-Err-clause-is : goal.returns-in-Err-clause-is
 returns-in-Err-clause-is c =
     let head = c.args.head.now in
     let rest = hidings-keeps c.args.list.now c.in_ok-base.ensures.keeps c.requires.list in
     ap (replaced_in c.replace_object.new.self.sets c.replace_object.new.list) (sym c.in-Err.is) ∙ c.in_ok-replace_object.ensures.is
-    ∙ (λ i. replaced_by (substituted c.args.replaced.now no_arguments (set.insert (c.in_ok-base.ensures.set i) head.token.text) head.token.used head.token.space) (rest i))
+    ∙ (λ i. replaced_by (macro_replacement c.args.replaced.now no_arguments (set.insert (c.in_ok-base.ensures.set i) head.token.text) head.token.used head.token.space) (rest i))

@@ -3,8 +3,8 @@ use Rattle.std.proofs.lemmas.List.{map-append}
 use Rattle.std.specs.FinSet as set
 use Rattle.ppmacro.specs.HideSets.{set_at, hiding, hidings, AllKnown}
 use Rattle.ppmacro.specs.Patterns.{listed}
-use Rattle.ppmacro.specs.Substitution.{substituted_by}
-use Rattle.ppmacro.specs.Substituting.{arguments_in, marked_in}
+use Rattle.ppmacro.specs.Substitution.{chains_replacement}
+use Rattle.ppmacro.specs.Substituting.{arguments_in, replacement_in}
 use Rattle.ppexpand.proofs.Marks.{hidings-marked, known-marked}
 use Rattle.ppmacro.proofs.KeepLemmas.{hidings-keeps, known-keeps, known-append}
 use Rattle.ppexpand.specs.Turn.{Replaced, mark_next, replaced_by}
@@ -16,8 +16,8 @@ returns-in_ok-push_all-in-Ok-clause-is c =
     let t = c.substitute_pattern.new.sets in
     let list = c.args.list.now in
     let tokens = c.in-Ok.tokens.items in
-    let made = ap (marked_in t) (sym c.in-Ok.is) ∙ c.in_ok-tokens.ensures.is
-    ∙ (λ i. substituted_by (listed c.args.pattern.now) (arguments_in s c.args.arguments.given.now c.args.arguments.expanded.now)
+    let made = ap (replacement_in t) (sym c.in-Ok.is) ∙ c.in_ok-tokens.ensures.is
+    ∙ (λ i. chains_replacement (listed c.args.pattern.now) (arguments_in s c.args.arguments.given.now c.args.arguments.expanded.now)
     (set.insert (set_at s c.args.base) (c.text.ensures i)) (c.used.ensures i) (c.space.ensures i)) in
     let marked : hidings t c.mark_next.new.self ≡ mark_next c.in-Ok.pending (hidings s list) =
     ap (hidings t) c.mark_next.ensures ∙ hidings-marked t c.in-Ok.pending list ∙ ap (mark_next c.in-Ok.pending) (hidings-keeps list c.in_ok-tokens.ensures.keeps c.requires.list) in
@@ -35,7 +35,7 @@ returns-in_ok-push_all-in-Ok-clause-known c =
 pub returns-in-Err-clause-is : goal.returns-in-Err-clause-is
 returns-in-Err-clause-is c =
     let s = c.args.self.now.sets in
-    let made = ap (marked_in c.substitute_pattern.new.sets) (sym c.in-Err.is) ∙ c.in_ok-tokens.ensures.is
-    ∙ (λ i. substituted_by (listed c.args.pattern.now) (arguments_in s c.args.arguments.given.now c.args.arguments.expanded.now)
+    let made = ap (replacement_in c.substitute_pattern.new.sets) (sym c.in-Err.is) ∙ c.in_ok-tokens.ensures.is
+    ∙ (λ i. chains_replacement (listed c.args.pattern.now) (arguments_in s c.args.arguments.given.now c.args.arguments.expanded.now)
     (set.insert (set_at s c.args.base) (c.text.ensures i)) (c.used.ensures i) (c.space.ensures i)) in
     ap (λ r. replaced_by r (hidings s c.args.list.now)) made

@@ -1,7 +1,7 @@
 use Rattle.std.proofs.Common.{◌≡◌, IfOk, subst}
 use Rattle.std.specs.FinSet as set
 use Rattle.ppmacro.specs.HideSets.{set_at, hidings}
-use Rattle.ppmacro.specs.Substitution.{substituted_by}
+use Rattle.ppmacro.specs.Substitution.{chains_replacement}
 use Rattle.ppexpand.specs.Turn.{replaced_by, no_arguments}
 use Rattle.ppexpand.specs.Shown.{replaced_in}
 use Rattle.ppexpand.proofs.turn.Replacer.replace_object.Goals as goal
@@ -11,5 +11,5 @@ returns-clause-is c =
     let s = c.args.self.now.sets in
     let head = c.args.head.now in
     subst (λ chains. IfOk c.replace.result (λ r. replaced_in c.replace.new.self.sets c.replace.new.list r
-    ≡ replaced_by (substituted_by chains no_arguments (set.insert (set_at s c.args.base) head.token.text) head.token.used head.token.space) (hidings s c.args.list.now)))
+    ≡ replaced_by (chains_replacement chains no_arguments (set.insert (set_at s c.args.base) head.token.text) head.token.used head.token.space) (hidings s c.args.list.now)))
     c.in_ok-chains.ensures c.replace.ensures.is

@@ -1,37 +1,37 @@
 use Rattle.std.proofs.Common.{◌≡◌, ◌∙◌, refl, ap}
-use Rattle.ppmacro.specs.Members.{hide_sets}
-use Rattle.ppmacro.specs.Operations.{Union}
+use Rattle.ppmacro.specs.code.Members.{hide_sets}
+use Rattle.ppmacro.specs.code.Operations.{Union}
 use Rattle.ppmacro.proofs.KeepLemmas.{pairs-are}
-use Rattle.ppmacro.proofs.Viewed.{both-seen, node-asked, keeps-seen, made-seen, kept-made}
+use Rattle.ppmacro.proofs.Viewed.{both-seen, node-asked, keeps-seen, made-seen, selected-made}
 use Rattle.ppmacro.proofs.Hiding.{known-at}
 use Rattle.ppmacro.proofs.Standing.{refused}
 use Rattle.ppmacro.proofs.hide_sets.HideSets.union.Goals as goal
 
-pub join-requires-clause-one : goal.join-requires-clause-one
-join-requires-clause-one c = node-asked c.self.inside c.self.view_is c.left.view_is c.requires.left
+pub combine-requires-clause-one : goal.combine-requires-clause-one
+combine-requires-clause-one c = node-asked c.self.inside c.self.view_is c.left.view_is c.requires.left
 
-pub join-requires-clause-two : goal.join-requires-clause-two
-join-requires-clause-two c = node-asked c.self.inside c.self.view_is c.right.view_is c.requires.right
+pub combine-requires-clause-two : goal.combine-requires-clause-two
+combine-requires-clause-two c = node-asked c.self.inside c.self.view_is c.right.view_is c.requires.right
 
 pub invariant_of-self : goal.invariant_of-self
-invariant_of-self c = kept-made Union c.self.inside c.self.invariant c.join.ensures.pool c.join.ensures.keeps c.join.ensures.bounded c.join.ensures.answers
+invariant_of-self c = selected-made Union c.self.inside c.self.invariant c.combine.ensures.pool c.combine.ensures.keeps c.combine.ensures.bounded c.combine.ensures.answers
 
 pub invariant_of-self-2 : goal.invariant_of-self-2
-invariant_of-self-2 c = kept-made Union c.self.inside c.self.invariant c.join.ensures.pool c.join.ensures.keeps c.join.ensures.bounded c.join.ensures.answers
+invariant_of-self-2 c = selected-made Union c.self.inside c.self.invariant c.combine.ensures.pool c.combine.ensures.keeps c.combine.ensures.bounded c.combine.ensures.answers
 
 pub returns-in_err-number-clause-keeps : goal.returns-in_err-number-clause-keeps
 returns-in_err-number-clause-keeps c =
-    keeps-seen c.self.inside c.join.new.nodes.keys c.self.view_is c.self.invariant.pool c.in_err-number.ensures.keeps c.join.ensures.pairs (pairs-are refl)
+    keeps-seen c.self.inside c.combine.new.nodes.keys c.self.view_is c.self.invariant.pool c.in_err-number.ensures.keeps c.combine.ensures.pairs (pairs-are refl)
 
 pub returns-clause-keeps : goal.returns-clause-keeps
-returns-clause-keeps c = keeps-seen c.self.inside c.join.new.nodes.keys c.self.view_is c.self.invariant.pool c.in_ok-number.ensures.keeps c.join.ensures.pairs (pairs-are refl)
+returns-clause-keeps c = keeps-seen c.self.inside c.combine.new.nodes.keys c.self.view_is c.self.invariant.pool c.in_ok-number.ensures.keeps c.combine.ensures.pairs (pairs-are refl)
 
 pub returns-clause-known : goal.returns-clause-known
-returns-clause-known c = known-at c.self.inside.names c.join.new.nodes.keys c.in_ok-number.number c.in_ok-number.ensures.known
+returns-clause-known c = known-at c.self.inside.names c.combine.new.nodes.keys c.in_ok-number.number c.in_ok-number.ensures.known
 
 pub returns-clause-set : goal.returns-clause-set
 returns-clause-set c =
-    made-seen Union c.self.inside c.join.new.nodes.keys c.self.view_is c.self.invariant.distinct c.left.view_is c.right.view_is c.requires.left
+    made-seen Union c.self.inside c.combine.new.nodes.keys c.self.view_is c.self.invariant.distinct c.left.view_is c.right.view_is c.requires.left
     c.requires.right c.in_ok-number.ensures.known c.in_ok-number.ensures.set
 
 pub returns-in_err-number-clause-there : goal.returns-in_err-number-clause-there

@@ -1,6 +1,6 @@
 use Rattle.std.proofs.Common.{◌≡◌, ◌<◌, [], length, get_or, refl, ap, ◌∙◌, subst, Ok}
-use Rattle.ppmacro.specs.Members.{hide_sets}
-use Rattle.ppmacro.proofs.Viewed.{node-asked, more-there, more-seen, node-known, keeps-named, kept-named, with-seen}
+use Rattle.ppmacro.specs.code.Members.{hide_sets}
+use Rattle.ppmacro.proofs.Viewed.{node-asked, more-there, more-seen, node-known, keeps-named, selected-named, with-seen}
 use Rattle.ppmacro.proofs.Hiding.{known-at, more-named}
 use Rattle.ppmacro.proofs.hide_sets.HideSets.with.Goals as goal
 
@@ -8,12 +8,12 @@ pub insert-requires-clause-known : goal.insert-requires-clause-known
 insert-requires-clause-known c = node-known c.self.inside.names c.self.inside.nodes.keys c.args.self.now c.hide.inside.number c.args.hide (ap (λ s. s.sets) c.self.view_is) c.hide.view_is c.requires
 
 pub invariant_of-self-in_err-number : goal.invariant_of-self-in_err-number
-invariant_of-self-in_err-number c = kept-named c.self.inside.names c.in_ok-named.ensures.keeps.0 c.number_for.new.self c.self.inside.nodes.keys
+invariant_of-self-in_err-number c = selected-named c.self.inside.names c.in_ok-named.ensures.keeps.0 c.number_for.new.self c.self.inside.nodes.keys
     c.insert.new.nodes.keys c.self.inside.unions c.self.inside.meets c.in_ok-named.named c.in_ok-named.ensures.keeps.1 c.in_ok-named.ensures.distinct
     c.in_ok-named.ensures.found.0 c.self.invariant c.insert.ensures.pool c.insert.ensures.keeps c.insert.ensures.bounded
 
 pub invariant_of-self-2 : goal.invariant_of-self-2
-invariant_of-self-2 c = kept-named c.self.inside.names c.in_ok-named.ensures.keeps.0 c.number_for.new.self c.self.inside.nodes.keys c.insert.new.nodes.keys
+invariant_of-self-2 c = selected-named c.self.inside.names c.in_ok-named.ensures.keeps.0 c.number_for.new.self c.self.inside.nodes.keys c.insert.new.nodes.keys
     c.self.inside.unions c.self.inside.meets c.in_ok-named.named c.in_ok-named.ensures.keeps.1 c.in_ok-named.ensures.distinct c.in_ok-named.ensures.found.0
     c.self.invariant c.insert.ensures.pool c.insert.ensures.keeps c.insert.ensures.bounded
 

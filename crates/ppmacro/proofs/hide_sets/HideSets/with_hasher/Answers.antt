@@ -1,4 +1,4 @@
-use Rattle.ppmacro.specs.Members.{hide_sets}
+use Rattle.ppmacro.specs.code.Members.{hide_sets}
 use Rattle.ppmacro.proofs.hide_sets.HideSets.with_hasher.Goals as goal
 
 pub returns : goal.returns

@@ -1,7 +1,7 @@
 use Rattle.std.proofs.Common.{◌<◌, ◌∙◌, ◌-◌, ◌/◌, ◌%◌, ◌^◌, ◌*◌, ◌+◌, arith, length, subst, sym}
 use Rattle.std.specs.Int.RustNames.{bit_or}
 use Rattle.std.proofs.lemmas.Nat.{one_shl, or_lt, mod_below}
-use Rattle.ppmacro.specs.Nodes.{Node, node_at, word, word_with, IsBounded}
+use Rattle.ppmacro.specs.code.Nodes.{Node, node_at, word, word_with, IsBounded}
 use Rattle.ppmacro.proofs.Tries.{insert-here, insert-left, insert-right, member-inserted, pos-of, within-at, bounded-on, bounded-insert, half-below, keeps-on, length-keeps}
 use Rattle.ppmacro.proofs.Standing.{HasMore, here-there, left-asked, left-found, right-asked, right-found}
 use Rattle.ppmacro.proofs.hide_sets.nodes.+insert_bit.Goals as goal

@@ -1,6 +1,6 @@
 use Rattle.std.proofs.Common.{◌∙◌, ◌%◌, nat_eq}
 use Rattle.std.proofs.lemmas.Nat.Bits.{shr_and_one}
-use Rattle.ppmacro.specs.Nodes.{has_bit}
+use Rattle.ppmacro.specs.code.Nodes.{has_bit}
 use Rattle.ppmacro.proofs.Tries.{member-bit}
 use Rattle.ppmacro.proofs.hide_sets.nodes.has.Goals as goal
 

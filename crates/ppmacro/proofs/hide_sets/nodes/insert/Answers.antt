@@ -1,5 +1,5 @@
 use Rattle.std.proofs.Common.{◌≡◌, ◌∙◌, ◌||◌, ◌+◌, ◌*◌, ◌/◌, ◌%◌, nat_eq, arith, sym}
-use Rattle.ppmacro.specs.Nodes.{member}
+use Rattle.ppmacro.specs.code.Nodes.{member}
 use Rattle.ppmacro.proofs.Tries.{member-inserted}
 use Rattle.ppmacro.proofs.Standing.{more-words}
 use Rattle.ppmacro.proofs.hide_sets.nodes.insert.Goals as goal

@@ -1,13 +1,13 @@
 use Rattle.std.proofs.Common.{◌≡◌, ◌∙◌, ◌<◌, length, arith, sym, subst, ap, Ok}
-use Rattle.ppmacro.specs.Nodes.{IsPool, Keeps, node_at}
+use Rattle.ppmacro.specs.code.Nodes.{IsPool, KeepsNodes, node_at}
 use Rattle.ppmacro.proofs.Tries.{pool-after, keeps-insert_node, at-got, same_node-true, fresh-after, inserted-there}
 use Rattle.ppmacro.proofs.hide_sets.nodes.number_for.Goals as goal
 
 pub returns-clause-pool : goal.returns-clause-pool
-returns-clause-pool c = subst IsPool (sym c.in-Ok.ensures.keys) (pool-after c.args.nodes.now.keys c.args.node c.requires.pool (omega (arith, c.len.ensures.len, c.if-len-ge-MOST.false)) c.requires.within)
+returns-clause-pool c = subst IsPool (sym c.in-Ok.ensures.keys) (pool-after c.args.nodes.now.keys c.args.node c.requires.pool (omega (arith, c.len.ensures.len, c.if-len-ge-MAX_NODES.false)) c.requires.within)
 
 pub returns-clause-keeps : goal.returns-clause-keeps
-returns-clause-keeps c = subst (Keeps c.args.nodes.now.keys) (sym c.in-Ok.ensures.keys) (keeps-insert_node c.args.nodes.now.keys c.args.node)
+returns-clause-keeps c = subst (KeepsNodes c.args.nodes.now.keys) (sym c.in-Ok.ensures.keys) (keeps-insert_node c.args.nodes.now.keys c.args.node)
 
 pub returns-clause-is : goal.returns-clause-is
 returns-clause-is c = let k = c.in-Ok.ensures.stored in at-got c.insert_full.new.self.keys c.in-Ok.number k.0 k.1 ∙ sym (same_node-true c.args.node k.0 k.2)

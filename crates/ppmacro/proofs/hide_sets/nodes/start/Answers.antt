@@ -1,6 +1,6 @@
 use Rattle.std.proofs.Common.{◌∙◌, sym, ap, subst}
 use Rattle.indexmap.specs.IndexSet.{insert_key}
-use Rattle.ppmacro.specs.Nodes.{IsPool, IsBounded, no_node}
+use Rattle.ppmacro.specs.code.Nodes.{IsPool, IsBounded, no_node}
 use Rattle.ppmacro.proofs.Tries.{pool-first, bounded-first, same_node}
 use Rattle.ppmacro.proofs.hide_sets.nodes.start.Goals as goal
 

@@ -1,5 +1,5 @@
 use Rattle.std.proofs.Common.{◌≡◌, ◌∙◌, ◌-◌, ◌/◌, sym, ap, subst, ◌<◌, length}
-use Rattle.ppmacro.specs.Nodes.{word}
+use Rattle.ppmacro.specs.code.Nodes.{word}
 use Rattle.ppmacro.proofs.Tries.{word-left, word-right, word-zero, within-at}
 use Rattle.ppmacro.proofs.hide_sets.nodes.word_of.Goals as goal
 use Rattle.ppmacro.proofs.hide_sets.nodes.word_of.Goals.{then-rest-eq0, else-rest-eq0}

@@ -1,5 +1,5 @@
 use Rattle.std.proofs.Common.{◌≡◌, ◌<◌, length}
-use Rattle.ppmacro.specs.Nodes.{word}
+use Rattle.ppmacro.specs.code.Nodes.{word}
 use Rattle.ppmacro.proofs.hide_sets.nodes.word_of.Given as goal
 
 abbrev pub invariant-loop-rest : goal.invariant-loop-rest

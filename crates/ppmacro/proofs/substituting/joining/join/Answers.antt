@@ -1,7 +1,7 @@
 use Rattle.std.proofs.Common.{◌≡◌, ◌∙◌, sym, ap, subst, [], ◌∷◌, ◌++◌, drop, length, arith, Ok}
 use Rattle.ppmacro.specs.HideSets.{hiding, hidings, AllKnown}
 use Rattle.ppmacro.specs.Substitution.{join, pasted}
-use Rattle.ppmacro.specs.Substituting.{EndsWhole}
+use Rattle.ppmacro.specs.Substituting.{EndsWithSpelledKind}
 use Rattle.std.proofs.lemmas.Bool.{eqb-true}
 use Rattle.std.proofs.lemmas.List.{take_rest}
 use Rattle.ppmacro.proofs.JoinLemmas.{split-first, no-first, join-nothing, join-pasted, join-refused, known-joined, known-last}
@@ -64,4 +64,4 @@ returns-clause-whole c = λ one.
     let right : c.args.right.now ≡ c.in-Some.first.now ∷ rest = split-first c.args.right.now c.in-Some.first.now c.in-Some.ensures.value in
     let size : length c.args.right.now ≡ 1 = eqb-true (length c.args.right.now) 1 one in
     let alone : length rest ≡ 0 = (let more = ap length right in omega arith) in
-    subst EndsWhole (sym made) (ends-whole c.pop.new.self.items c.in_ok-hidden.hidden rest alone c.in_ok-hidden.ensures.whole)
+    subst EndsWithSpelledKind (sym made) (ends-whole c.pop.new.self.items c.in_ok-hidden.hidden rest alone c.in_ok-hidden.ensures.whole)

@@ -1,10 +1,10 @@
 use Rattle.std.proofs.Common.{◌≡◌, ◌∙◌, refl, ap, subst, if◌then◌else◌}
 use Rattle.pptext.specs.Continuations.{ContinuesToken}
-use Rattle.ppmacro.specs.Flying.{extended}
+use Rattle.ppmacro.specs.HiddenView.{extended}
 use Rattle.ppmacro.proofs.WholeLemmas.{carried-whole, carried-pasted, paste-whole}
 use Rattle.ppmacro.proofs.substituting.joining.paste_onto.Goals as goal
 
-module _ (c : goal.After-turn) where
+module _ (c : goal.After-set_use) where
   more : ContinuesToken c.args.last.token.kind c.args.last.token.text c.args.first.now.token.text
   more = subst (ContinuesToken c.args.last.token.kind c.args.last.token.text) c.text.ensures (c.if-is_carried_on.ensures.more refl)
 
@@ -16,14 +16,14 @@ module _ (c : goal.After-turn) where
 
 pub returns-then-branch-clause-is : goal.returns-then-branch-clause-is
 returns-then-branch-clause-is c =
-    carried-pasted c.args.last c.args.first.now c.extend.new.self c.turn.new.self c.in_ok-hide.hide c.args.used
-    (c.requires.whole (c.if-is_carried_on.ensures.whole refl)) (more c) (grown c) c.turn.ensures c.args.sets.now
-    c.common.new.self c.in_ok-hide.ensures.set
+    carried-pasted c.args.last c.args.first.now c.extend.new.self c.set_use.new.self c.in_ok-hide.hide c.args.used
+    (c.requires.whole (c.if-is_carried_on.ensures.whole refl)) (more c) (grown c) c.set_use.ensures c.args.sets.now
+    c.common_hide_set.new.self c.in_ok-hide.ensures.set
 
 pub returns-then-branch-clause-whole : goal.returns-then-branch-clause-whole
 returns-then-branch-clause-whole c =
-    carried-whole c.args.last c.args.first.now c.extend.new.self c.turn.new.self c.in_ok-hide.hide c.args.used
-    (c.requires.whole (c.if-is_carried_on.ensures.whole refl)) (more c) (grown c) c.turn.ensures
+    carried-whole c.args.last c.args.first.now c.extend.new.self c.set_use.new.self c.in_ok-hide.hide c.args.used
+    (c.requires.whole (c.if-is_carried_on.ensures.whole refl)) (more c) (grown c) c.set_use.ensures
 
 pub returns-clause-whole : goal.returns-clause-whole
 returns-clause-whole c = paste-whole c.args.sets.now c.pasted.new.sets _ c.args.first.now c.args.used c.pasted.result c.pasted.ensures.is

@@ -3,8 +3,8 @@ use Rattle.std.specs.FinMap as table
 use Rattle.std.proofs.lemmas.Cmp.{nat_list_cmp_total}
 use Rattle.ppmacro.proofs.TableLemmas.{updates-get}
 use Rattle.ppmacro.specs.Names.{Macros}
-use Rattle.ppmacro.specs.Marks.{AreMarked}
-use Rattle.ppmacro.proofs.Marked.{marked-remove}
+use Rattle.ppmacro.specs.code.NameFilter.{RejectsOnlyUnknown}
+use Rattle.ppmacro.proofs.NameFilterLemmas.{marked-remove}
 use Rattle.ppmacro.proofs.tables.Table.remove.Goals as goal
 
 pub returns-clause-macros : goal.returns-clause-macros
@@ -19,5 +19,5 @@ invariant_of-self c =
     let m = table.from_entries old in
     let name = c.args.name.now in
     let is = updates-get old c.swap_remove.new.self.entries name None (table.remove m name) c.swap_remove.ensures.updates.0 (λ q. table.get-remove nat_list_cmp_total m name q) in
-    let P : Macros → Type 0 = λ t. AreMarked c.self.inside.marks t in
-    subst P (sym is) (marked-remove c.self.inside.marks m name c.self.invariant)
+    let P : Macros → Type 0 = λ t. RejectsOnlyUnknown c.self.inside.filter t in
+    subst P (sym is) (marked-remove c.self.inside.filter m name c.self.invariant)

@@ -1,6 +1,0 @@
-use Rattle.std.proofs.Common.{ap}
-use Rattle.ppmacro.proofs.Viewed.{lawful-seen}
-use Rattle.ppmacro.proofs.hide_sets.HideSets.lawful.Goals as goal
-
-pub returns : goal.returns
-returns c = λ m n km kn e. lawful-seen c.self.inside.names c.self.inside.nodes.keys c.self.inside.unions c.self.inside.meets c.args.self.now m n (ap (λ s. s.sets) c.self.view_is) c.self.invariant km kn e

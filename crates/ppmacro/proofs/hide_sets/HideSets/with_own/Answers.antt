@@ -1,5 +1,0 @@
-use Rattle.std.proofs.Common.{rules}
-use Rattle.ppmacro.proofs.hide_sets.HideSets.with_own.Goals as goal
-
-pub returns-clause-set : goal.returns-clause-set
-returns-clause-set c = search rules

@@ -1,5 +1,0 @@
-use Rattle.ppmacro.proofs.Layouts.{heads}
-use Rattle.ppmacro.proofs.laws.reads_headings.Goals as goal
-
-pub returns : goal.returns
-returns c = heads

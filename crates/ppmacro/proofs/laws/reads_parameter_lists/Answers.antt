@@ -1,0 +1,5 @@
+use Rattle.ppmacro.proofs.Layouts.{heads}
+use Rattle.ppmacro.proofs.laws.reads_parameter_lists.Goals as goal
+
+pub returns : goal.returns
+returns c = heads

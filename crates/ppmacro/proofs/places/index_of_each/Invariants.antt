@@ -1,6 +1,0 @@
-use Rattle.std.proofs.Common.{◌≡◌, take, false}
-use Rattle.ppmacro.specs.Define.{repeats}
-use Rattle.ppmacro.proofs.places.index_of_each.Given as goal
-
-abbrev pub invariant-loop-name : goal.invariant-loop-name
-invariant-loop-name l = (l.index.keys ≡ take l.name-index l.names) × (repeats (take l.name-index l.names) ≡ false)

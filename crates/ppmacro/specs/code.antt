@@ -1,0 +1,7 @@
+-- Vocabulary of the code: only contracts inside this crate and views cite these files. No theorem rests on them.
+pub mod Nodes
+pub mod Members
+pub mod Operations
+pub mod PoolInvariant
+pub mod NameFilter
+pub mod ChainParts

@@ -1,0 +1,79 @@
+//! Constraints on a replacement list (6.10.3p5, 6.10.3.2p1, 6.10.3.3p1, p3).
+ghost use Rattle.std.specs.Prelude.{◌≡◌, IfOk, codes, true};
+ghost use Rattle.std.specs.List.{list_any};
+ghost use Rattle.pptext.specs.Tokens.{is_identifier_named};
+ghost use Rattle.ppmacro.specs.Define.{misplaces_variable_arguments, misplaces_paste, begins_with_parameter, misplaces_hash};
+
+use super::parameter_lists::has_variable_arguments;
+use crate::chains::{Parameters, parameter_names, parameter_of};
+use crate::macros::MacroKind;
+use crate::hash_operators::{is_hash, is_paste};
+use pptext::{Hashing, Token};
+use std::alloc::{AllocError, Global};
+
+/// Returns whether a replacement list contains `__VA_ARGS__`.
+fn uses_variable_arguments(body: &[Token]) -> bool
+    ensures { result ≡ list_any (is_identifier_named (codes "__VA_ARGS__")) body.now }
+{
+    body.iter().any(|t| t.is_identifier_named(b"__VA_ARGS__"))
+}
+
+/// Returns whether a replacement list contains `__VA_ARGS__`, but the parameter list has no `...`.
+pub(crate) fn misplaces_variable_arguments(kind: &MacroKind, body: &[Token]) -> bool
+    ensures { result ≡ misplaces_variable_arguments kind.now body.now }
+{
+    uses_variable_arguments(body) && !has_variable_arguments(parameter_names(kind))
+}
+
+/// Returns whether `##` is the first or the last token, or follows another `##`.
+pub(crate) fn misplaces_paste(body: &[Token]) -> bool
+    ensures { result ≡ misplaces_paste true body.now }
+{
+    let mut bare = true;
+    for (i, token) in body.iter().enumerate() {
+        if !is_paste(token) {
+            bare = false;
+            continue;
+        }
+        if bare || i + 1 == body.len() {
+            return true;
+        }
+        bare = true;
+    }
+    false
+}
+
+/// Returns whether the first token is a parameter.
+fn begins_with_parameter(kind: &Parameters, body: &[Token]) -> bool
+    ensures { result ≡ begins_with_parameter kind.now body.now }
+{
+    match body.first() {
+        Some(token) => parameter_of(kind, token).is_some(),
+        None => false,
+    }
+}
+
+/// Returns whether there is a `#` without one of these parameters directly after it.
+fn misplaces_hash_before(kind: &Parameters, body: &[Token]) -> bool
+    ensures { result ≡ misplaces_hash kind.now body.now }
+{
+    for (i, token) in body.iter().enumerate() {
+        if is_hash(token) && !begins_with_parameter(kind, &body[i + 1..]) {
+            return true;
+        }
+    }
+    false
+}
+
+/// Returns whether there is a `#` without a parameter directly after it. Many parameters are indexed with hash function `hashing`.
+pub(crate) fn misplaces_hash(
+    alloc: Global,
+    kind: &MacroKind,
+    body: &[Token],
+    hashing: Hashing,
+) -> Result<bool, AllocError>
+    ensures { IfOk result (λ r. r ≡ misplaces_hash kind.now body.now) }
+{
+    let parameters = Parameters::new(alloc, kind, body.len(), hashing)?;
+    Ok(misplaces_hash_before(&parameters, body))
+}
