@@ -19,9 +19,9 @@ use Rattle.ppexpand.specs.declared.env.Env.{Env}
 use Rattle.ppmacro.specs.Patterns.{entry_chain}
 use Rattle.ppmacro.specs.declared.patterns.Entry.{Entry}
 use Rattle.std.specs.List.{list_any}
-use Rattle.ppexpand.specs.Turn.{Call, is_alone, uses_alone, to_expand, wanted}
+use Rattle.ppexpand.specs.ExpansionStep.{Call, is_lone_parameter, pre_expands, to_expand, wanted}
 use Rattle.ppexpand.specs.Expansion.{Expands, ExpandsTo, ExpandsArguments}
-use Rattle.ppexpand.specs.Shown.{given_in, expanded_in, ExpansionsKnown, held, Raises, HasExpanded, ExpandsArgument, expands, raises}
+use Rattle.ppexpand.specs.code.ProgramValues.{given_in, expanded_in, ExpansionsKnown, owned_tokens, Raises, HasExpanded, ExpandsArgument, expands, raises}
 use Rattle.ppexpand.proofs.Follows.{ArgumentsFollow, arguments_start, arguments_unused, arguments_used, arguments_refused, arguments_end}
 use Rattle.ppexpand.proofs.Keeping.{expanded-keeps, expanded_in-push, arguments_known}
 
@@ -56,12 +56,12 @@ module _ (macros : Macros) (env : Env) (level : ℕ) (head : Token) (left after 
   argument_raises f low e one = raises low (at_level (Some f) e one)
 
 -- the expansion of the copied list of an argument is the expansion of the argument
-module _ (macros : Macros) (env : Env) (level : ℕ) (head : Token) (left after : Option ℕ) (s t : HideSetPool) (given copied passed : List Hidden) (fault : Option Fault) where
+module _ (macros : Macros) (env : Env) (level : ℕ) (head : Token) (left after : Option ℕ) (s t : HideSetPool) (given copied emitted : List Hidden) (fault : Option Fault) where
   -- what is known of the tokens that were made of what passed
   abbrev IsMade : Expansion → Type 0
-  IsMade e = (is_some fault ≡ false) × (held e ≡ passed) × ((as' : List Hidden) → option_of as' e ≡ Some passed)
+  IsMade e = (is_some fault ≡ false) × (owned_tokens e ≡ emitted) × ((as' : List Hidden) → option_of as' e ≡ Some emitted)
 
-  pub argument_outcome : level < 256 → copied ≡ given → ExpandsTo macros env (level + 1) left (hidings s copied) (record { tokens = hidings t passed; fault = fault; left = after })
+  pub argument_outcome : level < 256 → copied ≡ given → ExpandsTo macros env (level + 1) left (hidings s copied) (record { tokens = hidings t emitted; fault = fault; left = after })
       → (r : Option Expansion)
       → MatchOption r (is_some fault ≡ true) IsMade
       → MatchOption r (Raises fault (λ f. ExpandsArgument macros env level head left (hidings s given) after (Err f)))
@@ -69,18 +69,18 @@ module _ (macros : Macros) (env : Env) (level : ℕ) (head : Token) (left after 
   argument_outcome low same one None some =
       let raised = raised_some fault some in
       let same_list : hidings s copied ≡ hidings s given = ap (hidings s) same in
-      let out : ExpandsArgument macros env level head left (hidings s copied) after (Err raised.0) = argument_raises macros env level head left after (hidings s copied) (hidings t passed) fault raised.0 low raised.1 one in
+      let out : ExpandsArgument macros env level head left (hidings s copied) after (Err raised.0) = argument_raises macros env level head left after (hidings s copied) (hidings t emitted) fault raised.0 low raised.1 one in
       (raised.0, raised.1, subst (λ l. ExpandsArgument macros env level head left l after (Err raised.0)) same_list out)
-  argument_outcome low same one (Some e) made =
-      let none = raised_none fault made.0 in
+  argument_outcome low same one (Some e) argument_expansion =
+      let none = raised_none fault argument_expansion.0 in
       let same_list : hidings s copied ≡ hidings s given = ap (hidings s) same in
-      let out : ExpandsArgument macros env level head left (hidings s copied) after (Ok (hidings t passed)) = argument_expands macros env level head left after (hidings s copied) (hidings t passed) fault low none one in
-      let tokens : option_map (hidings t) (option_of given e) ≡ Some (hidings t passed) = ap (option_map (hidings t)) (made.2 given) in
-      (none, (hidings t passed, tokens, subst (λ l. ExpandsArgument macros env level head left l after (Ok (hidings t passed))) same_list out))
+      let out : ExpandsArgument macros env level head left (hidings s copied) after (Ok (hidings t emitted)) = argument_expands macros env level head left after (hidings s copied) (hidings t emitted) fault low none one in
+      let tokens : option_map (hidings t) (option_of given e) ≡ Some (hidings t emitted) = ap (option_map (hidings t)) (argument_expansion.2 given) in
+      (none, (hidings t emitted, tokens, subst (λ l. ExpandsArgument macros env level head left l after (Ok (hidings t emitted))) same_list out))
 
-  pub argument_known : AllKnown t passed → (r : Option Expansion) → MatchOption r (is_some fault ≡ true) IsMade → IfSome r (λ e. AllKnown t (held e))
+  pub argument_known : AllKnown t emitted → (r : Option Expansion) → MatchOption r (is_some fault ≡ true) IsMade → IfSome r (λ e. AllKnown t (owned_tokens e))
   argument_known known None some = tt
-  argument_known known (Some e) made = subst (AllKnown t) (sym made.1) known
+  argument_known known (Some e) argument_expansion = subst (AllKnown t) (sym argument_expansion.1) known
 
 -- ---- the argument of a parameter
 
@@ -98,12 +98,12 @@ expands_here alone i given = if alone then Some (argument_at given i) else None
 
 -- what is left to expand, where this parameter is next
 rest-next : (cs : List Chain) (names : List Name) (given : List (List Hiding)) (i j : ℕ) → j < length names
-    → to_expand i cs (drop j names) given ≡ expands_here (uses_alone i cs) i given ∷ to_expand (suc i) cs (drop (suc j) names) given
+    → to_expand i cs (drop j names) given ≡ expands_here (pre_expands i cs) i given ∷ to_expand (suc i) cs (drop (suc j) names) given
 rest-next cs [] given i j h = absurd (omega arith)
 rest-next cs (n ∷ names) given i zero h = refl
 rest-next cs (n ∷ names) given i (suc j) h = rest-next cs names given i j (omega arith)
 
-rest-is : (cs : List Chain) (names : List Name) (given : List (List Hiding)) (i : ℕ) (alone : Bool) → i < length names → uses_alone i cs ≡ alone
+rest-is : (cs : List Chain) (names : List Name) (given : List (List Hiding)) (i : ℕ) (alone : Bool) → i < length names → pre_expands i cs ≡ alone
     → to_expand i cs (drop i names) given ≡ expands_here alone i given ∷ to_expand (i + 1) cs (drop (i + 1) names) given
 rest-is cs names given i alone h u =
     rest-next cs names given i i h ∙ ap (λ b. expands_here b i given ∷ to_expand (suc i) cs (drop (suc i) names) given) u
@@ -128,23 +128,23 @@ module _ (macros : Macros) (env : Env) (level : ℕ) (first left between : Optio
   argument = argument_at (lists_of vs) i
 
   pushed : (x : HideSetPool) (e : Expansion) → length done ≡ i → items ≡ done ++ e ∷ [] → expanded_in x vs items ≡ expanded_in x vs done ++ option_map (hidings x) (option_of argument e) ∷ []
-  pushed x e count made =
-      ap (expanded_in x vs) made ∙ expanded_in-push x vs done e ∙ ap (λ n. expanded_in x vs done ++ option_map (hidings x) (option_of (argument_at (lists_of vs) n) e) ∷ []) count
+  pushed x e count argument_expansion =
+      ap (expanded_in x vs) argument_expansion ∙ expanded_in-push x vs done e ∙ ap (λ n. expanded_in x vs done ++ option_map (hidings x) (option_of (argument_at (lists_of vs) n) e) ∷ []) count
 
-  pub follows_unused : i < length names → length done ≡ i → uses_alone i cs ≡ false → items ≡ done ++ Unused ∷ [] → Here
+  pub follows_unused : i < length names → length done ≡ i → pre_expands i cs ≡ false → items ≡ done ++ Unused ∷ [] → Here
       → ArgumentsFollow macros env level call first all (expanded_in u vs items) left Behind
-  follows_unused less count unused made here =
+  follows_unused less count unused argument_expansion here =
       let next : ArgumentsFollow macros env level call first all (expanded_in u vs done) left (None ∷ Behind) =
       subst (ArgumentsFollow macros env level call first all (expanded_in u vs done) left) (rest-is cs names (given_in s vs) i false less unused) here in
-      subst (λ xs. ArgumentsFollow macros env level call first all xs left Behind) (sym (pushed u Unused count made))
+      subst (λ xs. ArgumentsFollow macros env level call first all xs left Behind) (sym (pushed u Unused count argument_expansion))
       (arguments_unused macros env level call first all (expanded_in u vs done) left Behind next)
 
-  is_next : i < length names → uses_alone i cs ≡ true → Here → ArgumentsFollow macros env level call first all (expanded_in u vs done) left (Some (hidings s argument) ∷ Behind)
+  is_next : i < length names → pre_expands i cs ≡ true → Here → ArgumentsFollow macros env level call first all (expanded_in u vs done) left (Some (hidings s argument) ∷ Behind)
   is_next less is_used here =
       subst (ArgumentsFollow macros env level call first all (expanded_in u vs done) left)
       (rest-is cs names (given_in s vs) i true less is_used ∙ ap (λ a. Some a ∷ Behind) (argument-in s vs i)) here
 
-  pub follows_used : (e : Expansion) (tokens : List Hiding) → i < length names → length done ≡ i → uses_alone i cs ≡ true → items ≡ done ++ e ∷ []
+  pub follows_used : (e : Expansion) (tokens : List Hiding) → i < length names → length done ≡ i → pre_expands i cs ≡ true → items ≡ done ++ e ∷ []
       → KeepsSets u w
       → ListsKnown u vs
       → ExpansionsKnown u done
@@ -152,13 +152,13 @@ module _ (macros : Macros) (env : Env) (level : ℕ) (first left between : Optio
       → ExpandsArgument macros env level call.head.token left (hidings s argument) between (Ok tokens)
       → Here
       → ArgumentsFollow macros env level call first all (expanded_in w vs items) between Behind
-  follows_used e tokens less count is_used made keeps known done_known here_is one here =
+  follows_used e tokens less count is_used argument_expansion keeps known done_known here_is one here =
       let same : expanded_in w vs done ≡ expanded_in u vs done = expanded-keeps vs done keeps known done_known in
-      let shown : expanded_in w vs items ≡ expanded_in u vs done ++ Some tokens ∷ [] = pushed w e count made ∙ (λ j. same j ++ here_is j ∷ []) in
+      let shown : expanded_in w vs items ≡ expanded_in u vs done ++ Some tokens ∷ [] = pushed w e count argument_expansion ∙ (λ j. same j ++ here_is j ∷ []) in
       subst (λ xs. ArgumentsFollow macros env level call first all xs between Behind) (sym shown)
       (arguments_used macros env level call first all (expanded_in u vs done) left between Behind (hidings s argument) tokens (is_next less is_used here) one)
 
-  pub follows_refused : (f : Fault) → i < length names → uses_alone i cs ≡ true
+  pub follows_refused : (f : Fault) → i < length names → pre_expands i cs ≡ true
       → ExpandsArgument macros env level call.head.token left (hidings s argument) between (Err f)
       → Here
       → ExpandsArguments macros env level call first all between (Err f)
@@ -177,13 +177,13 @@ follows_all macros env level first left s u vs cs names i done call all end here
 pub marked-alone : (used shown : List Bool) (count i : ℕ) (cs ds : List Chain) (flag : Bool)
     → shown ≡ used
     → cs ≡ ds
-    → ((j : ℕ) → j < count → get_or used j false ≡ uses_alone j cs)
+    → ((j : ℕ) → j < count → get_or used j false ≡ pre_expands j cs)
     → i < count
     → get_or shown i false ≡ flag
-    → uses_alone i ds ≡ flag
-marked-alone used shown count i cs ds flag same chains marks less is = ap (uses_alone i) (sym chains) ∙ sym (marks i less) ∙ ap (λ xs. get_or xs i false) (sym same) ∙ is
+    → pre_expands i ds ≡ flag
+marked-alone used shown count i cs ds flag same chains marks less is = ap (pre_expands i) (sym chains) ∙ sym (marks i less) ∙ ap (λ xs. get_or xs i false) (sym same) ∙ is
 
 -- a parameter is among the chains of entries if it is one of them
-pub used-by-entries : (i : ℕ) (es : List Entry) → uses_alone i (map entry_chain es) ≡ list_any (λ e. is_alone i (entry_chain e).operands) es
+pub used-by-entries : (i : ℕ) (es : List Entry) → pre_expands i (map entry_chain es) ≡ list_any (λ e. is_lone_parameter i (entry_chain e).operands) es
 used-by-entries i [] = refl
-used-by-entries i (e ∷ es) = ap (λ b. is_alone i (entry_chain e).operands || b) (used-by-entries i es)
+used-by-entries i (e ∷ es) = ap (λ b. is_lone_parameter i (entry_chain e).operands || b) (used-by-entries i es)

@@ -4,8 +4,8 @@ use Rattle.ppmacro.specs.Names.{Macros}
 use Rattle.ppmacro.specs.Hiding.{Hiding}
 use Rattle.std.specs.Prelude.{List, ◌∷◌, Option}
 use Rattle.ppexpand.specs.declared.env.Env.{Env}
-use Rattle.ppexpand.specs.Expansion.{Outcome, Expands, passes, replaced, call_replaced}
-use Rattle.ppexpand.specs.Laws.{Leads, by_passing, by_replacing, by_invoking, LeadsOn, stays, turns, EndsWithin}
+use Rattle.ppexpand.specs.Expansion.{Outcome, Expands, emits, replaced, call_replaced}
+use Rattle.ppexpand.specs.Laws.{Leads, by_emitting, by_replacing, by_invoking, LeadsOn, stays, steps, EndsWithin}
 use Rattle.ppexpand.proofs.Total.{HasOutcome, total}
 use Rattle.ppexpand.proofs.Unique.{same_outcome}
 
@@ -16,14 +16,14 @@ module _ (macros : Macros) (env : Env) (level : ℕ) where
 
   before_turn : {left after : Option ℕ} {list next : List Hiding} (n : ℕ) → Leads macros env level left list after next → Takes n after next → Takes (suc n) left list
   unfolding Takes
-  before_turn n (by_passing {t = t} e) h = (suc h.0, record { tokens = t ∷ h.1.tokens; fault = h.1.fault; left = h.1.left }, omega (arith, h.2), passes e h.3)
+  before_turn n (by_emitting {t = t} e) h = (suc h.0, record { tokens = t ∷ h.1.tokens; fault = h.1.fault; left = h.1.left }, omega (arith, h.2), emits e h.3)
   before_turn n (by_replacing e) h = (suc h.0, h.1, omega (arith, h.2), replaced e h.3)
   before_turn n (by_invoking e a f) h = (suc h.0, h.1, omega (arith, h.2), call_replaced e a f h.3)
 
   before_turns : {n : ℕ} {left after : Option ℕ} {list last : List Hiding} → LeadsOn macros env level n left list after last → Takes n left list
   unfolding Takes
   before_turns {left = left} {list = list} stays = let one : HasOutcome macros env level left list = total macros env level left list in (one.0, one.1, omega arith, one.2)
-  before_turns (turns {n = n} step more) = before_turn n step (before_turns more)
+  before_turns (steps {n = n} step more) = before_turn n step (before_turns more)
 
   pub ends_within : (left : Option ℕ) (list : List Hiding) → EndsWithin macros env level (total macros env level left list).0 left list
   unfolding Takes

@@ -7,10 +7,10 @@ use Rattle.ppmacro.specs.Hiding.{Hiding}
 use Rattle.ppmacro.specs.HideSets.{hidings}
 use Rattle.ppmacro.specs.declared.hidden_token.Hidden.{Hidden}
 use Rattle.ppexpand.specs.declared.env.Env.{Env}
-use Rattle.ppexpand.specs.Turn.{Call, Turn, Failed, Replaced, Called, wanted, ExpandedArguments, with_expanded}
-use Rattle.ppexpand.specs.Budget.{less_one}
-use Rattle.ppexpand.specs.Expansion.{Outcome, turn_within, Expands, ExpandsTo, ExpandsArguments, argument_refused, call_failed, call_replaced, none, unused, too_deep, used, used_refused}
-use Rattle.ppexpand.specs.Shown.{finished_in, Advances, EndsWith, HasAdvanced, HasEnded, HasTaken, ComesTo, refuses, finishes, ExpandsArgument, expands, raises, deep}
+use Rattle.ppexpand.specs.ExpansionStep.{Call, ExpansionStep, Failed, Replaced, Called, wanted, ExpandedArguments, with_expanded}
+use Rattle.ppexpand.specs.Budget.{spend_one}
+use Rattle.ppexpand.specs.Expansion.{Outcome, step_in_budget, Expands, ExpandsTo, ExpandsArguments, argument_refused, call_failed, call_replaced, none, unused, too_deep, used, used_refused}
+use Rattle.ppexpand.specs.code.ProgramValues.{finished_in, Advances, EndsWith, HasAdvanced, HasEnded, HasTaken, CallStepsTo, refuses, finishes, ExpandsArgument, expands, raises, deep}
 use Rattle.ppexpand.proofs.Total.{total}
 use Rattle.ppexpand.proofs.Unique.{same_outcome}
 
@@ -30,67 +30,67 @@ module _ (macros : Macros) (env : Env) (level : ℕ) where
   advances_falls left list after next tokens step =
       let here = total macros env level left list in
       let there = total macros env level after next in
-      let more = step.turn there.0 there.1 there.2 in
+      let more = step.expansion_step there.0 there.1 there.2 in
       let same = (same_outcome macros env more here.0 here.1 here.2).0 in
       rw (← same) (omega arith)
 
-  pub follows_on : (first : Option ℕ) (start passed : List Hiding) (left : Option ℕ) (list : List Hiding) (after : Option ℕ) (next tokens : List Hiding)
-      → Follows first start passed left list
+  pub follows_on : (first : Option ℕ) (start emitted : List Hiding) (left : Option ℕ) (list : List Hiding) (after : Option ℕ) (next tokens : List Hiding)
+      → Follows first start emitted left list
       → Advances macros env level left list after next tokens
-      → Follows first start (passed ++ tokens) after next
-  follows_on first start passed left list after next tokens so_far step n out d =
-      let whole = so_far (suc n) _ (step.turn n out d) in
+      → Follows first start (emitted ++ tokens) after next
+  follows_on first start emitted left list after next tokens so_far step n out d =
+      let whole = so_far (suc n) _ (step.expansion_step n out d) in
       (whole.0, rw append_assoc whole.1)
 
-  pub follows_end : (first : Option ℕ) (start passed : List Hiding) (left : Option ℕ) (list : List Hiding) (fault : Option Fault) (after : Option ℕ)
-      → Follows first start passed left list
+  pub follows_end : (first : Option ℕ) (start emitted : List Hiding) (left : Option ℕ) (list : List Hiding) (fault : Option Fault) (after : Option ℕ)
+      → Follows first start emitted left list
       → EndsWith macros env level left list fault after
-      → ExpandsTo macros env level first start (record { tokens = passed; fault = fault; left = after })
-  follows_end first start passed left list fault after so_far d =
+      → ExpandsTo macros env level first start (record { tokens = emitted; fault = fault; left = after })
+  follows_end first start emitted left list fault after so_far d =
       let whole = so_far 0 _ d in
-      (whole.0, rw (append-nil passed) at whole.1)
+      (whole.0, rw (append-nil emitted) at whole.1)
 
   -- a step was made, after which the list goes on or ends
-  pub more_follows : (first : Option ℕ) (start passed : List Hiding) (left : Option ℕ) (list : List Hiding) (after : Option ℕ) (next more : List Hiding)
-      → Follows first start passed left list
-      → HasAdvanced macros env level left list passed after next more
+  pub more_follows : (first : Option ℕ) (start emitted : List Hiding) (left : Option ℕ) (list : List Hiding) (after : Option ℕ) (next more : List Hiding)
+      → Follows first start emitted left list
+      → HasAdvanced macros env level left list emitted after next more
       → Follows first start more after next
-  more_follows first start passed left list after next more so_far step =
-      subst (λ ts. Follows first start ts after next) (sym step.1) (follows_on first start passed left list after next step.0 so_far step.2)
+  more_follows first start emitted left list after next more so_far step =
+      subst (λ ts. Follows first start ts after next) (sym step.1) (follows_on first start emitted left list after next step.0 so_far step.2)
 
-  pub more_falls : (left : Option ℕ) (list passed : List Hiding) (after : Option ℕ) (next more : List Hiding)
-      → HasAdvanced macros env level left list passed after next more
+  pub more_falls : (left : Option ℕ) (list emitted : List Hiding) (after : Option ℕ) (next more : List Hiding)
+      → HasAdvanced macros env level left list emitted after next more
       → turns_left after next < turns_left left list
-  more_falls left list passed after next more step = advances_falls left list after next step.0 step.2
+  more_falls left list emitted after next more step = advances_falls left list after next step.0 step.2
 
-  pub end_follows : (first : Option ℕ) (start passed : List Hiding) (left : Option ℕ) (list : List Hiding) (fault : Option Fault) (after : Option ℕ) (more : List Hiding)
-      → Follows first start passed left list
-      → HasEnded macros env level left list passed fault after more
+  pub end_follows : (first : Option ℕ) (start emitted : List Hiding) (left : Option ℕ) (list : List Hiding) (fault : Option Fault) (after : Option ℕ) (more : List Hiding)
+      → Follows first start emitted left list
+      → HasEnded macros env level left list emitted fault after more
       → ExpandsTo macros env level first start (record { tokens = more; fault = fault; left = after })
-  end_follows first start passed left list fault after more so_far end =
+  end_follows first start emitted left list fault after more so_far end =
       subst (λ ts. ExpandsTo macros env level first start (record { tokens = ts; fault = fault; left = after })) (sym end.1)
-      (follows_end first start passed left list fault after so_far end.0)
+      (follows_end first start emitted left list fault after so_far end.0)
 
 -- ---- the step of an invocation
 
-module _ (macros : Macros) (env : Env) (level : ℕ) (left : Option ℕ) (list : List Hiding) (call : Call) (found : turn_within macros env left list ≡ Called call) where
-  call_ends : {after : Option ℕ} {t : Turn} → ComesTo macros env level call (less_one left) after t → (f : Fault) → t ≡ Failed f → EndsWith macros env level left list (Some f) after
+module _ (macros : Macros) (env : Env) (level : ℕ) (left : Option ℕ) (list : List Hiding) (call : Call) (found : step_in_budget macros env left list ≡ Called call) where
+  call_ends : {after : Option ℕ} {t : ExpansionStep} → CallStepsTo macros env level call (spend_one left) after t → (f : Fault) → t ≡ Failed f → EndsWith macros env level left list (Some f) after
   call_ends {after} (refuses args) f e =
-      argument_refused found (subst (λ g. ExpandsArguments macros env level call (less_one left) (wanted call) after (Err g)) (let same : _ ≡ f = cc e in same) args)
+      argument_refused found (subst (λ g. ExpandsArguments macros env level call (spend_one left) (wanted call) after (Err g)) (let same : _ ≡ f = cc e in same) args)
   call_ends (finishes args) f e = call_failed found args e
 
-  call_goes_on : {after : Option ℕ} {t : Turn} → ComesTo macros env level call (less_one left) after t → (next : List Hiding) → t ≡ Replaced next → Advances macros env level left list after next []
+  call_goes_on : {after : Option ℕ} {t : ExpansionStep} → CallStepsTo macros env level call (spend_one left) after t → (next : List Hiding) → t ≡ Replaced next → Advances macros env level left list after next []
   call_goes_on (refuses args) next e = absurd (cc e)
-  call_goes_on (finishes args) next e = record { turn = λ n out d. call_replaced found args e d }
+  call_goes_on (finishes args) next e = record { expansion_step = λ n out d. call_replaced found args e d }
 
   -- the result of the call is the step of the list
-  pub call_taken : (s : HideSetPool) (hs : List Hidden) (passed more : List Hiding) (raised : Option Fault) (after : Option ℕ) (goes : Bool) → is_some raised ≡ not goes → more ≡ passed
-      → ComesTo macros env level call (less_one left) after (finished_in s hs raised)
-      → HasTaken macros env level left list passed goes raised after (hidings s hs) more
-  call_taken s hs passed more None after true e same h = (refl, ([], same ∙ sym (append-nil passed), call_goes_on h (hidings s hs) refl))
-  call_taken s hs passed more None after false e same h = absurd (true≢false (sym e))
-  call_taken s hs passed more (Some f) after true e same h = absurd (true≢false e)
-  call_taken s hs passed more (Some f) after false e same h = (call_ends h f refl, same)
+  pub call_taken : (s : HideSetPool) (hs : List Hidden) (emitted more : List Hiding) (raised : Option Fault) (after : Option ℕ) (goes : Bool) → is_some raised ≡ not goes → more ≡ emitted
+      → CallStepsTo macros env level call (spend_one left) after (finished_in s hs raised)
+      → HasTaken macros env level left list emitted goes raised after (hidings s hs) more
+  call_taken s hs emitted more None after true e same h = (refl, ([], same ∙ sym (append-nil emitted), call_goes_on h (hidings s hs) refl))
+  call_taken s hs emitted more None after false e same h = absurd (true≢false (sym e))
+  call_taken s hs emitted more (Some f) after true e same h = absurd (true≢false e)
+  call_taken s hs emitted more (Some f) after false e same h = (call_ends h f refl, same)
 
 -- what is done of the arguments, before the rest
 abbrev pub before_rest : List (Option (List Hiding)) → ExpandedArguments → ExpandedArguments

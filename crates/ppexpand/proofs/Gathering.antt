@@ -5,42 +5,42 @@ use Rattle.ppmacro.specs.Hiding.{Hiding}
 use Rattle.ppmacro.specs.HideSets.{hiding, hidings, HasSets, AllKnown}
 use Rattle.ppmacro.specs.Substituting.{ListsKnown}
 use Rattle.ppmacro.specs.declared.hidden_token.Hidden.{Hidden}
-use Rattle.ppexpand.specs.Arguments.{Gathered, Closed, Quoted, Unclosed, with_token, with_argument, separates}
-use Rattle.ppexpand.specs.Shown.{given_in}
+use Rattle.ppexpand.specs.Arguments.{Gathered, Closed, UnmatchedQuote, Unclosed, with_token, with_argument, separates}
+use Rattle.ppexpand.specs.code.ProgramValues.{given_in}
 
 -- these arguments and the first tokens of the next one, before what is collected of the rest
 abbrev pub resumed : List (List Hiding) → List Hiding → Gathered → Gathered
-resumed done [] (Closed [] close behind) = Closed done close behind
-resumed done (x ∷ xs) (Closed [] close behind) = Closed (done ++ (x ∷ xs) ∷ []) close behind
-resumed done front (Closed (a ∷ as') close behind) = Closed (done ++ (front ++ a) ∷ as') close behind
-resumed done front (Quoted q) = Quoted q
-resumed done front Unclosed = Unclosed
+resumed done [] (Closed [] close following) = Closed done close following
+resumed done (x ∷ xs) (Closed [] close following) = Closed (done ++ (x ∷ xs) ∷ []) close following
+resumed done prefix (Closed (a ∷ as') close following) = Closed (done ++ (prefix ++ a) ∷ as') close following
+resumed done prefix (UnmatchedQuote q) = UnmatchedQuote q
+resumed done prefix Unclosed = Unclosed
 
 pub resumed-start : (g : Gathered) → resumed [] [] g ≡ g
-resumed-start (Closed [] close behind) = refl
-resumed-start (Closed (a ∷ as') close behind) = refl
-resumed-start (Quoted q) = refl
+resumed-start (Closed [] close following) = refl
+resumed-start (Closed (a ∷ as') close following) = refl
+resumed-start (UnmatchedQuote q) = refl
 resumed-start Unclosed = refl
 
-pub resumed-token : (done : List (List Hiding)) (front : List Hiding) (t : Hiding) (g : Gathered) → resumed (done) (front ++ t ∷ []) g ≡ resumed done front (with_token t g)
-resumed-token done [] t (Closed [] close behind) = refl
-resumed-token done (x ∷ xs) t (Closed [] close behind) = refl
-resumed-token done [] t (Closed (a ∷ as') close behind) = refl
-resumed-token done (x ∷ xs) t (Closed (a ∷ as') close behind) = ap (λ ys. Closed (done ++ (x ∷ ys) ∷ as') close behind) (append_assoc xs (t ∷ []) a)
-resumed-token done [] t (Quoted q) = refl
-resumed-token done (x ∷ xs) t (Quoted q) = refl
+pub resumed-token : (done : List (List Hiding)) (prefix : List Hiding) (t : Hiding) (g : Gathered) → resumed (done) (prefix ++ t ∷ []) g ≡ resumed done prefix (with_token t g)
+resumed-token done [] t (Closed [] close following) = refl
+resumed-token done (x ∷ xs) t (Closed [] close following) = refl
+resumed-token done [] t (Closed (a ∷ as') close following) = refl
+resumed-token done (x ∷ xs) t (Closed (a ∷ as') close following) = ap (λ ys. Closed (done ++ (x ∷ ys) ∷ as') close following) (append_assoc xs (t ∷ []) a)
+resumed-token done [] t (UnmatchedQuote q) = refl
+resumed-token done (x ∷ xs) t (UnmatchedQuote q) = refl
 resumed-token done [] t Unclosed = refl
 resumed-token done (x ∷ xs) t Unclosed = refl
 
-pub resumed-argument : (done : List (List Hiding)) (front : List Hiding) (g : Gathered) → resumed (done ++ front ∷ []) [] g ≡ resumed done front (with_argument g)
-resumed-argument done [] (Closed [] close behind) = refl
-resumed-argument done (x ∷ xs) (Closed [] close behind) = ap (λ ys. Closed (done ++ (x ∷ ys) ∷ []) close behind) (sym (append-nil xs))
-resumed-argument done [] (Closed (a ∷ as') close behind) = ap (λ ys. Closed ys close behind) (append_assoc done ([] ∷ []) (a ∷ as'))
-resumed-argument done (x ∷ xs) (Closed (a ∷ as') close behind) =
-    ap (λ ys. Closed ys close behind) (append_assoc done ((x ∷ xs) ∷ []) (a ∷ as'))
-    ∙ ap (λ ys. Closed (done ++ (x ∷ ys) ∷ (a ∷ as')) close behind) (sym (append-nil xs))
-resumed-argument done [] (Quoted q) = refl
-resumed-argument done (x ∷ xs) (Quoted q) = refl
+pub resumed-argument : (done : List (List Hiding)) (prefix : List Hiding) (g : Gathered) → resumed (done ++ prefix ∷ []) [] g ≡ resumed done prefix (with_argument g)
+resumed-argument done [] (Closed [] close following) = refl
+resumed-argument done (x ∷ xs) (Closed [] close following) = ap (λ ys. Closed (done ++ (x ∷ ys) ∷ []) close following) (sym (append-nil xs))
+resumed-argument done [] (Closed (a ∷ as') close following) = ap (λ ys. Closed ys close following) (append_assoc done ([] ∷ []) (a ∷ as'))
+resumed-argument done (x ∷ xs) (Closed (a ∷ as') close following) =
+    ap (λ ys. Closed ys close following) (append_assoc done ((x ∷ xs) ∷ []) (a ∷ as'))
+    ∙ ap (λ ys. Closed (done ++ (x ∷ ys) ∷ (a ∷ as')) close following) (sym (append-nil xs))
+resumed-argument done [] (UnmatchedQuote q) = refl
+resumed-argument done (x ∷ xs) (UnmatchedQuote q) = refl
 resumed-argument done [] Unclosed = refl
 resumed-argument done (x ∷ xs) Unclosed = refl
 

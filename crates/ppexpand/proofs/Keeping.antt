@@ -12,9 +12,9 @@ use Rattle.ppmacro.specs.declared.hidden_token.Expansion.{Expansion}
 use Rattle.ppmacro.specs.declared.hidden_token.Expansion.TheVariants.{Unused, AsGiven, Made}
 use Rattle.ppmacro.proofs.ArgumentLemmas.{all-known}
 use Rattle.ppmacro.proofs.KeepLemmas.{set-keeps, hiding-keeps, hidings-keeps, known-keeps, known-set, known-sets}
-use Rattle.ppexpand.specs.declared.turn.Invocation.{Invocation}
-use Rattle.ppexpand.specs.Turn.{Call}
-use Rattle.ppexpand.specs.Shown.{given_in, expanded_in, held, ExpansionsKnown, call_in, CallKnown}
+use Rattle.ppexpand.specs.declared.expand_step.Invocation.{Invocation}
+use Rattle.ppexpand.specs.ExpansionStep.{Call}
+use Rattle.ppexpand.specs.code.ProgramValues.{given_in, expanded_in, owned_tokens, ExpansionsKnown, call_in, CallKnown}
 
 pub given-keeps : {s t : HideSetPool} (vs : List (Vec Hidden Global)) → KeepsSets s t → ListsKnown s vs → given_in t vs ≡ given_in s vs
 given-keeps [] k h = refl
@@ -26,7 +26,7 @@ given_known-keeps (v ∷ vs) k h =
     let rest = given_known-keeps vs k (record { each = h.each.1 }) in
     record { each = (known-keeps v.items k h.each.0, rest.each) }
 
-option-keeps : {s t : HideSetPool} (given : List Hidden) (e : Expansion) → KeepsSets s t → AllKnown s given → AllKnown s (held e) → option_map (hidings t) (option_of given e) ≡ option_map (hidings s) (option_of given e)
+option-keeps : {s t : HideSetPool} (given : List Hidden) (e : Expansion) → KeepsSets s t → AllKnown s given → AllKnown s (owned_tokens e) → option_map (hidings t) (option_of given e) ≡ option_map (hidings s) (option_of given e)
 option-keeps given Unused k g h = refl
 option-keeps given AsGiven k g h = ap Some (hidings-keeps given k g)
 option-keeps given (Made v) k g h = ap Some (hidings-keeps v.items k h)
@@ -40,9 +40,9 @@ pub expanded_known-keeps : {s t : HideSetPool} (es : List Expansion) → KeepsSe
 expanded_known-keeps [] k h = record { each = tt }
 expanded_known-keeps (e ∷ es) k h =
     let rest = expanded_known-keeps es k (record { each = h.each.1 }) in
-    record { each = (known-keeps (held e) k h.each.0, rest.each) }
+    record { each = (known-keeps (owned_tokens e) k h.each.0, rest.each) }
 
-pub expanded_known-push : {s : HideSetPool} (es : List Expansion) (e : Expansion) → ExpansionsKnown s es → AllKnown s (held e) → ExpansionsKnown s (es ++ e ∷ [])
+pub expanded_known-push : {s : HideSetPool} (es : List Expansion) (e : Expansion) → ExpansionsKnown s es → AllKnown s (owned_tokens e) → ExpansionsKnown s (es ++ e ∷ [])
 expanded_known-push [] e h here = record { each = (here, tt) }
 expanded_known-push (x ∷ es) e h here =
     let rest = expanded_known-push es e (record { each = h.each.1 }) here in
@@ -56,7 +56,7 @@ expanded_in-push s (v ∷ vs) [] e = refl
 expanded_in-push s [] (x ∷ es) e = ap (λ xs. option_map (hidings s) (option_of [] x) ∷ xs) (expanded_in-push s [] es e)
 expanded_in-push s (v ∷ vs) (x ∷ es) e = ap (λ xs. option_map (hidings s) (option_of v.items x) ∷ xs) (expanded_in-push s vs es e)
 
-option-at : {s : HideSetPool} (given : List Hidden) (e : Expansion) → AllKnown s given → AllKnown s (held e) → AllKnown s (unwrap_or (option_of given e) [])
+option-at : {s : HideSetPool} (given : List Hidden) (e : Expansion) → AllKnown s given → AllKnown s (owned_tokens e) → AllKnown s (unwrap_or (option_of given e) [])
 option-at given Unused g h = h
 option-at given AsGiven g h = g
 option-at given (Made v) g h = h
@@ -76,7 +76,7 @@ no_arguments_known s = arguments_known [] [] (record { each = tt }) (record { ea
 
 -- an invocation of the code, with the tokens after its `)`
 abbrev pub call_of : HideSetPool → Invocation → List Hidden → Call
-call_of sets c behind = call_in sets c.head c.replaced.now c.arguments.items c.both behind
+call_of sets c following = call_in sets c.head c.replaced.now c.arguments.items c.both following
 
 -- its hide sets exist
 abbrev IsCallKnown : HideSetPool → Invocation → Type 0
@@ -85,24 +85,24 @@ IsCallKnown sets c = CallKnown sets c.head c.arguments.items c.both
 pub call_known-keeps : {s t : HideSetPool} (c : Invocation) → KeepsSets s t → IsCallKnown s c → IsCallKnown t c
 call_known-keeps c k h = record { head = known-sets c.head k h.head; arguments = given_known-keeps c.arguments.items k h.arguments; both = known-set c.both k h.both }
 
-pub call_of-keeps : {s t : HideSetPool} (c : Invocation) (behind : List Hidden) → KeepsSets s t → IsCallKnown s c → AllKnown s behind → call_of t c behind ≡ call_of s c behind
-call_of-keeps {s} {t} c behind k h rest =
+pub call_of-keeps : {s t : HideSetPool} (c : Invocation) (following : List Hidden) → KeepsSets s t → IsCallKnown s c → AllKnown s following → call_of t c following ≡ call_of s c following
+call_of-keeps {s} {t} c following k h rest =
     let sets : set_at t c.both ≡ set_at s c.both = set-keeps c.both k h.both in
     let heads : hiding t c.head ≡ hiding s c.head = hiding-keeps c.head k h.head in
     let lists : given_in t c.arguments.items ≡ given_in s c.arguments.items = given-keeps c.arguments.items k h.arguments in
-    let rests : hidings t behind ≡ hidings s behind = hidings-keeps behind k rest in
-    λ i. record { head = heads i; macro = c.replaced.now; arguments = lists i; gain = set.insert (sets i) c.head.token.text; behind = rests i }
+    let rests : hidings t following ≡ hidings s following = hidings-keeps following k rest in
+    λ i. record { head = heads i; macro = c.replaced.now; arguments = lists i; gain = set.insert (sets i) c.head.token.text; following = rests i }
 
 -- an invocation that was made while sets were added
-pub call_made : {s t : HideSetPool} (c : Invocation) (behind : List Hidden) (gain : HideSet)
+pub call_made : {s t : HideSetPool} (c : Invocation) (following : List Hidden) (gain : HideSet)
     → KeepsSets s t
     → HasSets s c.head
     → ListsKnown s c.arguments.items
-    → AllKnown s behind
+    → AllKnown s following
     → set.insert (set_at t c.both) c.head.token.text ≡ gain
-    → call_of t c behind ≡ record { head = hiding s c.head; macro = c.replaced.now; arguments = given_in s c.arguments.items; gain = gain; behind = hidings s behind }
-call_made {s} {t} c behind gain k head lists rest gains =
+    → call_of t c following ≡ record { head = hiding s c.head; macro = c.replaced.now; arguments = given_in s c.arguments.items; gain = gain; following = hidings s following }
+call_made {s} {t} c following gain k head lists rest gains =
     let heads : hiding t c.head ≡ hiding s c.head = hiding-keeps c.head k head in
     let arguments : given_in t c.arguments.items ≡ given_in s c.arguments.items = given-keeps c.arguments.items k lists in
-    let rests : hidings t behind ≡ hidings s behind = hidings-keeps behind k rest in
-    λ i. record { head = heads i; macro = c.replaced.now; arguments = arguments i; gain = gains i; behind = rests i }
+    let rests : hidings t following ≡ hidings s following = hidings-keeps following k rest in
+    λ i. record { head = heads i; macro = c.replaced.now; arguments = arguments i; gain = gains i; following = rests i }

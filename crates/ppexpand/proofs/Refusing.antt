@@ -21,12 +21,12 @@ use Rattle.ppmacro.specs.Substitution.{string_text, string_token, is_string_lite
 use Rattle.ppmacro.specs.Substitution.{chains_tokens, macro_replacement}
 use Rattle.ppexpand.specs.declared.env.Env.{Env}
 use Rattle.ppexpand.specs.declared.expansion.Expanded.{Expanded}
-use Rattle.ppexpand.specs.Arguments.{is_open, Gathered, Closed, Quoted, Unclosed, gather, separators, fitted}
-use Rattle.ppexpand.specs.Turn.{Call, Turn, Refused, Passes, Failed, replaced_by, quote_fault, called, invoked, function_turn, no_arguments, macro_turn, named_turn, macro_of, turn, finished, ExpandedArguments, with_expanded}
-use Rattle.ppexpand.specs.Budget.{less_one}
-use Rattle.ppexpand.specs.Expansion.{Outcome, turn_within, Expands, done, refused, passes, failed, replaced, argument_refused, call_failed, call_replaced, ExpandsArguments, none, unused, too_deep}
+use Rattle.ppexpand.specs.Arguments.{is_open, Gathered, Closed, UnmatchedQuote, Unclosed, gather, separators, fit_arguments}
+use Rattle.ppexpand.specs.ExpansionStep.{Call, ExpansionStep, Refused, Emits, Failed, replaced_by, quote_fault, call_step, invocation_step, function_step, no_arguments, macro_step, named_step, macro_of, expansion_step, finish_call, ExpandedArguments, with_expanded}
+use Rattle.ppexpand.specs.Budget.{spend_one}
+use Rattle.ppexpand.specs.Expansion.{Outcome, step_in_budget, Expands, done, refused, emits, failed, replaced, argument_refused, call_failed, call_replaced, ExpandsArguments, none, unused, too_deep}
 use Rattle.ppexpand.specs.Expansion.{used as was_used, used_refused, count, count_arguments, ExpandsTo, IsExpansion}
-use Rattle.ppexpand.proofs.Budget.{plus-none, spends, spends_arguments}
+use Rattle.ppexpand.proofs.BudgetLemmas.{plus-none, spends, spends_arguments}
 
 -- the fault of a result, if it is one, has a smaller number
 abbrev IsBelow : {A : Type 0} → Result A Fault → Type 0
@@ -90,52 +90,52 @@ below_substituted d args gain used space = below_after (chains_tokens args used 
 
 -- ---- expansion steps: 7, 17, 18 and those
 
-abbrev IsTurnBelow : Turn → Type 0
+abbrev IsTurnBelow : ExpansionStep → Type 0
 IsTurnBelow (Refused f) = f.number < 35
 IsTurnBelow (Failed f) = f.number < 35
 IsTurnBelow _ = Unit {0}
 
-turn_either : (b : Bool) (t u : Turn) → IsTurnBelow t → IsTurnBelow u → IsTurnBelow (if b then t else u)
+turn_either : (b : Bool) (t u : ExpansionStep) → IsTurnBelow t → IsTurnBelow u → IsTurnBelow (if b then t else u)
 turn_either true t u h k = h
 turn_either false t u h k = k
 
-below_replaced : (r : Result Replacement Fault) (behind : List Hiding) → IsBelow r → IsTurnBelow (replaced_by r behind)
-below_replaced (Ok m) behind h = tt
-below_replaced (Err f) behind h = h
+below_replaced : (r : Result Replacement Fault) (following : List Hiding) → IsBelow r → IsTurnBelow (replaced_by r following)
+below_replaced (Ok m) following h = tt
+below_replaced (Err f) following h = h
 
-below_called : (t : Hiding) (d : Macro) (as' : Option (List (List Hiding))) (close : Hiding) (behind : List Hiding) → IsTurnBelow (called t d as' close behind)
-below_called t d (Some as') close behind = tt
-below_called t d None close behind = omega arith
+below_called : (t : Hiding) (d : Macro) (as' : Option (List (List Hiding))) (close : Hiding) (following : List Hiding) → IsTurnBelow (call_step t d as' close following)
+below_called t d (Some as') close following = tt
+below_called t d None close following = omega arith
 
-below_invoked : (t : Hiding) (d : Macro) (names : List Name) (variadic : Variadic) (g : Gathered) → IsTurnBelow (invoked t d names variadic g)
-below_invoked t d names variadic (Closed as' close behind) = below_called t d (fitted names variadic as') close behind
-below_invoked t d names variadic (Quoted q) = omega arith
+below_invoked : (t : Hiding) (d : Macro) (names : List Name) (variadic : Variadic) (g : Gathered) → IsTurnBelow (invocation_step t d names variadic g)
+below_invoked t d names variadic (Closed as' close following) = below_called t d (fit_arguments names variadic as') close following
+below_invoked t d names variadic (UnmatchedQuote q) = omega arith
 below_invoked t d names variadic Unclosed = omega arith
 
-below_function : (t : Hiding) (d : Macro) (names : List Name) (variadic : Variadic) (list : List Hiding) → IsTurnBelow (function_turn t d names variadic list)
+below_function : (t : Hiding) (d : Macro) (names : List Name) (variadic : Variadic) (list : List Hiding) → IsTurnBelow (function_step t d names variadic list)
 below_function t d names variadic [] = tt
 below_function t d names variadic (p ∷ rest) =
-    turn_either (is_open p.token) (invoked t d names variadic (gather 0 (separators names variadic) rest)) (Passes t (p ∷ rest)) (below_invoked t d names variadic (gather 0 (separators names variadic) rest)) tt
+    turn_either (is_open p.token) (invocation_step t d names variadic (gather 0 (separators names variadic) rest)) (Emits t (p ∷ rest)) (below_invoked t d names variadic (gather 0 (separators names variadic) rest)) tt
 
-below_macro : (env : Env) (t : Hiding) (rest : List Hiding) (d : Macro) (kind : MacroKind) → IsTurnBelow (macro_turn env t rest d kind)
+below_macro : (env : Env) (t : Hiding) (rest : List Hiding) (d : Macro) (kind : MacroKind) → IsTurnBelow (macro_step env t rest d kind)
 below_macro env t rest d (Predefined b) = tt
 below_macro env t rest d ObjectLike = below_replaced (macro_replacement d no_arguments _ t.token.used t.token.space) rest (below_substituted d no_arguments _ t.token.used t.token.space)
 below_macro env t rest d (FunctionLike names variadic) = below_function t d names variadic rest
 
-below_named : (env : Env) (t : Hiding) (rest : List Hiding) (d : Option Macro) → IsTurnBelow (named_turn env t rest d)
+below_named : (env : Env) (t : Hiding) (rest : List Hiding) (d : Option Macro) → IsTurnBelow (named_step env t rest d)
 below_named env t rest (Some d) = below_macro env t rest d d.kind
 below_named env t rest None = tt
 
-below_turn : (macros : Macros) (env : Env) (list : List Hiding) → IsTurnBelow (turn macros env list)
-unfolding turn
+below_turn : (macros : Macros) (env : Env) (list : List Hiding) → IsTurnBelow (expansion_step macros env list)
+unfolding expansion_step
 below_turn macros env [] = tt
 below_turn macros env (t ∷ rest) =
-    turn_either (is_unmatched_quote t.token) (Refused (quote_fault t)) (if set.contains t.hide t.token.text then Passes t rest else named_turn env t rest (macro_of macros t.token)) (omega arith)
-    (turn_either (set.contains t.hide t.token.text) (Passes t rest) (named_turn env t rest (macro_of macros t.token)) tt (below_named env t rest (macro_of macros t.token)))
+    turn_either (is_unmatched_quote t.token) (Refused (quote_fault t)) (if set.contains t.hide t.token.text then Emits t rest else named_step env t rest (macro_of macros t.token)) (omega arith)
+    (turn_either (set.contains t.hide t.token.text) (Emits t rest) (named_step env t rest (macro_of macros t.token)) tt (below_named env t rest (macro_of macros t.token)))
 
-below_finished : (call : Call) (expanded : List (Option (List Hiding))) → IsTurnBelow (finished call expanded)
-unfolding finished
-below_finished call expanded = below_replaced _ call.behind (below_substituted call.macro (record { given = call.arguments; expanded = expanded }) call.gain call.head.token.used call.head.token.space)
+below_finished : (call : Call) (expanded : List (Option (List Hiding))) → IsTurnBelow (finish_call call expanded)
+unfolding finish_call
+below_finished call expanded = below_replaced _ call.following (below_substituted call.macro (record { given = call.arguments; expanded = expanded }) call.gain call.head.token.used call.head.token.space)
 
 -- ---- expansions: 21 and those
 
@@ -148,19 +148,19 @@ below_expanded a (Ok as') h = tt
 below_expanded a (Err f) h = h
 
 module _ (macros : Macros) (env : Env) where
-  of_turn : {left : Option ℕ} (list : List Hiding) {t : Turn} → left ≡ None → turn_within macros env left list ≡ t → IsTurnBelow t
-  of_turn list {t = t} is e = subst IsTurnBelow (subst (λ l. turn_within macros env l list ≡ t) is e) (below_turn macros env list)
+  of_turn : {left : Option ℕ} (list : List Hiding) {t : ExpansionStep} → left ≡ None → step_in_budget macros env left list ≡ t → IsTurnBelow t
+  of_turn list {t = t} is e = subst IsTurnBelow (subst (λ l. step_in_budget macros env l list ≡ t) is e) (below_turn macros env list)
 
   mutual
-    below : {level turns : ℕ} {left : Option ℕ} {list : List Hiding} {out : Outcome} → left ≡ None → Expands macros env level left turns list out → IsFaultBelow out.fault
+    below : {level steps : ℕ} {left : Option ℕ} {list : List Hiding} {out : Outcome} → left ≡ None → Expands macros env level left steps list out → IsFaultBelow out.fault
     below is (done e) = tt
     below {list = list} is (refused e) = of_turn list is e
-    below is (passes e more) = below is more
+    below is (emits e more) = below is more
     below {list = list} is (failed e) = of_turn list is e
-    below is (replaced e more) = below (ap less_one is) more
-    below is (argument_refused e a) = below_arguments (ap less_one is) a
+    below is (replaced e more) = below (ap spend_one is) more
+    below is (argument_refused e a) = below_arguments (ap spend_one is) a
     below is (call_failed {call = call} {expanded = expanded} e a f) = subst IsTurnBelow f (below_finished call expanded)
-    below is (call_replaced {after = after} e a f more) = below (plus-none (count_arguments macros env a) after (sym (ap less_one is) ∙ spends_arguments macros env a)) more
+    below is (call_replaced {after = after} e a f more) = below (plus-none (count_arguments macros env a) after (sym (ap spend_one is) ∙ spends_arguments macros env a)) more
 
     below_arguments : {level : ℕ} {call : Call} {left after : Option ℕ} {as' : List (Option (List Hiding))} {r : ExpandedArguments} → left ≡ None → ExpandsArguments macros env level call left as' after r → IsBelow r
     below_arguments is none = tt

@@ -12,21 +12,21 @@ use Rattle.ppmacro.specs.Hiding.{Hiding}
 use Rattle.ppmacro.specs.HideSets.{set_at, IsKnown, hiding, hidings, AllKnown}
 use Rattle.ppmacro.specs.Substitution.{plain}
 use Rattle.ppmacro.specs.Substituting.{tokens_of}
-use Rattle.ppmacro.proofs.KeepLemmas.{known-front, known-rest, known-append}
+use Rattle.ppmacro.proofs.KeepLemmas.{known-prefix, known-rest, known-append}
 use Rattle.ppmacro.specs.declared.hidden_token.Hidden.{Hidden}
 use Rattle.ppexpand.specs.declared.env.Env.{Env}
-use Rattle.ppexpand.specs.Turn.{Passes, macro_of, turn}
-use Rattle.ppexpand.specs.Budget.{within}
-use Rattle.ppexpand.specs.Expansion.{Outcome, turn_within, Expands, ExpandsTo, IsExpansion, passes, done, ended}
+use Rattle.ppexpand.specs.ExpansionStep.{Emits, macro_of, expansion_step}
+use Rattle.ppexpand.specs.Budget.{in_budget}
+use Rattle.ppexpand.specs.Expansion.{Outcome, step_in_budget, Expands, ExpandsTo, IsExpansion, emits, done, ended}
 use Rattle.ppexpand.specs.declared.expansion.Expanded.{Expanded}
-use Rattle.ppexpand.specs.Lists.{with_set, is_plain, ArePlain}
-use Rattle.ppexpand.specs.Skipping.{HasSkipped}
-use Rattle.ppexpand.proofs.TurnLemmas.{turn-unnamed, passes-within}
+use Rattle.ppexpand.specs.code.Lists.{with_set, never_expands, NeverExpand}
+use Rattle.ppexpand.specs.code.Skipping.{HasSkipped}
+use Rattle.ppexpand.proofs.StepLemmas.{expansion_step-unnamed, emits-in_budget}
 use Rattle.ppexpand.proofs.Total.{total}
 use Rattle.ppexpand.proofs.Unique.{same_outcome}
 use Rattle.ppexpand.proofs.Follows.{Follows, turns_left}
 
-pub plain-with_set : (macros : Macros) (n : ℕ) (ts : List Token) → AllByRecursion (λ t. is_plain macros t ≡ true) ts → ArePlain macros (map (with_set n) ts)
+pub plain-with_set : (macros : Macros) (n : ℕ) (ts : List Token) → AllByRecursion (λ t. never_expands macros t ≡ true) ts → NeverExpand macros (map (with_set n) ts)
 plain-with_set macros n [] h = record { each = tt }
 plain-with_set macros n (t ∷ ts) h = let rest = plain-with_set macros n ts h.1 in record { each = (h.0, rest.each) }
 
@@ -39,78 +39,78 @@ pub none_by : {A : Type 0} (o : Option A) → is_some o ≡ false → o ≡ None
 none_by None h = refl
 none_by (Some a) h = absurd (true≢false h)
 
-turn-plain : (macros : Macros) (env : Env) (left : Option ℕ) (t : Hiding) (rest : List Hiding) → is_plain macros t.token ≡ true → turn_within macros env left (t ∷ rest) ≡ Passes t rest
-turn-plain macros env left t rest h =
+expansion_step-plain : (macros : Macros) (env : Env) (left : Option ℕ) (t : Hiding) (rest : List Hiding) → never_expands macros t.token ≡ true → step_in_budget macros env left (t ∷ rest) ≡ Emits t rest
+expansion_step-plain macros env left t rest h =
     let parts = both_false (is_unmatched_quote t.token) (is_some (macro_of macros t.token)) h in
     let none : macro_of macros t.token ≡ None = none_by (macro_of macros t.token) parts.1 in
-    ap (within left (t ∷ rest)) (turn-unnamed macros env t rest parts.0 none) ∙ passes-within left (t ∷ rest) t rest
+    ap (in_budget left (t ∷ rest)) (expansion_step-unnamed macros env t rest parts.0 none) ∙ emits-in_budget left (t ∷ rest) t rest
 
 -- a list has this outcome in no fewer steps
 pub record Takes (macros : Macros) (env : Env) (level : ℕ) (left : Option ℕ) (n : ℕ) (list : List Hiding) (out : Outcome) : Type 0 where
-  pub turns : ℕ
-  pub more : n ≤ turns
-  pub is : Expands macros env level left turns list out
+  pub steps : ℕ
+  pub more : n ≤ steps
+  pub is : Expands macros env level left steps list out
 
 -- ---- more tokens in a row
 
-pub skipped-none : (macros : Macros) (list passed : List Hidden) → HasSkipped macros list passed list passed
-skipped-none macros list passed = record { skipped = []; laid_out = refl; passes = sym (append-nil passed); plain = record { each = tt } }
+pub skipped-none : (macros : Macros) (list emitted : List Hidden) → HasSkipped macros list emitted list emitted
+skipped-none macros list emitted = record { skipped = []; laid_out = refl; emits = sym (append-nil emitted); plain = record { each = tt } }
 
-plain-append : (macros : Macros) (gs hs : List Hidden) → ArePlain macros gs → ArePlain macros hs → ArePlain macros (gs ++ hs)
+plain-append : (macros : Macros) (gs hs : List Hidden) → NeverExpand macros gs → NeverExpand macros hs → NeverExpand macros (gs ++ hs)
 plain-append macros [] hs g h = h
 plain-append macros (x ∷ gs) hs g h = let rest = plain-append macros gs hs (record { each = g.each.1 }) h in record { each = (g.each.0, rest.each) }
 
-pub skipped-on : (macros : Macros) (list passed next more last all : List Hidden) → HasSkipped macros list passed next more → HasSkipped macros next more last all → HasSkipped macros list passed last all
-skipped-on macros list passed next more last all h k = record {
+pub skipped-on : (macros : Macros) (list emitted next more last all : List Hidden) → HasSkipped macros list emitted next more → HasSkipped macros next more last all → HasSkipped macros list emitted last all
+skipped-on macros list emitted next more last all h k = record {
   skipped = h.skipped ++ k.skipped;
   laid_out = h.laid_out ∙ ap (λ l. h.skipped ++ l) k.laid_out ∙ sym (append_assoc h.skipped k.skipped last);
-  passes = k.passes ∙ ap (λ l. l ++ k.skipped) h.passes ∙ append_assoc passed h.skipped k.skipped;
+  emits = k.emits ∙ ap (λ l. l ++ k.skipped) h.emits ∙ append_assoc emitted h.skipped k.skipped;
   plain = plain-append macros h.skipped k.skipped h.plain k.plain;
 }
 
-pub skipped-one : (macros : Macros) (h : Hidden) (list next passed : List Hidden) → list ≡ h ∷ next → is_plain macros h.token ≡ true → HasSkipped macros list passed next (passed ++ h ∷ [])
-skipped-one macros h list next passed is plain = record { skipped = h ∷ []; laid_out = is; passes = refl; plain = record { each = (plain, tt) } }
+pub skipped-one : (macros : Macros) (h : Hidden) (list next emitted : List Hidden) → list ≡ h ∷ next → never_expands macros h.token ≡ true → HasSkipped macros list emitted next (emitted ++ h ∷ [])
+skipped-one macros h list next emitted is plain = record { skipped = h ∷ []; laid_out = is; emits = refl; plain = record { each = (plain, tt) } }
 
 module _ (macros : Macros) (env : Env) (level : ℕ) (left : Option ℕ) (s : HideSetPool) where
-  skips : (hs rest : List Hidden) → ArePlain macros hs → (n : ℕ) (out : Outcome) → Expands macros env level left n (hidings s rest) out
+  skips : (hs rest : List Hidden) → NeverExpand macros hs → (n : ℕ) (out : Outcome) → Expands macros env level left n (hidings s rest) out
       → Takes macros env level left n (hidings s (hs ++ rest)) (record { tokens = hidings s hs ++ out.tokens; fault = out.fault; left = out.left })
-  skips [] rest h n out d = record { turns = n; more = omega arith; is = d }
+  skips [] rest h n out d = record { steps = n; more = omega arith; is = d }
   skips (t ∷ ts) rest h n out d =
       let after = skips ts rest (record { each = h.each.1 }) n out d in
       let more = after.more in
-      record { turns = suc after.turns; more = omega arith; is = passes (turn-plain macros env left (hiding s t) (hidings s (ts ++ rest)) h.each.0) after.is }
+      record { steps = suc after.steps; more = omega arith; is = emits (expansion_step-plain macros env left (hiding s t) (hidings s (ts ++ rest)) h.each.0) after.is }
 
-  pub skipped_after : (list passed next more : List Hidden) (k : HasSkipped macros list passed next more) → (n : ℕ) (out : Outcome) → Expands macros env level left n (hidings s next) out
+  pub skipped_after : (list emitted next more : List Hidden) (k : HasSkipped macros list emitted next more) → (n : ℕ) (out : Outcome) → Expands macros env level left n (hidings s next) out
       → Takes macros env level left n (hidings s list) (record { tokens = hidings s k.skipped ++ out.tokens; fault = out.fault; left = out.left })
-  skipped_after list passed next more k n out d =
+  skipped_after list emitted next more k n out d =
       subst (λ l. Takes macros env level left n (hidings s l) (record { tokens = hidings s k.skipped ++ out.tokens; fault = out.fault; left = out.left })) (sym k.laid_out) (skips k.skipped next k.plain n out d)
 
   -- the tokens after them are the rest of the list
-  pub follows_skip : (first : Option ℕ) (start : List Hiding) (list passed next more : List Hidden) → HasSkipped macros list passed next more
-      → Follows macros env level first start (hidings s passed) left (hidings s list)
+  pub follows_skip : (first : Option ℕ) (start : List Hiding) (list emitted next more : List Hidden) → HasSkipped macros list emitted next more
+      → Follows macros env level first start (hidings s emitted) left (hidings s list)
       → Follows macros env level first start (hidings s more) left (hidings s next)
-  follows_skip first start list passed next more k so_far n out d =
-      let after = skipped_after list passed next more k n out d in
-      let whole = so_far after.turns _ after.is in
-      let tokens : hidings s passed ++ (hidings s k.skipped ++ out.tokens) ≡ hidings s more ++ out.tokens =
-      sym (append_assoc (hidings s passed) (hidings s k.skipped) out.tokens) ∙ ap (λ hs. hs ++ out.tokens) (sym (ap (hidings s) k.passes ∙ map-append (hiding s) passed k.skipped)) in
+  follows_skip first start list emitted next more k so_far n out d =
+      let after = skipped_after list emitted next more k n out d in
+      let whole = so_far after.steps _ after.is in
+      let tokens : hidings s emitted ++ (hidings s k.skipped ++ out.tokens) ≡ hidings s more ++ out.tokens =
+      sym (append_assoc (hidings s emitted) (hidings s k.skipped) out.tokens) ∙ ap (λ hs. hs ++ out.tokens) (sym (ap (hidings s) k.emits ∙ map-append (hiding s) emitted k.skipped)) in
       (whole.0, subst (λ ts. Expands macros env level first whole.0 start (record { tokens = ts; fault = out.fault; left = out.left })) tokens whole.1)
 
   -- no more steps remain after them
-  pub skip_falls : (list passed next more : List Hidden) → HasSkipped macros list passed next more → turns_left macros env level left (hidings s next) ≤ turns_left macros env level left (hidings s list)
-  skip_falls list passed next more k =
+  pub skip_falls : (list emitted next more : List Hidden) → HasSkipped macros list emitted next more → turns_left macros env level left (hidings s next) ≤ turns_left macros env level left (hidings s list)
+  skip_falls list emitted next more k =
       let here = total macros env level left (hidings s list) in
       let there = total macros env level left (hidings s next) in
-      let after = skipped_after list passed next more k there.0 there.1 there.2 in
+      let after = skipped_after list emitted next more k there.0 there.1 there.2 in
       let same = (same_outcome macros env after.is here.0 here.1 here.2).0 in
       let more = after.more in
       rw (← same) (omega arith)
 
-pub next-known : {macros : Macros} (s : HideSetPool) (list passed next more : List Hidden) → HasSkipped macros list passed next more → AllKnown s list → AllKnown s next
-next-known s list passed next more k h = known-rest k.skipped next (subst (AllKnown s) k.laid_out h)
+pub next-known : {macros : Macros} (s : HideSetPool) (list emitted next more : List Hidden) → HasSkipped macros list emitted next more → AllKnown s list → AllKnown s next
+next-known s list emitted next more k h = known-rest k.skipped next (subst (AllKnown s) k.laid_out h)
 
-pub more-known : {macros : Macros} (s : HideSetPool) (list passed next more : List Hidden) → HasSkipped macros list passed next more → AllKnown s list → AllKnown s passed → AllKnown s more
-more-known s list passed next more k h p = subst (AllKnown s) (sym k.passes) (known-append passed k.skipped p (known-front k.skipped next (subst (AllKnown s) k.laid_out h)))
+pub more-known : {macros : Macros} (s : HideSetPool) (list emitted next more : List Hidden) → HasSkipped macros list emitted next more → AllKnown s list → AllKnown s emitted → AllKnown s more
+more-known s list emitted next more k h p = subst (AllKnown s) (sym k.emits) (known-append emitted k.skipped p (known-prefix k.skipped next (subst (AllKnown s) k.laid_out h)))
 
 -- tokens of a file with one set
 pub known-with_set : (s : HideSetPool) (n : ℕ) (ts : List Token) → IsKnown s n → AllKnown s (map (with_set n) ts)
@@ -126,18 +126,18 @@ tokens-with_set n [] = refl
 tokens-with_set n (t ∷ ts) = ap (λ us. t ∷ us) (tokens-with_set n ts)
 
 -- tokens that are emitted unchanged, before a list
-pub expands-front : (macros : Macros) (env : Env) (level : ℕ) (left : Option ℕ) (front : List Token) (rest : List Hiding) (out : Outcome)
-    → AllByRecursion (λ t. is_plain macros t ≡ true) front
+pub expands-prefix : (macros : Macros) (env : Env) (level : ℕ) (left : Option ℕ) (prefix : List Token) (rest : List Hiding) (out : Outcome)
+    → AllByRecursion (λ t. never_expands macros t ≡ true) prefix
     → ExpandsTo macros env level left rest out
-    → ExpandsTo macros env level left (map plain front ++ rest) (record { tokens = map plain front ++ out.tokens; fault = out.fault; left = out.left })
-expands-front macros env level left [] rest out h d = d
-expands-front macros env level left (t ∷ ts) rest out h d =
-    let after = expands-front macros env level left ts rest out h.1 d in
-    (suc after.0, passes (turn-plain macros env left (plain t) (map plain ts ++ rest) h.0) after.1)
+    → ExpandsTo macros env level left (map plain prefix ++ rest) (record { tokens = map plain prefix ++ out.tokens; fault = out.fault; left = out.left })
+expands-prefix macros env level left [] rest out h d = d
+expands-prefix macros env level left (t ∷ ts) rest out h d =
+    let after = expands-prefix macros env level left ts rest out h.1 d in
+    (suc after.0, emits (expansion_step-plain macros env left (plain t) (map plain ts ++ rest) h.0) after.1)
 
 -- the empty list
 pub expands-nothing : (macros : Macros) (env : Env) (level : ℕ) (left : Option ℕ) → ExpandsTo macros env level left [] (ended left None)
-unfolding turn
+unfolding expansion_step
 expands-nothing macros env level None = (0, done refl)
 expands-nothing macros env level (Some zero) = (0, done refl)
 expands-nothing macros env level (Some (suc n)) = (0, done refl)
@@ -147,32 +147,32 @@ tokens-plain [] = refl
 tokens-plain (t ∷ ts) = ap (λ us. t ∷ us) (tokens-plain ts)
 
 -- tokens that are emitted unchanged, before the expansion of the rest
-pub expansion-behind : (macros : Macros) (env : Env) (left : Option ℕ) (tokens front rest : List Token) (e : Expanded) (out : Outcome)
-    → tokens ≡ front ++ rest
-    → AllByRecursion (λ t. is_plain macros t ≡ true) front
+pub expansion-following : (macros : Macros) (env : Env) (left : Option ℕ) (tokens prefix rest : List Token) (e : Expanded) (out : Outcome)
+    → tokens ≡ prefix ++ rest
+    → AllByRecursion (λ t. never_expands macros t ≡ true) prefix
     → ExpandsTo macros env 0 left (map plain rest) out
-    → e.tokens ≡ front ++ map (λ t. t.token) out.tokens
+    → e.tokens ≡ prefix ++ map (λ t. t.token) out.tokens
     → e.fault ≡ out.fault
     → e.left ≡ out.left
     → IsExpansion macros env left tokens e
-expansion-behind macros env left tokens front rest e out laid_out h d is ends leaves =
-    let whole : Outcome = record { tokens = map plain front ++ out.tokens; fault = out.fault; left = out.left } in
+expansion-following macros env left tokens prefix rest e out laid_out h d is ends leaves =
+    let whole : Outcome = record { tokens = map plain prefix ++ out.tokens; fault = out.fault; left = out.left } in
     record {
       outcome = whole;
-      expands = subst (λ ts. ExpandsTo macros env 0 left ts whole) (sym (ap (map plain) laid_out ∙ map-append plain front rest)) (expands-front macros env 0 left front (map plain rest) out h d);
-      passed = is ∙ (λ i. sym (tokens-plain front) i ++ map (λ t. t.token) out.tokens) ∙ sym (map-append (λ t. t.token) (map plain front) out.tokens);
+      expands = subst (λ ts. ExpandsTo macros env 0 left ts whole) (sym (ap (map plain) laid_out ∙ map-append plain prefix rest)) (expands-prefix macros env 0 left prefix (map plain rest) out h d);
+      emitted = is ∙ (λ i. sym (tokens-plain prefix) i ++ map (λ t. t.token) out.tokens) ∙ sym (map-append (λ t. t.token) (map plain prefix) out.tokens);
       ended = ends;
       left_over = leaves;
     }
 
 -- tokens that are all emitted unchanged expand to themselves
 pub plain-expands : (macros : Macros) (env : Env) (level : ℕ) (left : Option ℕ) (s : HideSetPool) (hs : List Hidden)
-    → ArePlain macros hs
+    → NeverExpand macros hs
     → ExpandsTo macros env level left (hidings s hs) (record { tokens = hidings s hs; fault = None; left = left })
 plain-expands macros env level left s [] h = expands-nothing macros env level left
 plain-expands macros env level left s (t ∷ ts) h =
     let after = plain-expands macros env level left s ts (record { each = h.each.1 }) in
-    (suc after.0, passes (turn-plain macros env left (hiding s t) (hidings s ts) h.each.0) after.1)
+    (suc after.0, emits (expansion_step-plain macros env left (hiding s t) (hidings s ts) h.each.0) after.1)
 
-pub plain-more : (macros : Macros) (hs : List Hidden) (h : Hidden) → ArePlain macros hs → is_plain macros h.token ≡ true → ArePlain macros (hs ++ h ∷ [])
+pub plain-more : (macros : Macros) (hs : List Hidden) (h : Hidden) → NeverExpand macros hs → never_expands macros h.token ≡ true → NeverExpand macros (hs ++ h ∷ [])
 plain-more macros hs h p k = plain-append macros hs (h ∷ []) p (record { each = (k, tt) })

@@ -14,31 +14,31 @@ use Rattle.ppmacro.specs.declared.macros.MacroKind.{MacroKind}
 use Rattle.ppmacro.specs.declared.macros.MacroKind.TheVariants.{Predefined, ObjectLike, FunctionLike}
 use Rattle.ppexpand.specs.declared.env.Env.{Env}
 use Rattle.ppexpand.specs.declared.expansion.Expanded.{Expanded}
-use Rattle.ppexpand.specs.Arguments.{is_open, Gathered, Closed, Quoted, Unclosed, gather, separators, fitted}
-use Rattle.ppexpand.specs.Turn.{predefined_value, Call, Turn, Done, Refused, Passes, Failed, Replaced, Called, followed_by, replaced_by, fault_at_use, quote_fault, gain_of, called, invoked, function_turn, macro_turn, named_turn, macro_of}
-use Rattle.ppexpand.specs.Turn.{turn, wanted, finished, ExpandedArguments}
-use Rattle.ppexpand.specs.Budget.{less_one}
-use Rattle.ppexpand.specs.Expansion.{Outcome, turn_within, Expands, ExpandsTo, ExpandsArguments, IsExpansion}
-use Rattle.ppexpand.specs.Expansion as within
+use Rattle.ppexpand.specs.Arguments.{is_open, Gathered, Closed, UnmatchedQuote, Unclosed, gather, separators, fit_arguments}
+use Rattle.ppexpand.specs.ExpansionStep.{predefined_value, Call, ExpansionStep, Done, Refused, Emits, Failed, Replaced, Called, followed_by, replaced_by, fault_at_expansion, quote_fault, gain_of, call_step, invocation_step, function_step, macro_step, named_step, macro_of}
+use Rattle.ppexpand.specs.ExpansionStep.{expansion_step, wanted, finish_call, ExpandedArguments}
+use Rattle.ppexpand.specs.Budget.{spend_one}
+use Rattle.ppexpand.specs.Expansion.{Outcome, step_in_budget, Expands, ExpandsTo, ExpandsArguments, IsExpansion}
+use Rattle.ppexpand.specs.Expansion as in_budget
 use Rattle.ppexpand.specs.Standard.{NamesMacro, Opens, Invokes, opens_next, object_result, invocation_result, StandardExpands, StandardExpandsArguments, IsStandardExpansion}
-use Rattle.ppexpand.proofs.TurnLemmas.{turn-quote, turn-hidden, turn-named, turn-unnamed}
-use Rattle.ppexpand.proofs.Budget.{left_none, arguments_none}
+use Rattle.ppexpand.proofs.StepLemmas.{expansion_step-quote, expansion_step-hidden, expansion_step-named, expansion_step-unnamed}
+use Rattle.ppexpand.proofs.BudgetLemmas.{left_none, arguments_none}
 
-turn-nothing : (macros : Macros) (env : Env) → turn macros env [] ≡ Done
-unfolding turn
-turn-nothing macros env = refl
+expansion_step-nothing : (macros : Macros) (env : Env) → expansion_step macros env [] ≡ Done
+unfolding expansion_step
+expansion_step-nothing macros env = refl
 
-finished-is : (call : Call) (expanded : List (Option (List Hiding))) → finished call expanded ≡ replaced_by (invocation_result call expanded) call.behind
-unfolding finished
-finished-is call expanded = refl
+finish_call-is : (call : Call) (expanded : List (Option (List Hiding))) → finish_call call expanded ≡ replaced_by (invocation_result call expanded) call.following
+unfolding finish_call
+finish_call-is call expanded = refl
 
 module _ (macros : Macros) (env : Env) where
   -- the expansion step of a list, by the standard's rules
-  data Means : List Hiding → Turn → Type 0 where
+  data Means : List Hiding → ExpansionStep → Type 0 where
     nothing_left : Means [] Done
-    lone_quote : {t : Hiding} {rest : List Hiding} → is_unmatched_quote t.token ≡ true → Means (t ∷ rest) (Refused (quote_fault t))
-    no_macro : {t : Hiding} {rest : List Hiding} → is_unmatched_quote t.token ≡ false → macro_of macros t.token ≡ None → Means (t ∷ rest) (Passes t rest)
-    hidden : {t : Hiding} {rest : List Hiding} → is_unmatched_quote t.token ≡ false → set.contains t.hide t.token.text ≡ true → Means (t ∷ rest) (Passes t rest)
+    unmatched_quote : {t : Hiding} {rest : List Hiding} → is_unmatched_quote t.token ≡ true → Means (t ∷ rest) (Refused (quote_fault t))
+    no_macro : {t : Hiding} {rest : List Hiding} → is_unmatched_quote t.token ≡ false → macro_of macros t.token ≡ None → Means (t ∷ rest) (Emits t rest)
+    hidden : {t : Hiding} {rest : List Hiding} → is_unmatched_quote t.token ≡ false → set.contains t.hide t.token.text ≡ true → Means (t ∷ rest) (Emits t rest)
     predefined : {t : Hiding} {rest : List Hiding} {d : Macro} {b : PredefinedMacro} → NamesMacro macros t d → d.kind ≡ Predefined b → Means (t ∷ rest) (Replaced (predefined_value b env t (set.insert t.hide t.token.text) ∷ rest))
     object_like : {t : Hiding} {rest : List Hiding} {d : Macro} {m : Replacement} → NamesMacro macros t d → d.kind ≡ ObjectLike → object_result t d ≡ Ok m → Means (t ∷ rest) (Replaced (followed_by rest m))
     object_refused : {t : Hiding} {rest : List Hiding} {d : Macro} {f : Fault} → NamesMacro macros t d → d.kind ≡ ObjectLike → object_result t d ≡ Err f → Means (t ∷ rest) (Failed f)
@@ -46,46 +46,46 @@ module _ (macros : Macros) (env : Env) where
         → NamesMacro macros t d
         → d.kind ≡ FunctionLike names variadic
         → opens_next rest ≡ false
-        → Means (t ∷ rest) (Passes t rest)
+        → Means (t ∷ rest) (Emits t rest)
     quote_inside : {t paren quote : Hiding} {inside : List Hiding} {d : Macro} {names : List Name} {variadic : Variadic}
         → Opens macros t paren d names variadic
-        → gather 0 (separators names variadic) inside ≡ Quoted quote
+        → gather 0 (separators names variadic) inside ≡ UnmatchedQuote quote
         → Means (t ∷ paren ∷ inside) (Failed (quote_fault quote))
     unclosed : {t paren : Hiding} {inside : List Hiding} {d : Macro} {names : List Name} {variadic : Variadic}
         → Opens macros t paren d names variadic
         → gather 0 (separators names variadic) inside ≡ Unclosed
-        → Means (t ∷ paren ∷ inside) (Failed (fault_at_use 17 t))
-    wrong_number : {t paren close : Hiding} {inside behind : List Hiding} {d : Macro} {names : List Name} {variadic : Variadic} {arguments : List (List Hiding)}
+        → Means (t ∷ paren ∷ inside) (Failed (fault_at_expansion 17 t))
+    wrong_number : {t paren close : Hiding} {inside following : List Hiding} {d : Macro} {names : List Name} {variadic : Variadic} {arguments : List (List Hiding)}
         → Opens macros t paren d names variadic
-        → gather 0 (separators names variadic) inside ≡ Closed arguments close behind
-        → fitted names variadic arguments ≡ None
-        → Means (t ∷ paren ∷ inside) (Failed (fault_at_use 18 t))
+        → gather 0 (separators names variadic) inside ≡ Closed arguments close following
+        → fit_arguments names variadic arguments ≡ None
+        → Means (t ∷ paren ∷ inside) (Failed (fault_at_expansion 18 t))
     begins : {list : List Hiding} {call : Call} → Invokes macros list call → Means list (Called call)
 
   -- ---- the step of a list is by one of the rules
 
-  by_number : (t paren close : Hiding) (inside behind : List Hiding) (d : Macro) (names : List Name) (variadic : Variadic) (arguments : List (List Hiding))
+  by_number : (t paren close : Hiding) (inside following : List Hiding) (d : Macro) (names : List Name) (variadic : Variadic) (arguments : List (List Hiding))
       → Opens macros t paren d names variadic
-      → gather 0 (separators names variadic) inside ≡ Closed arguments close behind
+      → gather 0 (separators names variadic) inside ≡ Closed arguments close following
       → (o : Option (List (List Hiding)))
-      → fitted names variadic arguments ≡ o
-      → Means (t ∷ paren ∷ inside) (called t d o close behind)
-  by_number t paren close inside behind d names variadic arguments i g None e = Means.wrong_number i g e
-  by_number t paren close inside behind d names variadic arguments i g (Some given) e =
+      → fit_arguments names variadic arguments ≡ o
+      → Means (t ∷ paren ∷ inside) (call_step t d o close following)
+  by_number t paren close inside following d names variadic arguments i g None e = Means.wrong_number i g e
+  by_number t paren close inside following d names variadic arguments i g (Some given) e =
       Means.begins (record { paren = paren; inside = inside; names = names; variadic = variadic; arguments = arguments; close = close; laid_out = refl; opens = i; closed = g; fits = e; gains = refl })
 
   by_gathered : (t paren : Hiding) (inside : List Hiding) (d : Macro) (names : List Name) (variadic : Variadic)
       → Opens macros t paren d names variadic
       → (g : Gathered)
       → gather 0 (separators names variadic) inside ≡ g
-      → Means (t ∷ paren ∷ inside) (invoked t d names variadic g)
-  by_gathered t paren inside d names variadic i (Closed arguments close behind) e = by_number t paren close inside behind d names variadic arguments i e (fitted names variadic arguments) refl
-  by_gathered t paren inside d names variadic i (Quoted q) e = Means.quote_inside i e
+      → Means (t ∷ paren ∷ inside) (invocation_step t d names variadic g)
+  by_gathered t paren inside d names variadic i (Closed arguments close following) e = by_number t paren close inside following d names variadic arguments i e (fit_arguments names variadic arguments) refl
+  by_gathered t paren inside d names variadic i (UnmatchedQuote q) e = Means.quote_inside i e
   by_gathered t paren inside d names variadic i Unclosed e = Means.unclosed i e
 
-  by_next : (t : Hiding) (rest : List Hiding) (d : Macro) (names : List Name) (variadic : Variadic) → NamesMacro macros t d → d.kind ≡ FunctionLike names variadic → Means (t ∷ rest) (function_turn t d names variadic rest)
+  by_next : (t : Hiding) (rest : List Hiding) (d : Macro) (names : List Name) (variadic : Variadic) → NamesMacro macros t d → d.kind ≡ FunctionLike names variadic → Means (t ∷ rest) (function_step t d names variadic rest)
   by_next t [] d names variadic c e = Means.not_invoked c e refl
-  by_next t (paren ∷ inside) d names variadic c e = elim (is_open paren.token) as (λ b. is_open paren.token ≡ b → Means (t ∷ paren ∷ inside) (function_turn t d names variadic (paren ∷ inside))) [
+  by_next t (paren ∷ inside) d names variadic c e = elim (is_open paren.token) as (λ b. is_open paren.token ≡ b → Means (t ∷ paren ∷ inside) (function_step t d names variadic (paren ∷ inside))) [
     | true ↦ λ o. rw o (by_gathered t paren inside d names variadic (record { names_macro = c; kind = e; paren_opens = o }) (gather 0 (separators names variadic) inside) refl)
     | false ↦ λ o. rw o (Means.not_invoked c e o)
   ] refl
@@ -94,33 +94,33 @@ module _ (macros : Macros) (env : Env) where
   by_result t rest d c e (Ok m) h = Means.object_like c e h
   by_result t rest d c e (Err f) h = Means.object_refused c e h
 
-  by_shape : (t : Hiding) (rest : List Hiding) (d : Macro) → NamesMacro macros t d → (s : MacroKind) → d.kind ≡ s → Means (t ∷ rest) (macro_turn env t rest d s)
+  by_shape : (t : Hiding) (rest : List Hiding) (d : Macro) → NamesMacro macros t d → (s : MacroKind) → d.kind ≡ s → Means (t ∷ rest) (macro_step env t rest d s)
   by_shape t rest d c (Predefined b) e = Means.predefined c e
   by_shape t rest d c ObjectLike e = by_result t rest d c e (object_result t d) refl
   by_shape t rest d c (FunctionLike names variadic) e = by_next t rest d names variadic c e
 
-  by_name : (t : Hiding) (rest : List Hiding) → is_unmatched_quote t.token ≡ false → set.contains t.hide t.token.text ≡ false → (o : Option Macro) → macro_of macros t.token ≡ o → Means (t ∷ rest) (named_turn env t rest o)
+  by_name : (t : Hiding) (rest : List Hiding) → is_unmatched_quote t.token ≡ false → set.contains t.hide t.token.text ≡ false → (o : Option Macro) → macro_of macros t.token ≡ o → Means (t ∷ rest) (named_step env t rest o)
   by_name t rest q h None e = Means.no_macro q e
   by_name t rest q h (Some d) e = by_shape t rest d (record { no_quote = q; not_hidden = h; named = e }) d.kind refl
 
-  by_hiding : (t : Hiding) (rest : List Hiding) → is_unmatched_quote t.token ≡ false → (b : Bool) → set.contains t.hide t.token.text ≡ b → Means (t ∷ rest) (turn macros env (t ∷ rest))
-  by_hiding t rest q true h = subst (Means (t ∷ rest)) (sym (turn-hidden macros env t rest q h)) (Means.hidden q h)
-  by_hiding t rest q false h = subst (Means (t ∷ rest)) (sym (turn-named macros env t rest q h)) (by_name t rest q h (macro_of macros t.token) refl)
+  by_hiding : (t : Hiding) (rest : List Hiding) → is_unmatched_quote t.token ≡ false → (b : Bool) → set.contains t.hide t.token.text ≡ b → Means (t ∷ rest) (expansion_step macros env (t ∷ rest))
+  by_hiding t rest q true h = subst (Means (t ∷ rest)) (sym (expansion_step-hidden macros env t rest q h)) (Means.hidden q h)
+  by_hiding t rest q false h = subst (Means (t ∷ rest)) (sym (expansion_step-named macros env t rest q h)) (by_name t rest q h (macro_of macros t.token) refl)
 
-  by_quote : (t : Hiding) (rest : List Hiding) (b : Bool) → is_unmatched_quote t.token ≡ b → Means (t ∷ rest) (turn macros env (t ∷ rest))
-  by_quote t rest true q = subst (Means (t ∷ rest)) (sym (turn-quote macros env t rest q)) (Means.lone_quote q)
+  by_quote : (t : Hiding) (rest : List Hiding) (b : Bool) → is_unmatched_quote t.token ≡ b → Means (t ∷ rest) (expansion_step macros env (t ∷ rest))
+  by_quote t rest true q = subst (Means (t ∷ rest)) (sym (expansion_step-quote macros env t rest q)) (Means.unmatched_quote q)
   by_quote t rest false q = by_hiding t rest q (set.contains t.hide t.token.text) refl
 
-  means : (list : List Hiding) → Means list (turn macros env list)
-  means [] = subst (Means []) (sym (turn-nothing macros env)) Means.nothing_left
+  means : (list : List Hiding) → Means list (expansion_step macros env list)
+  means [] = subst (Means []) (sym (expansion_step-nothing macros env)) Means.nothing_left
   means (t ∷ rest) = by_quote t rest (is_unmatched_quote t.token) refl
 
   -- ---- and each rule is the step of its lists
 
-  calls_turn : {t : Hiding} {d : Macro} (rest : List Hiding) → NamesMacro macros t d → (s : MacroKind) → d.kind ≡ s → turn macros env (t ∷ rest) ≡ macro_turn env t rest d s
-  calls_turn {t = t} {d = d} rest c s e = turn-named macros env t rest c.no_quote c.not_hidden ∙ ap (named_turn env t rest) c.named ∙ ap (macro_turn env t rest d) e
+  calls_turn : {t : Hiding} {d : Macro} (rest : List Hiding) → NamesMacro macros t d → (s : MacroKind) → d.kind ≡ s → expansion_step macros env (t ∷ rest) ≡ macro_step env t rest d s
+  calls_turn {t = t} {d = d} rest c s e = expansion_step-named macros env t rest c.no_quote c.not_hidden ∙ ap (named_step env t rest) c.named ∙ ap (macro_step env t rest d) e
 
-  not_opened : (t : Hiding) (d : Macro) (names : List Name) (variadic : Variadic) (rest : List Hiding) → opens_next rest ≡ false → function_turn t d names variadic rest ≡ Passes t rest
+  not_opened : (t : Hiding) (d : Macro) (names : List Name) (variadic : Variadic) (rest : List Hiding) → opens_next rest ≡ false → function_step t d names variadic rest ≡ Emits t rest
   not_opened t d names variadic [] e = refl
   not_opened t d names variadic (p ∷ rest) e = rw e refl
 
@@ -128,33 +128,33 @@ module _ (macros : Macros) (env : Env) where
       → Opens macros t paren d names variadic
       → (g : Gathered)
       → gather 0 (separators names variadic) inside ≡ g
-      → turn macros env (t ∷ paren ∷ inside) ≡ invoked t d names variadic g
+      → expansion_step macros env (t ∷ paren ∷ inside) ≡ invocation_step t d names variadic g
   invokes_turn {t = t} {paren = paren} {d = d} {names = names} {variadic = variadic} inside i g e =
-      let opened : function_turn t d names variadic (paren ∷ inside) ≡ invoked t d names variadic (gather 0 (separators names variadic) inside) = rw (i.paren_opens) refl in
-      calls_turn (paren ∷ inside) i.names_macro (FunctionLike names variadic) i.kind ∙ opened ∙ ap (invoked t d names variadic) e
+      let opened : function_step t d names variadic (paren ∷ inside) ≡ invocation_step t d names variadic (gather 0 (separators names variadic) inside) = rw (i.paren_opens) refl in
+      calls_turn (paren ∷ inside) i.names_macro (FunctionLike names variadic) i.kind ∙ opened ∙ ap (invocation_step t d names variadic) e
 
-  called-is : (call : Call) (close : Hiding) (o : Option (List (List Hiding)))
+  call_step-is : (call : Call) (close : Hiding) (o : Option (List (List Hiding)))
       → o ≡ Some call.arguments
       → call.gain ≡ gain_of call.head.hide close.hide call.head.token.text
-      → called call.head call.macro o close call.behind ≡ Called call
-  called-is call close o e g = ap (λ o. called call.head call.macro o close call.behind) e ∙ (λ i. Called (record { head = call.head; macro = call.macro; arguments = call.arguments; gain = (sym g) i; behind = call.behind }))
+      → call_step call.head call.macro o close call.following ≡ Called call
+  call_step-is call close o e g = ap (λ o. call_step call.head call.macro o close call.following) e ∙ (λ i. Called (record { head = call.head; macro = call.macro; arguments = call.arguments; gain = (sym g) i; following = call.following }))
 
-  meant : {list : List Hiding} {x : Turn} → Means list x → turn macros env list ≡ x
-  meant Means.nothing_left = turn-nothing macros env
-  meant (Means.lone_quote {t = t} {rest = rest} q) = turn-quote macros env t rest q
-  meant (Means.no_macro {t = t} {rest = rest} q n) = turn-unnamed macros env t rest q n
-  meant (Means.hidden {t = t} {rest = rest} q h) = turn-hidden macros env t rest q h
+  meant : {list : List Hiding} {x : ExpansionStep} → Means list x → expansion_step macros env list ≡ x
+  meant Means.nothing_left = expansion_step-nothing macros env
+  meant (Means.unmatched_quote {t = t} {rest = rest} q) = expansion_step-quote macros env t rest q
+  meant (Means.no_macro {t = t} {rest = rest} q n) = expansion_step-unnamed macros env t rest q n
+  meant (Means.hidden {t = t} {rest = rest} q h) = expansion_step-hidden macros env t rest q h
   meant (Means.predefined {rest = rest} {b = b} c e) = calls_turn rest c (Predefined b) e
   meant (Means.object_like {rest = rest} c e h) = calls_turn rest c ObjectLike e ∙ ap (λ r. replaced_by r rest) h
   meant (Means.object_refused {rest = rest} c e h) = calls_turn rest c ObjectLike e ∙ ap (λ r. replaced_by r rest) h
   meant (Means.not_invoked {t = t} {rest = rest} {d = d} {names = names} {variadic = variadic} c e n) = calls_turn rest c (FunctionLike names variadic) e ∙ not_opened t d names variadic rest n
-  meant (Means.quote_inside {quote = quote} {inside = inside} i g) = invokes_turn inside i (Quoted quote) g
+  meant (Means.quote_inside {quote = quote} {inside = inside} i g) = invokes_turn inside i (UnmatchedQuote quote) g
   meant (Means.unclosed {inside = inside} i g) = invokes_turn inside i Unclosed g
-  meant (Means.wrong_number {t = t} {close = close} {inside = inside} {behind = behind} {d = d} {arguments = arguments} i g f) =
-      invokes_turn inside i (Closed arguments close behind) g ∙ ap (λ o. called t d o close behind) f
+  meant (Means.wrong_number {t = t} {close = close} {inside = inside} {following = following} {d = d} {arguments = arguments} i g f) =
+      invokes_turn inside i (Closed arguments close following) g ∙ ap (λ o. call_step t d o close following) f
   meant (Means.begins {call = call} b) =
-      ap (turn macros env) b.laid_out ∙ invokes_turn b.inside b.opens (Closed b.arguments b.close call.behind) b.closed
-      ∙ called-is call b.close (fitted b.names b.variadic b.arguments) b.fits b.gains
+      ap (expansion_step macros env) b.laid_out ∙ invokes_turn b.inside b.opens (Closed b.arguments b.close call.following) b.closed
+      ∙ call_step-is call b.close (fit_arguments b.names b.variadic b.arguments) b.fits b.gains
 
   -- ---- from a step to a rule
 
@@ -162,10 +162,10 @@ module _ (macros : Macros) (env : Env) where
   at_done Means.nothing_left = StandardExpands.nothing_left
 
   at_refused : {level : ℕ} {list : List Hiding} {f : Fault} → Means list (Refused f) → StandardExpands macros env level list [] (Some f)
-  at_refused (Means.lone_quote q) = StandardExpands.lone_quote q
+  at_refused (Means.unmatched_quote q) = StandardExpands.unmatched_quote q
 
   at_passes : {level : ℕ} {list rest tokens : List Hiding} {t : Hiding} {fault : Option Fault}
-      → Means list (Passes t rest)
+      → Means list (Emits t rest)
       → StandardExpands macros env level rest tokens fault
       → StandardExpands macros env level list (t ∷ tokens) fault
   at_passes (Means.no_macro q n) more = StandardExpands.no_macro q n more
@@ -186,70 +186,70 @@ module _ (macros : Macros) (env : Env) where
   at_called (Means.begins b) = b
 
   -- the result of an invocation
-  result_failed : (call : Call) (expanded : List (Option (List Hiding))) (f : Fault) (r : Result Replacement Fault) → replaced_by r call.behind ≡ Failed f → r ≡ Err f
+  result_failed : (call : Call) (expanded : List (Option (List Hiding))) (f : Fault) (r : Result Replacement Fault) → replaced_by r call.following ≡ Failed f → r ≡ Err f
   result_failed call expanded f (Ok m) e = absurd (cc)
   result_failed call expanded f (Err g) e = let same : g ≡ f = cc in ap Err same
 
-  result_replaced : (behind next : List Hiding) (r : Result Replacement Fault) → replaced_by r behind ≡ Replaced next → (m : Replacement) × (r ≡ Ok m) × (followed_by behind m ≡ next)
-  result_replaced behind next (Ok m) e = let same : followed_by behind m ≡ next = cc in (m, refl, same)
-  result_replaced behind next (Err f) e = absurd (cc)
+  result_replaced : (following next : List Hiding) (r : Result Replacement Fault) → replaced_by r following ≡ Replaced next → (m : Replacement) × (r ≡ Ok m) × (followed_by following m ≡ next)
+  result_replaced following next (Ok m) e = let same : followed_by following m ≡ next = cc in (m, refl, same)
+  result_replaced following next (Err f) e = absurd (cc)
 
   at_next : {level : ℕ} {list next tokens : List Hiding} {fault : Option Fault} {call : Call} {expanded : List (Option (List Hiding))}
       → Invokes macros list call
       → StandardExpandsArguments macros env level call (wanted call) (Ok expanded)
-      → finished call expanded ≡ Replaced next
+      → finish_call call expanded ≡ Replaced next
       → StandardExpands macros env level next tokens fault
       → StandardExpands macros env level list tokens fault
   at_next {level = level} {next = next} {tokens = tokens} {fault = fault} {call = call} {expanded = expanded} b a e more =
-      let r = result_replaced call.behind next (invocation_result call expanded) (sym (finished-is call expanded) ∙ e) in
+      let r = result_replaced call.following next (invocation_result call expanded) (sym (finish_call-is call expanded) ∙ e) in
       StandardExpands.invocation b a r.1 (subst (λ x. StandardExpands macros env level x tokens fault) (sym r.2) more)
 
   -- ---- without a budget, by the standard's rules
 
-  by_rule : {left : Option ℕ} (list : List Hiding) {x : Turn} → left ≡ None → turn_within macros env left list ≡ x → Means list x
-  by_rule list {x = x} is e = subst (Means list) (subst (λ l. turn_within macros env l list ≡ x) is e) (means list)
+  by_rule : {left : Option ℕ} (list : List Hiding) {x : ExpansionStep} → left ≡ None → step_in_budget macros env left list ≡ x → Means list x
+  by_rule list {x = x} is e = subst (Means list) (subst (λ l. step_in_budget macros env l list ≡ x) is e) (means list)
 
   mutual
-    standard : {level turns : ℕ} {left : Option ℕ} {list : List Hiding} {out : Outcome} → left ≡ None → Expands macros env level left turns list out → StandardExpands macros env level list out.tokens out.fault
-    standard {list = list} is (within.done e) = at_done (by_rule list is e)
-    standard {list = list} is (within.refused e) = at_refused (by_rule list is e)
-    standard {list = list} is (within.passes e more) = at_passes (by_rule list is e) (standard is more)
-    standard {list = list} is (within.failed e) = at_failed (by_rule list is e)
-    standard {list = list} is (within.replaced e more) = at_replaced (by_rule list is e) (standard (ap less_one is) more)
-    standard {list = list} is (within.argument_refused e a) = StandardExpands.argument_refused (at_called (by_rule list is e)) (standard_arguments (ap less_one is) a)
-    standard {list = list} is (within.call_failed {call = call} {expanded = expanded} {f = f} e a h) =
-        StandardExpands.invocation_refused (at_called (by_rule list is e)) (standard_arguments (ap less_one is) a) (result_failed call expanded f (invocation_result call expanded) (sym (finished-is call expanded) ∙ h))
-    standard {list = list} is (within.call_replaced e a h more) =
-        at_next (at_called (by_rule list is e)) (standard_arguments (ap less_one is) a) h (standard (arguments_none macros env (ap less_one is) a) more)
+    standard : {level steps : ℕ} {left : Option ℕ} {list : List Hiding} {out : Outcome} → left ≡ None → Expands macros env level left steps list out → StandardExpands macros env level list out.tokens out.fault
+    standard {list = list} is (in_budget.done e) = at_done (by_rule list is e)
+    standard {list = list} is (in_budget.refused e) = at_refused (by_rule list is e)
+    standard {list = list} is (in_budget.emits e more) = at_passes (by_rule list is e) (standard is more)
+    standard {list = list} is (in_budget.failed e) = at_failed (by_rule list is e)
+    standard {list = list} is (in_budget.replaced e more) = at_replaced (by_rule list is e) (standard (ap spend_one is) more)
+    standard {list = list} is (in_budget.argument_refused e a) = StandardExpands.argument_refused (at_called (by_rule list is e)) (standard_arguments (ap spend_one is) a)
+    standard {list = list} is (in_budget.call_failed {call = call} {expanded = expanded} {f = f} e a h) =
+        StandardExpands.invocation_refused (at_called (by_rule list is e)) (standard_arguments (ap spend_one is) a) (result_failed call expanded f (invocation_result call expanded) (sym (finish_call-is call expanded) ∙ h))
+    standard {list = list} is (in_budget.call_replaced e a h more) =
+        at_next (at_called (by_rule list is e)) (standard_arguments (ap spend_one is) a) h (standard (arguments_none macros env (ap spend_one is) a) more)
 
     standard_arguments : {level : ℕ} {call : Call} {left after : Option ℕ} {as' : List (Option (List Hiding))} {r : ExpandedArguments}
         → left ≡ None
         → ExpandsArguments macros env level call left as' after r
         → StandardExpandsArguments macros env level call as' r
-    standard_arguments is within.none = StandardExpandsArguments.none
-    standard_arguments is (within.unused more) = StandardExpandsArguments.unused (standard_arguments is more)
-    standard_arguments is (within.too_deep h) = StandardExpandsArguments.too_deep h
-    standard_arguments is (within.used h one more) = StandardExpandsArguments.used h (standard is one) (standard_arguments (left_none macros env is one) more)
-    standard_arguments is (within.used_refused h one) = StandardExpandsArguments.used_refused h (standard is one)
+    standard_arguments is in_budget.none = StandardExpandsArguments.none
+    standard_arguments is (in_budget.unused more) = StandardExpandsArguments.unused (standard_arguments is more)
+    standard_arguments is (in_budget.too_deep h) = StandardExpandsArguments.too_deep h
+    standard_arguments is (in_budget.used h one more) = StandardExpandsArguments.used h (standard is one) (standard_arguments (left_none macros env is one) more)
+    standard_arguments is (in_budget.used_refused h one) = StandardExpandsArguments.used_refused h (standard is one)
 
   -- ---- by the standard's rules, without a budget
 
   abbrev Unbudgeted : ℕ → List Hiding → List Hiding → Option Fault → Type 0
   Unbudgeted level list tokens fault = ExpandsTo macros env level None list (record { tokens = tokens; fault = fault; left = None })
 
-  passing : {level : ℕ} {t : Hiding} {list rest tokens : List Hiding} {fault : Option Fault} → Means list (Passes t rest) → Unbudgeted level rest tokens fault → Unbudgeted level list (t ∷ tokens) fault
-  passing m more = (suc more.0, within.passes (meant m) more.1)
+  passing : {level : ℕ} {t : Hiding} {list rest tokens : List Hiding} {fault : Option Fault} → Means list (Emits t rest) → Unbudgeted level rest tokens fault → Unbudgeted level list (t ∷ tokens) fault
+  passing m more = (suc more.0, in_budget.emits (meant m) more.1)
 
   replacing : {level : ℕ} {list next tokens : List Hiding} {fault : Option Fault} → Means list (Replaced next) → Unbudgeted level next tokens fault → Unbudgeted level list tokens fault
-  replacing m more = (suc more.0, within.replaced (meant m) more.1)
+  replacing m more = (suc more.0, in_budget.replaced (meant m) more.1)
 
   failing : {level : ℕ} {list : List Hiding} {f : Fault} → Means list (Failed f) → Unbudgeted level list [] (Some f)
-  failing m = (0, within.failed (meant m))
+  failing m = (0, in_budget.failed (meant m))
 
   mutual
     unbudgeted : {level : ℕ} {list tokens : List Hiding} {fault : Option Fault} → StandardExpands macros env level list tokens fault → Unbudgeted level list tokens fault
-    unbudgeted StandardExpands.nothing_left = (0, within.done (meant Means.nothing_left))
-    unbudgeted (StandardExpands.lone_quote q) = (0, within.refused (meant (Means.lone_quote q)))
+    unbudgeted StandardExpands.nothing_left = (0, in_budget.done (meant Means.nothing_left))
+    unbudgeted (StandardExpands.unmatched_quote q) = (0, in_budget.refused (meant (Means.unmatched_quote q)))
     unbudgeted (StandardExpands.no_macro q n more) = passing (Means.no_macro q n) (unbudgeted more)
     unbudgeted (StandardExpands.hidden q h more) = passing (Means.hidden q h) (unbudgeted more)
     unbudgeted (StandardExpands.predefined c e more) = replacing (Means.predefined c e) (unbudgeted more)
@@ -259,19 +259,19 @@ module _ (macros : Macros) (env : Env) where
     unbudgeted (StandardExpands.quote_inside i g) = failing (Means.quote_inside i g)
     unbudgeted (StandardExpands.unclosed i g) = failing (Means.unclosed i g)
     unbudgeted (StandardExpands.wrong_number i g f) = failing (Means.wrong_number i g f)
-    unbudgeted (StandardExpands.argument_refused b a) = (0, within.argument_refused (meant (Means.begins b)) (unbudgeted_arguments a))
+    unbudgeted (StandardExpands.argument_refused b a) = (0, in_budget.argument_refused (meant (Means.begins b)) (unbudgeted_arguments a))
     unbudgeted (StandardExpands.invocation_refused {call = call} {expanded = expanded} b a e) =
-        (0, within.call_failed (meant (Means.begins b)) (unbudgeted_arguments a) (finished-is call expanded ∙ ap (λ r. replaced_by r call.behind) e))
+        (0, in_budget.call_failed (meant (Means.begins b)) (unbudgeted_arguments a) (finish_call-is call expanded ∙ ap (λ r. replaced_by r call.following) e))
     unbudgeted (StandardExpands.invocation {call = call} {expanded = expanded} b a e rest) =
         let more = unbudgeted rest in
-        (suc more.0, within.call_replaced (meant (Means.begins b)) (unbudgeted_arguments a) (finished-is call expanded ∙ ap (λ r. replaced_by r call.behind) e) more.1)
+        (suc more.0, in_budget.call_replaced (meant (Means.begins b)) (unbudgeted_arguments a) (finish_call-is call expanded ∙ ap (λ r. replaced_by r call.following) e) more.1)
 
     unbudgeted_arguments : {level : ℕ} {call : Call} {as' : List (Option (List Hiding))} {r : ExpandedArguments} → StandardExpandsArguments macros env level call as' r → ExpandsArguments macros env level call None as' None r
-    unbudgeted_arguments StandardExpandsArguments.none = within.none
-    unbudgeted_arguments (StandardExpandsArguments.unused more) = within.unused (unbudgeted_arguments more)
-    unbudgeted_arguments (StandardExpandsArguments.too_deep h) = within.too_deep h
-    unbudgeted_arguments (StandardExpandsArguments.used h one more) = within.used h (unbudgeted one).1 (unbudgeted_arguments more)
-    unbudgeted_arguments (StandardExpandsArguments.used_refused h one) = within.used_refused h (unbudgeted one).1
+    unbudgeted_arguments StandardExpandsArguments.none = in_budget.none
+    unbudgeted_arguments (StandardExpandsArguments.unused more) = in_budget.unused (unbudgeted_arguments more)
+    unbudgeted_arguments (StandardExpandsArguments.too_deep h) = in_budget.too_deep h
+    unbudgeted_arguments (StandardExpandsArguments.used h one more) = in_budget.used h (unbudgeted one).1 (unbudgeted_arguments more)
+    unbudgeted_arguments (StandardExpandsArguments.used_refused h one) = in_budget.used_refused h (unbudgeted one).1
 
   -- ---- both ways
 
@@ -286,10 +286,10 @@ module _ (macros : Macros) (env : Env) where
 
   tokens_standard : {tokens : List Token} {e : Expanded} → IsExpansion macros env None tokens e → IsStandardExpansion macros env tokens e.tokens e.fault
   tokens_standard x =
-      record { passed = x.outcome.tokens; expands = subst (λ f. StandardExpands macros env 0 _ x.outcome.tokens f) (sym x.ended) (standard refl x.expands.1); is = x.passed }
+      record { emitted = x.outcome.tokens; expands = subst (λ f. StandardExpands macros env 0 _ x.outcome.tokens f) (sym x.ended) (standard refl x.expands.1); is = x.emitted }
 
   tokens_unbudgeted : {tokens : List Token} {e : Expanded} → e.left ≡ None → IsStandardExpansion macros env tokens e.tokens e.fault → IsExpansion macros env None tokens e
-  tokens_unbudgeted {e = e} none s = record { outcome = record { tokens = s.passed; fault = e.fault; left = None }; expands = unbudgeted s.expands; passed = s.is; ended = refl; left_over = none }
+  tokens_unbudgeted {e = e} none s = record { outcome = record { tokens = s.emitted; fault = e.fault; left = None }; expands = unbudgeted s.expands; emitted = s.is; ended = refl; left_over = none }
 
   pub expansion_standard : (tokens : List Token) (e : Expanded) → IsExpansion macros env None tokens e ↔ ((e.left ≡ None) × IsStandardExpansion macros env tokens e.tokens e.fault)
   expansion_standard tokens e = (λ x. (tokens_left x, tokens_standard x), λ s. tokens_unbudgeted s.0 s.1)

@@ -19,14 +19,14 @@ use Rattle.ppmacro.specs.declared.macros.MacroKind.{MacroKind}
 use Rattle.ppmacro.specs.declared.macros.MacroKind.TheVariants.{Predefined, ObjectLike, FunctionLike}
 use Rattle.ppmacro.specs.Chains.{chains_of}
 use Rattle.ppmacro.specs.Substitution.{Arguments, Replacement, macro_replacement, after_ok, chains_tokens, hsadd}
-use Rattle.ppexpand.specs.Arguments.{Gathered, Closed, Quoted, Unclosed, argument_role, gather, separators, fitted, separates, fewer, with_token, with_argument, is_open, Quote, Open, Close, Comma, Inner}
+use Rattle.ppexpand.specs.Arguments.{Gathered, Closed, UnmatchedQuote, Unclosed, argument_role, gather, separators, fit_arguments, separates, fewer, with_token, with_argument, is_open, Quote, Open, Close, Comma, Inner}
 use Rattle.ppexpand.specs.declared.env.Env.{Env}
-use Rattle.ppexpand.specs.Turn.{Call, Turn, Done, Refused, Passes, Failed, Replaced, Called, turn, finished, mark_next, followed_by, replaced_by, gain_of, quote_fault, called, invoked, function_turn, macro_turn, named_turn}
-use Rattle.ppexpand.specs.Budget.{over, within}
-use Rattle.ppexpand.specs.Turn.{macro_of}
-use Rattle.ppexpand.specs.Expansion.{turn_within}
-use Rattle.ppexpand.specs.Ending.{hides, Holds, Gains, IsOutside, Step}
-use Rattle.ppexpand.specs.Ending as ending
+use Rattle.ppexpand.specs.ExpansionStep.{Call, ExpansionStep, Done, Refused, Emits, Failed, Replaced, Called, expansion_step, finish_call, mark_next, followed_by, replaced_by, gain_of, quote_fault, call_step, invocation_step, function_step, macro_step, named_step}
+use Rattle.ppexpand.specs.Budget.{over, in_budget}
+use Rattle.ppexpand.specs.ExpansionStep.{macro_of}
+use Rattle.ppexpand.specs.Expansion.{step_in_budget}
+use Rattle.ppexpand.specs.Termination.{hides, Holds, Gains, IsOutside, Step}
+use Rattle.ppexpand.specs.Termination as ending
 
 pub hides-append : (xs ys : List Hiding) → hides (xs ++ ys) ≡ hides xs ++ hides ys
 hides-append [] ys = refl
@@ -67,26 +67,26 @@ among_meaning macros t d = elim (is_identifier t) as (λ b. (if b then table.get
 
 -- the collected tokens are before the matching `)`
 abbrev pub Stands : List Hiding → Gathered → Type 0
-Stands list (Closed as' close behind) = (inside : List Hiding) × (list ≡ inside ++ close ∷ behind)
-Stands list (Quoted q) = Unit {0}
+Stands list (Closed as' close following) = (inside : List Hiding) × (list ≡ inside ++ close ∷ following)
+Stands list (UnmatchedQuote q) = Unit {0}
 Stands list Unclosed = Unit {0}
 
 stands_token : (t : Hiding) (list : List Hiding) (g : Gathered) → Stands list g → Stands (t ∷ list) (with_token t g)
-stands_token t list (Closed [] close behind) h = (t ∷ h.0, ap (λ xs. t ∷ xs) h.1)
-stands_token t list (Closed (a ∷ as') close behind) h = (t ∷ h.0, ap (λ xs. t ∷ xs) h.1)
-stands_token t list (Quoted q) h = tt
+stands_token t list (Closed [] close following) h = (t ∷ h.0, ap (λ xs. t ∷ xs) h.1)
+stands_token t list (Closed (a ∷ as') close following) h = (t ∷ h.0, ap (λ xs. t ∷ xs) h.1)
+stands_token t list (UnmatchedQuote q) h = tt
 stands_token t list Unclosed h = tt
 
 stands_argument : (t : Hiding) (list : List Hiding) (g : Gathered) → Stands list g → Stands (t ∷ list) (with_argument g)
-stands_argument t list (Closed as' close behind) h = (t ∷ h.0, ap (λ xs. t ∷ xs) h.1)
-stands_argument t list (Quoted q) h = tt
+stands_argument t list (Closed as' close following) h = (t ∷ h.0, ap (λ xs. t ∷ xs) h.1)
+stands_argument t list (UnmatchedQuote q) h = tt
 stands_argument t list Unclosed h = tt
 
 pub gathered_stands : (list : List Hiding) (depth : ℕ) (commas : Option ℕ) → Stands list (gather depth commas list)
 gathered_stands [] depth commas = tt
 gathered_stands (t ∷ ts) depth commas =
     elim (argument_role t.token) as (λ m. Stands (t ∷ ts) (elim m as (λ _. Gathered) [
-      | Quote ↦ Quoted t
+      | Quote ↦ UnmatchedQuote t
       | Open ↦ with_token t (gather (suc depth) commas ts)
       | Close ↦ elim depth as (λ _. Gathered) [ zero ↦ Closed ([] ∷ []) t ts | suc d ↦ with_token t (gather d commas ts) ]
       | Comma ↦ elim (separates depth commas) as (λ _. Gathered) [ true ↦ with_argument (gather depth (fewer commas) ts) | false ↦ with_token t (gather depth commas ts) ]
@@ -113,15 +113,15 @@ module _ (macros : Macros) (env : Env) where
   pub record Found (list : List Hiding) (call : Call) : Type 0 where
     pub inside : List Hiding
     pub close : Hiding
-    pub is : list ≡ call.head ∷ (inside ++ close ∷ call.behind)
+    pub is : list ≡ call.head ∷ (inside ++ close ∷ call.following)
     pub outside : IsOutside macros call.head.token.text call.head.hide
     pub gains : call.gain ≡ gain_of call.head.hide close.hide call.head.token.text
 
   -- what an expansion step says of the list
-  abbrev pub StepsTo : List Hiding → Turn → Type 0
+  abbrev pub StepsTo : List Hiding → ExpansionStep → Type 0
   StepsTo list Done = Unit {0}
   StepsTo list (Refused fault) = Unit {0}
-  StepsTo list (Passes t rest) = list ≡ t ∷ rest
+  StepsTo list (Emits t rest) = list ≡ t ∷ rest
   StepsTo list (Failed fault) = Unit {0}
   StepsTo list (Replaced next) = HideStep (hides list) (hides next)
   StepsTo list (Called call) = Found list call
@@ -156,8 +156,8 @@ module _ (macros : Macros) (env : Env) where
     gains_object h k ts all.1,
   )
 
-  hides-followed_by : (behind : List Hiding) (m : Replacement) → hides (followed_by behind m) ≡ hides m.tokens ++ hides behind
-  hides-followed_by behind m = hides-append m.tokens (mark_next m.pending behind) ∙ ap (λ hs. hides m.tokens ++ hs) (hides-mark_next m.pending behind)
+  hides-followed_by : (following : List Hiding) (m : Replacement) → hides (followed_by following m) ≡ hides m.tokens ++ hides following
+  hides-followed_by following m = hides-append m.tokens (mark_next m.pending following) ∙ ap (λ hs. hides m.tokens ++ hs) (hides-mark_next m.pending following)
 
   object_steps : (t : Hiding) (rest : List Hiding)
       → IsOutside macros t.token.text t.hide
@@ -171,27 +171,27 @@ module _ (macros : Macros) (env : Env) where
       → IsOutside macros t.token.text t.hide
       → (d : Macro) (names : List Name) (variadic : Variadic) (g : Gathered)
       → Stands rest g
-      → StepsTo (t ∷ (p ∷ rest)) (invoked t d names variadic g)
-  call_steps t p rest out d names variadic (Closed as' close behind) stands = by_count (fitted names variadic as')
+      → StepsTo (t ∷ (p ∷ rest)) (invocation_step t d names variadic g)
+  call_steps t p rest out d names variadic (Closed as' close following) stands = by_count (fit_arguments names variadic as')
     where
-      by_count : (o : Option (List (List Hiding))) → StepsTo (t ∷ (p ∷ rest)) (called t d o close behind)
+      by_count : (o : Option (List (List Hiding))) → StepsTo (t ∷ (p ∷ rest)) (call_step t d o close following)
       by_count (Some bs) = record { inside = p ∷ stands.0; close = close; is = ap (λ xs. t ∷ (p ∷ xs)) stands.1; outside = out; gains = refl }
       by_count None = tt
-  call_steps t p rest out d names variadic (Quoted q) stands = tt
+  call_steps t p rest out d names variadic (UnmatchedQuote q) stands = tt
   call_steps t p rest out d names variadic Unclosed stands = tt
 
   function_steps : (t : Hiding) (rest : List Hiding)
       → IsOutside macros t.token.text t.hide
       → (d : Macro) (names : List Name) (variadic : Variadic)
-      → StepsTo (t ∷ rest) (function_turn t d names variadic rest)
+      → StepsTo (t ∷ rest) (function_step t d names variadic rest)
   function_steps t [] out d names variadic = refl
   function_steps t (p ∷ rest) out d names variadic =
-      elim (is_open p.token) as (λ b. StepsTo (t ∷ (p ∷ rest)) (if b then invoked t d names variadic (gather 0 (separators names variadic) rest) else Passes t (p ∷ rest))) [
+      elim (is_open p.token) as (λ b. StepsTo (t ∷ (p ∷ rest)) (if b then invocation_step t d names variadic (gather 0 (separators names variadic) rest) else Emits t (p ∷ rest))) [
         | true ↦ call_steps t p rest out d names variadic _ (gathered_stands rest 0 (separators names variadic))
         | false ↦ refl
       ]
 
-  macro_steps : (t : Hiding) (rest : List Hiding) → IsOutside macros t.token.text t.hide → (d : Macro) (kind : MacroKind) → StepsTo (t ∷ rest) (macro_turn env t rest d kind)
+  macro_steps : (t : Hiding) (rest : List Hiding) → IsOutside macros t.token.text t.hide → (d : Macro) (kind : MacroKind) → StepsTo (t ∷ rest) (macro_step env t rest d kind)
   macro_steps t rest out d (Predefined b) = ending.replaced t.token.text out (set.insert t.hide t.token.text ∷ []) (
     record {
       common = λ q in_h _. set.contains-insert nat_list_cmp_total t.hide t.token.text q ∙ ap (λ b. same_name q t.token.text || b) in_h ∙ or_right _ true refl;
@@ -202,17 +202,17 @@ module _ (macros : Macros) (env : Env) where
   macro_steps t rest out d ObjectLike = object_steps t rest out _ (λ m e. substituted_gain d _ _ _ _ m e)
   macro_steps t rest out d (FunctionLike names variadic) = function_steps t rest out d names variadic
 
-  named_steps : (t : Hiding) (rest : List Hiding) → set.contains t.hide t.token.text ≡ false → (o : Option Macro) → macro_of macros t.token ≡ o → StepsTo (t ∷ rest) (named_turn env t rest o)
+  named_steps : (t : Hiding) (rest : List Hiding) → set.contains t.hide t.token.text ≡ false → (o : Option Macro) → macro_of macros t.token ≡ o → StepsTo (t ∷ rest) (named_step env t rest o)
   named_steps t rest free None e = refl
   named_steps t rest free (Some d) e = macro_steps t rest (record { macro = among_meaning macros t.token d e; outside = free }) d d.kind
 
-  pub turn_steps : (list : List Hiding) → StepsTo list (turn macros env list)
-  unfolding turn
+  pub turn_steps : (list : List Hiding) → StepsTo list (expansion_step macros env list)
+  unfolding expansion_step
   turn_steps [] = tt
   turn_steps (t ∷ rest) =
-      elim (is_unmatched_quote t.token) as (λ b. StepsTo (t ∷ rest) (if b then Refused (quote_fault t) else (if set.contains t.hide t.token.text then Passes t rest else named_turn env t rest (macro_of macros t.token)))) [
+      elim (is_unmatched_quote t.token) as (λ b. StepsTo (t ∷ rest) (if b then Refused (quote_fault t) else (if set.contains t.hide t.token.text then Emits t rest else named_step env t rest (macro_of macros t.token)))) [
         | true ↦ tt
-        | false ↦ elim (set.contains t.hide t.token.text) as (λ b. set.contains t.hide t.token.text ≡ b → StepsTo (t ∷ rest) (if b then Passes t rest else named_turn env t rest (macro_of macros t.token))) [
+        | false ↦ elim (set.contains t.hide t.token.text) as (λ b. set.contains t.hide t.token.text ≡ b → StepsTo (t ∷ rest) (if b then Emits t rest else named_step env t rest (macro_of macros t.token))) [
           | true ↦ λ _. refl
           | false ↦ λ free. named_steps t rest free _ refl
         ] refl
@@ -222,33 +222,33 @@ module _ (macros : Macros) (env : Env) where
   over_steps [] = tt
   over_steps (t ∷ rest) = tt
 
-  within_steps : (left : Option ℕ) (list : List Hiding) (t : Turn) → StepsTo list t → StepsTo list (within left list t)
+  within_steps : (left : Option ℕ) (list : List Hiding) (t : ExpansionStep) → StepsTo list t → StepsTo list (in_budget left list t)
   within_steps None list t h = h
   within_steps (Some (suc n)) list t h = h
   within_steps (Some zero) list Done h = h
   within_steps (Some zero) list (Refused f) h = h
-  within_steps (Some zero) list (Passes t rest) h = h
+  within_steps (Some zero) list (Emits t rest) h = h
   within_steps (Some zero) list (Failed f) h = over_steps list
   within_steps (Some zero) list (Replaced next) h = over_steps list
   within_steps (Some zero) list (Called call) h = over_steps list
 
-  pub turn_within_steps : (left : Option ℕ) (list : List Hiding) → StepsTo list (turn_within macros env left list)
-  turn_within_steps left list = within_steps left list (turn macros env list) (turn_steps list)
+  pub turn_within_steps : (left : Option ℕ) (list : List Hiding) → StepsTo list (step_in_budget macros env left list)
+  turn_within_steps left list = within_steps left list (expansion_step macros env list) (turn_steps list)
 
   -- the step after the arguments of an invocation are expanded
-  abbrev pub FinishesTo : List Hiding → Turn → Type 0
+  abbrev pub FinishesTo : List Hiding → ExpansionStep → Type 0
   FinishesTo list (Replaced next) = HideStep (hides list) (hides next)
   FinishesTo list (Failed fault) = Unit {0}
   FinishesTo list _ = ⊥
 
-  finishes : (list : List Hiding) (call : Call) → Found list call → (r : Result Replacement Fault) → ((m : Replacement) → r ≡ Ok m → AllByRecursion (HasGain call.gain) m.tokens) → FinishesTo list (replaced_by r call.behind)
+  finishes : (list : List Hiding) (call : Call) → Found list call → (r : Result Replacement Fault) → ((m : Replacement) → r ≡ Ok m → AllByRecursion (HasGain call.gain) m.tokens) → FinishesTo list (replaced_by r call.following)
   finishes list call found (Ok m) gain =
-      let lists : hides list ≡ call.head.hide ∷ (hides found.inside ++ found.close.hide ∷ hides call.behind) = ap hides found.is ∙ ap (λ hs. call.head.hide ∷ hs) (hides-append found.inside (found.close ∷ call.behind)) in
-      subst (λ hs. HideStep hs (hides (followed_by call.behind m))) (sym lists)
-      (ending.invoked call.head.token.text found.outside (hides found.inside) found.close.hide (hides call.behind) refl (hides m.tokens)
-      (gains_sets call.head.hide found.close.hide call.head.token.text call.gain found.gains m.tokens (gain m refl)) (hides-followed_by call.behind m))
+      let lists : hides list ≡ call.head.hide ∷ (hides found.inside ++ found.close.hide ∷ hides call.following) = ap hides found.is ∙ ap (λ hs. call.head.hide ∷ hs) (hides-append found.inside (found.close ∷ call.following)) in
+      subst (λ hs. HideStep hs (hides (followed_by call.following m))) (sym lists)
+      (ending.invocation_step call.head.token.text found.outside (hides found.inside) found.close.hide (hides call.following) refl (hides m.tokens)
+      (gains_sets call.head.hide found.close.hide call.head.token.text call.gain found.gains m.tokens (gain m refl)) (hides-followed_by call.following m))
   finishes list call found (Err f) gain = tt
 
-  pub finished_steps : (list : List Hiding) (call : Call) (as' : List (Option (List Hiding))) → Found list call → FinishesTo list (finished call as')
-  unfolding finished
+  pub finished_steps : (list : List Hiding) (call : Call) (as' : List (Option (List Hiding))) → Found list call → FinishesTo list (finish_call call as')
+  unfolding finish_call
   finished_steps list call as' found = finishes list call found _ (λ m e. substituted_gain call.macro _ call.gain _ _ m e)

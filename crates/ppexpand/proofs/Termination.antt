@@ -11,19 +11,19 @@ use Rattle.std.proofs.lemmas.Map.Lookups.{exact_bytes}
 use Rattle.std.proofs.lemmas.Map.Views.{tells_apart}
 use Rattle.ppmacro.specs.Names.{Name, HideSet, Macros}
 use Rattle.ppmacro.specs.code.Members.{same_name}
-use Rattle.ppexpand.specs.Ending.{Holds, Gains, left_out, IsOutside, Step, passes, replaced, invoked, Ends, ends, EndsAfter, FrontEnds, names_left}
+use Rattle.ppexpand.specs.Termination.{Holds, Gains, left_out, IsOutside, Step, emits, replaced, invocation_step, Ends, ends, EndsAfter, PrefixEnds, names_left}
 
 pub all-map : {A : Type 0} (P Q : A → Type 0) → ((x : A) → P x → Q x) → (xs : List A) → AllByRecursion P xs → AllByRecursion Q xs
 all-map P Q f [] h = tt
 all-map P Q f (x ∷ xs) h = (f x h.0, all-map P Q f xs h.1)
 
 -- the part of a list after a position
-all-behind : {A : Type 0} (P : A → Type 0) (p : List A) (x : A) (q : List A) → AllByRecursion P (p ++ x ∷ q) → P x × AllByRecursion P q
-all-behind P [] x q h = h
-all-behind P (y ∷ p) x q h = all-behind P p x q h.1
+all-following : {A : Type 0} (P : A → Type 0) (p : List A) (x : A) (q : List A) → AllByRecursion P (p ++ x ∷ q) → P x × AllByRecursion P q
+all-following P [] x q h = h
+all-following P (y ∷ p) x q h = all-following P p x q h.1
 
-behind-shorter : {A : Type 0} (p : List A) (x : A) (q : List A) → length q < length (p ++ x ∷ q)
-behind-shorter p x q = omega (arith, length-append p (x ∷ q))
+following-shorter : {A : Type 0} (p : List A) (x : A) (q : List A) → length q < length (p ++ x ∷ q)
+following-shorter p x q = omega (arith, length-append p (x ∷ q))
 
 -- where `p ++ x ∷ q` is `a ++ b`, x is in a or in b
 data Split {A : Type 0} (a b p : List A) (x : A) (q : List A) : Type 0 where
@@ -96,14 +96,14 @@ module _ (macros : Macros) where
   fewer_left S k out = left_out-less S (set.insert S k) (in_insert S k) k out.outside (at_insert S k) (table.keys macros) (sym (table.contains_key-keys macros k) ∙ out.macro)
 
   abbrev Above : HideSet → List HideSet → Type 0
-  Above S front = AllByRecursion (Holds S) front
+  Above S prefix = AllByRecursion (Holds S) prefix
 
   outside_part : (S h : HideSet) (k : Name) → Holds S h → IsOutside macros k h → IsOutside macros k S
   outside_part S h k above out = record { macro = out.macro; outside = not_above S h k above out.outside }
 
   -- a prefix whose sets have all names of S, if fewer than n names are not in S
   abbrev FrontsEnd : ℕ → ℕ → Type 0
-  FrontsEnd n k = (S : HideSet) → names_left macros S < n → (front : List HideSet) → length front ≤ k → FrontEnds macros S front
+  FrontsEnd n k = (S : HideSet) → names_left macros S < n → (prefix : List HideSet) → length prefix ≤ k → PrefixEnds macros S prefix
 
   -- the same prefix after a result whose sets have one name more
   abbrev ResultsEnd : ℕ → ℕ → Type 0
@@ -114,67 +114,67 @@ module _ (macros : Macros) where
       → IsOutside macros name S
       → (result : List HideSet)
       → Above (set.insert S name) result
-      → (front : List HideSet)
-      → length front ≤ k
-      → Above S front
-      → (behind : List HideSet)
-      → Ends macros behind
-      → EndsAfter macros S behind
-      → Ends macros (result ++ (front ++ behind))
+      → (prefix : List HideSet)
+      → length prefix ≤ k
+      → Above S prefix
+      → (following : List HideSet)
+      → Ends macros following
+      → EndsAfter macros S following
+      → Ends macros (result ++ (prefix ++ following))
 
   -- a step from a list that isn't empty, by its kind
   by_step : (P : List HideSet → Type 0) {h : HideSet} {rest after : List HideSet} → Step macros (h ∷ rest) after → P rest
       → ((k : Name) → IsOutside macros k h → (result : List HideSet) → AllByRecursion (Gains h h k) result → P (result ++ rest))
       → ((k : Name)
       → IsOutside macros k h
-      → (inside : List HideSet) (close : HideSet) (behind : List HideSet)
-      → rest ≡ inside ++ close ∷ behind
+      → (inside : List HideSet) (close : HideSet) (following : List HideSet)
+      → rest ≡ inside ++ close ∷ following
       → (result : List HideSet)
       → AllByRecursion (Gains h close k) result
-      → P (result ++ behind))
+      → P (result ++ following))
       → P after
-  by_step P passes p o f = p
+  by_step P emits p o f = p
   by_step P (replaced k out result gains e) p o f = rw e (o k out result gains)
-  by_step P (invoked k out inside close behind e result gains e') p o f = rw e' (f k out inside close behind e result gains)
+  by_step P (invocation_step k out inside close following e result gains e') p o f = rw e' (f k out inside close following e result gains)
 
   result_step : (n k : ℕ) → ((j : ℕ) → FrontsEnd n j) → FrontsEnd (suc n) k → ((j : ℕ) → j < k → ResultsEnd (suc n) j) → ResultsEnd (suc n) k
-  result_step n k lower front_k below S small name out result hsadd front short above behind ends_behind after =
+  result_step n k lower front_k below S small name out result hsadd prefix short above following ends_behind after =
       let fewer : names_left macros (set.insert S name) < names_left macros S = fewer_left S name out in
-      lower (length result) (set.insert S name) (omega arith) result (omega arith) hsadd (front ++ behind) (front_k S small front short above behind ends_behind after)
+      lower (length result) (set.insert S name) (omega arith) result (omega arith) hsadd (prefix ++ following) (front_k S small prefix short above following ends_behind after)
       (λ k2 out2 inside close rest e result2 reached.
       let out2' : IsOutside macros k2 S = outside_part S (set.insert S name) k2 (in_insert S name) out2 in
-      elim (split front behind inside close rest e) [
+      elim (split prefix following inside close rest e) [
         | in_first rest' at_front at_rest ↦
-            (let parts : Holds S close × Above S rest' = all-behind (Holds S) inside close rest' (subst (Above S) at_front above) in
-            let shorter : length rest' < length front = rw at_front (behind-shorter inside close rest') in
+            (let parts : Holds S close × Above S rest' = all-following (Holds S) inside close rest' (subst (Above S) at_front above) in
+            let shorter : length rest' < length prefix = rw at_front (following-shorter inside close rest') in
             rw at_rest
             (below (length rest') (omega arith) S small k2 out2' result2
             (all-map (Gains (set.insert S name) close k2) (Holds (set.insert S k2)) (λ r g. extended S k2 r (λ q s. g.common q (in_insert S name q s) (parts.0 q s)) g.own) result2 reached)
-            rest' (omega arith) parts.1 behind ends_behind after))
+            rest' (omega arith) parts.1 following ends_behind after))
         | in_second p' at_behind ↦
             after k2 out2' p' close rest at_behind result2
             (all-map (Gains (set.insert S name) close k2) (Gains S close k2) (λ r g. record { common = λ q s c. g.common q (in_insert S name q s) c; own = g.own }) result2 reached)
       ])
 
   front_step : (n k : ℕ) → ((j : ℕ) → j < k → FrontsEnd (suc n) j × ResultsEnd (suc n) j) → FrontsEnd (suc n) k
-  front_step n k below S small [] short above behind ends_behind after = ends_behind
-  front_step n k below S small (h ∷ front) short above behind ends_behind after =
+  front_step n k below S small [] short above following ends_behind after = ends_behind
+  front_step n k below S small (h ∷ prefix) short above following ends_behind after =
       ends (λ next step. by_step (Ends macros) step
-      ((below (length front) short).0 S small front (omega arith) above.1 behind ends_behind after)
+      ((below (length prefix) short).0 S small prefix (omega arith) above.1 following ends_behind after)
       (λ k2 out2 result gains.
-      (below (length front) short).1 S small k2 (outside_part S h k2 above.0 out2) result
+      (below (length prefix) short).1 S small k2 (outside_part S h k2 above.0 out2) result
       (all-map (Gains h h k2) (Holds (set.insert S k2)) (λ r g. extended S k2 r (λ q s. g.common q (above.0 q s) (above.0 q s)) g.own) result gains)
-      front (omega arith) above.1 behind ends_behind after)
+      prefix (omega arith) above.1 following ends_behind after)
       (λ k2 out2 inside close rest e result gains.
       let out2' : IsOutside macros k2 S = outside_part S h k2 above.0 out2 in
-      elim (split front behind inside close rest e) [
+      elim (split prefix following inside close rest e) [
         | in_first rest' at_front at_rest ↦
-            (let parts : Holds S close × Above S rest' = all-behind (Holds S) inside close rest' (subst (Above S) at_front above.1) in
-            let shorter : length rest' < length front = rw at_front (behind-shorter inside close rest') in
+            (let parts : Holds S close × Above S rest' = all-following (Holds S) inside close rest' (subst (Above S) at_front above.1) in
+            let shorter : length rest' < length prefix = rw at_front (following-shorter inside close rest') in
             rw at_rest
             ((below (length rest') (omega arith)).1 S small k2 out2' result
             (all-map (Gains h close k2) (Holds (set.insert S k2)) (λ r g. extended S k2 r (λ q s. g.common q (above.0 q s) (parts.0 q s)) g.own) result gains)
-            rest' (omega arith) parts.1 behind ends_behind after))
+            rest' (omega arith) parts.1 following ends_behind after))
         | in_second p' at_behind ↦
             after k2 out2' p' close rest at_behind result
             (all-map (Gains h close k2) (Gains S close k2) (λ r g. record { common = λ q s c. g.common q (above.0 q s) c; own = g.own }) result gains)
@@ -183,22 +183,22 @@ module _ (macros : Macros) where
   all_below : (n : ℕ) → ((j : ℕ) → FrontsEnd n j) → (k j : ℕ) → j < k → FrontsEnd (suc n) j × ResultsEnd (suc n) j
   all_below n lower zero j h = absurd (omega arith)
   all_below n lower (suc k) j h =
-      let f : FrontsEnd (suc n) j = λ S small front short. front_step n k (all_below n lower k) S small front (omega arith) in
+      let f : FrontsEnd (suc n) j = λ S small prefix short. front_step n k (all_below n lower k) S small prefix (omega arith) in
       (f, result_step n j lower f (λ i less. (all_below n lower k i (omega arith)).1))
 
   fronts_below : (n k : ℕ) → FrontsEnd n k
   fronts_below zero k = λ S small. absurd (omega arith)
   fronts_below (suc n) k = (all_below n (fronts_below n) (suc k) k (omega arith)).0
 
-  pub fronts_end : (S : HideSet) (front : List HideSet) → FrontEnds macros S front
-  fronts_end S front = fronts_below (suc (names_left macros S)) (length front) S (omega arith) front (omega arith)
+  pub prefixes_terminate : (S : HideSet) (prefix : List HideSet) → PrefixEnds macros S prefix
+  prefixes_terminate S prefix = fronts_below (suc (names_left macros S)) (length prefix) S (omega arith) prefix (omega arith)
 
   nothing_ends : Ends macros []
   nothing_ends = ends (λ after step. elim step [ ])
 
   -- the whole list is a prefix before the empty list: replacement terminates
   pub all_end : (list : List HideSet) → Ends macros list
-  all_end list = subst (Ends macros) (append-nil list) (fronts_end set.empty list (none list) [] nothing_ends (λ k out inside close rest e. absurd (not_nil inside close rest e)))
+  all_end list = subst (Ends macros) (append-nil list) (prefixes_terminate set.empty list (none list) [] nothing_ends (λ k out inside close rest e. absurd (not_nil inside close rest e)))
     where
       none : (xs : List HideSet) → Above set.empty xs
       none [] = tt

@@ -4,13 +4,13 @@ use Rattle.pptext.specs.declared.tokens.Fault.{Fault}
 use Rattle.ppmacro.specs.Names.{HideSet, Macros}
 use Rattle.ppmacro.specs.Hiding.{Hiding}
 use Rattle.ppexpand.specs.declared.env.Env.{Env}
-use Rattle.ppexpand.specs.Turn.{Call, Turn, Done, Refused, Passes, Failed, Replaced, Called, wanted, finished, fault_at_use, ExpandedArguments, with_expanded}
-use Rattle.ppexpand.specs.Budget.{less_one}
-use Rattle.ppexpand.specs.Expansion.{Outcome, turn_within, Expands, done, refused, passes, failed, replaced, argument_refused, call_failed, call_replaced, ExpandsArguments, none, unused, too_deep, used}
+use Rattle.ppexpand.specs.ExpansionStep.{Call, ExpansionStep, Done, Refused, Emits, Failed, Replaced, Called, wanted, finish_call, fault_at_expansion, ExpandedArguments, with_expanded}
+use Rattle.ppexpand.specs.Budget.{spend_one}
+use Rattle.ppexpand.specs.Expansion.{Outcome, step_in_budget, Expands, done, refused, emits, failed, replaced, argument_refused, call_failed, call_replaced, ExpandsArguments, none, unused, too_deep, used}
 use Rattle.ppexpand.specs.Expansion.{used_refused}
-use Rattle.ppexpand.specs.Ending as ending
+use Rattle.ppexpand.specs.Termination as ending
 use Rattle.ppexpand.proofs.Termination as fronts
-use Rattle.ppexpand.proofs.Steps as steps
+use Rattle.ppexpand.proofs.Steps as step_lemmas
 use native.Mathlib.Decide.{dec_lt}
 
 module _ (macros : Macros) (env : Env) where
@@ -41,7 +41,7 @@ module _ (macros : Macros) (env : Env) where
   arguments_total level deeper call left (Some list ∷ rest) =
       elim (dec_lt level 256) [
         | yes h ↦ (let one : HasOutcome (suc level) left list = deeper h left list in by_outcome level call left list rest h (λ between. arguments_total level deeper call between rest) one.0 one.1.tokens one.1.fault one.1.left one.2)
-        | no h ↦ (left, Err (fault_at_use 21 call.head), too_deep (omega arith))
+        | no h ↦ (left, Err (fault_at_expansion 21 call.head), too_deep (omega arith))
       ]
 
   Ends : List HideSet → Type 0
@@ -53,38 +53,38 @@ module _ (macros : Macros) (env : Env) where
   after_call : (level : ℕ) (left : Option ℕ) (list : List Hiding)
       → Later level list
       → (call : Call)
-      → turn_within macros env left list ≡ Called call
+      → step_in_budget macros env left list ≡ Called call
       → (after : Option ℕ) (r : ExpandedArguments)
-      → ExpandsArguments macros env level call (less_one left) (wanted call) after r
-      → ((as' : List (Option (List Hiding))) → steps.FinishesTo macros env list (finished call as'))
+      → ExpandsArguments macros env level call (spend_one left) (wanted call) after r
+      → ((as' : List (Option (List Hiding))) → step_lemmas.FinishesTo macros env list (finish_call call as'))
       → HasOutcome level left list
   after_call level left list later call e after (Err fault) a ends = (0, record { tokens = []; fault = Some fault; left = after }, argument_refused e a)
-  after_call level left list later call e after (Ok as') a ends = by_end (finished call as') refl (ends as')
+  after_call level left list later call e after (Ok as') a ends = by_end (finish_call call as') refl (ends as')
     where
-      by_end : (t : Turn) → finished call as' ≡ t → steps.FinishesTo macros env list t → HasOutcome level left list
+      by_end : (t : ExpansionStep) → finish_call call as' ≡ t → step_lemmas.FinishesTo macros env list t → HasOutcome level left list
       by_end Done f h = absurd h
       by_end (Refused fault) f h = absurd h
       by_end (Failed fault) f h = (0, record { tokens = []; fault = Some fault; left = after }, call_failed e a f)
-      by_end (Passes t rest) f h = absurd h
+      by_end (Emits t rest) f h = absurd h
       by_end (Replaced next) f h =
           let rest : HasOutcome level after next = later after next h in
           (suc rest.0, rest.1, call_replaced e a f rest.2)
       by_end (Called c) f h = absurd h
 
-  by_turn : (level : ℕ) → Deeper level → (left : Option ℕ) (list : List Hiding) → Later level list → (t : Turn) → turn_within macros env left list ≡ t → steps.StepsTo macros env list t → HasOutcome level left list
+  by_turn : (level : ℕ) → Deeper level → (left : Option ℕ) (list : List Hiding) → Later level list → (t : ExpansionStep) → step_in_budget macros env left list ≡ t → step_lemmas.StepsTo macros env list t → HasOutcome level left list
   by_turn level deeper left list later Done e h = (0, record { tokens = []; fault = None; left = left }, done e)
   by_turn level deeper left list later (Refused fault) e h = (0, record { tokens = []; fault = Some fault; left = left }, refused e)
-  by_turn level deeper left list later (Passes t rest) e h =
-      let step : ending.Step macros (ending.hides list) (ending.hides rest) = rw h ending.passes in
+  by_turn level deeper left list later (Emits t rest) e h =
+      let step : ending.Step macros (ending.hides list) (ending.hides rest) = rw h ending.emits in
       let more : HasOutcome level left rest = later left rest step in
-      (suc more.0, record { tokens = t ∷ more.1.tokens; fault = more.1.fault; left = more.1.left }, passes e more.2)
-  by_turn level deeper left list later (Failed fault) e h = (0, record { tokens = []; fault = Some fault; left = less_one left }, failed e)
+      (suc more.0, record { tokens = t ∷ more.1.tokens; fault = more.1.fault; left = more.1.left }, emits e more.2)
+  by_turn level deeper left list later (Failed fault) e h = (0, record { tokens = []; fault = Some fault; left = spend_one left }, failed e)
   by_turn level deeper left list later (Replaced next) e h =
-      let more : HasOutcome level (less_one left) next = later (less_one left) next h in
+      let more : HasOutcome level (spend_one left) next = later (spend_one left) next h in
       (suc more.0, more.1, replaced e more.2)
   by_turn level deeper left list later (Called call) e h =
-      let as' : HasExpanded level call (less_one left) (wanted call) = arguments_total level deeper call (less_one left) (wanted call) in
-      after_call level left list later call e as'.0 as'.1 as'.2 (λ bs. steps.finished_steps macros env list call bs h)
+      let as' : HasExpanded level call (spend_one left) (wanted call) = arguments_total level deeper call (spend_one left) (wanted call) in
+      after_call level left list later call e as'.0 as'.1 as'.2 (λ bs. step_lemmas.finished_steps macros env list call bs h)
 
   list_total : (level : ℕ) → Deeper level → (hs : List HideSet) → Ends hs → (left : Option ℕ) (list : List Hiding) → ending.hides list ≡ hs → HasOutcome level left list
   unfolding Ends
@@ -92,7 +92,7 @@ module _ (macros : Macros) (env : Env) where
       by_turn level deeper left list
       (λ after next step. list_total level deeper (ending.hides next)
       (more (ending.hides next) (subst (λ x. ending.Step macros x (ending.hides next)) e step)) after next refl)
-      (turn_within macros env left list) refl (steps.turn_within_steps macros env left list)
+      (step_in_budget macros env left list) refl (step_lemmas.turn_within_steps macros env left list)
 
   all_end : (xs : List Hiding) → Ends (ending.hides xs)
   unfolding Ends

@@ -27,21 +27,21 @@ argument_role t =
 
 -- the arguments, the matching `)` and the tokens after it; or an unmatched quote before any matching `)`; or neither
 pub data Gathered : Type 0 where
-  Closed : (arguments : List (List Hiding)) → (close : Hiding) → (behind : List Hiding) → Gathered
-  Quoted : Hiding → Gathered
+  Closed : (arguments : List (List Hiding)) → (close : Hiding) → (following : List Hiding) → Gathered
+  UnmatchedQuote : Hiding → Gathered
   Unclosed : Gathered
 
 -- adds a token at the start of the first argument
 abbrev pub with_token : Hiding → Gathered → Gathered
-with_token t (Closed [] close behind) = Closed ((t ∷ []) ∷ []) close behind
-with_token t (Closed (a ∷ as') close behind) = Closed ((t ∷ a) ∷ as') close behind
-with_token t (Quoted q) = Quoted q
+with_token t (Closed [] close following) = Closed ((t ∷ []) ∷ []) close following
+with_token t (Closed (a ∷ as') close following) = Closed ((t ∷ a) ∷ as') close following
+with_token t (UnmatchedQuote q) = UnmatchedQuote q
 with_token t Unclosed = Unclosed
 
 -- adds an empty argument before the others
 abbrev pub with_argument : Gathered → Gathered
-with_argument (Closed as' close behind) = Closed ([] ∷ as') close behind
-with_argument (Quoted q) = Quoted q
+with_argument (Closed as' close following) = Closed ([] ∷ as') close following
+with_argument (UnmatchedQuote q) = UnmatchedQuote q
 with_argument Unclosed = Unclosed
 
 -- whether a comma inside this number of parentheses separates arguments, where this number of commas still may (None: all)
@@ -59,7 +59,7 @@ fewer (Some n) = Some (n - 1)
 abbrev pub gather : ℕ → Option ℕ → List Hiding → Gathered
 gather depth commas [] = Unclosed
 gather depth commas (t ∷ ts) = elim (argument_role t.token) [
-  | Quote ↦ Quoted t
+  | Quote ↦ UnmatchedQuote t
   | Open ↦ with_token t (gather (suc depth) commas ts)
   | Close ↦ elim depth [ zero ↦ Closed ([] ∷ []) t ts | suc d ↦ with_token t (gather d commas ts) ]
   | Comma ↦ elim (separates depth commas) [ true ↦ with_argument (gather depth (fewer commas) ts) | false ↦ with_token t (gather depth commas ts) ]
@@ -85,5 +85,5 @@ abbrev pub of_number : (least most : ℕ) → List (List Hiding) → Option (Lis
 of_number least most as' = if nat_le least (length as') && nat_le (length as') most then Some as' else None
 
 -- the arguments, one for each parameter but an absent variable argument; None if their number is wrong
-abbrev pub fitted : List Name → Variadic → List (List Hiding) → Option (List (List Hiding))
-fitted names variadic as' = of_number (needed names variadic) (length names) (present (needed names variadic) as')
+abbrev pub fit_arguments : List Name → Variadic → List (List Hiding) → Option (List (List Hiding))
+fit_arguments names variadic as' = of_number (needed names variadic) (length names) (present (needed names variadic) as')

@@ -11,9 +11,9 @@ use Rattle.ppmacro.specs.declared.macros.Macro.{Macro}
 use Rattle.ppexpand.specs.declared.env.Env.{Env}
 use Rattle.ppexpand.specs.declared.expansion.Expanded.{Expanded}
 use Rattle.ppexpand.specs.Arguments.{argument_role, separates, fewer, Quote, Open, Close, Comma, Inner}
-use Rattle.ppexpand.specs.Turn.{Call, Passes, Replaced, Called, macro_of, wanted, finished}
-use Rattle.ppexpand.specs.Budget.{less_one}
-use Rattle.ppexpand.specs.Expansion.{Outcome, turn_within, ExpandsTo, ExpandsArguments, IsExpansion}
+use Rattle.ppexpand.specs.ExpansionStep.{Call, Emits, Replaced, Called, macro_of, wanted, finish_call}
+use Rattle.ppexpand.specs.Budget.{spend_one}
+use Rattle.ppexpand.specs.Expansion.{Outcome, step_in_budget, ExpandsTo, ExpandsArguments, IsExpansion}
 
 -- ---- exactly one expansion, and termination
 
@@ -31,22 +31,22 @@ pub record HasOneExpansion (macros : Macros) (env : Env) (left : Option ℕ) (to
 
 -- one expansion step leads from a list to the next
 pub data Leads (macros : Macros) (env : Env) (level : ℕ) : Option ℕ → List Hiding → Option ℕ → List Hiding → Type 0 where
-  by_passing : {left : Option ℕ} {list next : List Hiding} {t : Hiding}
-      → turn_within macros env left list ≡ Passes t next
+  by_emitting : {left : Option ℕ} {list next : List Hiding} {t : Hiding}
+      → step_in_budget macros env left list ≡ Emits t next
       → Leads macros env level left list left next
   by_replacing : {left : Option ℕ} {list next : List Hiding}
-      → turn_within macros env left list ≡ Replaced next
-      → Leads macros env level left list (less_one left) next
+      → step_in_budget macros env left list ≡ Replaced next
+      → Leads macros env level left list (spend_one left) next
   by_invoking : {left after : Option ℕ} {list next : List Hiding} {call : Call} {expanded : List (Option (List Hiding))}
-      → turn_within macros env left list ≡ Called call
-      → ExpandsArguments macros env level call (less_one left) (wanted call) after (Ok expanded)
-      → finished call expanded ≡ Replaced next
+      → step_in_budget macros env left list ≡ Called call
+      → ExpandsArguments macros env level call (spend_one left) (wanted call) after (Ok expanded)
+      → finish_call call expanded ≡ Replaced next
       → Leads macros env level left list after next
 
 -- this number of expansion steps leads from a list to another
 pub data LeadsOn (macros : Macros) (env : Env) (level : ℕ) : ℕ → Option ℕ → List Hiding → Option ℕ → List Hiding → Type 0 where
   stays : {left : Option ℕ} {list : List Hiding} → LeadsOn macros env level 0 left list left list
-  turns : {n : ℕ} {left between after : Option ℕ} {list next last : List Hiding}
+  steps : {n : ℕ} {left between after : Option ℕ} {list next last : List Hiding}
       → Leads macros env level left list between next
       → LeadsOn macros env level n between next after last
       → LeadsOn macros env level (suc n) left list after last
@@ -66,8 +66,8 @@ plus n None = None
 plus n (Some left) = Some (n + left)
 
 -- a list is a prefix of another
-abbrev pub IsBeginning : {A : Type 0} → List A → List A → Type 0
-IsBeginning {A = A} front all = (more : List A) × (all ≡ front ++ more)
+abbrev pub IsPrefix : {A : Type 0} → List A → List A → Type 0
+IsPrefix {A = A} prefix all = (more : List A) × (all ≡ prefix ++ more)
 
 -- the budget was used up, and another replacement refused
 pub record IsOver (out : Outcome) : Type 0 where
@@ -78,7 +78,7 @@ pub record IsOver (out : Outcome) : Type 0 where
 
 -- an expansion with the budget b, compared with one without a budget that makes this number of replacements
 pub record IsCapped (b replacements : ℕ) (whole out : Outcome) : Type 0 where
-  pub tokens : IsBeginning out.tokens whole.tokens
+  pub tokens : IsPrefix out.tokens whole.tokens
   pub enough : replacements ≤ b → (out.tokens ≡ whole.tokens) × (out.fault ≡ whole.fault) × (out.left ≡ Some (b - replacements))
   pub short : b < replacements → IsOver out
 
@@ -98,8 +98,8 @@ is_always_replaced None = false
 is_always_replaced (Some d) = not (is_function_like d.kind)
 
 -- a token that may be left after expansion: no unmatched quote, and no object-like or predefined macro's name unless its hide set has the name
-abbrev pub is_settled : Macros → Hiding → Bool
-is_settled macros t = not (is_unmatched_quote t.token) && (set.contains t.hide t.token.text || not (is_always_replaced (macro_of macros t.token)))
+abbrev pub is_fully_expanded : Macros → Hiding → Bool
+is_fully_expanded macros t = not (is_unmatched_quote t.token) && (set.contains t.hide t.token.text || not (is_always_replaced (macro_of macros t.token)))
 
 -- ---- the syntax of an invocation (6.10.3, paragraphs 10 and 11)
 
@@ -135,9 +135,9 @@ pub data Separated : Option ℕ → List Hiding → List (List Hiding) → Type 
 
 -- after `(` the list is these arguments, this `)`, and this rest
 pub record IsInvocation (commas : Option ℕ) (list : List Hiding) (arguments : List (List Hiding)) (close : Hiding)
-    (behind : List Hiding) : Type 0 where
+    (following : List Hiding) : Type 0 where
   pub inside : List Hiding
-  pub laid_out : list ≡ inside ++ close ∷ behind
+  pub laid_out : list ≡ inside ++ close ∷ following
   pub closes : argument_role close.token ≡ Close
   pub separated : Separated commas inside arguments
 
@@ -151,9 +151,9 @@ pub data NeverClosed : List Hiding → Type 0 where
       → NeverClosed (ts ++ open' ∷ inside)
 
 -- after `(` the list has this unmatched quote, before any matching `)`
-pub record IsQuoted (list : List Hiding) (quote : Hiding) : Type 0 where
-  pub front : List Hiding
-  pub behind : List Hiding
-  pub laid_out : list ≡ front ++ quote ∷ behind
-  pub before : NeverClosed front
+pub record StopsAtQuote (list : List Hiding) (quote : Hiding) : Type 0 where
+  pub prefix : List Hiding
+  pub following : List Hiding
+  pub laid_out : list ≡ prefix ++ quote ∷ following
+  pub before : NeverClosed prefix
   pub lone : argument_role quote.token ≡ Quote

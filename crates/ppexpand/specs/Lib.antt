@@ -1,12 +1,9 @@
 pub mod Arguments
-pub mod Turn
+pub mod ExpansionStep
 pub mod Budget
 pub mod Expansion
 pub mod Standard
-pub mod Next
-pub mod Shown
-pub mod Ending
+pub mod Termination
 pub mod Laws
-pub mod Lists
 pub mod Pieces
-pub mod Skipping
+pub mod code

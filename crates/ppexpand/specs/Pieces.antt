@@ -1,11 +1,11 @@
--- The values of pieces and of borrowed tokens, for the contracts of `Run` and of its iterator.
+-- The values of pieces and of borrowed tokens, for the contracts of `TokenRope` and of its iterator.
 use Rattle.std.specs.Prelude.{List}
 use Rattle.pptext.specs.declared.tokens.Token.{Token}
 use Rattle.ppmacro.specs.declared.hidden_token.Hidden.{Hidden}
-use Rattle.ppexpand.specs.declared.passed.Piece.{Piece}
-use Rattle.ppexpand.specs.declared.passed.Piece.TheVariants.{Shared, Made}
-use Rattle.ppexpand.specs.declared.run_iter.TokenRef.{TokenRef}
-use Rattle.ppexpand.specs.declared.run_iter.TokenRef.TheVariants as ref
+use Rattle.ppexpand.specs.declared.emitted.Piece.{Piece}
+use Rattle.ppexpand.specs.declared.emitted.Piece.TheVariants.{Shared, Made}
+use Rattle.ppexpand.specs.declared.rope_iter.TokenRef.{TokenRef}
+use Rattle.ppexpand.specs.declared.rope_iter.TokenRef.TheVariants as ref
 
 abbrev pub piece_list : Piece → List Hidden
 piece_list (Shared s) = s

@@ -13,9 +13,9 @@ use Rattle.ppmacro.specs.declared.macros.Variadic.{Variadic}
 use Rattle.ppmacro.specs.declared.macros.Macro.{Macro}
 use Rattle.ppmacro.specs.declared.macros.MacroKind.TheVariants.{Predefined, ObjectLike, FunctionLike}
 use Rattle.ppexpand.specs.declared.env.Env.{Env}
-use Rattle.ppexpand.specs.Arguments.{is_open, Closed, Quoted, Unclosed, gather, separators, fitted}
-use Rattle.ppexpand.specs.Turn.{predefined_value, Call, followed_by, fault_at_use, quote_fault, gain_of, no_arguments, macro_of, wanted}
-use Rattle.ppexpand.specs.Turn.{ExpandedArguments, with_expanded}
+use Rattle.ppexpand.specs.Arguments.{is_open, Closed, UnmatchedQuote, Unclosed, gather, separators, fit_arguments}
+use Rattle.ppexpand.specs.ExpansionStep.{predefined_value, Call, followed_by, fault_at_expansion, quote_fault, gain_of, no_arguments, macro_of, wanted}
+use Rattle.ppexpand.specs.ExpansionStep.{ExpandedArguments, with_expanded}
 
 -- a token names this macro, and its hide set does not have the name (6.10.3, paragraph 9; 6.10.3.4, paragraph 2)
 pub record NamesMacro (macros : Macros) (t : Hiding) (d : Macro) : Type 0 where
@@ -39,8 +39,8 @@ pub record Invokes (macros : Macros) (list : List Hiding) (call : Call) : Type 0
   pub close : Hiding
   pub laid_out : list ≡ call.head ∷ paren ∷ inside
   pub opens : Opens macros call.head paren call.macro names variadic
-  pub closed : gather 0 (separators names variadic) inside ≡ Closed arguments close call.behind
-  pub fits : fitted names variadic arguments ≡ Some call.arguments
+  pub closed : gather 0 (separators names variadic) inside ≡ Closed arguments close call.following
+  pub fits : fit_arguments names variadic arguments ≡ Some call.arguments
   pub gains : call.gain ≡ gain_of call.head.hide close.hide call.head.token.text
 
 -- whether `(` is next
@@ -61,7 +61,7 @@ mutual
   -- at this level a list expands to these tokens, up to its end or to this fault
   pub data StandardExpands (macros : Macros) (env : Env) : ℕ → List Hiding → List Hiding → Option Fault → Type 0 where
     nothing_left : {level : ℕ} → StandardExpands macros env level [] [] None
-    lone_quote : {level : ℕ} {t : Hiding} {rest : List Hiding}
+    unmatched_quote : {level : ℕ} {t : Hiding} {rest : List Hiding}
         → is_unmatched_quote t.token ≡ true
         → StandardExpands macros env level (t ∷ rest) [] (Some (quote_fault t))
     no_macro : {level : ℕ} {t : Hiding} {rest tokens : List Hiding} {fault : Option Fault}
@@ -101,18 +101,18 @@ mutual
         → StandardExpands macros env level (t ∷ rest) (t ∷ tokens) fault
     quote_inside : {level : ℕ} {t paren quote : Hiding} {inside : List Hiding} {d : Macro} {names : List Name} {variadic : Variadic}
         → Opens macros t paren d names variadic
-        → gather 0 (separators names variadic) inside ≡ Quoted quote
+        → gather 0 (separators names variadic) inside ≡ UnmatchedQuote quote
         → StandardExpands macros env level (t ∷ paren ∷ inside) [] (Some (quote_fault quote))
     unclosed : {level : ℕ} {t paren : Hiding} {inside : List Hiding} {d : Macro} {names : List Name} {variadic : Variadic}
         → Opens macros t paren d names variadic
         → gather 0 (separators names variadic) inside ≡ Unclosed
-        → StandardExpands macros env level (t ∷ paren ∷ inside) [] (Some (fault_at_use 17 t))
-    wrong_number : {level : ℕ} {t paren close : Hiding} {inside behind : List Hiding} {d : Macro} {names : List Name}
+        → StandardExpands macros env level (t ∷ paren ∷ inside) [] (Some (fault_at_expansion 17 t))
+    wrong_number : {level : ℕ} {t paren close : Hiding} {inside following : List Hiding} {d : Macro} {names : List Name}
         {variadic : Variadic} {arguments : List (List Hiding)}
         → Opens macros t paren d names variadic
-        → gather 0 (separators names variadic) inside ≡ Closed arguments close behind
-        → fitted names variadic arguments ≡ None
-        → StandardExpands macros env level (t ∷ paren ∷ inside) [] (Some (fault_at_use 18 t))
+        → gather 0 (separators names variadic) inside ≡ Closed arguments close following
+        → fit_arguments names variadic arguments ≡ None
+        → StandardExpands macros env level (t ∷ paren ∷ inside) [] (Some (fault_at_expansion 18 t))
     argument_refused : {level : ℕ} {list : List Hiding} {call : Call} {f : Fault}
         → Invokes macros list call
         → StandardExpandsArguments macros env level call (wanted call) (Err f)
@@ -126,7 +126,7 @@ mutual
         → Invokes macros list call
         → StandardExpandsArguments macros env level call (wanted call) (Ok expanded)
         → invocation_result call expanded ≡ Ok m
-        → StandardExpands macros env level (followed_by call.behind m) tokens fault
+        → StandardExpands macros env level (followed_by call.following m) tokens fault
         → StandardExpands macros env level list tokens fault
 
   -- The arguments of an invocation in a list at this level, each expanded as if it were the rest of the file, one level deeper (6.10.3.1), in order,
@@ -138,7 +138,7 @@ mutual
         → StandardExpandsArguments macros env level call (None ∷ rest) (with_expanded None out)
     too_deep : {level : ℕ} {call : Call} {list : List Hiding} {rest : List (Option (List Hiding))}
         → 256 ≤ level
-        → StandardExpandsArguments macros env level call (Some list ∷ rest) (Err (fault_at_use 21 call.head))
+        → StandardExpandsArguments macros env level call (Some list ∷ rest) (Err (fault_at_expansion 21 call.head))
     used : {level : ℕ} {call : Call} {list tokens : List Hiding} {rest : List (Option (List Hiding))} {out : ExpandedArguments}
         → level < 256
         → StandardExpands macros env (suc level) list tokens None
@@ -151,6 +151,6 @@ mutual
 
 -- the expansion of a list of tokens, up to its end or to this fault, at level 0 and with empty hide sets at first
 pub record IsStandardExpansion (macros : Macros) (env : Env) (tokens expanded : List Token) (fault : Option Fault) : Type 0 where
-  pub passed : List Hiding
-  pub expands : StandardExpands macros env 0 (map plain tokens) passed fault
-  pub is : expanded ≡ map (λ t. t.token) passed
+  pub emitted : List Hiding
+  pub expands : StandardExpands macros env 0 (map plain tokens) emitted fault
+  pub is : expanded ≡ map (λ t. t.token) emitted

@@ -3,23 +3,23 @@ ghost use Rattle.std.specs.Prelude.{◌≡◌, ◌∷◌, ◌++◌, [], IfOk, On
 ghost use Rattle.ppmacro.specs.HideSetPool.{HideSetPool};
 ghost use Rattle.ppmacro.specs.HideSets.{HasSets, hiding, hidings, AllKnown};
 ghost use Rattle.ppmacro.specs.Substituting.{ListsKnown};
-ghost use Rattle.ppexpand.specs.Arguments.{Closed, Quoted, Unclosed, separates, fewer, separators, needed, gather, fitted};
-ghost use Rattle.ppexpand.specs.Shown.{given_in, fitting_in, FittingKnown, is_bare};
+ghost use Rattle.ppexpand.specs.Arguments.{Closed, UnmatchedQuote, Unclosed, separates, fewer, separators, needed, gather, fit_arguments};
+ghost use Rattle.ppexpand.specs.code.ProgramValues.{given_in, fitting_in, FittingKnown, is_bare};
 
-use crate::cursor::Cursor;
+use crate::token_stack::TokenStack;
 use crate::lists::put;
-use crate::spellings::{ArgumentRole, argument_role};
-use crate::supply::Supply;
+use crate::token_roles::{ArgumentRole, argument_role};
+use crate::vec_pool::VecPool;
 use ppmacro::{Hidden, Variadic};
 use pptext::Spelling;
 use std::alloc::{AllocError, Global};
 use std::mem;
 
 /// The initial capacity of an argument, in tokens. Few arguments have more.
-const USUAL: usize = 8;
+const ARGUMENT_CAPACITY: usize = 8;
 
 /// The number of arguments after the first that get this capacity. Few invocations have more, and the arguments of those are mostly short.
-const ROOMY: usize = 63;
+const RESERVED_ARGUMENTS: usize = 63;
 
 /// The result of the search for the `)` of an invocation.
 #[derive(Drop)]
@@ -27,7 +27,7 @@ pub(crate) enum Gathered<'a> {
     /// The arguments and the matching `)`.
     Closed(Vec<Vec<Hidden<'a>>>, Hidden<'a>),
     /// An unmatched quote before any matching `)`.
-    Quoted(Hidden<'a>),
+    UnmatchedQuote(Hidden<'a>),
     /// No matching `)`.
     Unclosed,
 }
@@ -72,42 +72,42 @@ fn fewer(commas: Option<usize>) -> Option<usize>
 /// Appends an argument to the others, and begins the next one.
 #[inline]
 fn end_argument<'a>(
-    supply: &mut Supply<'a>,
+    pool: &mut VecPool<'a>,
     arguments: &mut Vec<Vec<Hidden<'a>>>,
     argument: &mut Vec<Hidden<'a>>,
 ) -> Result<(), AllocError>
     ensures ended { OnOk result (arguments.new.items ≡ arguments.old.items ++ argument.old ∷ []) }
     ensures begun { OnOk result (argument.new.items ≡ []) }
 {
-    let room = if arguments.len() < ROOMY { USUAL } else { 0 };
-    let begun = supply.list(room)?;
+    let capacity = if arguments.len() < RESERVED_ARGUMENTS { ARGUMENT_CAPACITY } else { 0 };
+    let begun = pool.list(capacity)?;
     put(arguments, mem::replace(argument, begun))
 }
 
 /// Removes the arguments of an invocation and the matching `)` from the list, which begins after the `(`.
 pub(crate) fn gather<'a>(
-    supply: &mut Supply<'a>,
-    list: &mut Cursor<'a>,
+    pool: &mut VecPool<'a>,
+    list: &mut TokenStack<'a>,
     commas: Option<usize>,
 ) -> Result<Gathered<'a>, AllocError>
     ensures is { IfOk result (λ g. (sets : HideSetPool) → (elim g [
       | Gathered.Closed arguments close ↦ Closed (given_in sets arguments.items) (hiding sets close) (hidings sets list.new)
-      | Gathered.Quoted quote ↦ Quoted (hiding sets quote)
+      | Gathered.UnmatchedQuote quote ↦ UnmatchedQuote (hiding sets quote)
       | Gathered.Unclosed ↦ Unclosed
     ]) ≡ gather 0 commas (hidings sets list.old)) }
     ensures known { IfOk result (λ g. (sets : HideSetPool) → AllKnown sets list.old → elim g [
       | Gathered.Closed arguments close ↦ ListsKnown sets arguments.items × HasSets sets close × AllKnown sets list.new
-      | Gathered.Quoted quote ↦ Unit {0}
+      | Gathered.UnmatchedQuote quote ↦ Unit {0}
       | Gathered.Unclosed ↦ Unit {0}
     ]) }
 {
-    let mut argument = supply.list(USUAL)?;
-    let mut arguments: Vec<Vec<Hidden<'a>>> = Vec::new(supply.alloc());
+    let mut argument = pool.list(ARGUMENT_CAPACITY)?;
+    let mut arguments: Vec<Vec<Hidden<'a>>> = Vec::new(pool.alloc());
     let mut depth: usize = 0;
     let mut commas = commas;
     while let Some(hidden) = list.next() {
         match argument_role(&hidden) {
-            ArgumentRole::Quote => return Ok(Gathered::Quoted(hidden)),
+            ArgumentRole::Quote => return Ok(Gathered::UnmatchedQuote(hidden)),
             ArgumentRole::Close if depth == 0 => {
                 put(&mut arguments, argument)?;
                 return Ok(Gathered::Closed(arguments, hidden));
@@ -115,7 +115,7 @@ pub(crate) fn gather<'a>(
             ArgumentRole::Comma if separates(depth, commas) => {
                 // The comma belongs to no argument. It is dropped before anything can fail.
                 drop(hidden);
-                end_argument(supply, &mut arguments, &mut argument)?;
+                end_argument(pool, &mut arguments, &mut argument)?;
                 commas = fewer(commas);
                 continue;
             }
@@ -140,13 +140,13 @@ fn is_bare(arguments: &[Vec<Hidden>]) -> bool
 }
 
 /// Returns the arguments by parameter, or `None` if their number is wrong. An absent variable argument has no entry.
-pub(crate) fn fit<'a>(
+pub(crate) fn fit_arguments<'a>(
     alloc: Global,
     arguments: Vec<Vec<Hidden<'a>>>,
     names: &[Spelling],
     variadic: Variadic,
 ) -> Option<Vec<Vec<Hidden<'a>>>>
-    ensures is { (sets : HideSetPool) → fitting_in sets result ≡ fitted names.now variadic (given_in sets arguments.entry.items) }
+    ensures is { (sets : HideSetPool) → fitting_in sets result ≡ fit_arguments names.now variadic (given_in sets arguments.entry.items) }
     ensures known { (sets : HideSetPool) → ListsKnown sets arguments.entry.items → FittingKnown sets result }
 {
     let least = needed(names, variadic);

@@ -10,23 +10,23 @@ ghost use Rattle.ppmacro.specs.Substitution.{argument_at, plain};
 ghost use Rattle.pptext.specs.Tokens.{fault as fault_at};
 ghost use Rattle.ppmacro.specs.declared.hidden_token.Hidden.{Hidden};
 ghost use Rattle.ppexpand.specs.Expansion.{ExpandsTo, IsExpansion};
-ghost use Rattle.ppexpand.specs.Lists.{ArePlain, is_plain, next_macro};
+ghost use Rattle.ppexpand.specs.code.Lists.{NeverExpand, never_expands, next_macro};
 ghost use Rattle.std.specs.List.{AllByRecursion};
-ghost use Rattle.ppexpand.specs.Skipping.{HasSkipped};
-ghost use Rattle.ppexpand.specs.Shown.{expanded_in, ExpansionsKnown, call_in, CallKnown, finished_in, Raises, held, ExpandsArgument, HasExpanded};
-ghost use Rattle.ppexpand.specs.Shown.{ExpandsWanted, ComesTo, HasTaken, HasCalled};
+ghost use Rattle.ppexpand.specs.code.Skipping.{HasSkipped};
+ghost use Rattle.ppexpand.specs.code.ProgramValues.{expanded_in, ExpansionsKnown, call_in, CallKnown, finished_in, Raises, owned_tokens, ExpandsArgument, HasExpanded};
+ghost use Rattle.ppexpand.specs.code.ProgramValues.{ExpandsWanted, CallStepsTo, HasTaken, HasCalled};
 
-use crate::alone::{parameters_of, used_alone};
+use crate::pre_expansion::{parameter_count, pre_expanded_parameters};
 use crate::context::Context;
-use crate::cursor::{Ahead, Cursor};
+use crate::token_stack::{Lookahead, TokenStack};
 use crate::env::Env;
 use crate::lists::put;
-use crate::passed::{Passed, Run};
-use crate::spellings::at_use;
-use crate::spending::less_one;
-use crate::stretch::{is_plain, split_plain};
-use crate::supply::Supply;
-use crate::turn::{Invocation, Replacer, Step};
+use crate::emitted::{Emitted, TokenRope};
+use crate::token_roles::fault_at_expansion;
+use crate::budget::spend_one;
+use crate::token_span::{never_expands, split_unexpanded};
+use crate::vec_pool::VecPool;
+use crate::expand_step::{Invocation, Replacer, ActionKind};
 use ppmacro::{Macro, Expansion, Hidden, HideSets, Pattern, Table};
 use pptext::{Fault, Memory, Token};
 use std::alloc::{AllocError, Global};
@@ -38,23 +38,23 @@ use std::alloc::{AllocError, Global};
 const DEEPEST: u32 = 256;
 
 /// The initial capacity for tokens that are emitted one by one. It suffices for most runs of text.
-const ROOM: usize = 32;
+const CAPACITY: usize = 32;
 
 /// Emits the tokens that replacements pushed, up to the first that names a macro or is an unmatched quote. Returns the macro that this
 /// token names: `None` at a quote, or if no pushed token is left.
-fn skip_flying<'t, 'x, 'a>(
+fn skip_pushed<'t, 'x, 'a>(
     table: &'t Table<'a>,
-    list: &mut Cursor<'x>,
-    passed: &mut Passed<'x>,
+    list: &mut TokenStack<'x>,
+    emitted: &mut Emitted<'x>,
 ) -> Result<Option<&'t Macro<'a>>, AllocError>
-    ensures skipped { OnOk result (HasSkipped table.now.macros list.old passed.old list.new passed.new) }
+    ensures skipped { OnOk result (HasSkipped table.now.macros list.old emitted.old list.new emitted.new) }
     ensures named { IfOk result (λ r. IfSome r (λ m. Some m.now ≡ next_macro table.now.macros (tokens_of list.new))) }
 {
     loop {
-        match list.next_plain(table) {
-            Ahead::Passes(hidden) => passed.push_single(hidden)?,
-            Ahead::Names(named) => return Ok(Some(named)),
-            Ahead::Unknown => return Ok(None),
+        match list.next_unexpanded(table) {
+            Lookahead::Emits(hidden) => emitted.push_single(hidden)?,
+            Lookahead::Names(named) => return Ok(Some(named)),
+            Lookahead::Unknown => return Ok(None),
         }
     }
 }
@@ -63,27 +63,27 @@ fn skip_flying<'t, 'x, 'a>(
 #[inline(never)]
 fn skip<'t, 'x, 'a>(
     table: &'t Table<'a>,
-    list: &mut Cursor<'x>,
-    passed: &mut Passed<'x>,
+    list: &mut TokenStack<'x>,
+    emitted: &mut Emitted<'x>,
 ) -> Result<Option<&'t Macro<'a>>, AllocError>
-    ensures skipped { OnOk result (HasSkipped table.now.macros list.old passed.old list.new passed.new) }
+    ensures skipped { OnOk result (HasSkipped table.now.macros list.old emitted.old list.new emitted.new) }
     ensures named { IfOk result (λ r. option_copied r ≡ next_macro table.now.macros (tokens_of list.new)) }
 {
-    if let Some(named) = skip_flying(table, list, passed)? {
+    if let Some(named) = skip_pushed(table, list, emitted)? {
         return Ok(Some(named));
     }
-    let (stretch, named) = list.take_plain(table);
-    passed.extend(stretch)?;
+    let (span, named) = list.take_unexpanded(table);
+    emitted.extend(span)?;
     Ok(named)
 }
 
 /// Returns true only if each token is emitted unchanged, whatever its hide set is.
 #[inline(never)]
-fn all_pass(table: &Table, tokens: &[Hidden]) -> bool
-    ensures { result ≡ true → ArePlain table.now.macros tokens.now }
+fn none_expands(table: &Table, tokens: &[Hidden]) -> bool
+    ensures { result ≡ true → NeverExpand table.now.macros tokens.now }
 {
     for hidden in tokens {
-        if !is_plain(table, hidden.token()) {
+        if !never_expands(table, hidden.token()) {
             return false;
         }
     }
@@ -98,36 +98,36 @@ fn raise_depth<'x>(
 ) -> Result<Option<Expansion<'x>>, Memory>
     ensures { IfOk result (λ r. (r ≡ None) × (fault.new ≡ Some (fault_at 21 head.now.token.used head.now.token.text))) }
 {
-    *fault = Some(at_use(21, head)?);
+    *fault = Some(fault_at_expansion(21, head)?);
     Ok(None)
 }
 
 /// Gives the vectors of an invocation's arguments back to the pool.
 #[inline(never)]
 fn keep_arguments<'x>(
-    supply: &mut Supply<'x>,
+    pool: &mut VecPool<'x>,
     call: &mut Option<Invocation<'_, 'x, '_>>,
 ) -> Result<(), AllocError> {
     match call.take() {
-        Some(call) => supply.keep(call.arguments),
+        Some(call) => pool.keep(call.arguments),
         None => Ok(()),
     }
 }
 
 /// Returns the expansion of an argument from the tokens that it emitted, or `None` if a fault was raised.
 #[inline(never)]
-fn made<'x>(
+fn argument_expansion<'x>(
     alloc: Global,
-    passed: Passed<'x>,
+    emitted: Emitted<'x>,
     fault: &Option<Fault>,
 ) -> Result<Option<Expansion<'x>>, Memory>
     ensures { IfOk result (λ r. MatchOption r (is_some fault.now ≡ true)
-        (λ e. (is_some fault.now ≡ false) × (held e ≡ passed.entry) × ((given : List Hidden) → option_of given e ≡ Some passed.entry))) }
+        (λ e. (is_some fault.now ≡ false) × (owned_tokens e ≡ emitted.entry) × ((given : List Hidden) → option_of given e ≡ Some emitted.entry))) }
 {
     if fault.is_some() {
         return Ok(None);
     }
-    Ok(Some(Expansion::Made(passed.into_vec(alloc)?)))
+    Ok(Some(Expansion::Made(emitted.into_vec(alloc)?)))
 }
 
 /// Returns the argument of a parameter. An absent one has no tokens.
@@ -156,56 +156,56 @@ impl<'x> Expander<'x> {
     /// Begins an expansion step of a list. `named` is the macro that the next token names, if any. Returns whether the expansion of the
     /// list goes on.
     ///
-    /// Appends emitted tokens to `passed` and removes what is done from `list`. An invocation of a function-like macro is only put in
+    /// Appends emitted tokens to `emitted` and removes what is done from `list`. An invocation of a function-like macro is only put in
     /// `call`: its arguments are still to be expanded. A fault that ends the list is stored.
     #[inline(never)]
-    fn take_turn<'t, 'a: 'x>(
+    fn begin_step<'t, 'a: 'x>(
         &mut self,
         context: &Context<'t, 'a>,
         named: Option<&'t Macro<'a>>,
-        list: &mut Cursor<'x>,
-        passed: &mut Passed<'x>,
+        list: &mut TokenStack<'x>,
+        emitted: &mut Emitted<'x>,
         call: &mut Option<Invocation<'t, 'x, 'a>>,
     ) -> Result<bool, Memory>
         requires named { option_copied named ≡ next_macro context.now.table.now.macros (tokens_of list.old) }
         requires no_fault { self.old.fault ≡ None }
         requires no_call { call.old ≡ None }
         requires list_known { AllKnown self.old.replacer.sets list.old }
-        requires passed_known { AllKnown self.old.replacer.sets passed.old }
+        requires passed_known { AllKnown self.old.replacer.sets emitted.old }
         ensures on { IfOk result (λ goes. MatchOption call.new
             ((level : ℕ) → HasTaken context.now.table.now.macros context.now.env.now level self.old.left (hidings self.old.replacer.sets list.old)
-            (hidings self.old.replacer.sets passed.old) goes self.new.fault self.new.left (hidings self.new.replacer.sets list.new) (hidings self.new.replacer.sets passed.new))
+            (hidings self.old.replacer.sets emitted.old) goes self.new.fault self.new.left (hidings self.new.replacer.sets list.new) (hidings self.new.replacer.sets emitted.new))
             (λ c. HasCalled context.now.table.now.macros context.now.env.now self.old.left (hidings self.old.replacer.sets list.old)
-            (hidings self.old.replacer.sets passed.old) (call_in self.new.replacer.sets c.head c.replaced.now c.arguments.items c.both list.new)
-            self.new.fault self.new.left (hidings self.new.replacer.sets passed.new))) }
+            (hidings self.old.replacer.sets emitted.old) (call_in self.new.replacer.sets c.head c.replaced.now c.arguments.items c.both list.new)
+            self.new.fault self.new.left (hidings self.new.replacer.sets emitted.new))) }
         ensures call_known { OnOk result (IfSome call.new (λ c. CallKnown self.new.replacer.sets c.head c.arguments.items c.both × AllKnown self.new.replacer.sets list.new)) }
         ensures list_known { IfOk result (λ goes. goes ≡ true → AllKnown self.new.replacer.sets list.new) }
-        ensures passed_known { OnOk result (AllKnown self.new.replacer.sets passed.new) }
+        ensures passed_known { OnOk result (AllKnown self.new.replacer.sets emitted.new) }
         ensures keeps { KeepsSets self.old.replacer.sets self.new.replacer.sets }
     {
-        let next = self.replacer.next_turn(context, self.left, named, list)?;
+        let next = self.replacer.next_step(context, self.left, named, list)?;
         let step = next.step;
         match step {
-            Step::Done => Ok(false),
-            Step::Refused(found) => {
+            ActionKind::Done => Ok(false),
+            ActionKind::Refused(found) => {
                 self.fault = Some(found);
                 Ok(false)
             }
-            Step::Passes(head) => {
-                passed.push_single(head)?;
+            ActionKind::Emits(head) => {
+                emitted.push_single(head)?;
                 Ok(true)
             }
-            Step::Failed(found) => {
-                self.left = less_one(self.left);
+            ActionKind::Failed(found) => {
+                self.left = spend_one(self.left);
                 self.fault = Some(found);
                 Ok(false)
             }
-            Step::Replaced => {
-                self.left = less_one(self.left);
+            ActionKind::Replaced => {
+                self.left = spend_one(self.left);
                 Ok(true)
             }
-            Step::Called(found) => {
-                self.left = less_one(self.left);
+            ActionKind::Called(found) => {
+                self.left = spend_one(self.left);
                 *call = Some(found);
                 Ok(true)
             }
@@ -228,30 +228,30 @@ impl<'x> Expander<'x> {
             self.old.left (hidings self.old.replacer.sets argument.now) self.new.left (Err f)))
             (λ e. (self.new.fault ≡ None) × HasExpanded context.now.table.now.macros context.now.env.now context.now.level head.now.token
             self.old.left self.new.left self.old.replacer.sets self.new.replacer.sets argument.now e)) }
-        ensures known { IfOk result (λ r. IfSome r (λ e. AllKnown self.new.replacer.sets (held e))) }
+        ensures known { IfOk result (λ r. IfSome r (λ e. AllKnown self.new.replacer.sets (owned_tokens e))) }
         ensures keeps { KeepsSets self.old.replacer.sets self.new.replacer.sets }
     {
         if context.level >= DEEPEST {
             return raise_depth(head, &mut self.fault);
         }
         // Fast path: most arguments name no macro, and expand to themselves.
-        if all_pass(context.table, argument) {
+        if none_expands(context.table, argument) {
             return Ok(Some(Expansion::AsGiven));
         }
-        let mut list = Cursor::of_clones(
-            self.replacer.supply.alloc(),
+        let mut list = TokenStack::of_clones(
+            self.replacer.pool.alloc(),
             argument,
             self.replacer.sets.empty(),
         )?;
         // Most arguments expand to about as many tokens as they have.
-        let mut passed = Passed::with_room(self.replacer.supply.alloc(), argument.len())?;
+        let mut emitted = Emitted::with_capacity(self.replacer.pool.alloc(), argument.len())?;
         let deeper = Context {
             table: context.table,
             env: context.env,
             level: context.level + 1,
         };
-        self.expand_list(&deeper, &mut list, &mut passed)?;
-        made(self.replacer.supply.alloc(), passed, &self.fault)
+        self.expand_list(&deeper, &mut list, &mut emitted)?;
+        argument_expansion(self.replacer.pool.alloc(), emitted, &self.fault)
     }
 
     /// Pre-expands the arguments that the replacement list uses without `#` and `##`, and appends the expansions to `expanded` by parameter.
@@ -271,16 +271,16 @@ impl<'x> Expander<'x> {
         requires none { expanded.old.items ≡ [] }
         requires no_fault { self.old.fault ≡ None }
         ensures is { OnOk result (MatchOption self.new.fault
-            ((behind : List Hidden) → ExpandsWanted context.now.table.now.macros context.now.env.now context.now.level
-            (call_in self.old.replacer.sets call.now.head call.now.replaced.now call.now.arguments.items call.now.both behind) self.old.left self.new.left
+            ((following : List Hidden) → ExpandsWanted context.now.table.now.macros context.now.env.now context.now.level
+            (call_in self.old.replacer.sets call.now.head call.now.replaced.now call.now.arguments.items call.now.both following) self.old.left self.new.left
             (Ok (expanded_in self.new.replacer.sets call.now.arguments.items expanded.new.items)))
-            (λ f. (behind : List Hidden) → ExpandsWanted context.now.table.now.macros context.now.env.now context.now.level
-            (call_in self.old.replacer.sets call.now.head call.now.replaced.now call.now.arguments.items call.now.both behind) self.old.left self.new.left
+            (λ f. (following : List Hidden) → ExpandsWanted context.now.table.now.macros context.now.env.now context.now.level
+            (call_in self.old.replacer.sets call.now.head call.now.replaced.now call.now.arguments.items call.now.both following) self.old.left self.new.left
             (Err f))) }
         ensures known { OnOk result (self.new.fault ≡ None → ExpansionsKnown self.new.replacer.sets expanded.new.items) }
         ensures keeps { KeepsSets self.old.replacer.sets self.new.replacer.sets }
     {
-        let used = used_alone(self.replacer.supply.alloc(), call.replaced, pattern)?;
+        let used = pre_expanded_parameters(self.replacer.pool.alloc(), call.replaced, pattern)?;
         for (parameter, alone) in used.iter().enumerate() {
             if !*alone {
                 put(expanded, Expansion::Unused)?;
@@ -298,17 +298,17 @@ impl<'x> Expander<'x> {
 
     /// Replaces an invocation, after its arguments are expanded, and pushes the result onto the rest of its list. The first fault is stored.
     #[cycle(expansion)]
-    fn follow<'a: 'x>(
+    fn replace_call<'a: 'x>(
         &mut self,
         context: &Context<'_, 'a>,
         call: &Invocation<'_, 'x, 'a>,
-        list: &mut Cursor<'x>,
+        list: &mut TokenStack<'x>,
     ) -> Result<(), Memory>
         requires level { context.now.level ≤ 256 }
         requires call_known { CallKnown self.old.replacer.sets call.now.head call.now.arguments.items call.now.both }
         requires list_known { AllKnown self.old.replacer.sets list.old }
         requires no_fault { self.old.fault ≡ None }
-        ensures is { OnOk result (ComesTo context.now.table.now.macros context.now.env.now context.now.level
+        ensures is { OnOk result (CallStepsTo context.now.table.now.macros context.now.env.now context.now.level
             (call_in self.old.replacer.sets call.now.head call.now.replaced.now call.now.arguments.items call.now.both list.old) self.old.left self.new.left
             (finished_in self.new.replacer.sets list.new self.new.fault)) }
         ensures known { OnOk result (self.new.fault ≡ None → AllKnown self.new.replacer.sets list.new) }
@@ -316,10 +316,10 @@ impl<'x> Expander<'x> {
     {
         let pattern = call
             .replaced
-            .pattern(self.replacer.supply.alloc(), context.table.hashing())?;
+            .pattern(self.replacer.pool.alloc(), context.table.hashing())?;
         let mut expanded = Vec::with_capacity(
-            self.replacer.supply.alloc(),
-            parameters_of(call.replaced),
+            self.replacer.pool.alloc(),
+            parameter_count(call.replaced),
         )?;
         self.expand_arguments(context, call, &pattern, &mut expanded)?;
         if self.fault.is_some() {
@@ -327,69 +327,69 @@ impl<'x> Expander<'x> {
         }
         let expanded = expanded.as_slice();
         self.replacer
-            .finish(call, &pattern, expanded, list, &mut self.fault)
+            .finish_call(call, &pattern, expanded, list, &mut self.fault)
     }
 
     /// Makes one expansion step of a list, including the arguments of an invocation. `named` is the macro that the next token names, if
     /// any. Returns whether the expansion of the list goes on.
     ///
-    /// Appends emitted tokens to `passed` and removes what is done from `list`. A fault that ends the list is stored. `call` is storage for
+    /// Appends emitted tokens to `emitted` and removes what is done from `list`. A fault that ends the list is stored. `call` is storage for
     /// an invocation, so that it lies in the caller's frame.
     #[cycle(expansion)]
     fn advance<'t, 'a: 'x>(
         &mut self,
         context: &Context<'t, 'a>,
         named: Option<&'t Macro<'a>>,
-        list: &mut Cursor<'x>,
-        passed: &mut Passed<'x>,
+        list: &mut TokenStack<'x>,
+        emitted: &mut Emitted<'x>,
         call: &mut Option<Invocation<'t, 'x, 'a>>,
     ) -> Result<bool, Memory>
         requires level { context.now.level ≤ 256 }
         requires named { option_copied named ≡ next_macro context.now.table.now.macros (tokens_of list.old) }
         requires list_known { AllKnown self.old.replacer.sets list.old }
-        requires passed_known { AllKnown self.old.replacer.sets passed.old }
+        requires passed_known { AllKnown self.old.replacer.sets emitted.old }
         requires no_fault { self.old.fault ≡ None }
         requires no_call { call.old ≡ None }
         ensures on { IfOk result (λ goes.
             HasTaken context.now.table.now.macros context.now.env.now context.now.level self.old.left (hidings self.old.replacer.sets list.old)
-            (hidings self.old.replacer.sets passed.old) goes self.new.fault self.new.left (hidings self.new.replacer.sets list.new) (hidings self.new.replacer.sets passed.new)) }
+            (hidings self.old.replacer.sets emitted.old) goes self.new.fault self.new.left (hidings self.new.replacer.sets list.new) (hidings self.new.replacer.sets emitted.new)) }
         ensures list_known { IfOk result (λ goes. goes ≡ true → AllKnown self.new.replacer.sets list.new) }
-        ensures passed_known { OnOk result (AllKnown self.new.replacer.sets passed.new) }
+        ensures passed_known { OnOk result (AllKnown self.new.replacer.sets emitted.new) }
         ensures keeps { KeepsSets self.old.replacer.sets self.new.replacer.sets }
     {
-        let goes = self.take_turn(context, named, list, passed, call)?;
+        let goes = self.begin_step(context, named, list, emitted, call)?;
         let Some(found) = &*call else {
             return Ok(goes);
         };
-        self.follow(context, found, list)?;
-        keep_arguments(&mut self.replacer.supply, call)?;
+        self.replace_call(context, found, list)?;
+        keep_arguments(&mut self.replacer.pool, call)?;
         Ok(self.fault.is_none())
     }
 
-    /// Expands a list, and appends the emitted tokens to `passed`. A fault that ends the list is stored.
+    /// Expands a list, and appends the emitted tokens to `emitted`. A fault that ends the list is stored.
     #[cycle(expansion)]
     fn expand_list<'a: 'x>(
         &mut self,
         context: &Context<'_, 'a>,
-        list: &mut Cursor<'x>,
-        passed: &mut Passed<'x>,
+        list: &mut TokenStack<'x>,
+        emitted: &mut Emitted<'x>,
     ) -> Result<(), Memory>
         requires level { context.now.level ≤ 256 }
         requires known { AllKnown self.old.replacer.sets list.old }
-        requires none { passed.old ≡ [] }
+        requires none { emitted.old ≡ [] }
         requires no_fault { self.old.fault ≡ None }
         ensures outcome { OnOk result (ExpandsTo context.now.table.now.macros context.now.env.now context.now.level self.old.left (hidings self.old.replacer.sets list.old)
-            (record { tokens = hidings self.new.replacer.sets passed.new; fault = self.new.fault; left = self.new.left })) }
-        ensures known { OnOk result (AllKnown self.new.replacer.sets passed.new) }
+            (record { tokens = hidings self.new.replacer.sets emitted.new; fault = self.new.fault; left = self.new.left })) }
+        ensures known { OnOk result (AllKnown self.new.replacer.sets emitted.new) }
         ensures keeps { KeepsSets self.old.replacer.sets self.new.replacer.sets }
     {
         loop {
             // Fast path: most tokens name no macro.
-            let named = skip(context.table, list, passed)?;
+            let named = skip(context.table, list, emitted)?;
             // The invocation is dropped at the end of the step.
             let goes = {
                 let mut call = None;
-                self.advance(context, named, list, passed, &mut call)
+                self.advance(context, named, list, emitted, &mut call)
             };
             if !goes? {
                 return Ok(());
@@ -402,14 +402,14 @@ impl<'x> Expander<'x> {
 #[derive(Drop)]
 pub struct Expanded<'a> {
     /// The emitted tokens.
-    pub tokens: Run<'a>,
+    pub tokens: TokenRope<'a>,
     /// The fault that ended the list, if any.
     pub fault: Option<Fault>,
     /// The rest of the budget of replacements and file openings; `None` means no limit.
     pub left: Option<u64>,
 }
 
-/// Expands tokens of a file, with empty hide sets at first, and appends the emitted tokens to `passed`.
+/// Expands tokens of a file, with empty hide sets at first, and appends the emitted tokens to `emitted`.
 ///
 /// Returns the rest of the budget, and the fault that ended the list, if any.
 fn expand_tokens<'x, 'a: 'x>(
@@ -417,50 +417,50 @@ fn expand_tokens<'x, 'a: 'x>(
     context: &Context<'_, 'a>,
     left: Option<u64>,
     tokens: &'x [Token],
-    passed: &mut Passed<'x>,
+    emitted: &mut Emitted<'x>,
 ) -> Result<(Option<u64>, Option<Fault>), Memory>
     requires level { context.now.level ≡ 0 }
-    requires none { passed.old ≡ [] }
+    requires none { emitted.old ≡ [] }
     ensures { IfOk result (λ r. (sets : HideSetPool) × ExpandsTo context.now.table.now.macros context.now.env.now 0 left (map plain tokens.now)
-        (record { tokens = hidings sets passed.new; fault = r.1; left = r.0 })) }
+        (record { tokens = hidings sets emitted.new; fault = r.1; left = r.0 })) }
 {
     let sets = HideSets::with_hasher(alloc, context.table.hashing())?;
-    let mut list = Cursor::over(alloc, tokens, sets.empty());
+    let mut list = TokenStack::over(alloc, tokens, sets.empty());
     let mut expander = Expander {
         replacer: Replacer {
-            supply: Supply::new(alloc),
+            pool: VecPool::new(alloc),
             sets,
         },
         left,
         fault: None,
     };
-    expander.expand_list(context, &mut list, passed)?;
+    expander.expand_list(context, &mut list, emitted)?;
     Ok((expander.left, expander.fault))
 }
 
-/// Expands `front` and `rest`, where the tokens of `front` are emitted unchanged.
+/// Expands `prefix` and `rest`, where the tokens of `prefix` are emitted unchanged.
 #[inline(never)]
 fn expand_rest<'x, 'a: 'x>(
     alloc: Global,
     table: &Table<'a>,
     env: &Env,
     left: Option<u64>,
-    front: &'x [Token],
+    prefix: &'x [Token],
     rest: &'x [Token],
 ) -> Result<Expanded<'x>, Memory>
-    requires plain { AllByRecursion (λ t. is_plain table.now.macros t ≡ true) front.now }
-    ensures { IfOk result (λ e. IsExpansion table.now.macros env.now left (front.now ++ rest.now) e) }
+    requires plain { AllByRecursion (λ t. never_expands table.now.macros t ≡ true) prefix.now }
+    ensures { IfOk result (λ e. IsExpansion table.now.macros env.now left (prefix.now ++ rest.now) e) }
 {
     let context = Context {
         table,
         env,
         level: 0,
     };
-    let mut passed = Passed::with_room(alloc, ROOM)?;
-    let (left, fault) = expand_tokens(alloc, &context, left, rest, &mut passed)?;
-    passed.fit()?;
+    let mut emitted = Emitted::with_capacity(alloc, CAPACITY)?;
+    let (left, fault) = expand_tokens(alloc, &context, left, rest, &mut emitted)?;
+    emitted.free_unused()?;
     Ok(Expanded {
-        tokens: Run::new(front, passed),
+        tokens: TokenRope::new(prefix, emitted),
         fault,
         left,
     })
@@ -494,13 +494,13 @@ pub fn expand<'x, 'a: 'x>(
 ) -> Result<Expanded<'x>, Memory>
     ensures { IfOk result (λ e. IsExpansion table.now.macros env.now left tokens.now e) }
 {
-    let (front, rest) = split_plain(table, tokens);
+    let (prefix, rest) = split_unexpanded(table, tokens);
     if rest.is_empty() {
         return Ok(Expanded {
-            tokens: Run::new(front, Passed::new(alloc)),
+            tokens: TokenRope::new(prefix, Emitted::new(alloc)),
             fault: None,
             left,
         });
     }
-    expand_rest(alloc, table, env, left, front, rest)
+    expand_rest(alloc, table, env, left, prefix, rest)
 }

@@ -6,14 +6,14 @@ ghost use Rattle.pptext.specs.declared.tokens.Token.{Token};
 ghost use Rattle.ppmacro.specs.Names.{Name, HideSet, Macros};
 ghost use Rattle.ppmacro.specs.Hiding.{Hiding};
 ghost use Rattle.ppexpand.specs.declared.env.Env.{Env};
-ghost use Rattle.ppexpand.specs.Arguments.{Closed, Quoted, Unclosed, gather};
-ghost use Rattle.ppexpand.specs.Turn.{turn};
+ghost use Rattle.ppexpand.specs.Arguments.{Closed, UnmatchedQuote, Unclosed, gather};
+ghost use Rattle.ppexpand.specs.ExpansionStep.{expansion_step};
 ghost use Rattle.ppexpand.specs.declared.expansion.Expanded.{Expanded};
-ghost use Rattle.ppexpand.specs.Expansion.{Outcome, turn_within, Expands, ExpandsTo, IsExpansion, count};
+ghost use Rattle.ppexpand.specs.Expansion.{Outcome, step_in_budget, Expands, ExpandsTo, IsExpansion, count};
 ghost use Rattle.ppexpand.specs.Standard.{StandardExpands, IsStandardExpansion};
-ghost use Rattle.ppexpand.specs.Laws.{HasOneOutcome, HasOneExpansion, EndsWithin, plus, IsCapped, OnlyBudgetsRefuse, is_settled, IsInvocation};
-ghost use Rattle.ppexpand.specs.Laws.{IsQuoted, NeverClosed, Leads};
-ghost use Rattle.ppexpand.specs.Ending.{hides, Holds, Gains, names_left, IsOutside, Step, Ends, FrontEnds};
+ghost use Rattle.ppexpand.specs.Laws.{HasOneOutcome, HasOneExpansion, EndsWithin, plus, IsCapped, OnlyBudgetsRefuse, is_fully_expanded, IsInvocation};
+ghost use Rattle.ppexpand.specs.Laws.{StopsAtQuote, NeverClosed, Leads};
+ghost use Rattle.ppexpand.specs.Termination.{hides, Holds, Gains, names_left, IsOutside, Step, Ends, PrefixEnds};
 
 /// Each list of tokens with hide sets has exactly one outcome, for all macros and at each level of arguments.
 pub fn one_outcome()
@@ -26,7 +26,7 @@ pub fn one_expansion()
 {}
 
 /// Expansion terminates: for all macros and each list, the number of expansion steps has a bound.
-pub fn expansion_ends()
+pub fn expansion_terminates()
     ensures { (macros : Macros) (env : Env) (level : ℕ) (left : Option ℕ) (list : List Hiding)
         → (most : ℕ) × EndsWithin macros env level most left list }
 {}
@@ -34,40 +34,40 @@ pub fn expansion_ends()
 /// Why expansion terminates (6.10.3.4). Each expansion step is a step on the hide sets of the list alone. What it puts into a prefix whose
 /// tokens hide some names hides one name more, so fewer macro names are left to replace there. Hence each prefix terminates before a rest
 /// that terminates, and each list is such a prefix.
-pub fn fronts_end()
-    ensures turns { (macros : Macros) (env : Env) (level : ℕ) (left after : Option ℕ) (list next : List Hiding)
+pub fn prefixes_terminate()
+    ensures steps { (macros : Macros) (env : Env) (level : ℕ) (left after : Option ℕ) (list next : List Hiding)
         → Leads macros env level left list after next
         → Step macros (hides list) (hides next) }
     ensures gains { (hidden one two whole : HideSet) (name : Name) → Holds hidden one → Holds hidden two → Gains one two name whole → Holds (set.insert hidden name) whole }
     ensures fewer { (macros : Macros) (hidden : HideSet) (name : Name) → IsOutside macros name hidden → names_left macros (set.insert hidden name) < names_left macros hidden }
-    ensures fronts { (macros : Macros) (hidden : HideSet) (front : List HideSet) → FrontEnds macros hidden front }
+    ensures fronts { (macros : Macros) (hidden : HideSet) (prefix : List HideSet) → PrefixEnds macros hidden prefix }
     ensures lists { (macros : Macros) (list : List HideSet) → Ends macros list }
 {}
 
 /// An expanded token is no unmatched quote, and no name of an object-like or predefined macro unless its hide set has the name (6.10.3.4).
-pub fn leaves_settled_tokens()
+pub fn leaves_fully_expanded_tokens()
     ensures { (macros : Macros) (env : Env) (level : ℕ) (left : Option ℕ) (list : List Hiding) (out : Outcome)
         → ExpandsTo macros env level left list out
-        → AllPass (is_settled macros) out.tokens }
+        → AllPass (is_fully_expanded macros) out.tokens }
 {}
 
 /// The arguments of an invocation are found if and only if the list after `(` consists of these arguments, the matching `)` and the rest (6.10.3).
 pub fn finds_arguments()
-    ensures { (commas : Option ℕ) (list : List Hiding) (arguments : List (List Hiding)) (close : Hiding) (behind : List Hiding)
-        → (gather 0 commas list ≡ Closed arguments close behind) ↔ IsInvocation commas list arguments close behind }
+    ensures { (commas : Option ℕ) (list : List Hiding) (arguments : List (List Hiding)) (close : Hiding) (following : List Hiding)
+        → (gather 0 commas list ≡ Closed arguments close following) ↔ IsInvocation commas list arguments close following }
 {}
 
 /// An invocation stops at an unmatched quote if and only if this quote is before any matching `)`. It has no end if and only if no `)`
 /// matches and there is no unmatched quote (6.4, 6.10.3).
 pub fn finds_no_arguments()
-    ensures quote { (commas : Option ℕ) (list : List Hiding) (quote : Hiding) → (gather 0 commas list ≡ Quoted quote) ↔ IsQuoted list quote }
+    ensures quote { (commas : Option ℕ) (list : List Hiding) (quote : Hiding) → (gather 0 commas list ≡ UnmatchedQuote quote) ↔ StopsAtQuote list quote }
     ensures no_end { (commas : Option ℕ) (list : List Hiding) → (gather 0 commas list ≡ Unclosed) ↔ NeverClosed list }
 {}
 
 /// Without a budget nothing is refused and nothing is counted. An expansion step is what the rules of macro replacement require (6.10.3,
 /// 6.10.3.4). There is no budget after an expansion either. A list expands to what it expands to by the standard's rules, which have no budget.
 pub fn without_a_budget()
-    ensures turns { (macros : Macros) (env : Env) (list : List Hiding) → turn_within macros env None list ≡ turn macros env list }
+    ensures steps { (macros : Macros) (env : Env) (list : List Hiding) → step_in_budget macros env None list ≡ expansion_step macros env list }
     ensures left { (macros : Macros) (env : Env) (level : ℕ) (list : List Hiding) (out : Outcome)
         → ExpandsTo macros env level None list out
         → out.left ≡ None }
@@ -79,16 +79,16 @@ pub fn without_a_budget()
 
 /// The cost of an expansion and the rest of the budget add up to the budget.
 pub fn budget_is_spent()
-    ensures { (macros : Macros) (env : Env) (level turns : ℕ) (left : Option ℕ) (list : List Hiding) (out : Outcome)
-        → (d : Expands macros env level left turns list out)
+    ensures { (macros : Macros) (env : Env) (level steps : ℕ) (left : Option ℕ) (list : List Hiding) (out : Outcome)
+        → (d : Expands macros env level left steps list out)
         → left ≡ plus (count macros env d) out.left }
 {}
 
 /// An expansion within a budget equals the one without if that costs no more. Otherwise it ends in fault 35, nothing is left of the budget,
 /// and the emitted tokens are a prefix.
 pub fn budget_caps()
-    ensures { (macros : Macros) (env : Env) (level turns : ℕ) (list : List Hiding) (whole : Outcome)
-        → (d : Expands macros env level None turns list whole) (b : ℕ) (out : Outcome)
+    ensures { (macros : Macros) (env : Env) (level steps : ℕ) (list : List Hiding) (whole : Outcome)
+        → (d : Expands macros env level None steps list whole) (b : ℕ) (out : Outcome)
         → ExpandsTo macros env level (Some b) list out
         → IsCapped b (count macros env d) whole out }
 {}

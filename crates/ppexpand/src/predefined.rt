@@ -2,7 +2,7 @@
 ghost use Rattle.std.specs.Prelude.{◌≡◌, IfOk, None, decimal, nat_abs};
 ghost use Rattle.ppmacro.specs.HideSetPool.{HideSetPool};
 ghost use Rattle.ppmacro.specs.HideSets.{set_at, hiding};
-ghost use Rattle.ppexpand.specs.Turn.{presumed_line, quoted, predefined_kind, predefined_text, predefined_value};
+ghost use Rattle.ppexpand.specs.ExpansionStep.{presumed_line, string_literal, predefined_kind, predefined_text, predefined_value};
 
 use crate::env::Env;
 use crate::lists::put;
@@ -22,8 +22,8 @@ fn predefined_kind(builtin: PredefinedMacro) -> Kind
 }
 
 /// Returns a text between double quotes.
-fn quoted(alloc: Global, text: &[u8]) -> Result<Vec<u8>, AllocError>
-    ensures { IfOk result (λ v. v.items ≡ quoted text.now) }
+fn string_literal(alloc: Global, text: &[u8]) -> Result<Vec<u8>, AllocError>
+    ensures { IfOk result (λ v. v.items ≡ string_literal text.now) }
 {
     let mut literal = Vec::from_slice(alloc, b"\"")?;
     literal.extend_from_slice(text)?;
@@ -52,8 +52,8 @@ fn predefined_text(
     match builtin {
         PredefinedMacro::File => Vec::from_slice(alloc, env.name.as_bytes()),
         PredefinedMacro::Line => presumed_line(alloc, env, used),
-        PredefinedMacro::Date => quoted(alloc, env.date.as_bytes()),
-        PredefinedMacro::Time => quoted(alloc, env.time.as_bytes()),
+        PredefinedMacro::Date => string_literal(alloc, env.date.as_bytes()),
+        PredefinedMacro::Time => string_literal(alloc, env.time.as_bytes()),
         PredefinedMacro::Stdc | PredefinedMacro::StdcHosted => Vec::from_slice(alloc, b"1"),
         PredefinedMacro::StdcVersion => Vec::from_slice(alloc, b"201112L"),
     }

@@ -10,7 +10,7 @@ use Rattle.ppmacro.specs.Names.{Macros}
 use Rattle.ppexpand.specs.declared.env.Env.{Env}
 use Rattle.ppexpand.specs.Expansion.{IsExpansion, count_expansion}
 use Rattle.ppexpand.specs.Laws.{plus}
-use Rattle.ppexpand.proofs.Budget.{plus-nothing, Covers, StopsEarly, expansion_spends, expansion_enough, expansion_short}
+use Rattle.ppexpand.proofs.BudgetLemmas.{plus-nothing, Covers, StopsEarly, expansion_spends, expansion_enough, expansion_short}
 use Rattle.ppexpand.proofs.Refusing.{expansion_never_refused}
 use Rattle.ppexpr.specs.Outcomes.{Value, Failure, ZeroDivisor, Overflow, Shift}
 use Rattle.ppexpr.specs.Symbols.{Symbol}

@@ -4,7 +4,7 @@ use Rattle.pptext.specs.declared.tokens.Place.{Place}
 use Rattle.pptext.specs.declared.tokens.Token.{Token}
 use Rattle.ppmacro.specs.Names.{Macros}
 use Rattle.ppexpand.specs.declared.env.Env.{Env}
-use Rattle.ppexpand.proofs.Budget.{without}
+use Rattle.ppexpand.proofs.BudgetLemmas.{without}
 use Rattle.ppexpr.specs.Conditions.{Condition, IsCondition, count_condition}
 use Rattle.ppexpr.specs.Laws.{IsCapped}
 use Rattle.ppexpr.proofs.Capped.{condition_enough, condition_short}

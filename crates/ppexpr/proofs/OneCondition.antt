@@ -33,10 +33,10 @@ same_asks macros ts us vs (question {d = d} {ts = ss} {us = xs} {o = o} e g a) h
 same_expansion : (macros : Macros) (env : Env) (left : Option ℕ) (ts : List Token) (d e : Expanded) → IsExpansion macros env left ts d → IsExpansion macros env left ts e → d ≡ e
 same_expansion macros env left ts d e g h =
     let same : g.outcome ≡ h.outcome = (same_outcome macros env g.expands.1 h.expands.0 h.outcome h.expands.1).1 in
-    let passed : d.tokens ≡ e.tokens = g.passed ∙ (ap (λ o. map (λ t. t.token) o.tokens) same ∙ sym h.passed) in
+    let emitted : d.tokens ≡ e.tokens = g.emitted ∙ (ap (λ o. map (λ t. t.token) o.tokens) same ∙ sym h.emitted) in
     let ended : d.fault ≡ e.fault = g.ended ∙ (ap (λ o. o.fault) same ∙ sym h.ended) in
     let lefts : d.left ≡ e.left = g.left_over ∙ (ap (λ o. o.left) same ∙ sym h.left_over) in
-    λ i. record { tokens = passed i; fault = ended i; left = lefts i }
+    λ i. record { tokens = emitted i; fault = ended i; left = lefts i }
 
 same_outcomes : (s : List Symbol) (o p : Outcome) → Denotes s o → Denotes s p → o ≡ p
 same_outcomes s o p h k = sym h.2 ∙ (ap outcome_of (same_tree s h.0 k.0 h.1 k.1) ∙ k.2)

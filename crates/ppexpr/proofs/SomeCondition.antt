@@ -127,7 +127,7 @@ some_replacement macros env at ts us left e None a x h = let d = some_decision a
 some_expansion : (macros : Macros) (env : Env) (left : Option ℕ) (ts : List Token) → (e : Expanded) × IsExpansion macros env left ts e
 some_expansion macros env left ts =
     let one = total macros env 0 left (map plain ts) in
-    (record { tokens = map (λ t. t.token) one.1.tokens; fault = one.1.fault; left = one.1.left }, record { outcome = one.1; expands = (one.0, one.2); passed = refl; ended = refl; left_over = refl })
+    (record { tokens = map (λ t. t.token) one.1.tokens; fault = one.1.fault; left = one.1.left }, record { outcome = one.1; expands = (one.0, one.2); emitted = refl; ended = refl; left_over = refl })
 
 pub some_condition : (macros : Macros) (env : Env) (at : Place) (ts : List Token) (left : Option ℕ) → (c : Condition) × (after : Option ℕ) × IsCondition macros env at ts left c after
 some_condition macros env at ts left = elim (answered (length ts) macros ts (omega arith)) [

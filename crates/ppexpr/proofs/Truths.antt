@@ -9,7 +9,7 @@ use Rattle.pptext.specs.declared.tokens.Kind.{Kind}
 use Rattle.pptext.specs.declared.tokens.Kind.TheVariants.{Ident, Number, CharConst, Str, Punct, Header, Other}
 use Rattle.pptext.specs.Tokens.{is_punctuator_kind}
 use Rattle.ppmacro.specs.Names.{Macros}
-use Rattle.ppexpand.specs.Lists.{is_plain}
+use Rattle.ppexpand.specs.code.Lists.{never_expands}
 use Rattle.ppexpr.specs.Symbols.{Symbol, Constant, Operator}
 use Rattle.ppexpr.specs.Operators as sign
 use Rattle.ppexpr.specs.Operations as operation
@@ -38,7 +38,7 @@ mark_kind Other e = absurd (true≢false (sym e))
 mark_undefined : (t : Token) → t.kind ≡ Punct → is_defined t ≡ false
 mark_undefined t e = rw e refl
 
-mark_plain : (macros : Macros) (t : Token) → t.kind ≡ Punct → is_plain macros t ≡ true
+mark_plain : (macros : Macros) (t : Token) → t.kind ≡ Punct → never_expands macros t ≡ true
 mark_plain macros t e = rw e refl
 
 -- a punctuator has the symbol of its spelling

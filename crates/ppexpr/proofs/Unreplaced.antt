@@ -9,7 +9,7 @@ use Rattle.pptext.specs.declared.tokens.Kind.TheVariants.{Number}
 use Rattle.pptext.specs.Tokens.{is_identifier, is_punct}
 use Rattle.ppmacro.specs.Names.{Macros}
 use Rattle.ppexpand.specs.declared.env.Env.{Env}
-use Rattle.ppexpand.specs.Lists.{is_plain}
+use Rattle.ppexpand.specs.code.Lists.{never_expands}
 use Rattle.ppexpand.specs.Expansion.{IsExpansion, ended}
 use Rattle.ppexpand.proofs.Skipping.{expansion-behind, expands-nothing}
 use Rattle.ppexpr.specs.Symbols.{Symbol, Constant}
@@ -23,7 +23,7 @@ use Rattle.ppexpr.specs.Conditions.{Condition, Judges, IsCondition, replaced, co
 record Unreplaced (macros : Macros) (ts : List Token) (ss : List Symbol) : Type 0 where
   asked : List Token
   asks : Asks macros ts asked
-  plain : AllByRecursion (λ t. is_plain macros t ≡ true) asked
+  plain : AllByRecursion (λ t. never_expands macros t ≡ true) asked
   undefined : list_any is_defined asked ≡ false
   symbols : (at : Place) → symbols_of at asked ≡ Ok ss
 
@@ -51,7 +51,7 @@ unreplaced : (macros : Macros) (ts : List Token) (ss : List Symbol) → StandFor
 unreplaced macros ts ss nothing = record { asked = []; asks = asks_nothing; plain = tt; undefined = refl; symbols = λ at. refl }
 unreplaced macros ts ss (more {rest = rest} {s = s} {ss = qs} b h) = unreplaced_more macros ts rest s qs b (unreplaced macros rest qs h)
 
-expands_as_is : (macros : Macros) (env : Env) (left : Option ℕ) (ts : List Token) → AllByRecursion (λ t. is_plain macros t ≡ true) ts → IsExpansion macros env left ts (record { tokens = ts; fault = None; left = left })
+expands_as_is : (macros : Macros) (env : Env) (left : Option ℕ) (ts : List Token) → AllByRecursion (λ t. never_expands macros t ≡ true) ts → IsExpansion macros env left ts (record { tokens = ts; fault = None; left = left })
 expands_as_is macros env left ts h = expansion-behind macros env left ts ts [] (record { tokens = ts; fault = None; left = left }) (ended left None) (sym (append-nil ts)) h (expands-nothing macros env 0 left) (sym (append-nil ts)) refl refl
 
 -- the condition of the symbols is the condition of the tokens, and nothing is spent

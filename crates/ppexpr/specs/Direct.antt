@@ -4,7 +4,7 @@ use Rattle.std.specs.FinMap as table
 use Rattle.pptext.specs.declared.tokens.Place.{Place}
 use Rattle.pptext.specs.declared.tokens.Token.{Token}
 use Rattle.ppmacro.specs.Names.{Macros}
-use Rattle.ppexpand.specs.Lists.{is_plain}
+use Rattle.ppexpand.specs.code.Lists.{never_expands}
 use Rattle.ppexpr.specs.Symbols.{Symbol, Constant}
 use Rattle.ppexpr.specs.Values.{truth}
 use Rattle.ppexpr.specs.Asking.{is_defined, Operand, operand}
@@ -12,7 +12,7 @@ use Rattle.ppexpr.specs.Tokens.{symbol_of}
 
 -- a token that no macro replaces has this symbol
 pub record StandsFor (macros : Macros) (t : Token) (s : Symbol) : Type 0 where
-  pub plain : is_plain macros t ≡ true
+  pub plain : never_expands macros t ≡ true
   pub symbol : (at : Place) → symbol_of at t ≡ Ok s
 
 -- a list begins with the tokens of this symbol, and the rest follows

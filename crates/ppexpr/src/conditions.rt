@@ -11,7 +11,7 @@ use crate::nesting::is_too_nested;
 use crate::parsing::parse;
 use crate::symbols::{Failure, FailureKind, Symbol, Value};
 use crate::tokens::symbols_of;
-use ppexpand::{Env, Expanded, Run, expand};
+use ppexpand::{Env, Expanded, TokenRope, expand};
 use ppmacro::Table;
 use pptext::{Fault, Memory, Place, Error, Token, split_memory};
 use std::alloc::{AllocError, Global};
@@ -77,7 +77,7 @@ fn decide(alloc: Global, at: Place, tokens: &[Token]) -> Result<bool, Error>
 }
 
 /// Evaluates an expanded list. Copies the tokens only if macros were replaced.
-fn decide_run(alloc: Global, at: Place, run: &Run) -> Result<bool, Error>
+fn decide_run(alloc: Global, at: Place, run: &TokenRope) -> Result<bool, Error>
     ensures { UnlessOutOfMemory result (λ c. Decides at run.now c) }
 {
     if let Some(tokens) = run.unchanged() {

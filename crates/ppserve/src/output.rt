@@ -18,7 +18,7 @@ use crate::list::List;
 use crate::page::Page;
 use crate::streams::{Failed, Sink, VecSink};
 use itoa::Buffer;
-use ppexpand::{Piece, Run};
+use ppexpand::{Piece, TokenRope};
 use ppmacro::Hidden;
 use pptext::{Fault, Memory, Place, Spelling, Token};
 use ppunit::{Items, Part, Texts, Unit, UnitOut};
@@ -179,7 +179,7 @@ fn put_pragma<W: Sink>(page: &mut Page, writer: &mut W, at: Place, tokens: &[Tok
     put_pragma_tokens(page, writer, tokens);
 }
 
-fn put_run<W: Sink>(page: &mut Page, writer: &mut W, run: &Run)
+fn put_run<W: Sink>(page: &mut Page, writer: &mut W, run: &TokenRope)
     ensures { Puts W.written W.has_failed writer.old writer.new page.old page.new (flat_map token_line run.now) }
 {
     let (front, pieces, singles) = run.parts();

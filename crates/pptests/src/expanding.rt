@@ -2,7 +2,7 @@
 //! are in tests/row_tests.py and tests/token_tests.py, which compare the program's output.
 use crate::defining::{directed, env, source_of};
 use crate::showing::assert_shown;
-use ppexpand::{Expanded, Piece, Run, TokenRef, expand};
+use ppexpand::{Expanded, Piece, TokenRope, TokenRef, expand};
 use ppmacro::{Hidden, Table};
 use pptext::{Memory, Source, Token};
 use std::alloc::{AllocError, Global};
@@ -29,7 +29,7 @@ fn push_made(text: &mut Vec<u8>, made: &[Hidden]) -> Result<(), AllocError> {
 
 /// Appends the spellings of a run's tokens to a text, part by part: after `.` if the token is in a span of the file, after `!` if
 /// it is on its own.
-fn push_parts(text: &mut Vec<u8>, run: &Run) -> Result<(), AllocError> {
+fn push_parts(text: &mut Vec<u8>, run: &TokenRope) -> Result<(), AllocError> {
     let (front, pieces, singles) = run.parts();
     push_shared(text, front)?;
     for piece in pieces {
@@ -50,7 +50,7 @@ fn is_same(found: &TokenRef, token: &Token) -> Result<bool, AllocError> {
 }
 
 /// Returns whether the tokens of a run, one by one, are those of its list.
-fn yields_all(alloc: Global, run: &Run) -> Result<bool, AllocError> {
+fn yields_all(alloc: Global, run: &TokenRope) -> Result<bool, AllocError> {
     let tokens = run.to_vec(alloc)?;
     let mut found = run.iter();
     for token in &tokens {

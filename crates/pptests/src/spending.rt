@@ -1,5 +1,5 @@
 //! Tests of spending a budget.
-use ppexpand::{is_spent, less_one};
+use ppexpand::{is_exhausted, spend_one};
 
 #[test]
 fn spends_one(rt: HostRuntime) {
@@ -10,7 +10,7 @@ fn spends_one(rt: HostRuntime) {
         (None, false, None),
     ] {
         assert!(rt;
-            is_spent(left) == spent && less_one(left) == less,
+            is_exhausted(left) == spent && spend_one(left) == less,
             "{left:?}"
         );
     }

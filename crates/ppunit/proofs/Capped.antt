@@ -1,8 +1,8 @@
 -- What a unit gives within a budget is a beginning of what it gives without one.
 use Rattle.std.proofs.Common.{◌≡◌, ℕ, ◌-◌, ◌<◌, ◌≤◌, List, Option, Some, None, refl, sym, ap, ◌∙◌, subst, arith, inl, inr}
 use Rattle.pptext.specs.declared.tokens.Fault.{Fault}
-use Rattle.ppexpand.specs.Laws.{IsBeginning}
-use Rattle.ppexpand.proofs.Budget.{Covers, without, larger}
+use Rattle.ppexpand.specs.Laws.{IsPrefix}
+use Rattle.ppexpand.proofs.BudgetLemmas.{Covers, without, larger}
 use Rattle.ppshelf.specs.Names.{AreNames}
 use Rattle.ppshelf.specs.Files.{Files, Extends}
 use Rattle.ppunit.specs.declared.units.Unit.{Unit as UnitOfList}
@@ -22,8 +22,8 @@ use Rattle.ppunit.proofs.CappedGroups.{unit_short}
 
 -- beside the whole: a unit that stopped by fault 35
 stopped_early : (b c : ℕ) (s : State) (f : Fault) (whole out : UnitOut) → given (stopped s f) ≡ out → f.number ≡ 35
-    → IsBeginning s.items whole.items
-    → IsBeginning s.deps whole.deps
+    → IsPrefix s.items whole.items
+    → IsPrefix s.deps whole.deps
     → b < c
     → ¬ HasFault 35 whole
     → IsCapped b c whole out
@@ -71,8 +71,8 @@ unit_caps one grows only names files setting unit out are p b more whole budget 
     elim (dec_lt b c) [
       | yes less ↦
           (let x = unit_short around b without q.translates less in
-          let items : IsBeginning x.0.items whole.items = subst (λ o. IsBeginning x.0.items o.items) (sym q.gives) x.2.before.0 in
-          let deps : IsBeginning x.0.deps whole.deps = subst (λ o. IsBeginning x.0.deps o.deps) (sym q.gives) x.2.before.1 in
+          let items : IsPrefix x.0.items whole.items = subst (λ o. IsPrefix x.0.items o.items) (sym q.gives) x.2.before.0 in
+          let deps : IsPrefix x.0.deps whole.deps = subst (λ o. IsPrefix x.0.deps o.deps) (sym q.gives) x.2.before.1 in
           stopped_early b c x.0 x.1 whole out (same (stopped x.0 x.1) x.3) x.2.number items deps less (only names more (unlimited setting) unit whole refl q))
       | no not_less ↦
           (let n = b - c in
@@ -115,8 +115,8 @@ no_less_here one names files setting unit b wide out more are most p q =
           (let x = unit_short around b covers q.translates less in
           subst (λ o. GivesNoLess o more) (same (stopped x.0 x.1) x.3)
           (record {
-            items = subst (λ o. IsBeginning x.0.items o.items) (sym q.gives) x.2.before.0;
-            deps = subst (λ o. IsBeginning x.0.deps o.deps) (sym q.gives) x.2.before.1;
+            items = subst (λ o. IsPrefix x.0.items o.items) (sym q.gives) x.2.before.0;
+            deps = subst (λ o. IsPrefix x.0.deps o.deps) (sym q.gives) x.2.before.1;
             same = inr (x.1, refl, x.2.number);
           }))
       | no not_less ↦

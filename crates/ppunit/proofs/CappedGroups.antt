@@ -5,7 +5,7 @@ use Rattle.pptext.specs.Lines.{LogicalLine}
 use Rattle.pptext.specs.Tree.{Parts, Branches}
 use Rattle.pptext.specs.Tokens.{fault}
 use Rattle.ppexpand.specs.Expansion.{count_expansion}
-use Rattle.ppexpand.proofs.Budget.{Covers, covers_less}
+use Rattle.ppexpand.proofs.BudgetLemmas.{Covers, covers_less}
 use Rattle.ppunit.specs.States.{State, context, in_context, Surroundings, Reached, stopped, depending, with_left, paying, search_of}
 use Rattle.ppunit.specs.Lines.{run_tokens}
 use Rattle.ppunit.specs.Group.{deepest, Group, Branched, Controls, Includes, Opened}

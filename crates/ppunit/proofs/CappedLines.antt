@@ -13,10 +13,10 @@ use Rattle.pptext.specs.declared.sources.Profile.{Profile}
 use Rattle.pptext.specs.Lines.{LogicalLine}
 use Rattle.pptext.specs.Tree.{sign_place}
 use Rattle.ppexpand.specs.Expansion.{count_expansion}
-use Rattle.ppexpand.proofs.Budget.{StopsEarly, Covers, expansion_short}
+use Rattle.ppexpand.proofs.BudgetLemmas.{StopsEarly, Covers, expansion_short}
 use Rattle.ppexpr.proofs.Capped.{condition_short}
 use Rattle.ppunit.specs.declared.units.Item.{Item}
-use Rattle.ppunit.specs.States.{State, Reached, stopped, passed, with_left, Search}
+use Rattle.ppunit.specs.States.{State, Reached, stopped, emitted, with_left, Search}
 use Rattle.ppunit.specs.Lines.{operands, line_fault}
 use Rattle.ppunit.specs.Quotes.{lone_quote}
 use Rattle.ppunit.specs.LineControl.{presumed}
@@ -56,10 +56,10 @@ run_short s tokens m b is g less =
     let made : map item.Token g.expanded.tokens ≡ items ++ more = ap (λ ts. map item.Token ts) x.begins.1 ∙ map-append item.Token x.expanded.tokens x.begins.0 in
     let whole : m.state.items ≡ (s.items ++ items) ++ more = ap (λ r. r.state.items) g.is ∙ ap (λ l. s.items ++ l) made ∙ sym (append_assoc s.items items more) in
     let deps : m.state.deps ≡ s.deps = ap (λ r. r.state.deps) g.is in (
-      passed (with_left s (Some 0)) items,
+      emitted (with_left s (Some 0)) items,
       x.fault,
       record { number = x.number; left = refl; before = ((more, whole), ([], deps ∙ sym (append-nil s.deps))) },
-      record { expanded = x.expanded; expands = x.is; is = λ i. record { state = passed (with_left s ((sym x.nothing) i)) items; fault = (sym x.stopped) i } },
+      record { expanded = x.expanded; expands = x.is; is = λ i. record { state = emitted (with_left s ((sym x.nothing) i)) items; fault = (sym x.stopped) i } },
     )
 
 asks_by_short : (header : Bool) (s : State) (line : List Token) (after : Option ℕ) (asked : Result Asked Fault) (b : ℕ) → Covers s.left b

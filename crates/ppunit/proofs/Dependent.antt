@@ -18,7 +18,7 @@ use Rattle.ppunit.specs.declared.units.Setting.{Setting}
 use Rattle.ppunit.specs.declared.units.UnitOut.{UnitOut}
 use Rattle.ppunit.specs.declared.units.Item.TheVariants as item
 use Rattle.ppunit.specs.Dependencies.{among}
-use Rattle.ppunit.specs.States.{State, Surroundings, Reached, passed, reading_once, with_left}
+use Rattle.ppunit.specs.States.{State, Surroundings, Reached, emitted, reading_once, with_left}
 use Rattle.ppunit.specs.Lines.{operands, run_tokens}
 use Rattle.ppunit.specs.LineControl.{Presumed, presumed}
 use Rattle.ppunit.specs.Directives.{RunGives, renumbered_by, with_macros, is_once, ControlBy}
@@ -54,7 +54,7 @@ control_keeps profile row (Some Undef) s r m does =
 control_keeps profile row (Some Line) s r m does =
     ap (λ (z : Reached). z.state.deps) does.is ∙ renumbered_keeps (with_left s does.expanded.left) r does.expanded.fault (presumed does.expanded.tokens)
 control_keeps profile row (Some Pragma) s r m does =
-    let t = passed s (item.Pragma (sign_place r.tokens) (operands r.tokens) ∷ []) in
+    let t = emitted s (item.Pragma (sign_place r.tokens) (operands r.tokens) ∷ []) in
     ap (λ (z : Reached). z.state.deps) does ∙ noting_keeps (is_once profile (operands r.tokens)) t row
 control_keeps profile row (Some Null) s r m does = ap (λ (z : Reached). z.state.deps) does
 control_keeps profile row (Some Unknown) s r m does = ap (λ (z : Reached). z.state.deps) does

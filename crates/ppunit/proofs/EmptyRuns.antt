@@ -4,13 +4,13 @@ use Rattle.std.proofs.lemmas.Bool.{eqb-true}
 use Rattle.pptext.specs.declared.tokens.Token.{Token}
 use Rattle.ppmacro.specs.Names.{Macros}
 use Rattle.ppexpand.specs.declared.env.Env.{Env}
-use Rattle.ppexpand.specs.Turn.{Done, turn}
-use Rattle.ppexpand.specs.Expansion.{ended, done, turn_within}
+use Rattle.ppexpand.specs.ExpansionStep.{Done, expansion_step}
+use Rattle.ppexpand.specs.Expansion.{ended, done, step_in_budget}
 use Rattle.ppunit.specs.States.{State}
 use Rattle.ppunit.specs.Directives.{RunGives}
 
-none_next : (macros : Macros) (env : Env) (left : Option ℕ) → turn_within macros env left [] ≡ Done
-unfolding turn
+none_next : (macros : Macros) (env : Env) (left : Option ℕ) → step_in_budget macros env left [] ≡ Done
+unfolding expansion_step
 none_next macros env None = refl
 none_next macros env (Some zero) = refl
 none_next macros env (Some (suc n)) = refl
@@ -21,7 +21,7 @@ without_tokens s = record {
   expands = record {
     outcome = ended s.left None;
     expands = (0, done (none_next s.macros s.env s.left));
-    passed = refl;
+    emitted = refl;
     ended = refl;
     left_over = refl;
   };

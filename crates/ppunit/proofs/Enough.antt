@@ -4,7 +4,7 @@ use Rattle.pptext.specs.declared.tokens.Place.{Place}
 use Rattle.pptext.specs.Lines.{LogicalLine}
 use Rattle.pptext.specs.Tree.{Parts, Branches, Done, End}
 use Rattle.pptext.specs.Tokens.{fault}
-use Rattle.ppexpand.proofs.Budget.{Covers, without, covers_less, covers_rest}
+use Rattle.ppexpand.proofs.BudgetLemmas.{Covers, without, covers_less, covers_rest}
 use Rattle.ppunit.specs.States.{State, Surroundings, Reached, going, stopped, with_left, search_of}
 use Rattle.ppunit.specs.Lines.{run_tokens}
 use Rattle.ppunit.specs.Group.{Group, Branched, Controls, Includes, Opened}

@@ -13,10 +13,10 @@ use Rattle.pptext.specs.Lines.{LogicalLine}
 use Rattle.pptext.specs.Tree.{sign_place}
 use Rattle.ppmacro.specs.Names.{Macros}
 use Rattle.ppexpand.specs.Expansion.{count_expansion}
-use Rattle.ppexpand.specs.Budget.{is_spent}
-use Rattle.ppexpand.proofs.Budget.{Covers, larger, covers_rest, expansion_enough}
+use Rattle.ppexpand.specs.Budget.{is_exhausted}
+use Rattle.ppexpand.proofs.BudgetLemmas.{Covers, larger, covers_rest, expansion_enough}
 use Rattle.ppexpr.proofs.Capped.{condition_enough}
-use Rattle.ppunit.specs.States.{State, Reached, going, passed, reading_once, with_left, Search}
+use Rattle.ppunit.specs.States.{State, Reached, going, emitted, reading_once, with_left, Search}
 use Rattle.ppunit.specs.Lines.{operands}
 use Rattle.ppunit.specs.Quotes.{lone_quote}
 use Rattle.ppunit.specs.LineControl.{Presumed, presumed}
@@ -119,7 +119,7 @@ control_by_enough profile row (Some Line) s line m b is g n sum = record {
   is = ap (holding n) g.is ∙ holding_renumbered n (with_left s g.expanded.left) line g.expanded.fault (presumed g.expanded.tokens);
 }
 control_by_enough profile row (Some Pragma) s line m b is g n sum =
-    nothing_spent profile row (Some Pragma) s line m b n sum (ap (holding b) g ∙ holding_noted b profile row (operands line.tokens) (passed s (item.Pragma (sign_place line.tokens) (operands line.tokens) ∷ [])))
+    nothing_spent profile row (Some Pragma) s line m b n sum (ap (holding b) g ∙ holding_noted b profile row (operands line.tokens) (emitted s (item.Pragma (sign_place line.tokens) (operands line.tokens) ∷ [])))
 control_by_enough profile row (Some Unknown) s line m b is g n sum = nothing_spent profile row (Some Unknown) s line m b n sum (ap (holding b) g)
 control_by_enough profile row _ s line m b is g n sum = absurd g
 
@@ -142,7 +142,7 @@ pub run_rest : (s : State) (tokens : List Token) (r : Reached) (b m : ℕ) → C
     → Covers r.state.left m
 run_rest s tokens r b m is g sum = covers_rest r.state.left (count_expansion g.expands) m is (run_spends s tokens r g) sum
 
-pub covered : (left : Option ℕ) (b : ℕ) → Covers left (suc b) → is_spent left ≡ true → ⊥
+pub covered : (left : Option ℕ) (b : ℕ) → Covers left (suc b) → is_exhausted left ≡ true → ⊥
 covered None b is e = absurd (cc)
 covered (Some zero) b (larger low) e = absurd (omega arith)
 covered (Some (suc n)) b is e = absurd (cc)

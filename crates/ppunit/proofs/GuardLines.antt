@@ -22,7 +22,7 @@ use Rattle.pptext.proofs.OneKind.{begins}
 use Rattle.pptext.specs.Tokens.{is_identifier_kind}
 use Rattle.ppmacro.specs.Define.{same_bool}
 use Rattle.ppexpand.specs.Laws.{plus}
-use Rattle.ppexpand.proofs.Budget.{without}
+use Rattle.ppexpand.proofs.BudgetLemmas.{without}
 use Rattle.ppexpr.specs.Conditions.{IsCondition, count_condition}
 use Rattle.ppexpr.proofs.OneCondition.{same_condition}
 use Rattle.ppexpr.proofs.Capped.{condition_spends, condition_enough}

@@ -9,9 +9,9 @@ use Rattle.pptext.specs.Lines.{LogicalLine}
 use Rattle.pptext.specs.Tree.{Parts, Done, Run, Control, Section, End, Branch, part_lines, AreParts}
 use Rattle.pptext.specs.Guard.{IsBlankLine, AreBlank, GuardedParts, GuardedBy}
 use Rattle.pptext.proofs.Trees.{at_most_one}
-use Rattle.ppexpand.specs.Turn.{turn}
-use Rattle.ppexpand.specs.Budget.{is_spent}
-use Rattle.ppexpand.specs.Expansion.{ended, done, turn_within, count_expansion}
+use Rattle.ppexpand.specs.ExpansionStep.{expansion_step}
+use Rattle.ppexpand.specs.Budget.{is_exhausted}
+use Rattle.ppexpand.specs.Expansion.{ended, done, step_in_budget, count_expansion}
 use Rattle.ppshelf.specs.Content.{Content, unreadable, readable, IsRead}
 use Rattle.ppshelf.specs.Files.{file_at}
 use Rattle.ppunit.specs.declared.units.Item.{Item}
@@ -24,7 +24,7 @@ use Rattle.ppunit.specs.Group.{deepest, Group, Branched, Opened}
 use Rattle.ppunit.specs.Counts.{count_group, count_opened}
 use Rattle.ppunit.specs.Guarded.{GuardsLeaveOut, IsLeftOut}
 use Rattle.ppunit.proofs.FileTokens.{IsSpelledLine, source_spelled}
-use Rattle.ppexpand.specs.Turn as turns
+use Rattle.ppexpand.specs.ExpansionStep as turns
 use Rattle.ppunit.proofs.GuardLines.{guard_line}
 
 -- ---- the file
@@ -38,17 +38,17 @@ abbrev GivesNothing : State → List Token → Type 0
 GivesNothing s tokens = (g : RunGives s tokens (going s)) × (count_expansion g.expands ≡ 0)
 
 nothing_gives : (s : State) → GivesNothing s []
-unfolding turn
+unfolding expansion_step
 nothing_gives s = (
   record {
     expanded = record { tokens = []; fault = None; left = s.left };
-    expands = record { outcome = ended s.left None; expands = (0, done (unspent s.left)); passed = refl; ended = refl; left_over = refl };
+    expands = record { outcome = ended s.left None; expands = (0, done (unspent s.left)); emitted = refl; ended = refl; left_over = refl };
     is = ap (λ (items : List Item). going (record s { items = items })) (sym (append-nil s.items));
   },
   refl,
 )
   where
-    unspent : (left : Option ℕ) → turn_within s.macros s.env left [] ≡ turns.Done
+    unspent : (left : Option ℕ) → step_in_budget s.macros s.env left [] ≡ turns.Done
     unspent None = refl
     unspent (Some zero) = refl
     unspent (Some (suc n)) = refl
@@ -122,7 +122,7 @@ one_guard lines x y (parts, tree, guarded) (parts', tree', guarded') =
 
 pub opens_left_out : (around : Surroundings) (depth row : ℕ) (folder : Option ℕ) (at : Place) (s a : State) (content : Content) (lines : List LogicalLine)
     → depth ≤ deepest
-    → is_spent s.left ≡ false
+    → is_exhausted s.left ≡ false
     → file_at around.files row ≡ Some content
     → IsRead around.profile row content (Ok lines)
     → a ≡ depending (paying s) row

@@ -9,25 +9,25 @@ use Rattle.pptext.specs.declared.sources.Profile.{Profile}
 use Rattle.pptext.specs.Lines.{LogicalLine}
 use Rattle.pptext.specs.Tree.{Parts, Branches, sign_place}
 use Rattle.ppmacro.specs.Names.{Macros}
-use Rattle.ppexpand.specs.Laws.{IsBeginning}
+use Rattle.ppexpand.specs.Laws.{IsPrefix}
 use Rattle.ppunit.specs.declared.units.Item.{Item}
 use Rattle.ppunit.specs.Dependencies.{is_among}
-use Rattle.ppunit.specs.States.{State, Surroundings, Reached, passed, depending, reading_once, with_left}
+use Rattle.ppunit.specs.States.{State, Surroundings, Reached, emitted, depending, reading_once, with_left}
 use Rattle.ppunit.specs.Lines.{operands, run_tokens}
 use Rattle.ppunit.specs.LineControl.{Presumed, presumed}
 use Rattle.ppunit.specs.Directives.{RunGives, ControlBy, with_macros, renumbered_by, is_once, pragma_passed}
 use Rattle.ppunit.specs.Group.{Group, Branched, Controls, Includes, Opened}
 use Rattle.ppunit.specs.declared.units.Item.TheVariants as item
 
-pub same_beginning : {A : Type 0} (xs : List A) → IsBeginning xs xs
+pub same_beginning : {A : Type 0} (xs : List A) → IsPrefix xs xs
 same_beginning xs = ([], sym (append-nil xs))
 
-beginning_of : {A : Type 0} (xs ys zs : List A) → IsBeginning xs ys → IsBeginning ys zs → IsBeginning xs zs
+beginning_of : {A : Type 0} (xs ys zs : List A) → IsPrefix xs ys → IsPrefix ys zs → IsPrefix xs zs
 beginning_of xs ys zs p q = (p.0 ++ q.0, q.1 ∙ ap (λ l. l ++ q.0) p.1 ∙ append_assoc xs p.0 q.0)
 
 -- the items and the dependencies of one state are beginnings of the other's
 abbrev pub Before : State → State → Type 0
-Before s t = IsBeginning s.items t.items × IsBeginning s.deps t.deps
+Before s t = IsPrefix s.items t.items × IsPrefix s.deps t.deps
 
 pub same_state : (s : State) → Before s s
 same_state s = (same_beginning s.items, same_beginning s.deps)
@@ -38,7 +38,7 @@ before_then s t u p q = (beginning_of s.items t.items u.items p.0 q.0, beginning
 pub depends : (s : State) (row : ℕ) → Before s (depending s row)
 depends s row = (same_beginning s.items, joined (is_among row s.deps))
   where
-    joined : (b : Bool) → IsBeginning s.deps (if b then s.deps else s.deps ++ row ∷ [])
+    joined : (b : Bool) → IsPrefix s.deps (if b then s.deps else s.deps ++ row ∷ [])
     joined true = same_beginning s.deps
     joined false = (row ∷ [], refl)
 
@@ -57,7 +57,7 @@ pragma_before profile row s line = noted (is_once profile (operands line))
     told : List Item
     told = item.Pragma (sign_place line) (operands line) ∷ []
 
-    noted : (b : Bool) → Before s (if b then reading_once (passed s told) row else passed s told)
+    noted : (b : Bool) → Before s (if b then reading_once (emitted s told) row else emitted s told)
     noted true = ((told, refl), same_beginning s.deps)
     noted false = ((told, refl), same_beginning s.deps)
 

@@ -51,16 +51,16 @@ leads_on : (around : Files → Surroundings) (files : Files) (depth : ℕ) (one 
     → ((more : Files) (m : Reached) → one more m → other more m)
     → Leads around files depth one t r
     → Leads around files depth other t r
-leads_on around files depth one other t (Ok None) turn leads = λ more grows. turn more (going t) (leads more grows)
-leads_on around files depth one other t (Ok (Some e)) turn leads = record {
+leads_on around files depth one other t (Ok None) expansion_step leads = λ more grows. expansion_step more (going t) (leads more grows)
+leads_on around files depth one other t (Ok (Some e)) expansion_step leads = record {
   fits = leads.fits;
   begins = leads.begins;
   few = leads.few;
   parts = leads.parts;
   tree = leads.tree;
-  group = λ more grows m group. turn more (back e.outer m) (leads.group more grows m group);
+  group = λ more grows m group. expansion_step more (back e.outer m) (leads.group more grows m group);
 }
-leads_on around files depth one other t (Err f) turn leads = λ more grows. turn more (stopped t f) (leads more grows)
+leads_on around files depth one other t (Err f) expansion_step leads = λ more grows. expansion_step more (stopped t f) (leads more grows)
 
 pub leads_included : (around : Files → Surroundings) (files : Files) (depth deeper row : ℕ) (behind : Option ℕ) (found : ℕ × ℕ) (at : Place)
     (line : LogicalLine) (s t : State) (after : Option ℕ) (a : Asked) (r : Result (Option Entered) Fault)

@@ -19,7 +19,7 @@ use Rattle.ppexpand.specs.Expansion.{IsExpansion}
 use Rattle.ppexpr.specs.Conditions.{IsCondition}
 use Rattle.ppshelf.specs.Names.{AreNames}
 use Rattle.ppshelf.specs.Search.{Candidate, IsFirstRow}
-use Rattle.ppunit.specs.States.{State, Reached, passed, with_left, Search}
+use Rattle.ppunit.specs.States.{State, Reached, emitted, with_left, Search}
 use Rattle.ppunit.specs.Lines.{operands, line_fault}
 use Rattle.ppunit.specs.Quotes.{lone_quote}
 use Rattle.ppunit.specs.LineControl.{presumed}
@@ -54,7 +54,7 @@ module _ (expansions : OneExpansion) (decisions : OneDecision) where
   pub run_once : (s : State) (tokens : List Token) (a b : Reached) → RunGives s tokens a → RunGives s tokens b → a ≡ b
   run_once s tokens a b p q =
       p.is
-      ∙ ap (λ (e : Expanded). record { state = passed (with_left s e.left) (map item.Token e.tokens); fault = e.fault })
+      ∙ ap (λ (e : Expanded). record { state = emitted (with_left s e.left) (map item.Token e.tokens); fault = e.fault })
       (expansions s.macros s.env s.left tokens p.expanded q.expanded p.expands q.expands)
       ∙ sym q.is
 

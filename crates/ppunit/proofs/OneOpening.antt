@@ -6,7 +6,7 @@ use Rattle.pptext.specs.Lines.{LogicalLine}
 use Rattle.pptext.specs.Sources.{Reads}
 use Rattle.pptext.specs.Tree.{Parts, Tree}
 use Rattle.pptext.specs.Tokens.{fault}
-use Rattle.ppexpand.specs.Budget.{is_spent}
+use Rattle.ppexpand.specs.Budget.{is_exhausted}
 use Rattle.ppshelf.specs.Content.{unreadable, readable}
 use Rattle.ppshelf.specs.Files.{file_at}
 use Rattle.ppshelf.specs.Names.{name_in}
@@ -33,24 +33,24 @@ module _ (readings : OneReading) (trees : OneTree) (around : Surroundings) where
 
   pub at_over : {depth row : ℕ} {folder : Option ℕ} {at : Place} {s : State} {m : Reached}
       → depth ≤ deepest
-      → is_spent s.left ≡ true
+      → is_exhausted s.left ≡ true
       → Opened around depth at s row folder m
       → stopped s (fault 35 at []) ≡ m
   at_over fits e (Opened.too_deep d) = absurd (omega arith)
   at_over fits e (Opened.over f spent) = refl
-  at_over {s = s} fits e (Opened.known f some known) = absurd (one_way (is_spent s.left) e some)
-  at_over {s = s} fits e (Opened.not_readable f some new is) = absurd (one_way (is_spent s.left) e some)
-  at_over {s = s} fits e (Opened.faulty f some new is reads) = absurd (one_way (is_spent s.left) e some)
-  at_over {s = s} fits e (Opened.read f some new is reads tree here) = absurd (one_way (is_spent s.left) e some)
+  at_over {s = s} fits e (Opened.known f some known) = absurd (one_way (is_exhausted s.left) e some)
+  at_over {s = s} fits e (Opened.not_readable f some new is) = absurd (one_way (is_exhausted s.left) e some)
+  at_over {s = s} fits e (Opened.faulty f some new is reads) = absurd (one_way (is_exhausted s.left) e some)
+  at_over {s = s} fits e (Opened.read f some new is reads tree here) = absurd (one_way (is_exhausted s.left) e some)
 
   pub at_known : {depth row : ℕ} {folder : Option ℕ} {at : Place} {s : State} {m : Reached}
       → depth ≤ deepest
-      → is_spent s.left ≡ false
+      → is_exhausted s.left ≡ false
       → is_among row s.once ≡ true
       → Opened around depth at s row folder m
       → going (depending (paying s) row) ≡ m
   at_known fits some e (Opened.too_deep d) = absurd (omega arith)
-  at_known {s = s} fits some e (Opened.over f spent) = absurd (one_way (is_spent s.left) spent some)
+  at_known {s = s} fits some e (Opened.over f spent) = absurd (one_way (is_exhausted s.left) spent some)
   at_known fits some e (Opened.known f more known) = refl
   at_known {row = row} {s = s} fits some e (Opened.not_readable f more new is) = absurd (one_way (is_among row s.once) e new)
   at_known {row = row} {s = s} fits some e (Opened.faulty f more new is reads) = absurd (one_way (is_among row s.once) e new)
@@ -58,13 +58,13 @@ module _ (readings : OneReading) (trees : OneTree) (around : Surroundings) where
 
   pub at_unreadable : {depth row : ℕ} {folder : Option ℕ} {at : Place} {s : State} {m : Reached}
       → depth ≤ deepest
-      → is_spent s.left ≡ false
+      → is_exhausted s.left ≡ false
       → is_among row s.once ≡ false
       → file_at around.files row ≡ Some unreadable
       → Opened around depth at s row folder m
       → stopped (depending (paying s) row) (fault 6 at (name_in around.names row)) ≡ m
   at_unreadable fits some new e (Opened.too_deep d) = absurd (omega arith)
-  at_unreadable {s = s} fits some new e (Opened.over f spent) = absurd (one_way (is_spent s.left) spent some)
+  at_unreadable {s = s} fits some new e (Opened.over f spent) = absurd (one_way (is_exhausted s.left) spent some)
   at_unreadable {row = row} {s = s} fits some new e (Opened.known f more known) = absurd (one_way (is_among row s.once) known new)
   at_unreadable fits some new e (Opened.not_readable f more n is) = refl
   at_unreadable fits some new e (Opened.faulty {bytes = bytes} f more n is reads) =
@@ -92,14 +92,14 @@ module _ (readings : OneReading) (trees : OneTree) (around : Surroundings) where
 
   pub at_reading : {depth row : ℕ} {folder : Option ℕ} {at : Place} {s : State} {m : Reached} (bytes : List ℕ) (x : Result (List LogicalLine) Fault)
       → depth ≤ deepest
-      → is_spent s.left ≡ false
+      → is_exhausted s.left ≡ false
       → is_among row s.once ≡ false
       → file_at around.files row ≡ Some (readable bytes)
       → Reads around.profile row bytes x
       → Opened around depth at s row folder m
       → AfterReading depth at s row folder x m
   at_reading bytes x fits some new e p (Opened.too_deep d) = absurd (omega arith)
-  at_reading {s = s} bytes x fits some new e p (Opened.over f spent) = absurd (one_way (is_spent s.left) spent some)
+  at_reading {s = s} bytes x fits some new e p (Opened.over f spent) = absurd (one_way (is_exhausted s.left) spent some)
   at_reading {row = row} {s = s} bytes x fits some new e p (Opened.known f more known) = absurd (one_way (is_among row s.once) known new)
   at_reading bytes x fits some new e p (Opened.not_readable f more n is) =
       let differs : Some unreadable ≡ Some (readable bytes) = sym is ∙ e in absurd (cc)

@@ -7,7 +7,7 @@ use Rattle.pptext.specs.Lines.{LogicalLine}
 use Rattle.pptext.specs.Sources.{IsSource}
 use Rattle.pptext.specs.Tree.{Parts, Tree, group_fault}
 use Rattle.pptext.proofs.Trees.{a_tree}
-use Rattle.ppexpand.specs.Budget.{is_spent}
+use Rattle.ppexpand.specs.Budget.{is_exhausted}
 use Rattle.ppshelf.specs.Content.{unreadable, readable}
 use Rattle.ppshelf.specs.Names.{name_in}
 use Rattle.ppshelf.specs.Files.{Files, Extends}
@@ -44,7 +44,7 @@ opens_known around depth row folder at name s a t known (fits, some, pays) joins
 
 -- an opening is paid for, and the file, which is to be read, is a dependency
 abbrev pub IsReady : ℕ → ℕ → State → State → Type 0
-IsReady depth row s t = (depth ≤ deepest) × (is_spent s.left ≡ false) × (is_among row s.once ≡ false) × (t ≡ depending (paying s) row)
+IsReady depth row s t = (depth ≤ deepest) × (is_exhausted s.left ≡ false) × (is_among row s.once ≡ false) × (t ≡ depending (paying s) row)
 
 pub ready : (depth row : ℕ) (at : Place) (name : List ℕ) (s a t : State) (known : Bool)
     → Pays depth at name s a None

@@ -56,9 +56,9 @@ pub on_settled : {A : Type 0} {P Q : Result A Fault → Type 0} (r : Result A Er
     → ((a : Result A Fault) → P a → Q a)
     → UnlessOutOfMemory r P
     → UnlessOutOfMemory r Q
-on_settled (Ok a) turn p = turn (Ok a) p
-on_settled (Err (Faulted f)) turn p = turn (Err f) p
-on_settled (Err OutOfMemory) turn p = tt
+on_settled (Ok a) expansion_step p = expansion_step (Ok a) p
+on_settled (Err (Faulted f)) expansion_step p = expansion_step (Err f) p
+on_settled (Err OutOfMemory) expansion_step p = tt
 
 extends_itself : (files : Files) → Extends files files
 extends_itself files row c e = e

@@ -4,7 +4,7 @@ use Rattle.pptext.specs.declared.tokens.Place.{Place}
 use Rattle.pptext.specs.declared.tokens.Fault.{Fault}
 use Rattle.pptext.specs.Lines.{LogicalLine}
 use Rattle.pptext.specs.Tree.{Parts, Branches}
-use Rattle.ppexpand.specs.Budget.{less_one, is_spent}
+use Rattle.ppexpand.specs.Budget.{spend_one, is_exhausted}
 use Rattle.ppunit.specs.States.{State, Surroundings, Reached, search_of}
 use Rattle.ppunit.specs.Lines.{run_tokens}
 use Rattle.ppunit.specs.Group.{Group, Branched, Controls, Includes, Opened}
@@ -12,7 +12,7 @@ use Rattle.ppunit.specs.Unit.{surroundings, Defines, unread, processed, Translat
 use Rattle.ppunit.specs.Capped.{OnlyBudgetsRefuse}
 use Rattle.ppunit.proofs.RefusingLines.{asks_none, decides_none, run_none, group_none, branches_none, control_none, defines_none, IsOther, reads_other, run_other, quote_other, decides_other, asks_other, control_by_other}
 
-never_spent : (left : Option ℕ) → left ≡ None → is_spent left ≡ true → ⊥
+never_spent : (left : Option ℕ) → left ≡ None → is_exhausted left ≡ true → ⊥
 never_spent None is e = cc
 never_spent (Some n) is e = absurd (cc)
 
@@ -56,7 +56,7 @@ module _ (around : Surroundings) where
     opened_other is (Opened.known fits more once) = tt
     opened_other is (Opened.not_readable fits more once file) = λ e. absurd (omega arith)
     opened_other is (Opened.faulty fits more once file reads) = reads_other reads
-    opened_other is (Opened.read fits more once file reads tree here) = group_other (ap less_one is) tt here
+    opened_other is (Opened.read fits more once file reads tree here) = group_other (ap spend_one is) tt here
 
   defines_other : {defines : List (List ℕ)} {s : State} {m : Reached} → s.left ≡ None → Defines around defines s m → IsOther m.fault
   defines_other is (unread reads) = reads_other reads

@@ -21,7 +21,7 @@ use Rattle.ppmacro.specs.Define.{after_define, after_undef}
 use Rattle.ppexpand.specs.declared.env.Env.{Env}
 use Rattle.ppexpand.specs.declared.expansion.Expanded.{Expanded}
 use Rattle.ppexpand.specs.Expansion.{IsExpansion}
-use Rattle.ppexpand.specs.Budget.{is_spent}
+use Rattle.ppexpand.specs.Budget.{is_exhausted}
 use Rattle.ppexpr.specs.Conditions.{IsCondition}
 use Rattle.ppshelf.specs.Content.{Content, unreadable, readable}
 use Rattle.ppshelf.specs.Files.{file_at}
@@ -31,7 +31,7 @@ use Rattle.ppshelf.proofs.Finds.{first_within}
 use Rattle.ppunit.proofs.FirstLine.{else_directive, not_else}
 use Rattle.ppunit.specs.Dependencies.{is_among}
 use Rattle.ppunit.specs.declared.units.Item.TheVariants as item
-use Rattle.ppunit.specs.States.{State, Search, Surroundings, search_of, Reached, going, stopped, given, passed, with_left, depending, entering, leaving, paying}
+use Rattle.ppunit.specs.States.{State, Search, Surroundings, search_of, Reached, going, stopped, given, emitted, with_left, depending, entering, leaving, paying}
 use Rattle.ppunit.specs.Lines.{operands, line_fault, named_fault, one_identifier, run_tokens}
 use Rattle.ppunit.specs.Quotes.{lone_quote}
 use Rattle.ppunit.specs.LineControl.{presumed}
@@ -87,7 +87,7 @@ module _ (expansions : SomeExpansion) (decisions : SomeDecision) where
   some_run : (s : State) (tokens : List Token) → (m : Reached) × RunGives s tokens m
   some_run s tokens =
       let e = expansions s.macros s.env s.left tokens in
-      (record { state = passed (with_left s e.0.left) (map item.Token e.0.tokens); fault = e.0.fault }, record { expanded = e.0; expands = e.1; is = refl })
+      (record { state = emitted (with_left s e.0.left) (map item.Token e.0.tokens); fault = e.0.fault }, record { expanded = e.0; expands = e.1; is = refl })
 
   some_renumbering : (s : State) (line : LogicalLine) → (m : Reached) × LineGives s line m
   some_renumbering s line =
@@ -291,7 +291,7 @@ module _ (expansions : SomeExpansion) (decisions : SomeDecision) where
 
       reading_file : (at : Place) (s : State) (row : ℕ) (folder : Option ℕ) (bytes : List ℕ)
           → depth ≤ deepest
-          → is_spent s.left ≡ false
+          → is_exhausted s.left ≡ false
           → is_among row s.once ≡ false
           → file_at around.files row ≡ Some (readable bytes)
           → (r : Result (List LogicalLine) Fault)
@@ -305,7 +305,7 @@ module _ (expansions : SomeExpansion) (decisions : SomeDecision) where
 
       at_content : (at : Place) (s : State) (row : ℕ) (folder : Option ℕ)
           → depth ≤ deepest
-          → is_spent s.left ≡ false
+          → is_exhausted s.left ≡ false
           → is_among row s.once ≡ false
           → (c : Option Content)
           → file_at around.files row ≡ c
@@ -320,20 +320,20 @@ module _ (expansions : SomeExpansion) (decisions : SomeDecision) where
 
       at_once : (at : Place) (s : State) (row : ℕ) (folder : Option ℕ) → row < length around.names
           → depth ≤ deepest
-          → is_spent s.left ≡ false
+          → is_exhausted s.left ≡ false
           → (b : Bool)
           → is_among row s.once ≡ b
           → (m : Reached) × Opened around depth at s row folder m
       at_once at s row folder within fits some true e = (going (depending (paying s) row), Opened.known fits some e)
       at_once at s row folder within fits some false e = at_content at s row folder fits some e (file_at around.files row) refl (known row within)
 
-      at_budget : (at : Place) (s : State) (row : ℕ) (folder : Option ℕ) → row < length around.names → depth ≤ deepest → (b : Bool) → is_spent s.left ≡ b → (m : Reached) × Opened around depth at s row folder m
+      at_budget : (at : Place) (s : State) (row : ℕ) (folder : Option ℕ) → row < length around.names → depth ≤ deepest → (b : Bool) → is_exhausted s.left ≡ b → (m : Reached) × Opened around depth at s row folder m
       at_budget at s row folder within fits true e = (stopped s (fault 35 at []), Opened.over fits e)
       at_budget at s row folder within fits false e = at_once at s row folder within fits e (is_among row s.once) refl
 
       at_depth : (at : Place) (s : State) (row : ℕ) (folder : Option ℕ) → row < length around.names → (deepest < depth) ⊎ (depth ≤ deepest) → (m : Reached) × Opened around depth at s row folder m
       at_depth at s row folder within (inl deep) = (stopped s (fault 32 at (name_in around.names row)), Opened.too_deep deep)
-      at_depth at s row folder within (inr fits) = at_budget at s row folder within fits (is_spent s.left) refl
+      at_depth at s row folder within (inr fits) = at_budget at s row folder within fits (is_exhausted s.left) refl
 
       some_opened : SomeOpened depth
       some_opened at s row folder within = at_depth at s row folder within (cases_lt deepest depth)

@@ -12,10 +12,10 @@ use Rattle.pptext.specs.declared.sources.Profile.{Profile}
 use Rattle.pptext.specs.Lines.{LogicalLine}
 use Rattle.pptext.specs.Tree.{Parts, Branches, sign_place}
 use Rattle.ppmacro.specs.Names.{Macros}
-use Rattle.ppexpand.specs.Budget.{less_one, is_spent}
+use Rattle.ppexpand.specs.Budget.{spend_one, is_exhausted}
 use Rattle.ppexpand.specs.Expansion.{count_expansion}
 use Rattle.ppexpand.specs.Laws.{plus}
-use Rattle.ppexpand.proofs.Budget.{plus-plus, plus-nothing, expansion_spends}
+use Rattle.ppexpand.proofs.BudgetLemmas.{plus-plus, plus-nothing, expansion_spends}
 use Rattle.ppexpr.proofs.Capped.{condition_spends}
 use Rattle.ppshelf.specs.Files.{Files}
 use Rattle.ppunit.specs.declared.units.Unit.{Unit as UnitOfList}
@@ -49,12 +49,12 @@ pub still_none : {left after : Option ℕ} (n : ℕ) → left ≡ None → left 
 still_none {after = None} n is e = refl
 still_none {after = Some k} n is e = absurd (cc)
 
-pays : (left : Option ℕ) → is_spent left ≡ false → left ≡ plus 1 (less_one left)
+pays : (left : Option ℕ) → is_exhausted left ≡ false → left ≡ plus 1 (spend_one left)
 pays None e = refl
 pays (Some zero) e = absurd (cc)
 pays (Some (suc n)) e = ap Some (omega arith)
 
-pays_then : (left after : Option ℕ) (n : ℕ) → is_spent left ≡ false → less_one left ≡ plus n after → left ≡ plus (suc n) after
+pays_then : (left after : Option ℕ) (n : ℕ) → is_exhausted left ≡ false → spend_one left ≡ plus n after → left ≡ plus (suc n) after
 pays_then left after n e more = pays left e ∙ ap (plus 1) more ∙ plus-plus 1 n after ∙ ap (λ k. plus k after) (omega arith)
 
 -- ---- lines

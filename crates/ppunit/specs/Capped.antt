@@ -1,7 +1,7 @@
 -- A unit with a budget, compared with the same unit without one.
 use Rattle.std.specs.Prelude.{◌≡◌, ◌↔◌, ◌⊎◌, ℕ, ◌<◌, ◌≤◌, List, length, Option, None, Some}
 use Rattle.pptext.specs.declared.tokens.Fault.{Fault}
-use Rattle.ppexpand.specs.Laws.{IsBeginning}
+use Rattle.ppexpand.specs.Laws.{IsPrefix}
 use Rattle.ppshelf.specs.Names.{AreNames}
 use Rattle.ppshelf.specs.Files.{Files, Extends}
 use Rattle.ppunit.specs.declared.units.Unit.{Unit as UnitOfList}
@@ -18,8 +18,8 @@ HasFault number out = (f : Fault) × (out.fault ≡ Some f) × (f.number ≡ num
 -- given number of replacements and opened files. Items and dependencies are prefixes. `out` is the whole exactly if the
 -- whole takes at most b; otherwise its fault is 35.
 pub record IsCapped (b replaced_and_opened : ℕ) (whole out : UnitOut) : Type 0 where
-  pub items : IsBeginning out.items whole.items
-  pub deps : IsBeginning out.deps whole.deps
+  pub items : IsPrefix out.items whole.items
+  pub deps : IsPrefix out.deps whole.deps
   pub exactly : (out ≡ whole) ↔ (replaced_and_opened ≤ b)
   pub short : b < replaced_and_opened → HasFault 35 out
 
@@ -85,8 +85,8 @@ OnlyBudgetsRefuse =
 -- the value `out` with a budget, compared with the value `more` with a larger one: a prefix, and equal unless its fault
 -- is 35
 pub record GivesNoLess (out more : UnitOut) : Type 0 where
-  pub items : IsBeginning out.items more.items
-  pub deps : IsBeginning out.deps more.deps
+  pub items : IsPrefix out.items more.items
+  pub deps : IsPrefix out.deps more.deps
   pub same : (out ≡ more) ⊎ HasFault 35 out
 
 abbrev pub with_budget : Setting → Option ℕ → Setting

@@ -20,7 +20,7 @@ use Rattle.ppexpand.specs.Expansion.{IsExpansion}
 use Rattle.ppshelf.specs.Names.{name_in}
 use Rattle.ppshelf.specs.Search.{Candidate, candidates, candidates_behind, IsFirstRow}
 use Rattle.ppunit.specs.declared.units.Item.TheVariants as item
-use Rattle.ppunit.specs.States.{State, Surroundings, Reached, going, stopped, passed, reading_once, with_left}
+use Rattle.ppunit.specs.States.{State, Surroundings, Reached, going, stopped, emitted, reading_once, with_left}
 use Rattle.ppunit.specs.Lines.{operands, line_fault, named_fault, spaced}
 use Rattle.ppunit.specs.LineControl.{Presumed, presumed, renumbered}
 use Rattle.ppunit.specs.Including.{Asked, begins_with_header, header_asked, asked_or, asked_behind, if_somewhere}
@@ -29,7 +29,7 @@ use Rattle.ppunit.specs.Including.{Asked, begins_with_header, header_asked, aske
 pub record RunGives (s : State) (tokens : List Token) (r : Reached) : Type 0 where
   pub expanded : Expanded
   pub expands : IsExpansion s.macros s.env s.left tokens expanded
-  pub is : r ≡ record { state = passed (with_left s expanded.left) (map item.Token expanded.tokens); fault = expanded.fault }
+  pub is : r ≡ record { state = emitted (with_left s expanded.left) (map item.Token expanded.tokens); fault = expanded.fault }
 
 -- ---- `#define`, `#undef`
 
@@ -98,7 +98,7 @@ abbrev pub noting_once : Profile → ℕ → List Token → State → State
 noting_once profile row ts s = if is_once profile ts then reading_once s row else s
 
 abbrev pub pragma_passed : Profile → ℕ → State → List Token → State
-pragma_passed profile row s line = noting_once profile row (operands line) (passed s (item.Pragma (sign_place line) (operands line) ∷ []))
+pragma_passed profile row s line = noting_once profile row (operands line) (emitted s (item.Pragma (sign_place line) (operands line) ∷ []))
 
 -- ---- the other control lines
 

@@ -10,7 +10,7 @@ use Rattle.pptext.specs.Lines.{LogicalLine}
 use Rattle.pptext.specs.Sources.{Reads}
 use Rattle.pptext.specs.Tokens.{fault}
 use Rattle.pptext.specs.Tree.{sign_place, Parts, Done, Run, Control, Section, Branches, End, Branch, Tree}
-use Rattle.ppexpand.specs.Budget.{is_spent}
+use Rattle.ppexpand.specs.Budget.{is_exhausted}
 use Rattle.ppshelf.specs.Content.{unreadable, readable}
 use Rattle.ppshelf.specs.Files.{file_at}
 use Rattle.ppshelf.specs.Names.{name_in}
@@ -125,29 +125,29 @@ mutual
         → Opened around depth at s row folder (stopped s (fault 32 at (name_in around.names row)))
     over : {depth row : ℕ} {folder : Option ℕ} {at : Place} {s : State}
         → depth ≤ deepest
-        → is_spent s.left ≡ true
+        → is_exhausted s.left ≡ true
         → Opened around depth at s row folder (stopped s (fault 35 at []))
     known : {depth row : ℕ} {folder : Option ℕ} {at : Place} {s : State}
         → depth ≤ deepest
-        → is_spent s.left ≡ false
+        → is_exhausted s.left ≡ false
         → is_among row s.once ≡ true
         → Opened around depth at s row folder (going (depending (paying s) row))
     not_readable : {depth row : ℕ} {folder : Option ℕ} {at : Place} {s : State}
         → depth ≤ deepest
-        → is_spent s.left ≡ false
+        → is_exhausted s.left ≡ false
         → is_among row s.once ≡ false
         → file_at around.files row ≡ Some unreadable
         → Opened around depth at s row folder (stopped (depending (paying s) row) (fault 6 at (name_in around.names row)))
     faulty : {depth row : ℕ} {folder : Option ℕ} {at : Place} {s : State} {bytes : List ℕ} {f : Fault}
         → depth ≤ deepest
-        → is_spent s.left ≡ false
+        → is_exhausted s.left ≡ false
         → is_among row s.once ≡ false
         → file_at around.files row ≡ Some (readable bytes)
         → Reads around.profile row bytes (Err f)
         → Opened around depth at s row folder (stopped (depending (paying s) row) f)
     read : {depth row : ℕ} {folder : Option ℕ} {at : Place} {s : State} {bytes : List ℕ} {lines : List LogicalLine} {parts : Parts} {m : Reached}
         → depth ≤ deepest
-        → is_spent s.left ≡ false
+        → is_exhausted s.left ≡ false
         → is_among row s.once ≡ false
         → file_at around.files row ≡ Some (readable bytes)
         → Reads around.profile row bytes (Ok lines)

@@ -4,7 +4,7 @@ use Rattle.pptext.specs.declared.tokens.Place.{Place}
 use Rattle.pptext.specs.Lines.{LogicalLine}
 use Rattle.pptext.specs.Sources.{Reads}
 use Rattle.pptext.specs.Guard.{GuardedBy}
-use Rattle.ppexpand.specs.Budget.{is_spent}
+use Rattle.ppexpand.specs.Budget.{is_exhausted}
 use Rattle.ppshelf.specs.Names.{AreNames}
 use Rattle.ppshelf.specs.Content.{readable}
 use Rattle.ppshelf.specs.Files.{file_at}
@@ -23,7 +23,7 @@ GuardsLeaveOut =
     → Reads around.profile row bytes (Ok lines)
     → GuardedBy lines x
     → is_macro_name s.macros x ≡ true
-    → is_spent s.left ≡ false
+    → is_exhausted s.left ≡ false
     → (d : Opened around depth at s row folder (going (depending (paying s) row))) × (count_opened d ≡ 1)
 
 -- and if file names are distinct, it has no other outcome
@@ -37,7 +37,7 @@ GuardsOnlyLeaveOut =
     → Reads around.profile row bytes (Ok lines)
     → GuardedBy lines x
     → is_macro_name s.macros x ≡ true
-    → is_spent s.left ≡ false
+    → is_exhausted s.left ≡ false
     → Opened around depth at s row folder end
     → end ≡ going (depending (paying s) row)
 

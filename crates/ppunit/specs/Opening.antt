@@ -4,7 +4,7 @@ use Rattle.pptext.specs.declared.tokens.Place.{Place}
 use Rattle.pptext.specs.declared.tokens.Fault.{Fault}
 use Rattle.pptext.specs.Lines.{LogicalLine}
 use Rattle.pptext.specs.Tokens.{fault}
-use Rattle.ppexpand.specs.Budget.{is_spent}
+use Rattle.ppexpand.specs.Budget.{is_exhausted}
 use Rattle.ppshelf.specs.Content.{Content, unreadable, IsRead}
 use Rattle.ppshelf.specs.Files.{Files, Stock, file_at}
 use Rattle.ppshelf.specs.Names.{name_in}
@@ -27,11 +27,11 @@ pub record Entered : Type 0 where
 -- why a file of this name isn't opened: it is too deep, or else the budget is exhausted
 abbrev pub IsUnpaid : ℕ → Place → List ℕ → State → Fault → Type 0
 IsUnpaid depth at name s f =
-    ((deepest < depth) × (f ≡ fault 32 at name)) ⊎ ((depth ≤ deepest) × (is_spent s.left ≡ true) × (f ≡ fault 35 at []))
+    ((deepest < depth) × (f ≡ fault 32 at name)) ⊎ ((depth ≤ deepest) × (is_exhausted s.left ≡ true) × (f ≡ fault 35 at []))
 
 -- one opening is spent from the budget, unless there is such a fault, which changes nothing
 abbrev pub Pays : ℕ → Place → List ℕ → State → State → Option Fault → Type 0
-Pays depth at name s t None = (depth ≤ deepest) × (is_spent s.left ≡ false) × (t ≡ paying s)
+Pays depth at name s t None = (depth ≤ deepest) × (is_exhausted s.left ≡ false) × (t ≡ paying s)
 Pays depth at name s t (Some f) = (t ≡ s) × IsUnpaid depth at name s f
 
 -- the file at index `row` has these lines

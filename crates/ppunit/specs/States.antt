@@ -5,7 +5,7 @@ use Rattle.pptext.specs.declared.sources.Profile.{Profile}
 use Rattle.ppmacro.specs.Substitution.{escaped}
 use Rattle.ppmacro.specs.Names.{Macros}
 use Rattle.ppexpand.specs.declared.env.Env.{Env}
-use Rattle.ppexpand.specs.Budget.{less_one}
+use Rattle.ppexpand.specs.Budget.{spend_one}
 use Rattle.ppshelf.specs.Files.{Files, Stock}
 use Rattle.ppshelf.specs.Names.{name_in}
 use Rattle.ppunit.specs.Dependencies.{among}
@@ -100,8 +100,8 @@ going s = record { state = s; fault = None }
 abbrev pub stopped : State → Fault → Reached
 stopped s f = record { state = s; fault = Some f }
 
-abbrev pub passed : State → List Item → State
-passed s items = record s { items = s.items ++ items }
+abbrev pub emitted : State → List Item → State
+emitted s items = record s { items = s.items ++ items }
 
 -- the file at index `row` is a dependency
 abbrev pub depending : State → ℕ → State
@@ -117,7 +117,7 @@ with_left s left = record s { left = left }
 
 -- one opened file is spent from the budget
 abbrev pub paying : State → State
-paying s = with_left s (less_one s.left)
+paying s = with_left s (spend_one s.left)
 
 -- the output of a unit
 abbrev pub given : Reached → UnitOut

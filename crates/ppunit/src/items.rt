@@ -5,7 +5,7 @@ ghost use Rattle.ppunit.specs.Yielding.{ref_item};
 
 use crate::lists::{Items, Part};
 use crate::units::Item;
-use ppexpand::{RunIter, TokenRef};
+use ppexpand::{RopeIter, TokenRef};
 use pptext::{Place, Token, Tokens};
 use std::alloc::{AllocError, Global};
 use std::marker::Model;
@@ -62,7 +62,7 @@ impl<'r, 'a> PartsLeft<'r, 'a> {
 /// remaining items.
 #[derive(Drop)]
 pub struct ItemsIter<'r, 'a> {
-    run: Option<RunIter<'r, 'a>>,
+    run: Option<RopeIter<'r, 'a>>,
     left: PartsLeft<'r, 'a>,
 }
 

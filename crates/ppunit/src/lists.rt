@@ -6,7 +6,7 @@ ghost use Rattle.ppunit.specs.Dependencies.{is_among, among};
 
 use crate::units::Item;
 use indexmap::IndexSet;
-use ppexpand::Run;
+use ppexpand::TokenRope;
 use pptext::{Place, Token, Tokens};
 use std::alloc::{AllocError, Global};
 use std::marker::Model;
@@ -130,7 +130,7 @@ impl Rows {
 /// A part of the output: a run of tokens, or a pragma with its location and its tokens.
 #[derive(Drop)]
 pub enum Part<'a> {
-    Run(Run<'a>),
+    Run(TokenRope<'a>),
     Pragma(Place, &'a [Token]),
 }
 
@@ -197,7 +197,7 @@ impl<'a> Items<'a> {
     }
 
     /// Appends a run of tokens.
-    pub(crate) fn extend(&mut self, run: Run<'a>) -> Result<(), AllocError>
+    pub(crate) fn extend(&mut self, run: TokenRope<'a>) -> Result<(), AllocError>
         ensures { OnOk result (self.new ≡ self.old ++ map item.Token run.entry) }
     {
         self.parts.push(Part::Run(run))?;

@@ -211,7 +211,7 @@ fn pay_for<D: Disk>(
         let name = around.shelf().name(row);
         return Err(Error::Fault(Fault::new(around.alloc, 32, at, name.as_bytes())?));
     }
-    if state.is_spent() {
+    if state.is_exhausted() {
         return Err(Error::Fault(Fault::bare(35, at)));
     }
     state.pay();

@@ -1,13 +1,13 @@
 //! The state of phase 4 in a unit.
 ghost use Rattle.std.specs.Prelude.{◌≡◌, IfOk, OnOk, [], ◌∷◌, None};
-ghost use Rattle.ppexpand.specs.Budget.{is_spent};
-ghost use Rattle.ppunit.specs.States.{context, in_context, passed, depending, reading_once, paying, literal};
+ghost use Rattle.ppexpand.specs.Budget.{is_exhausted};
+ghost use Rattle.ppunit.specs.States.{context, in_context, emitted, depending, reading_once, paying, literal};
 ghost use Rattle.ppunit.specs.Unit.{beginning};
 ghost use Rattle.ppunit.specs.declared.units.Item.TheVariants as item;
 
 use crate::lists::{Items, Rows};
 use crate::units::Setting;
-use ppexpand::{Env, is_spent, less_one};
+use ppexpand::{Env, is_exhausted, spend_one};
 use ppmacro::{Table, push_escaped};
 use pptext::{Hashing, Memory, Place, Spelling, Token};
 use std::alloc::{AllocError, Global};
@@ -112,23 +112,23 @@ impl<'x> State<'x> {
 
     /// Emits a pragma.
     pub(crate) fn pass_pragma(&mut self, at: Place, tokens: &'x [Token]) -> Result<(), AllocError>
-        ensures { OnOk result (self.new ≡ passed self.old (item.Pragma at tokens.now ∷ [])) }
+        ensures { OnOk result (self.new ≡ emitted self.old (item.Pragma at tokens.now ∷ [])) }
     {
         self.items.push_pragma(at, tokens)
     }
 
     /// Returns whether there is a budget and it is exhausted.
-    pub(crate) fn is_spent(&self) -> bool
-        ensures { result ≡ is_spent self.now.left }
+    pub(crate) fn is_exhausted(&self) -> bool
+        ensures { result ≡ is_exhausted self.now.left }
     {
-        is_spent(self.left)
+        is_exhausted(self.left)
     }
 
     /// Spends one of the budget for an opened file.
     pub(crate) fn pay(&mut self)
         ensures { self.new ≡ paying self.old }
     {
-        self.left = less_one(self.left);
+        self.left = spend_one(self.left);
     }
 
     /// Adds the file at index `row` to the dependencies, unless it is one.

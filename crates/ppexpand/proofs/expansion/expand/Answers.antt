@@ -4,18 +4,18 @@ use Rattle.ppmacro.specs.Substitution.{plain}
 use Rattle.ppmacro.specs.Substituting.{tokens_of}
 use Rattle.std.specs.Prelude.{IfOk}
 use Rattle.ppexpand.specs.Expansion.{ExpandsTo, IsExpansion, ended}
-use Rattle.ppexpand.proofs.Skipping.{expands-nothing, expansion-behind}
+use Rattle.ppexpand.proofs.Skipping.{expands-nothing, expansion-following}
 use Rattle.ppexpand.proofs.expansion.expand.Goals as goal
 
 pub returns-then-is_empty : goal.returns-then-is_empty
 returns-then-is_empty c =
-    let rest = c.split_plain.result.1.now in
+    let rest = c.split_unexpanded.result.1.now in
     let none : rest ≡ [] = nil_from_length rest (search rules) in
-    expansion-behind c.args.table.now.macros c.args.env.now c.args.left c.args.tokens.now c.split_plain.result.0.now rest _ (ended c.args.left None) c.split_plain.ensures.laid_out c.split_plain.ensures.plain
+    expansion-following c.args.table.now.macros c.args.env.now c.args.left c.args.tokens.now c.split_unexpanded.result.0.now rest _ (ended c.args.left None) c.split_unexpanded.ensures.laid_out c.split_unexpanded.ensures.plain
     (subst (λ ts. ExpandsTo c.args.table.now.macros c.args.env.now 0 c.args.left (map plain ts) (ended c.args.left None)) (sym none) (expands-nothing c.args.table.now.macros c.args.env.now 0 c.args.left))
-    (c.new-then-is_empty.ensures ∙ (λ i. c.split_plain.result.0.now ++ tokens_of (c.new.ensures i)))
+    (c.new-then-is_empty.ensures ∙ (λ i. c.split_unexpanded.result.0.now ++ tokens_of (c.new.ensures i)))
     refl
     refl
 
 pub returns : goal.returns
-returns c = subst (λ ts. IfOk c.expand_rest.result (λ e. IsExpansion c.args.table.now.macros c.args.env.now c.args.left ts e)) (sym c.split_plain.ensures.laid_out) c.expand_rest.ensures
+returns c = subst (λ ts. IfOk c.expand_rest.result (λ e. IsExpansion c.args.table.now.macros c.args.env.now c.args.left ts e)) (sym c.split_unexpanded.ensures.laid_out) c.expand_rest.ensures

@@ -16,6 +16,6 @@ returns c =
     let t = c.expand_list.new.self.replacer.sets in
     let rest = c.args.tokens.now in
     let context = c.args.context.now in
-    let whole : Outcome = record { tokens = hidings t c.expand_list.new.passed; fault = c.expand_list.new.self.fault; left = c.expand_list.new.self.left } in
+    let whole : Outcome = record { tokens = hidings t c.expand_list.new.emitted; fault = c.expand_list.new.self.fault; left = c.expand_list.new.self.left } in
     let start : hidings s c.over-list.result ≡ map plain rest = ap (hidings s) c.over-list.ensures ∙ hidings-with_set s c.empty.result rest c.empty.ensures.set in
     (t, subst (λ l. ExpandsTo context.table.now.macros context.env.now 0 c.args.left l whole) start (subst (λ n. ExpandsTo context.table.now.macros context.env.now n c.args.left (hidings s c.over-list.result) whole) c.requires.level c.in_ok-expand_list.ensures.outcome))

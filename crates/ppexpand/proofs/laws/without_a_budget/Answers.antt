@@ -1,10 +1,10 @@
 use Rattle.std.proofs.Common.{refl}
-use Rattle.ppexpand.proofs.Budget.{left_none}
+use Rattle.ppexpand.proofs.BudgetLemmas.{left_none}
 use Rattle.ppexpand.proofs.Standard.{list_standard, expansion_standard}
 use Rattle.ppexpand.proofs.laws.without_a_budget.Goals as goal
 
-pub returns-clause-turns : goal.returns-clause-turns
-returns-clause-turns c = λ macros env list. refl
+pub returns-clause-steps : goal.returns-clause-steps
+returns-clause-steps c = λ macros env list. refl
 
 pub returns-clause-left : goal.returns-clause-left
 returns-clause-left c = λ macros env level list out d. left_none macros env refl d.1

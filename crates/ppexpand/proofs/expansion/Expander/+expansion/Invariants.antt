@@ -2,8 +2,8 @@ use Rattle.std.proofs.Common.{◌≡◌, None, ◌≤◌, ◌-◌, ◌+◌, ◌*
 use Rattle.ppmacro.specs.HideSets.{hidings, AllKnown, KeepsSets}
 use Rattle.ppmacro.specs.Chains.{parameter_names, chains_of}
 use Rattle.ppmacro.specs.declared.hidden_token.Hidden.{Hidden}
-use Rattle.ppexpand.specs.Turn.{wanted, to_expand}
-use Rattle.ppexpand.specs.Shown.{given_in, expanded_in, ExpansionsKnown}
+use Rattle.ppexpand.specs.ExpansionStep.{wanted, to_expand}
+use Rattle.ppexpand.specs.code.ProgramValues.{given_in, expanded_in, ExpansionsKnown}
 use Rattle.ppexpand.proofs.Keeping.{call_of}
 use Rattle.ppexpand.proofs.Follows.{Follows, ArgumentsFollow, turns_left}
 use Rattle.ppexpand.proofs.expansion.Expander.+expansion.Given as goal
@@ -15,8 +15,8 @@ decreases-expand_list l = 5 * (257 - l.context.now.level) + 4
 abbrev pub decreases-advance : goal.decreases-advance
 decreases-advance l = 5 * (257 - l.context.now.level) + 3
 
-abbrev pub decreases-follow : goal.decreases-follow
-decreases-follow l = 5 * (257 - l.context.now.level) + 2
+abbrev pub decreases-replace_call : goal.decreases-replace_call
+decreases-replace_call l = 5 * (257 - l.context.now.level) + 2
 
 abbrev pub decreases-expand_arguments : goal.decreases-expand_arguments
 decreases-expand_arguments l = 5 * (257 - l.context.now.level) + 1
@@ -28,10 +28,10 @@ abbrev pub invariant-expand_list-loop-named : goal.invariant-expand_list-loop-na
 invariant-expand_list-loop-named l = record {
   low : l.context.level ≤ 256;
   list_known : AllKnown l.self.replacer.sets l.list;
-  passed_known : AllKnown l.self.replacer.sets l.passed;
+  passed_known : AllKnown l.self.replacer.sets l.emitted;
   no_fault : l.self.fault ≡ None;
   keeps : KeepsSets l.fn.self.replacer.sets l.self.replacer.sets;
-  follows : Follows l.context.table.now.macros l.context.env.now l.context.level l.fn.self.left (hidings l.fn.self.replacer.sets l.fn.list) (hidings l.self.replacer.sets l.passed) l.self.left (hidings l.self.replacer.sets l.list);
+  follows : Follows l.context.table.now.macros l.context.env.now l.context.level l.fn.self.left (hidings l.fn.self.replacer.sets l.fn.list) (hidings l.self.replacer.sets l.emitted) l.self.left (hidings l.self.replacer.sets l.list);
 }
 
 abbrev pub decreases-expand_list-loop-named : goal.decreases-expand_list-loop-named
@@ -44,8 +44,8 @@ invariant-expand_arguments-loop-parameter l = record {
   count : length l.expanded.items ≡ l.parameter;
   no_fault : l.self.fault ≡ None;
   keeps : KeepsSets l.fn.self.replacer.sets l.self.replacer.sets;
-  follows : (behind : List Hidden)
-      → ArgumentsFollow l.context.table.now.macros l.context.env.now l.context.level (call_of l.fn.self.replacer.sets l.call behind) l.fn.self.left (wanted (call_of l.fn.self.replacer.sets l.call behind))
+  follows : (following : List Hidden)
+      → ArgumentsFollow l.context.table.now.macros l.context.env.now l.context.level (call_of l.fn.self.replacer.sets l.call following) l.fn.self.left (wanted (call_of l.fn.self.replacer.sets l.call following))
       (expanded_in l.self.replacer.sets l.call.arguments.items l.expanded.items) l.self.left
       (to_expand l.parameter (chains_of l.call.replaced.now) (drop l.parameter (parameter_names l.call.replaced.now.kind)) (given_in l.fn.self.replacer.sets l.call.arguments.items));
 }

@@ -1,0 +1,381 @@
+-- Expansion within a budget compared with expansion within a larger one or without one.
+use Rattle.std.proofs.Common.{◌≡◌, ℕ, zero, suc, ◌+◌, ◌-◌, ◌<◌, ◌≤◌, List, [], ◌∷◌, Option, Some, None, Ok, Err, refl, sym, ap, ◌∙◌, subst, arith, append-nil, map}
+use Rattle.std.proofs.lemmas.List.{map-append}
+use Rattle.pptext.specs.declared.tokens.Token.{Token}
+use Rattle.ppexpand.specs.declared.expansion.Expanded.{Expanded}
+use Rattle.pptext.specs.declared.tokens.Fault.{Fault}
+use Rattle.ppmacro.specs.Names.{Macros}
+use Rattle.ppmacro.specs.Hiding.{Hiding}
+use Rattle.ppexpand.specs.declared.env.Env.{Env}
+use Rattle.ppexpand.specs.ExpansionStep.{Call, ExpansionStep, Done, Refused, Emits, Failed, Replaced, Called, expansion_step, wanted, fault_at_expansion, ExpandedArguments}
+use Rattle.ppexpand.specs.Budget.{in_budget, over, spend_one}
+use Rattle.ppexpand.specs.Expansion.{Outcome, step_in_budget, Expands, done, refused, emits, failed, replaced, argument_refused, call_failed, call_replaced, ExpandsArguments, none, unused, too_deep, used, used_refused}
+use Rattle.ppexpand.specs.Expansion.{count, count_arguments, IsExpansion, count_expansion}
+use Rattle.ppexpand.specs.Laws.{plus, IsPrefix, IsOver, IsCapped}
+use Rattle.ppexpand.proofs.Unique.{same_outcome}
+use native.Mathlib.Decide.{dec_lt}
+
+-- a step that is a replacement
+abbrev pub Costs : ExpansionStep → Type 0
+Costs (Failed f) = Unit {0}
+Costs (Replaced next) = Unit {0}
+Costs (Called call) = Unit {0}
+Costs _ = ⊥
+
+-- a step that costs nothing
+abbrev pub IsFree : ExpansionStep → Type 0
+IsFree Done = Unit {0}
+IsFree (Refused f) = Unit {0}
+IsFree (Emits t rest) = Unit {0}
+IsFree _ = ⊥
+
+over_is_free : (list : List Hiding) → IsFree (over list)
+over_is_free [] = tt
+over_is_free (t ∷ rest) = tt
+
+pub never_both : (t : ExpansionStep) → IsFree t → Costs t → ⊥
+never_both Done f c = c
+never_both (Refused g) f c = c
+never_both (Emits t rest) f c = c
+never_both (Failed g) f c = f
+never_both (Replaced next) f c = f
+never_both (Called call) f c = f
+
+pub nothing_is_free : (list : List Hiding) (t : ExpansionStep) → IsFree (in_budget (Some zero) list t)
+nothing_is_free list Done = tt
+nothing_is_free list (Refused f) = tt
+nothing_is_free list (Emits t rest) = tt
+nothing_is_free list (Failed f) = over_is_free list
+nothing_is_free list (Replaced next) = over_is_free list
+nothing_is_free list (Called call) = over_is_free list
+
+-- a step that costs nothing is the same with any budget
+pub free_within : (left : Option ℕ) (list : List Hiding) (t : ExpansionStep) → IsFree t → in_budget left list t ≡ t
+free_within None list t h = refl
+free_within (Some (suc n)) list t h = refl
+free_within (Some zero) list Done h = refl
+free_within (Some zero) list (Refused f) h = refl
+free_within (Some zero) list (Emits t rest) h = refl
+free_within (Some zero) list (Failed f) h = absurd h
+free_within (Some zero) list (Replaced next) h = absurd h
+free_within (Some zero) list (Called call) h = absurd h
+
+over_within : (list : List Hiding) (t : ExpansionStep) → Costs t → in_budget (Some zero) list t ≡ over list
+over_within list Done h = absurd h
+over_within list (Refused f) h = absurd h
+over_within list (Emits t rest) h = absurd h
+over_within list (Failed f) h = refl
+over_within list (Replaced next) h = refl
+over_within list (Called call) h = refl
+
+-- this much was spent
+pub plus-plus : (m n : ℕ) (left : Option ℕ) → plus m (plus n left) ≡ plus (m + n) left
+plus-plus m n None = refl
+plus-plus m n (Some k) = ap Some (omega arith)
+
+pub plus-nothing : (left : Option ℕ) → left ≡ plus 0 left
+plus-nothing None = refl
+plus-nothing (Some n) = ap Some (omega arith)
+
+pub plus-none : (n : ℕ) (left : Option ℕ) → None ≡ plus n left → left ≡ None
+plus-none n None e = refl
+plus-none n (Some k) e = absurd (cc)
+
+-- ---- two budgets
+
+-- there is no budget, or it is at least this large
+pub data Covers : Option ℕ → ℕ → Type 0 where
+  without : {b : ℕ} → Covers None b
+  larger : {b c : ℕ} → b ≤ c → Covers (Some c) b
+
+pub covers_less : {left : Option ℕ} {b : ℕ} → Covers left (suc b) → Covers (spend_one left) b
+covers_less without = without
+covers_less (larger {c = zero} h) = absurd (omega arith)
+covers_less (larger {c = suc c} h) = larger (omega arith)
+
+-- what is left covers the rest
+pub covers_rest : {left : Option ℕ} {b : ℕ} (after : Option ℕ) (n m : ℕ) → Covers left b → left ≡ plus n after → b ≡ n + m → Covers after m
+covers_rest None n m without e sum = without
+covers_rest (Some k) n m without e sum = absurd (cc)
+covers_rest None n m (larger {c = c} h) e sum = absurd (cc)
+covers_rest (Some k) n m (larger {c = c} h) e sum = let all : c ≡ n + k = cc in larger (omega arith)
+
+-- ---- expansion steps
+
+-- a step that costs nothing is the same with a smaller budget
+pub free_less : {left : Option ℕ} (b : ℕ) (list : List Hiding) (u t : ExpansionStep) → Covers left b → in_budget left list u ≡ t → IsFree t → in_budget (Some b) list u ≡ t
+free_less b list u t without e h = free_within (Some b) list u (subst IsFree (sym e) h) ∙ e
+free_less zero list u t (larger {c = zero} low) e h = e
+free_less (suc b) list u t (larger {c = zero} low) e h = absurd (omega arith)
+free_less b list u t (larger {c = suc c} low) e h = free_within (Some b) list u (subst IsFree (sym e) h) ∙ e
+
+-- a replacement is that without a budget
+pub paid_whole : (left : Option ℕ) (list : List Hiding) (u t : ExpansionStep) → in_budget left list u ≡ t → Costs t → u ≡ t
+paid_whole None list u t e h = e
+paid_whole (Some (suc n)) list u t e h = e
+paid_whole (Some zero) list u t e h = absurd (never_both t (subst IsFree e (nothing_is_free list u)) h)
+
+module _ (macros : Macros) (env : Env) where
+  -- a replacement is paid
+  pays : (left : Option ℕ) (list : List Hiding) (t : ExpansionStep) → Costs t → step_in_budget macros env left list ≡ t → left ≡ plus 1 (spend_one left)
+  pays None list t c e = refl
+  pays (Some (suc n)) list t c e = ap Some (omega arith)
+  pays (Some zero) list t c e = absurd (never_both t (subst IsFree e (nothing_is_free list (expansion_step macros env list))) c)
+
+  paid_then : (left : Option ℕ) (list : List Hiding) (t : ExpansionStep) → Costs t → step_in_budget macros env left list ≡ t → (n : ℕ) (after : Option ℕ) → spend_one left ≡ plus n after → left ≡ plus (suc n) after
+  paid_then left list t c e n after more = pays left list t c e ∙ ap (plus 1) more ∙ plus-plus 1 n after ∙ ap (λ k. plus k after) (omega arith)
+
+  mutual
+    -- what is spent and what is left are the budget
+    pub spends : {level steps : ℕ} {left : Option ℕ} {list : List Hiding} {out : Outcome} (d : Expands macros env level left steps list out) → left ≡ plus (count macros env d) out.left
+    spends {left = left} (done e) = plus-nothing left
+    spends {left = left} (refused e) = plus-nothing left
+    spends (emits e more) = spends more
+    spends {left = left} {list = list} (failed {f = f} e) = pays left list (Failed f) tt e
+    spends {left = left} {list = list} {out = out} (replaced {next = next} e more) = paid_then left list (Replaced next) tt e (count macros env more) out.left (spends more)
+    spends {left = left} {list = list} (argument_refused {after = after} {call = call} e a) = paid_then left list (Called call) tt e (count_arguments macros env a) after (spends_arguments a)
+    spends {left = left} {list = list} (call_failed {after = after} {call = call} e a f) = paid_then left list (Called call) tt e (count_arguments macros env a) after (spends_arguments a)
+    spends {left = left} {list = list} {out = out} (call_replaced {call = call} e a f more) =
+        paid_then left list (Called call) tt e (count_arguments macros env a + count macros env more) out.left
+        (spends_arguments a ∙ ap (plus (count_arguments macros env a)) (spends more) ∙ plus-plus (count_arguments macros env a) (count macros env more) out.left)
+
+    pub spends_arguments : {level : ℕ} {call : Call} {left after : Option ℕ} {as' : List (Option (List Hiding))} {r : ExpandedArguments} (a : ExpandsArguments macros env level call left as' after r)
+        → left ≡ plus (count_arguments macros env a) after
+    spends_arguments {left = left} none = plus-nothing left
+    spends_arguments (unused more) = spends_arguments more
+    spends_arguments {left = left} (too_deep h) = plus-nothing left
+    spends_arguments {after = after} (used h one more) = spends one ∙ ap (plus (count macros env one)) (spends_arguments more) ∙ plus-plus (count macros env one) (count_arguments macros env more) after
+    spends_arguments (used_refused h one) = spends one
+
+  -- ---- with enough
+
+  free_turn : {left : Option ℕ} {b : ℕ} (list : List Hiding) {t : ExpansionStep} → Covers left b → step_in_budget macros env left list ≡ t → IsFree t → step_in_budget macros env (Some b) list ≡ t
+  free_turn {b = b} list {t = t} is e h = free_less b list (expansion_step macros env list) t is e h
+
+  paid : {left : Option ℕ} {b : ℕ} (list : List Hiding) → Covers left b → (t : ExpansionStep) → step_in_budget macros env left list ≡ t → Costs t → expansion_step macros env list ≡ t
+  paid {left = left} list is t e h = paid_whole left list (expansion_step macros env list) t e h
+
+  pub left_none : {level steps : ℕ} {left after : Option ℕ} {list tokens : List Hiding} {fault : Option Fault}
+      → left ≡ None
+      → Expands macros env level left steps list (record { tokens = tokens; fault = fault; left = after })
+      → after ≡ None
+  left_none {after = after} is d = plus-none (count macros env d) after (sym is ∙ spends d)
+
+  pub arguments_none : {level : ℕ} {call : Call} {left after : Option ℕ} {as' : List (Option (List Hiding))} {r : ExpandedArguments} → left ≡ None → ExpandsArguments macros env level call left as' after r → after ≡ None
+  arguments_none {after = after} is a = plus-none (count_arguments macros env a) after (sym is ∙ spends_arguments a)
+
+  left_rest : {level steps : ℕ} {left after : Option ℕ} {list tokens : List Hiding} {fault : Option Fault} (b m : ℕ) → Covers left b
+      → (d : Expands macros env level left steps list (record { tokens = tokens; fault = fault; left = after }))
+      → b ≡ count macros env d + m
+      → Covers after m
+  left_rest {after = after} b m is d sum = covers_rest after (count macros env d) m is (spends d) sum
+
+  arguments_rest : {level : ℕ} {call : Call} {left after : Option ℕ} {as' : List (Option (List Hiding))} {r : ExpandedArguments} (b m : ℕ) → Covers left b
+      → (a : ExpandsArguments macros env level call left as' after r)
+      → b ≡ count_arguments macros env a + m
+      → Covers after m
+  arguments_rest {after = after} b m is a sum = covers_rest after (count_arguments macros env a) m is (spends_arguments a) sum
+
+  abbrev leaving : ℕ → Outcome → Outcome
+  leaving n out = record { tokens = out.tokens; fault = out.fault; left = Some n }
+
+  mutual
+    -- with as much as an expansion costs, and more, it is the same, and the rest is left
+    pub enough : {level steps : ℕ} {left : Option ℕ} {list : List Hiding} {out : Outcome} (b : ℕ) → Covers left b
+        → (d : Expands macros env level left steps list out) (n : ℕ)
+        → b ≡ count macros env d + n
+        → Expands macros env level (Some b) steps list (leaving n out)
+    enough {level = level} {list = list} b is (done e) n sum =
+        let same : b ≡ n = omega arith in
+        subst (λ x. Expands macros env level (Some b) 0 list (record { tokens = []; fault = None; left = Some x })) same (done (free_turn list is e tt))
+    enough {level = level} {list = list} b is (refused {f = f} e) n sum =
+        let same : b ≡ n = omega arith in
+        subst (λ x. Expands macros env level (Some b) 0 list (record { tokens = []; fault = Some f; left = Some x })) same (refused (free_turn list is e tt))
+    enough {list = list} b is (emits e more) n sum = emits (free_turn list is e tt) (enough b is more n sum)
+    enough zero is (failed {f = f} e) n sum = absurd (omega arith)
+    enough {level = level} {list = list} (suc b) is (failed {f = f} e) n sum =
+        let same : b ≡ n = omega arith in
+        subst (λ x. Expands macros env level (Some (suc b)) 0 list (record { tokens = []; fault = Some f; left = Some x })) same (failed (paid list is (Failed f) e tt))
+    enough zero is (replaced {next = next} e more) n sum = absurd (omega arith)
+    enough {list = list} (suc b) is (replaced {next = next} e more) n sum = replaced (paid list is (Replaced next) e tt) (enough b (covers_less is) more n (omega arith))
+    enough zero is (argument_refused {call = call} e a) n sum = absurd (omega arith)
+    enough {list = list} (suc b) is (argument_refused {call = call} e a) n sum = argument_refused (paid list is (Called call) e tt) (enough_arguments b (covers_less is) a n (omega arith))
+    enough zero is (call_failed {call = call} e a f) n sum = absurd (omega arith)
+    enough {list = list} (suc b) is (call_failed {call = call} e a f) n sum = call_failed (paid list is (Called call) e tt) (enough_arguments b (covers_less is) a n (omega arith)) f
+    enough zero is (call_replaced {call = call} e a f more) n sum = absurd (omega arith)
+    enough {list = list} (suc b) is (call_replaced {call = call} e a f more) n sum =
+        let k = count macros env more in
+        call_replaced (paid list is (Called call) e tt) (enough_arguments b (covers_less is) a (k + n) (omega arith)) f (enough (k + n) (arguments_rest b (k + n) (covers_less is) a (omega arith)) more n refl)
+
+    pub enough_arguments : {level : ℕ} {call : Call} {left after : Option ℕ} {as' : List (Option (List Hiding))} {r : ExpandedArguments} (b : ℕ) → Covers left b
+        → (a : ExpandsArguments macros env level call left as' after r) (n : ℕ)
+        → b ≡ count_arguments macros env a + n
+        → ExpandsArguments macros env level call (Some b) as' (Some n) r
+    enough_arguments {level = level} {call = call} b is none n sum =
+        let same : b ≡ n = omega arith in
+        subst (λ x. ExpandsArguments macros env level call (Some b) [] (Some x) (Ok [])) same none
+    enough_arguments b is (unused more) n sum = unused (enough_arguments b is more n sum)
+    enough_arguments {level = level} {call = call} {as' = as'} b is (too_deep h) n sum =
+        let same : b ≡ n = omega arith in
+        subst (λ x. ExpandsArguments macros env level call (Some b) as' (Some x) (Err (fault_at_expansion 21 call.head))) same (too_deep h)
+    enough_arguments b is (used h one more) n sum =
+        let k = count_arguments macros env more in
+        used h (enough b is one (k + n) (omega arith)) (enough_arguments (k + n) (left_rest b (k + n) is one (omega arith)) more n refl)
+    enough_arguments b is (used_refused h one) n sum = used_refused h (enough b is one n sum)
+
+  -- ---- with less
+
+  abbrev pub Stops : ℕ → ℕ → List Hiding → Outcome → Type 0
+  Stops level b list whole = (steps : ℕ) × (out : Outcome) × Expands macros env level (Some b) steps list out × IsPrefix out.tokens whole.tokens × IsOver out
+
+  abbrev pub ArgumentsStop : ℕ → Call → ℕ → List (Option (List Hiding)) → Type 0
+  ArgumentsStop level call b as' = (f : Fault) × (f.number ≡ 35) × ExpandsArguments macros env level call (Some b) as' (Some 0) (Err f)
+
+  pub stops_here : {level : ℕ} (list : List Hiding) (whole : Outcome) (t : ExpansionStep) → expansion_step macros env list ≡ t → Costs t → Stops level 0 list whole
+  unfolding expansion_step
+  stops_here [] whole t e c = absurd (never_both t (subst IsFree e tt) c)
+  stops_here (x ∷ rest) whole t e c = (
+    0,
+    record { tokens = []; fault = Some (record { number = 35; at = x.token.used; text = [] }); left = Some 0 },
+    refused (over_within (x ∷ rest) (expansion_step macros env (x ∷ rest)) (subst Costs (sym e) c)),
+    (whole.tokens, refl),
+    record { fault = record { number = 35; at = x.token.used; text = [] }; is = refl; number = refl; left = refl },
+  )
+
+  pub stops_passed : {level b : ℕ} {list rest : List Hiding} {t : Hiding} (whole : Outcome)
+      → step_in_budget macros env (Some b) list ≡ Emits t rest
+      → Stops level b rest whole
+      → Stops level b list (record { tokens = t ∷ whole.tokens; fault = whole.fault; left = whole.left })
+  stops_passed {t = t} whole e s =
+      (suc s.0, record { tokens = t ∷ s.1.tokens; fault = s.1.fault; left = s.1.left }, emits e s.2, (s.3.0, ap (λ xs. t ∷ xs) s.3.1), record { fault = s.4.fault; is = s.4.is; number = s.4.number; left = s.4.left })
+
+  pub stops_argument : {level b : ℕ} {list : List Hiding} {call : Call} (whole : Outcome) → expansion_step macros env list ≡ Called call → ArgumentsStop level call b (wanted call) → Stops level (suc b) list whole
+  stops_argument whole e s =
+      (0, record { tokens = []; fault = Some s.0; left = Some 0 }, argument_refused e s.2, (whole.tokens, refl), record { fault = s.0; is = refl; number = s.1; left = refl })
+
+  pub stops_used : {level b : ℕ} {call : Call} {list : List Hiding} {rest : List (Option (List Hiding))} (whole : Outcome) → level < 256 → Stops (suc level) b list whole → ArgumentsStop level call b (Some list ∷ rest)
+  stops_used {level = level} {b = b} {list = list} whole h s =
+      let o = s.4 in
+      (o.fault, o.number, used_refused h (subst (λ x. Expands macros env (suc level) (Some b) s.0 list x) (λ i. record { tokens = s.1.tokens; fault = o.is i; left = o.left i }) s.2))
+
+  mutual
+    pub short : {level steps : ℕ} {left : Option ℕ} {list : List Hiding} {out : Outcome} (b : ℕ) → Covers left b
+        → (d : Expands macros env level left steps list out)
+        → b < count macros env d
+        → Stops level b list out
+    short b is (done e) h = absurd (omega arith)
+    short b is (refused e) h = absurd (omega arith)
+    short {list = list} b is (emits {out = out} e more) h = stops_passed out (free_turn list is e tt) (short b is more h)
+    short {list = list} {out = out} zero is (failed {f = f} e) h = stops_here list out (Failed f) (paid list is (Failed f) e tt) tt
+    short (suc b) is (failed {f = f} e) h = absurd (omega arith)
+    short {list = list} {out = out} zero is (replaced {next = next} e more) h = stops_here list out (Replaced next) (paid list is (Replaced next) e tt) tt
+    short {list = list} (suc b) is (replaced {next = next} e more) h =
+        let s = short b (covers_less is) more (omega arith) in
+        (suc s.0, s.1, replaced (paid list is (Replaced next) e tt) s.2, s.3, s.4)
+    short {list = list} {out = out} zero is (argument_refused {call = call} e a) h = stops_here list out (Called call) (paid list is (Called call) e tt) tt
+    short {list = list} {out = out} (suc b) is (argument_refused {call = call} e a) h = stops_argument out (paid list is (Called call) e tt) (short_arguments b (covers_less is) a (omega arith))
+    short {list = list} {out = out} zero is (call_failed {call = call} e a f) h = stops_here list out (Called call) (paid list is (Called call) e tt) tt
+    short {list = list} {out = out} (suc b) is (call_failed {call = call} e a f) h = stops_argument out (paid list is (Called call) e tt) (short_arguments b (covers_less is) a (omega arith))
+    short {list = list} {out = out} zero is (call_replaced {call = call} e a f more) h = stops_here list out (Called call) (paid list is (Called call) e tt) tt
+    short {level = level} {list = list} {out = out} (suc b) is (call_replaced {call = call} e a f more) h =
+        elim (dec_lt b (count_arguments macros env a)) [
+          | yes less ↦ stops_argument out (paid list is (Called call) e tt) (short_arguments b (covers_less is) a less)
+          | no not_less ↦
+              (let m = count_arguments macros env a in
+              let n = b - m in
+              let sum : m + n ≡ b = omega arith in
+              let s = short n (arguments_rest b n (covers_less is) a (sym sum)) more (omega arith) in
+              (suc s.0, s.1, call_replaced {steps = s.0} {out = s.1} (paid list is (Called call) e tt) (enough_arguments b (covers_less is) a n (sym sum)) f s.2, s.3, s.4))
+        ]
+
+    pub short_arguments : {level : ℕ} {call : Call} {left after : Option ℕ} {as' : List (Option (List Hiding))} {r : ExpandedArguments} (b : ℕ) → Covers left b
+        → (a : ExpandsArguments macros env level call left as' after r)
+        → b < count_arguments macros env a
+        → ArgumentsStop level call b as'
+    short_arguments b is none h = absurd (omega arith)
+    short_arguments b is (unused more) h =
+        let s = short_arguments b is more h in
+        (s.0, s.1, unused s.2)
+    short_arguments b is (too_deep deep) h = absurd (omega arith)
+    short_arguments {level = level} {call = call} {as' = as'} b is (used {between = between} {tokens = tokens} low one more) h =
+        elim (dec_lt b (count macros env one)) [
+          | yes less ↦ stops_used (record { tokens = tokens; fault = None; left = between }) low (short b is one less)
+          | no not_less ↦
+              (let m = count macros env one in
+              let n = b - m in
+              let sum : m + n ≡ b = omega arith in
+              let s = short_arguments n (left_rest b n is one (sym sum)) more (omega arith) in
+              (s.0, s.1, used {out = Err s.0} low (enough b is one n (sym sum)) s.2))
+        ]
+    short_arguments b is (used_refused {after = after} {tokens = tokens} {f = f} low one) h = stops_used (record { tokens = tokens; fault = Some f; left = after }) low (short b is one h)
+
+  -- an expansion within a budget, compared with the one without
+  pub capped : {level steps : ℕ} {list : List Hiding} {whole : Outcome} (d : Expands macros env level None steps list whole) (b n : ℕ) (out : Outcome)
+      → Expands macros env level (Some b) n list out
+      → IsCapped b (count macros env d) whole out
+  capped {level = level} {steps = steps} {list = list} {whole = whole} d b n out o =
+      let c = count macros env d in
+      elim (dec_lt b c) [
+        | yes less ↦
+            (let s = short b without d less in
+            let same : s.1 ≡ out = (same_outcome macros env s.2 n out o).1 in
+            subst (IsCapped b c whole) same
+            (record { tokens = s.3; enough = λ h. absurd (omega arith); short = λ h. s.4 }))
+        | no not_less ↦
+            (let k = b - c in
+            let sum : c + k ≡ b = omega arith in
+            let there : Expands macros env level (Some b) steps list (leaving k whole) = enough b without d k (sym sum) in
+            let same : leaving k whole ≡ out = (same_outcome macros env there n out o).1 in
+            subst (IsCapped b c whole) same
+            (record { tokens = ([], sym (append-nil whole.tokens)); enough = λ h. (refl, refl, refl); short = λ h. absurd (omega arith) }))
+      ]
+
+  -- ---- expansions of tokens
+
+  pub expansion_spends : {left : Option ℕ} {tokens : List Token} {e : Expanded} (x : IsExpansion macros env left tokens e) → left ≡ plus (count_expansion x) e.left
+  expansion_spends x = spends x.expands.1 ∙ ap (plus (count_expansion x)) (sym x.left_over)
+
+  -- a budget that suffices gives the same, and leaves the rest
+  pub expansion_enough : {left : Option ℕ} {tokens : List Token} {e : Expanded} (b : ℕ) → Covers left b
+      → (x : IsExpansion macros env left tokens e) (n : ℕ)
+      → b ≡ count_expansion x + n
+      → IsExpansion macros env (Some b) tokens (record e { left = Some n })
+  expansion_enough b is x n sum = record { outcome = leaving n x.outcome; expands = (x.expands.0, enough b is x.expands.1 n sum); emitted = x.emitted; ended = x.ended; left_over = refl }
+
+  -- a list of tokens that stops by fault 35
+  pub record StopsEarly (b : ℕ) (tokens : List Token) (whole : Expanded) : Type 0 where
+    pub expanded : Expanded
+    pub is : IsExpansion macros env (Some b) tokens expanded
+    pub begins : IsPrefix expanded.tokens whole.tokens
+    pub fault : Fault
+    pub stopped : expanded.fault ≡ Some fault
+    pub number : fault.number ≡ 35
+    pub nothing : expanded.left ≡ Some 0
+
+  -- a smaller one is used up
+  pub expansion_short : {left : Option ℕ} {tokens : List Token} {e : Expanded} (b : ℕ) → Covers left b
+      → (x : IsExpansion macros env left tokens e)
+      → b < count_expansion x
+      → StopsEarly b tokens e
+  expansion_short {e = e} b is x less =
+      let s = short b is x.expands.1 less in
+      let text : Hiding → Token = λ t. t.token in
+      record {
+        expanded = record { tokens = map text s.1.tokens; fault = s.1.fault; left = s.1.left };
+        is = record { outcome = s.1; expands = (s.0, s.2); emitted = refl; ended = refl; left_over = refl };
+        begins = (map text s.3.0, x.emitted ∙ ap (map text) s.3.1 ∙ map-append text s.1.tokens s.3.0);
+        fault = s.4.fault;
+        stopped = s.4.is;
+        number = s.4.number;
+        nothing = s.4.left;
+      }
+
+  -- a list without a budget has one count
+  pub one_count : {level m n : ℕ} {list : List Hiding} {o p : Outcome} (d : Expands macros env level None m list o) (e : Expands macros env level None n list p) → count macros env d ≡ count macros env e
+  one_count {m = m} {n = n} {o = o} {p = p} d e =
+      let j = count macros env d in
+      let k = count macros env e in
+      let same : leaving k o ≡ leaving j p = (same_outcome macros env (enough (j + k) without d k refl) n (leaving j p) (enough (j + k) without e j (omega arith))).1 in
+      let lefts : Some k ≡ Some j = ap (λ x. x.left) same in
+      let counts : k ≡ j = cc in
+      sym counts

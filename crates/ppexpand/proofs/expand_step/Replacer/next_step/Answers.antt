@@ -1,0 +1,101 @@
+use Rattle.std.proofs.Common.{◌≡◌, ◌∙◌, ℕ, true, false, List, [], ◌∷◌, Option, Some, None, IfOk, sym, ap, subst}
+use Rattle.std.proofs.lemmas.Result.{IfOk-weaker}
+use Rattle.std.specs.FinSet as set
+use Rattle.std.specs.Option.{option_copied}
+use Rattle.pptext.specs.Tokens.{is_unmatched_quote}
+use Rattle.ppmacro.specs.Names.{Macros}
+use Rattle.ppmacro.specs.Hiding.{Hiding}
+use Rattle.ppmacro.specs.HideSets.{hide_of, hiding, hidings, AllKnown}
+use Rattle.ppmacro.specs.Substituting.{tokens_of}
+use Rattle.ppmacro.specs.declared.hidden_token.Hidden.{Hidden}
+use Rattle.ppmacro.specs.declared.macros.Macro.{Macro}
+use Rattle.ppexpand.specs.declared.env.Env.{Env}
+use Rattle.ppexpand.specs.ExpansionStep.{Refused, named_step, macro_step, macro_of, expansion_step, quote_fault}
+use Rattle.ppexpand.specs.Budget.{in_budget}
+use Rattle.ppexpand.specs.Expansion.{step_in_budget}
+use Rattle.ppexpand.specs.code.Lists.{next_macro}
+use Rattle.ppexpand.specs.code.ProgramValues.{step_in, ActionKnown}
+use Rattle.ppexpand.proofs.StepLemmas.{expansion_step-quote, expansion_step-hidden, expansion_step-named, expansion_step-unnamed, done-in_budget, refused-in_budget, emits-in_budget, free-in_budget, nothing_left}
+use Rattle.ppexpand.proofs.expand_step.Replacer.next_step.Goals as goal
+
+-- the step of a macro's name that is not hidden
+named : (macros : Macros) (env : Env) (left : Option ℕ) (t : Hiding) (rest : List Hiding) (d : Macro) → is_unmatched_quote t.token ≡ false → set.contains t.hide t.token.text ≡ false → macro_of macros t.token ≡ Some d
+    → step_in_budget macros env left (t ∷ rest) ≡ in_budget left (t ∷ rest) (macro_step env t rest d d.kind)
+named macros env left t rest d quote free found = ap (in_budget left (t ∷ rest)) (expansion_step-named macros env t rest quote free ∙ ap (named_step env t rest) found)
+
+-- what the next token names is what the list's next token does
+named_next : {named : Option Macro} (macros : Macros) (h : Hidden) (rest list : List Hidden) → list ≡ h ∷ rest → named ≡ next_macro macros (tokens_of list)
+    → macro_of macros h.token ≡ named
+named_next macros h rest list is named = ap (λ l. next_macro macros (tokens_of l)) (sym is) ∙ sym named
+
+pub returns-in_default-clause-is : goal.returns-in_default-clause-is
+unfolding expansion_step
+returns-in_default-clause-is c =
+    sym (done-in_budget c.args.left []) ∙ ap (λ l. step_in_budget c.args.context.now.table.now.macros c.args.context.now.env.now c.args.left (hidings c.args.self.now.sets l)) (sym c.in_default.ensures.0)
+
+pub returns-then-is_quote-clause-is : goal.returns-then-is_quote-clause-is
+returns-then-is_quote-clause-is c =
+    let s = c.args.self.now.sets in
+    let t = hiding s c.in-Some.head in
+    let rest = hidings s c.next.new.self in
+    let quote : is_unmatched_quote c.in-Some.head.token ≡ true = sym c.is_quote.ensures ∙ c.if-is_quote.true in
+    let whole : Refused (quote_fault t) ≡ step_in_budget c.args.context.now.table.now.macros c.args.context.now.env.now c.args.left (hidings s c.args.list.now) =
+    sym (ap (in_budget c.args.left (t ∷ rest)) (expansion_step-quote c.args.context.now.table.now.macros c.args.context.now.env.now t rest quote) ∙ refused-in_budget c.args.left (t ∷ rest) (quote_fault t))
+    ∙ ap (λ l. step_in_budget c.args.context.now.table.now.macros c.args.context.now.env.now c.args.left (hidings s l)) (sym c.in-Some.ensures) in
+    IfOk-weaker c.refused_quote.result _ _ (λ n is. ap (step_in s c.next.new.self) is ∙ whole) c.refused_quote.ensures
+
+pub returns-then-is_quote-clause-known : goal.returns-then-is_quote-clause-known
+returns-then-is_quote-clause-known c = IfOk-weaker c.refused_quote.result _ _ (λ n is. subst (ActionKnown c.args.self.now.sets c.next.new.self) (sym is) tt) c.refused_quote.ensures
+
+pub returns-then-hides-clause-is : goal.returns-then-hides-clause-is
+returns-then-hides-clause-is c =
+    let s = c.args.self.now.sets in
+    let t = hiding s c.in-Some.head in
+    let rest = hidings s c.next.new.self in
+    let quote : is_unmatched_quote c.in-Some.head.token ≡ false = sym c.is_quote.ensures ∙ c.if-is_quote.false in
+    let hidden : set.contains (hide_of s c.in-Some.head) c.in-Some.head.token.text ≡ true = sym c.hides.ensures ∙ c.if-hides.true in
+    sym (ap (in_budget c.args.left (t ∷ rest)) (expansion_step-hidden c.args.context.now.table.now.macros c.args.context.now.env.now t rest quote hidden) ∙ emits-in_budget c.args.left (t ∷ rest) t rest)
+    ∙ ap (λ l. step_in_budget c.args.context.now.table.now.macros c.args.context.now.env.now c.args.left (hidings s l)) (sym c.in-Some.ensures)
+
+pub returns-in_default-named-clause-is : goal.returns-in_default-named-clause-is
+returns-in_default-named-clause-is c =
+    let s = c.args.self.now.sets in
+    let t = hiding s c.in-Some.head in
+    let rest = hidings s c.next.new.self in
+    let quote : is_unmatched_quote c.in-Some.head.token ≡ false = sym c.is_quote.ensures ∙ c.if-is_quote.false in
+    let none : macro_of c.args.context.now.table.now.macros c.in-Some.head.token ≡ None = named_next c.args.context.now.table.now.macros _ _ c.args.list.now c.in-Some.ensures c.requires.named ∙ ap option_copied c.in_default-named.is in
+    sym (ap (in_budget c.args.left (t ∷ rest)) (expansion_step-unnamed c.args.context.now.table.now.macros c.args.context.now.env.now t rest quote none) ∙ emits-in_budget c.args.left (t ∷ rest) t rest)
+    ∙ ap (λ l. step_in_budget c.args.context.now.table.now.macros c.args.context.now.env.now c.args.left (hidings s l)) (sym c.in-Some.ensures)
+
+pub returns-then-is_exhausted-clause-is : goal.returns-then-is_exhausted-clause-is
+returns-then-is_exhausted-clause-is c =
+    let s = c.args.self.now.sets in
+    let t = hiding s c.in-Some.head in
+    let rest = hidings s c.next.new.self in
+    let none : c.args.left ≡ Some 0 = nothing_left c.args.left (sym c.is_exhausted.ensures ∙ c.if-is_exhausted.true) in
+    let quote = sym c.is_quote.ensures ∙ c.if-is_quote.false in
+    let hidden = sym c.hides.ensures ∙ c.if-hides.false in
+    let macro = named_next c.args.context.now.table.now.macros _ _ c.args.list.now c.in-Some.ensures c.requires.named ∙ ap option_copied c.in-Some-named.is in
+    let whole = sym (named c.args.context.now.table.now.macros c.args.context.now.env.now (Some 0) t rest _ quote hidden macro)
+    ∙ (λ i. step_in_budget c.args.context.now.table.now.macros c.args.context.now.env.now (sym none i) (hidings s (sym c.in-Some.ensures i))) in
+    IfOk-weaker c.exhausted_step.result _ _ (λ n is. is s c.args.context.now.env.now ∙ whole) c.exhausted_step.ensures.is
+
+pub returns-then-is_exhausted-clause-known : goal.returns-then-is_exhausted-clause-known
+returns-then-is_exhausted-clause-known c =
+    let s = c.args.self.now.sets in
+    let known : AllKnown s (c.in-Some.head ∷ c.next.new.self) = subst (AllKnown s) c.in-Some.ensures c.requires.known in
+    IfOk-weaker c.exhausted_step.result _ _ (λ n all. all s known.each.0 (record { each = known.each.1 })) c.exhausted_step.ensures.known
+
+pub returns-clause-is : goal.returns-clause-is
+returns-clause-is c =
+    let s = c.args.self.now.sets in
+    let t = hiding s c.in-Some.head in
+    let rest = hidings s c.next.new.self in
+    let some = sym c.is_exhausted.ensures ∙ c.if-is_exhausted.false in
+    let quote = sym c.is_quote.ensures ∙ c.if-is_quote.false in
+    let hidden = sym c.hides.ensures ∙ c.if-hides.false in
+    let macro = named_next c.args.context.now.table.now.macros _ _ c.args.list.now c.in-Some.ensures c.requires.named ∙ ap option_copied c.in-Some-named.is in
+    let whole = sym (free-in_budget c.args.left (t ∷ rest) _ some)
+    ∙ sym (named c.args.context.now.table.now.macros c.args.context.now.env.now c.args.left t rest _ quote hidden macro)
+    ∙ ap (λ l. step_in_budget c.args.context.now.table.now.macros c.args.context.now.env.now c.args.left (hidings s l)) (sym c.in-Some.ensures) in
+    subst (λ u. IfOk c.macro_step.result (λ n. step_in c.macro_step.new.self.sets c.macro_step.new.list n ≡ u)) whole c.macro_step.ensures.is

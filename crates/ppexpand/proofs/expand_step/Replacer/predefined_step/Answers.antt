@@ -1,0 +1,24 @@
+use Rattle.std.proofs.Common.{◌≡◌, ◌∙◌, ◌∷◌, IfSome, sym, ap, subst}
+use Rattle.std.specs.FinSet as set
+use Rattle.ppmacro.specs.HideSets.{IsKnown, HasSets, hide_of, hiding, hidings, AllKnown}
+use Rattle.ppmacro.proofs.KeepLemmas.{hiding-keeps, hidings-keeps, known-keeps}
+use Rattle.ppexpand.specs.ExpansionStep.{Replaced, predefined_value}
+use Rattle.ppexpand.proofs.expand_step.Replacer.predefined_step.Goals as goal
+
+pub returns-clause-is : goal.returns-clause-is
+returns-clause-is c =
+    let s = c.args.self.now.sets in
+    let t = c.with_own_name.new.self in
+    let keeps = c.in_ok-gain.ensures.keeps in
+    let value : hiding t c.in_ok-predefined_value.field-0 ≡ predefined_value c.args.builtin c.args.env.now (hiding s c.args.head.now) (set.insert (hide_of s c.args.head.now) c.args.head.now.token.text) =
+    c.in_ok-predefined_value.ensures.is t ∙ (λ i. predefined_value c.args.builtin c.args.env.now (hiding-keeps c.args.head.now keeps c.requires.head i) (c.in_ok-gain.ensures.set i)) in
+    let rest : hidings t c.args.list.now ≡ hidings s c.args.list.now = hidings-keeps c.args.list.now keeps c.requires.list in
+    ap (λ hs. Replaced (hidings t hs)) c.in_ok-push.ensures ∙ (λ i. Replaced (value i ∷ rest i))
+
+pub returns-clause-known : goal.returns-clause-known
+returns-clause-known c =
+    let t = c.with_own_name.new.self in
+    let gain = c.in_ok-predefined_value.ensures.gain in
+    let here : HasSets t c.in_ok-predefined_value.field-0 = record { hide = subst (IsKnown t) (sym gain.0) c.in_ok-gain.ensures.known; extra = subst (λ o. IfSome o (IsKnown t)) (sym gain.1) tt } in
+    let rest = known-keeps c.args.list.now c.in_ok-gain.ensures.keeps c.requires.list in
+    subst (AllKnown t) (sym c.in_ok-push.ensures) (record { each = (here, rest.each) })

@@ -1,0 +1,15 @@
+use Rattle.std.proofs.Common.{◌≡◌, IfOk, subst}
+use Rattle.std.specs.FinSet as set
+use Rattle.ppmacro.specs.HideSets.{set_at, hidings}
+use Rattle.ppmacro.specs.Substitution.{chains_replacement}
+use Rattle.ppexpand.specs.ExpansionStep.{replaced_by, no_arguments}
+use Rattle.ppexpand.specs.code.ProgramValues.{replaced_in}
+use Rattle.ppexpand.proofs.expand_step.Replacer.replace_object.Goals as goal
+
+pub returns-clause-is : goal.returns-clause-is
+returns-clause-is c =
+    let s = c.args.self.now.sets in
+    let head = c.args.head.now in
+    subst (λ chains. IfOk c.replace.result (λ r. replaced_in c.replace.new.self.sets c.replace.new.list r
+    ≡ replaced_by (chains_replacement chains no_arguments (set.insert (set_at s c.args.base) head.token.text) head.token.used head.token.space) (hidings s c.args.list.now)))
+    c.in_ok-chains.ensures c.replace.ensures.is

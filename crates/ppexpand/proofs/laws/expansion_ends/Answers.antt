@@ -1,6 +1,0 @@
-use Rattle.ppexpand.proofs.Total.{total}
-use Rattle.ppexpand.proofs.Bounds.{ends_within}
-use Rattle.ppexpand.proofs.laws.expansion_ends.Goals as goal
-
-pub returns : goal.returns
-returns c = λ macros env level left list. ((total macros env level left list).0, ends_within macros env level left list)

@@ -1,0 +1,18 @@
+use Rattle.ppexpand.proofs.Prefixes.{leads_step, gained_more}
+use Rattle.ppexpand.proofs.Termination as fronts
+use Rattle.ppexpand.proofs.laws.prefixes_terminate.Goals as goal
+
+pub returns-clause-steps : goal.returns-clause-steps
+returns-clause-steps c = λ macros env level left after list next step. leads_step macros env level step
+
+pub returns-clause-gains : goal.returns-clause-gains
+returns-clause-gains c = gained_more
+
+pub returns-clause-fewer : goal.returns-clause-fewer
+returns-clause-fewer c = fronts.fewer_left
+
+pub returns-clause-fronts : goal.returns-clause-fronts
+returns-clause-fronts c = fronts.prefixes_terminate
+
+pub returns-clause-lists : goal.returns-clause-lists
+returns-clause-lists c = fronts.all_end

@@ -1,6 +1,0 @@
-use Rattle.std.proofs.Common.{rules}
-use Rattle.ppexpand.proofs.Skipping.{plain-with_set}
-use Rattle.ppexpand.proofs.stretch.Stretch.take_plain.Goals as goal
-
-pub returns-clause-plain : goal.returns-clause-plain
-returns-clause-plain c = plain-with_set c.args.table.now.macros c.self.inside.hide c.split_at.result.0.now (search rules)

@@ -1,7 +1,0 @@
-use Rattle.std.proofs.Common.{◌∙◌, ap, sym}
-use Rattle.ppmacro.specs.Substituting.{tokens_of}
-use Rattle.ppexpand.proofs.Skipping.{tokens-with_set}
-use Rattle.ppexpand.proofs.stretch.Stretch.tokens.Goals as goal
-
-pub returns : goal.returns
-returns c = ap tokens_of (sym c.self.view_is) ∙ tokens-with_set c.self.inside.hide c.self.inside.tokens.now

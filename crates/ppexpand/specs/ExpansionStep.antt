@@ -1,0 +1,177 @@
+-- The expansion step of a list: the rules of macro replacement (6.10.3, 6.10.3.1, 6.10.3.4), by cases on whole
+-- lists whose tokens have hide sets.
+use Rattle.std.specs.Prelude.{ℕ, suc, ℤ, pos, ◌+ℤ◌, nat_abs, decimal, Bool, true, false, List, [], ◌∷◌, ◌++◌, Option, Some, None, Result, Ok}
+use Rattle.std.specs.Prelude.{Err, codes, ◌==◌, if◌then◌else◌}
+use Rattle.std.specs.List.{list_any}
+use Rattle.std.specs.FinSet as set
+use Rattle.std.specs.FinMap as table
+use Rattle.pptext.specs.declared.tokens.Token.{Token}
+use Rattle.pptext.specs.declared.tokens.Fault.{Fault}
+use Rattle.pptext.specs.declared.tokens.Place.{Place}
+use Rattle.pptext.specs.declared.tokens.Kind.{Kind}
+use Rattle.pptext.specs.declared.tokens.Kind.TheVariants.{Number, Str as StringLiteral}
+use Rattle.pptext.specs.Tokens.{is_identifier, is_unmatched_quote, fault}
+use Rattle.ppmacro.specs.Names.{Name, HideSet, Macros}
+use Rattle.ppmacro.specs.Hiding.{Hiding}
+use Rattle.ppmacro.specs.Chains.{parameter_names, chains_of}
+use Rattle.ppmacro.specs.Substitution.{Arguments, argument_at, Replacement, with_flag, macro_replacement}
+use Rattle.ppmacro.specs.declared.macros.PredefinedMacro.{PredefinedMacro}
+use Rattle.ppmacro.specs.declared.macros.PredefinedMacro.TheVariants.{File, Line, Date, Time, Stdc, StdcHosted, StdcVersion}
+use Rattle.ppmacro.specs.declared.macros.Variadic.{Variadic}
+use Rattle.ppmacro.specs.declared.macros.MacroKind.{MacroKind}
+use Rattle.ppmacro.specs.declared.macros.MacroKind.TheVariants.{Predefined, ObjectLike, FunctionLike}
+use Rattle.ppmacro.specs.declared.macros.Macro.{Macro}
+use Rattle.ppmacro.specs.declared.macros.Chain.{Chain}
+use Rattle.ppmacro.specs.declared.macros.Operand.{Operand}
+use Rattle.ppmacro.specs.declared.macros.Operand.TheVariants.{Param}
+use Rattle.ppexpand.specs.declared.env.Env.{Env}
+use Rattle.ppexpand.specs.Arguments.{is_open, Gathered, Closed, UnmatchedQuote, Unclosed, gather, separators, fit_arguments}
+
+-- ---- the predefined names (6.10.8.1)
+
+-- the presumed line number of a location
+abbrev pub presumed_line : Env → Place → ℤ
+presumed_line env place = pos place.line +ℤ env.shift
+
+abbrev pub string_literal : List ℕ → List ℕ
+string_literal text = 34 ∷ (text ++ 34 ∷ [])
+
+abbrev pub predefined_kind : PredefinedMacro → Kind
+predefined_kind File = StringLiteral
+predefined_kind Date = StringLiteral
+predefined_kind Time = StringLiteral
+predefined_kind _ = Number
+
+-- the spelling of the replacement; the location is the expansion location of the name
+abbrev pub predefined_text : PredefinedMacro → Env → Place → List ℕ
+predefined_text File env used = env.name
+predefined_text Line env used = decimal (nat_abs (presumed_line env used))
+predefined_text Date env used = string_literal env.date
+predefined_text Time env used = string_literal env.time
+predefined_text Stdc env used = codes "1"
+predefined_text StdcHosted env used = codes "1"
+predefined_text StdcVersion env used = codes "201112L"
+
+-- the token that replaces a predefined name; it has the locations and the leading-space flag of the name
+abbrev pub predefined_value : PredefinedMacro → Env → Hiding → HideSet → Hiding
+predefined_value b env t gain = record {
+  token = record { kind = predefined_kind b; text = predefined_text b env t.token.used; space = t.token.space; at = t.token.at; used = t.token.used };
+  hide = gain;
+}
+
+-- ---- expansion steps
+
+-- an invocation of a function-like macro: the macro name token, the macro, an argument for each parameter but an absent variable
+-- argument, the names that the replacement hides, and the tokens after the matching `)`
+pub record Call : Type 0 where
+  pub head : Hiding
+  pub macro : Macro
+  pub arguments : List (List Hiding)
+  pub gain : HideSet
+  pub following : List Hiding
+
+-- The list is empty. Or its first token is refused with a fault, or emitted unchanged, and the rest is left. Or the first token is a macro's name
+-- that is to be replaced: the replacement fails, or this list is the result, or the name is invoked.
+pub data ExpansionStep : Type 0 where
+  Done : ExpansionStep
+  Refused : Fault → ExpansionStep
+  Emits : Hiding → List Hiding → ExpansionStep
+  Failed : Fault → ExpansionStep
+  Replaced : List Hiding → ExpansionStep
+  Called : Call → ExpansionStep
+
+-- the next token gets the leading-space flag if a space is pending
+abbrev pub mark_next : Bool → List Hiding → List Hiding
+mark_next true (t ∷ ts) = with_flag true t ∷ ts
+mark_next true [] = []
+mark_next false ts = ts
+
+-- a replacement before the rest of the list (6.10.3.4)
+abbrev pub followed_by : List Hiding → Replacement → List Hiding
+followed_by following m = m.tokens ++ mark_next m.pending following
+
+abbrev pub replaced_by : Result Replacement Fault → List Hiding → ExpansionStep
+replaced_by (Ok m) following = Replaced (followed_by following m)
+replaced_by (Err f) following = Failed f
+
+-- a fault at the expansion location of a macro's name
+abbrev pub fault_at_expansion : ℕ → Hiding → Fault
+fault_at_expansion n t = fault n t.token.used t.token.text
+
+abbrev pub quote_fault : Hiding → Fault
+quote_fault t = fault 7 t.token.at t.token.text
+
+-- the names that the replacement of an invocation hides: the intersection of the hide sets of the name and the `)`, and the name
+abbrev pub gain_of : HideSet → HideSet → Name → HideSet
+gain_of hide close name = set.insert (set.intersection hide close) name
+
+abbrev pub call_step : Hiding → Macro → Option (List (List Hiding)) → Hiding → List Hiding → ExpansionStep
+call_step t d (Some as') close following =
+    Called (record { head = t; macro = d; arguments = as'; gain = gain_of t.hide close.hide t.token.text; following = following })
+call_step t d None close following = Failed (fault_at_expansion 18 t)
+
+abbrev pub invocation_step : Hiding → Macro → List Name → Variadic → Gathered → ExpansionStep
+invocation_step t d names variadic (Closed as' close following) = call_step t d (fit_arguments names variadic as') close following
+invocation_step t d names variadic (UnmatchedQuote q) = Failed (quote_fault q)
+invocation_step t d names variadic Unclosed = Failed (fault_at_expansion 17 t)
+
+-- a function-like macro's name is invoked if `(` is next, and otherwise emitted (6.10.3, paragraph 10)
+abbrev pub function_step : Hiding → Macro → List Name → Variadic → List Hiding → ExpansionStep
+function_step t d names variadic [] = Emits t []
+function_step t d names variadic (p ∷ rest) =
+    if is_open p.token then invocation_step t d names variadic (gather 0 (separators names variadic) rest) else Emits t (p ∷ rest)
+
+abbrev pub no_arguments : Arguments
+no_arguments = record { given = []; expanded = [] }
+
+abbrev pub macro_step : Env → Hiding → List Hiding → Macro → MacroKind → ExpansionStep
+macro_step env t rest d (Predefined b) = Replaced (predefined_value b env t (set.insert t.hide t.token.text) ∷ rest)
+macro_step env t rest d ObjectLike = replaced_by (macro_replacement d no_arguments (set.insert t.hide t.token.text) t.token.used t.token.space) rest
+macro_step env t rest d (FunctionLike names variadic) = function_step t d names variadic rest
+
+abbrev pub named_step : Env → Hiding → List Hiding → Option Macro → ExpansionStep
+named_step env t rest (Some d) = macro_step env t rest d d.kind
+named_step env t rest None = Emits t rest
+
+-- the macro that a token names
+abbrev pub macro_of : Macros → Token → Option Macro
+macro_of macros t = if is_identifier t then table.get macros t.text else None
+
+unfoldable pub expansion_step : Macros → Env → List Hiding → ExpansionStep
+expansion_step macros env [] = Done
+expansion_step macros env (t ∷ rest) =
+    if is_unmatched_quote t.token then Refused (quote_fault t) else (
+    if set.contains t.hide t.token.text then Emits t rest else named_step env t rest (macro_of macros t.token))
+
+-- ---- the arguments that are expanded (6.10.3.1)
+
+abbrev pub is_lone_parameter : ℕ → List Operand → Bool
+is_lone_parameter i (Param j ∷ []) = i == j
+is_lone_parameter i _ = false
+
+-- whether the replacement list uses this parameter without `#` and `##`
+abbrev pub pre_expands : ℕ → List Chain → Bool
+pre_expands i cs = list_any (λ c. is_lone_parameter i c.operands) cs
+
+-- for the parameters from i on: the arguments that are to be expanded; an absent argument is the empty list
+abbrev pub to_expand : ℕ → List Chain → List Name → List (List Hiding) → List (Option (List Hiding))
+to_expand i cs [] given = []
+to_expand i cs (n ∷ names) given = (if pre_expands i cs then Some (argument_at given i) else None) ∷ to_expand (suc i) cs names given
+
+unfoldable pub wanted : Call → List (Option (List Hiding))
+wanted call = to_expand 0 (chains_of call.macro) (parameter_names call.macro.kind) call.arguments
+
+-- the expansions, with one entry for each parameter, or the first fault
+abbrev pub ExpandedArguments : Type 0
+ExpandedArguments = Result (List (Option (List Hiding))) Fault
+
+-- adds the expansion of an argument before the expansions of the later ones
+abbrev pub with_expanded : Option (List Hiding) → ExpandedArguments → ExpandedArguments
+with_expanded a (Ok as') = Ok (a ∷ as')
+with_expanded a (Err f) = Err f
+
+-- the expansion step of an invocation after its arguments are expanded
+unfoldable pub finish_call : Call → List (Option (List Hiding)) → ExpansionStep
+finish_call call expanded = replaced_by
+    (macro_replacement call.macro (record { given = call.arguments; expanded = expanded }) call.gain call.head.token.used call.head.token.space)
+    call.following

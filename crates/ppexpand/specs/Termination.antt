@@ -1,0 +1,77 @@
+-- Why expansion terminates (6.10.3.4), by the hide sets of a list alone.
+--
+-- Take a prefix of the list whose tokens all hide the names `hidden`. No replacement in it is of these names. So each replacement in it is of another
+-- macro's name, and its result hides that name too: a prefix with fewer names left, before a shorter part of the old prefix. If the `)` of an
+-- invocation is after the prefix, the prefix is used up, and the result hides the names that `hidden` and the hide set of the `)` have in common.
+use Rattle.std.specs.Prelude.{◌≡◌, ℕ, suc, true, false, List, [], ◌∷◌, ◌++◌, map, if◌then◌else◌}
+use Rattle.std.specs.FinSet as set
+use Rattle.std.specs.FinMap as table
+use Rattle.std.specs.List.{AllByRecursion}
+use Rattle.ppmacro.specs.Names.{Name, HideSet, Macros}
+use Rattle.ppmacro.specs.Hiding.{Hiding}
+
+-- the hide sets of a list
+abbrev pub hides : List Hiding → List HideSet
+hides ts = map (λ t. t.hide) ts
+
+-- a set has all names of another
+abbrev pub Holds : HideSet → HideSet → Type 0
+Holds part whole = (name : Name) → set.contains part name ≡ true → set.contains whole name ≡ true
+
+-- a set has all names that two other sets have in common, and this name
+pub record Gains (one two : HideSet) (name : Name) (whole : HideSet) : Type 0 where
+  pub common : (other : Name) → set.contains one other ≡ true → set.contains two other ≡ true → set.contains whole other ≡ true
+  pub own : set.contains whole name ≡ true
+
+-- how many of these names are not in a set
+abbrev pub left_out : HideSet → List Name → ℕ
+left_out hide [] = 0
+left_out hide (n ∷ ns) = if set.contains hide n then left_out hide ns else suc (left_out hide ns)
+
+module _ (macros : Macros) where
+  -- a macro's name that is not in a set
+  pub record IsOutside (name : Name) (hide : HideSet) : Type 0 where
+    pub macro : table.contains_key macros name ≡ true
+    pub outside : set.contains hide name ≡ false
+
+  -- What an expansion step does to the hide sets of a list. The first token is emitted; or it is a macro's name that its set does not hide, and is
+  -- replaced alone or together with all tokens up to a `)`. Each set of the result has this name, and the names that hide the first token, or both
+  -- the first token and the `)`.
+  pub data Step : List HideSet → List HideSet → Type 0 where
+    emits : {head : HideSet} {rest : List HideSet} → Step (head ∷ rest) rest
+    replaced : {head : HideSet} {rest next : List HideSet} (name : Name)
+        → IsOutside name head
+        → (result : List HideSet)
+        → AllByRecursion (Gains head head name) result
+        → next ≡ result ++ rest
+        → Step (head ∷ rest) next
+    invocation_step : {head : HideSet} {rest next : List HideSet} (name : Name)
+        → IsOutside name head
+        → (inside : List HideSet) (close : HideSet) (following : List HideSet)
+        → rest ≡ inside ++ close ∷ following
+        → (result : List HideSet)
+        → AllByRecursion (Gains head close name) result
+        → next ≡ result ++ following
+        → Step (head ∷ rest) next
+
+  -- each sequence of steps from this list terminates
+  pub data Ends : List HideSet → Type 0 where
+    ends : {list : List HideSet} → ((next : List HideSet) → Step list next → Ends next) → Ends list
+
+  -- after a prefix that hides these names is used up, by an invocation whose `)` is after it, the rest terminates
+  abbrev pub EndsAfter : HideSet → List HideSet → Type 0
+  EndsAfter hidden following = (name : Name)
+      → IsOutside name hidden
+      → (inside : List HideSet) (close : HideSet) (rest : List HideSet)
+      → following ≡ inside ++ close ∷ rest
+      → (result : List HideSet)
+      → AllByRecursion (Gains hidden close name) result
+      → Ends (result ++ rest)
+
+  -- a prefix that hides these names terminates, if the rest terminates alone and also after the prefix is used up
+  abbrev pub PrefixEnds : HideSet → List HideSet → Type 0
+  PrefixEnds hidden prefix = AllByRecursion (Holds hidden) prefix → (following : List HideSet) → Ends following → EndsAfter hidden following → Ends (prefix ++ following)
+
+  -- how many macros' names are not in a set
+  abbrev pub names_left : HideSet → ℕ
+  names_left hidden = left_out hidden (table.keys macros)

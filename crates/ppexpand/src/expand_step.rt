@@ -1,0 +1,541 @@
+//! Makes the expansion step of a list's next token (6.10.3, 6.10.3.4).
+ghost use Rattle.std.specs.Prelude.{◌≡◌, IfOk, OnOk, List, ◌∷◌, ◌++◌, Some, None, map};
+ghost use Rattle.std.specs.Option.{option_copied};
+ghost use Rattle.std.specs.FinSet as set;
+ghost use Rattle.ppmacro.specs.HideSetPool.{HideSetPool};
+ghost use Rattle.ppmacro.specs.declared.hidden_token.Hidden.{Hidden};
+ghost use Rattle.ppmacro.specs.HideSets.{set_at, IsKnown, HasSets, hide_of, hiding, hidings, AllKnown, KeepsSets};
+ghost use Rattle.ppmacro.specs.Substituting.{ArgumentsKnown, arguments_in, tokens_of};
+ghost use Rattle.ppmacro.specs.Chains.{chains_of};
+ghost use Rattle.ppmacro.specs.PasteFree.{lone_chain};
+ghost use Rattle.ppmacro.specs.Patterns.{listed};
+ghost use Rattle.ppmacro.specs.Substitution.{Arguments as ArgumentTokens, plain, with_flag, hsadd, macro_replacement, chains_replacement};
+ghost use Rattle.ppexpand.specs.Arguments.{gather, separators};
+ghost use Rattle.ppexpand.specs.declared.env.Env.{Env};
+ghost use Rattle.ppexpand.specs.ExpansionStep.{Replaced, macro_of, replaced_by, no_arguments, predefined_value, call_step, invocation_step, function_step, macro_step};
+ghost use Rattle.ppexpand.specs.ExpansionStep.{finish_call};
+ghost use Rattle.ppexpand.specs.Budget.{in_budget};
+ghost use Rattle.ppexpand.specs.Expansion.{step_in_budget};
+ghost use Rattle.ppexpand.specs.code.Lists.{next_macro};
+ghost use Rattle.ppexpand.specs.code.ProgramValues.{expanded_in, fitting_in, FittingKnown, ExpansionsKnown, call_in, CallKnown, step_in, ActionKnown, replaced_in};
+ghost use Rattle.ppexpand.specs.code.ProgramValues.{finished_in};
+ghost use Rattle.ppexpand.specs.code.Action as next;
+ghost use Rattle.pptext.specs.Tokens.{fault as fault_at};
+
+use crate::arguments::{Gathered, fit_arguments, gather, separators};
+use crate::context::Context;
+use crate::token_stack::TokenStack;
+use crate::env::Env;
+use crate::predefined::predefined_value;
+use crate::token_roles::{fault_at_expansion, is_open, is_quote, unmatched_quote, over_budget};
+use crate::budget::is_exhausted;
+use crate::vec_pool::VecPool;
+use ppmacro::{
+    Arguments, PredefinedMacro, Macro, Expansion, Hidden, HideSets, MacroName, Pattern, Set, MacroKind,
+    Table, Variadic, substitute_pattern,
+};
+use pptext::{Fault, Memory, Place, Spelling, Token};
+use std::alloc::AllocError;
+use std::marker::Model;
+
+/// An invocation of a function-like macro, removed from its list.
+#[derive(Drop)]
+pub(crate) struct Invocation<'t, 'x, 'a> {
+    /// The macro name token.
+    pub(crate) head: Hidden<'x>,
+    /// The macro.
+    pub(crate) replaced: &'t Macro<'a>,
+    /// An argument for each parameter. An absent variable argument has no entry.
+    pub(crate) arguments: Vec<Vec<Hidden<'x>>>,
+    /// The intersection of the hide sets of the name and the `)`. Each token of the replacement hides these names and the macro's name.
+    pub(crate) both: Set,
+}
+
+/// The kind of the action for the next token of a list.
+#[derive(Drop)]
+pub(crate) enum ActionKind<'t, 'x, 'a> {
+    /// There is no token.
+    Done,
+    /// The token raises a fault, and no name is replaced.
+    Refused(Fault),
+    /// The token is a macro's name whose replacement fails.
+    Failed(Fault),
+    /// The token is emitted unchanged.
+    Emits(Hidden<'x>),
+    /// The token was replaced in the list.
+    Replaced,
+    /// The token is to be replaced after the arguments are expanded.
+    Called(Invocation<'t, 'x, 'a>),
+}
+
+/// The action for the next token of a list, which is removed from the list with what belongs to it.
+#[derive(Drop)]
+pub(crate) struct Action<'t, 'x, 'a> {
+    pub(crate) step: ActionKind<'t, 'x, 'a>,
+}
+
+impl<'t, 'x, 'a> Model for Action<'t, 'x, 'a> {
+    ghost use Rattle.ppexpand.specs.code.Action as next;
+    ghost use Rattle.ppexpand.specs.declared.expand_step.ActionKind.TheVariants.{Done, Refused, Failed, Emits, Replaced, Called};
+
+    ghost Value = { next.Action };
+
+    ghost view = { λ n. elim n.step [
+      | Done ↦ next.Done
+      | Refused f ↦ next.Refused f
+      | Failed f ↦ next.Failed f
+      | Emits h ↦ next.Emits h
+      | Replaced ↦ next.Replaced
+      | Called c ↦ next.Called c.head c.replaced.now c.arguments.items c.both
+    ] };
+}
+
+/// The state of replacement: a pool of vectors, and the hide sets.
+#[derive(Drop)]
+pub(crate) struct Replacer<'x> {
+    pub(crate) pool: VecPool<'x>,
+    /// The hide sets of the tokens in the lists.
+    pub(crate) sets: HideSets,
+}
+
+/// Returns the macro that a token names.
+#[inline(always)]
+pub(crate) fn macro_at<'t, 'a>(table: &'t Table<'a>, token: &Token) -> Option<&'t Macro<'a>>
+    ensures { option_copied result ≡ macro_of table.now.macros token.now }
+{
+    if token.is_identifier() {
+        table.get(token.text.as_bytes())
+    } else {
+        None
+    }
+}
+
+/// Returns a token of a replacement list with this leading-space flag, these names to hide, and this expansion location.
+fn gained_token<'a>(token: &'a Token, flag: bool, gain: Set, used: Place) -> Hidden<'a>
+    ensures is { (sets : HideSetPool) → hiding sets result ≡ hsadd (set_at sets gain) used (with_flag flag (plain token.now)) }
+    ensures known { (sets : HideSetPool) → IsKnown sets gain → HasSets sets result }
+{
+    let mut hidden = Hidden::new(token, gain);
+    hidden.flag(flag);
+    hidden.set_use(used, gain);
+    hidden
+}
+
+/// Pushes tokens of a replacement list, each with its own leading-space flag.
+fn push_gained<'x, 'a: 'x>(
+    body: &'a [Token],
+    gain: Set,
+    used: Place,
+    list: &mut TokenStack<'x>,
+) -> Result<(), AllocError>
+    ensures is { OnOk result ((sets : HideSetPool) → hidings sets list.new
+        ≡ map (λ t. hsadd (set_at sets gain) used (plain t)) body.now ++ hidings sets list.old) }
+    ensures known { OnOk result ((sets : HideSetPool) → IsKnown sets gain → AllKnown sets list.old → AllKnown sets list.new) }
+{
+    let mut rest = body;
+    while let Some((last, others)) = rest.split_last() {
+        list.push(gained_token(last, last.space, gain, used))?;
+        rest = others;
+    }
+    Ok(())
+}
+
+/// Pushes the tokens of a replacement list without `##`. Each token hides the names of `base` and the macro's name.
+fn replace_by<'x, 'a: 'x>(
+    sets: &mut HideSets,
+    body: &'a [Token],
+    base: Set,
+    head: &Hidden,
+    list: &mut TokenStack<'x>,
+) -> Result<(), Memory>
+    requires base { IsKnown sets.old base }
+    requires list { AllKnown sets.old list.old }
+    ensures is { OnOk result ((arguments : ArgumentTokens) → Replaced (hidings sets.new list.new)
+        ≡ replaced_by (chains_replacement (map lone_chain body.now) arguments
+        (set.insert (set_at sets.old base) head.now.token.text) head.now.token.used head.now.token.space)
+        (hidings sets.old list.old)) }
+    ensures known { OnOk result (AllKnown sets.new list.new) }
+    ensures keeps { KeepsSets sets.old sets.new }
+{
+    let Some((first, others)) = body.split_first() else {
+        list.mark_next(head.space());
+        return Ok(());
+    };
+    let gain = sets.with(base, head.text())?;
+    push_gained(others, gain, head.used(), list)?;
+    list.push(gained_token(first, head.space(), gain, head.used()))?;
+    Ok(())
+}
+
+/// Returns the action for a macro's name whose replacement fails with this fault, at the expansion location of the name.
+fn failed_at<'t, 'x, 'a>(number: u8, head: &Hidden) -> Result<Action<'t, 'x, 'a>, Memory>
+    ensures { IfOk result (λ n. n ≡ next.Failed (fault_at number head.now.token.used head.now.token.text)) }
+{
+    Ok(Action {
+        step: ActionKind::Failed(fault_at_expansion(number, head)?),
+    })
+}
+
+/// Returns the action for an invocation whose `)` is found.
+fn call_step<'t, 'x, 'a: 'x>(
+    sets: &mut HideSets,
+    head: Hidden<'x>,
+    replaced: &'t Macro<'a>,
+    arguments: Option<Vec<Vec<Hidden<'x>>>>,
+    close: &Hidden,
+) -> Result<Action<'t, 'x, 'a>, Memory>
+    requires head { HasSets sets.old head }
+    requires arguments { FittingKnown sets.old arguments }
+    requires close { HasSets sets.old close.now }
+    ensures is { IfOk result (λ n. (rest : List Hidden) → AllKnown sets.old rest → step_in sets.new rest n
+        ≡ call_step (hiding sets.old head.entry) replaced.now (fitting_in sets.old arguments.entry) (hiding sets.old close.now)
+        (hidings sets.old rest)) }
+    ensures known { IfOk result (λ n. (rest : List Hidden) → AllKnown sets.old rest → ActionKnown sets.new rest n) }
+    ensures keeps { KeepsSets sets.old sets.new }
+{
+    let Some(arguments) = arguments else {
+        return failed_at(18, &head);
+    };
+    let both = sets.common_hide_set(&head, close)?;
+    Ok(Action {
+        step: ActionKind::Called(Invocation {
+            head,
+            replaced,
+            arguments,
+            both,
+        }),
+    })
+}
+
+/// Returns the action for an invocation that contains an unmatched quote.
+fn failed_quote<'t, 'x, 'a>(quote: &Hidden) -> Result<Action<'t, 'x, 'a>, Memory>
+    ensures { IfOk result (λ n. n ≡ next.Failed (fault_at 7 quote.now.token.at quote.now.token.text)) }
+{
+    Ok(Action {
+        step: ActionKind::Failed(unmatched_quote(quote)?),
+    })
+}
+
+/// Returns the action for a macro's name if nothing is left of the budget: a name that is to be replaced is refused.
+fn exhausted_step<'t, 'x, 'a: 'x>(
+    head: Hidden<'x>,
+    replaced: &Macro<'a>,
+    list: &mut TokenStack<'x>,
+) -> Result<Action<'t, 'x, 'a>, Memory>
+    ensures is { IfOk result (λ n.
+        (sets : HideSetPool) (env : Env) → step_in sets list.new n
+        ≡ in_budget (Some 0) (hiding sets head.entry ∷ hidings sets list.old)
+        (macro_step env (hiding sets head.entry) (hidings sets list.old) replaced.now replaced.now.kind)) }
+    ensures known { IfOk result (λ n. (sets : HideSetPool) → HasSets sets head.entry → AllKnown sets list.old → ActionKnown sets list.new n) }
+{
+    if matches!(replaced.kind, MacroKind::FunctionLike { .. }) {
+        let Some(following) = list.next() else {
+            return Ok(Action {
+                step: ActionKind::Emits(head),
+            });
+        };
+        if !is_open(&following) {
+            list.push(following)?;
+            return Ok(Action {
+                step: ActionKind::Emits(head),
+            });
+        }
+    }
+    Ok(Action {
+        step: ActionKind::Refused(over_budget(&head)),
+    })
+}
+
+/// Returns the action for an unmatched quote.
+fn refused_quote<'t, 'x, 'a>(quote: &Hidden) -> Result<Action<'t, 'x, 'a>, Memory>
+    ensures { IfOk result (λ n. n ≡ next.Refused (fault_at 7 quote.now.token.at quote.now.token.text)) }
+{
+    Ok(Action {
+        step: ActionKind::Refused(unmatched_quote(quote)?),
+    })
+}
+
+impl<'x> Replacer<'x> {
+    /// Pushes the replacement of an invocation of the macro with this replacement list, or returns fault 19 or 20.
+    ///
+    /// Each token hides the names of `base` and the macro's name.
+    fn replace<'a: 'x>(
+        &mut self,
+        pattern: &Pattern<'a>,
+        arguments: Arguments<'_, 'x>,
+        base: Set,
+        head: &Hidden,
+        list: &mut TokenStack<'x>,
+    ) -> Result<Result<(), Fault>, Memory>
+        requires arguments { ArgumentsKnown self.old.sets arguments.given.now arguments.expanded.now }
+        requires base { IsKnown self.old.sets base }
+        requires list { AllKnown self.old.sets list.old }
+        ensures is { IfOk result (λ r. replaced_in self.new.sets list.new r
+            ≡ replaced_by (chains_replacement (listed pattern.now) (arguments_in self.old.sets arguments.entry.given.now arguments.entry.expanded.now)
+            (set.insert (set_at self.old.sets base) head.now.token.text) head.now.token.used head.now.token.space)
+            (hidings self.old.sets list.old)) }
+        ensures known { IfOk result (λ r. OnOk r (AllKnown self.new.sets list.new)) }
+        ensures keeps { KeepsSets self.old.sets self.new.sets }
+    {
+        let alloc = self.pool.alloc();
+        let name = MacroName {
+            base,
+            name: head.text(),
+            used: head.used(),
+            space: head.space(),
+        };
+        match substitute_pattern(alloc, pattern, arguments, &name, &mut self.sets)? {
+            Ok((tokens, pending)) => {
+                list.mark_next(pending);
+                list.push_all(tokens)?;
+                Ok(Ok(()))
+            }
+            Err(fault) => Ok(Err(fault)),
+        }
+    }
+
+    /// Makes the step of a predefined macro's name.
+    fn predefined_step<'t, 'a: 'x>(
+        &mut self,
+        env: &Env,
+        head: &Hidden<'x>,
+        builtin: PredefinedMacro,
+        list: &mut TokenStack<'x>,
+    ) -> Result<Action<'t, 'x, 'a>, Memory>
+        requires head { HasSets self.old.sets head.now }
+        requires list { AllKnown self.old.sets list.old }
+        ensures is { IfOk result (λ n. step_in self.new.sets list.new n
+            ≡ Replaced (predefined_value builtin env.now (hiding self.old.sets head.now)
+            (set.insert (hide_of self.old.sets head.now) head.now.token.text) ∷ hidings self.old.sets list.old)) }
+        ensures known { IfOk result (λ n. ActionKnown self.new.sets list.new n) }
+        ensures keeps { KeepsSets self.old.sets self.new.sets }
+    {
+        let gain = self.sets.with_own_name(head)?;
+        let alloc = self.pool.alloc();
+        list.push(predefined_value(alloc, builtin, env, head, gain)?)?;
+        Ok(Action {
+            step: ActionKind::Replaced,
+        })
+    }
+
+    /// Pushes the replacement of an object-like macro's name, or returns fault 19.
+    ///
+    /// Each token hides the names of `base` and the macro's name.
+    fn replace_object<'a: 'x>(
+        &mut self,
+        base: Set,
+        head: &Hidden<'x>,
+        replaced: &Macro<'a>,
+        list: &mut TokenStack<'x>,
+    ) -> Result<Result<(), Fault>, Memory>
+        requires base { IsKnown self.old.sets base }
+        requires list { AllKnown self.old.sets list.old }
+        ensures is { IfOk result (λ r. replaced_in self.new.sets list.new r
+            ≡ replaced_by (macro_replacement replaced.now no_arguments
+            (set.insert (set_at self.old.sets base) head.now.token.text) head.now.token.used head.now.token.space)
+            (hidings self.old.sets list.old)) }
+        ensures known { IfOk result (λ r. OnOk r (AllKnown self.new.sets list.new)) }
+        ensures keeps { KeepsSets self.old.sets self.new.sets }
+    {
+        // Fast path: most object-like macros have no `##`.
+        if let Some(body) = replaced.lone_tokens() {
+            replace_by(&mut self.sets, body, base, head, list)?;
+            return Ok(Ok(()));
+        }
+        let chains = replaced.chains(self.pool.alloc())?;
+        let pattern = Pattern::Pasted(chains);
+        let none = Arguments {
+            given: &[],
+            expanded: &[],
+        };
+        self.replace(&pattern, none, base, head, list)
+    }
+
+    /// Makes the step of an object-like macro's name.
+    fn object_step<'t, 'a: 'x>(
+        &mut self,
+        head: &Hidden<'x>,
+        replaced: &Macro<'a>,
+        list: &mut TokenStack<'x>,
+    ) -> Result<Action<'t, 'x, 'a>, Memory>
+        requires head { HasSets self.old.sets head.now }
+        requires list { AllKnown self.old.sets list.old }
+        ensures is { IfOk result (λ n. step_in self.new.sets list.new n
+            ≡ replaced_by (macro_replacement replaced.now no_arguments
+            (set.insert (hide_of self.old.sets head.now) head.now.token.text) head.now.token.used head.now.token.space)
+            (hidings self.old.sets list.old)) }
+        ensures known { IfOk result (λ n. ActionKnown self.new.sets list.new n) }
+        ensures keeps { KeepsSets self.old.sets self.new.sets }
+    {
+        let base = self.sets.hide_set_of(head)?;
+        match self.replace_object(base, head, replaced, list)? {
+            Ok(()) => Ok(Action {
+                step: ActionKind::Replaced,
+            }),
+            Err(fault) => Ok(Action {
+                step: ActionKind::Failed(fault),
+            }),
+        }
+    }
+
+    /// Makes the step of a function-like macro's name that is followed by `(`.
+    fn invocation_step<'t, 'a: 'x>(
+        &mut self,
+        head: Hidden<'x>,
+        replaced: &'t Macro<'a>,
+        names: &[Spelling],
+        variadic: Variadic,
+        list: &mut TokenStack<'x>,
+    ) -> Result<Action<'t, 'x, 'a>, Memory>
+        requires head { HasSets self.old.sets head }
+        requires list { AllKnown self.old.sets list.old }
+        ensures is { IfOk result (λ n. step_in self.new.sets list.new n
+            ≡ invocation_step (hiding self.old.sets head.entry) replaced.now names.now variadic
+            (gather 0 (separators names.now variadic) (hidings self.old.sets list.old))) }
+        ensures known { IfOk result (λ n. ActionKnown self.new.sets list.new n) }
+        ensures keeps { KeepsSets self.old.sets self.new.sets }
+    {
+        match gather(&mut self.pool, list, separators(names, variadic))? {
+            Gathered::Closed(arguments, close) => {
+                let fitting = fit_arguments(self.pool.alloc(), arguments, names, variadic);
+                call_step(&mut self.sets, head, replaced, fitting, &close)
+            }
+            Gathered::UnmatchedQuote(quote) => failed_quote(&quote),
+            Gathered::Unclosed => failed_at(17, &head),
+        }
+    }
+
+    /// Makes the step of a function-like macro's name.
+    fn function_step<'t, 'a: 'x>(
+        &mut self,
+        head: Hidden<'x>,
+        replaced: &'t Macro<'a>,
+        names: &[Spelling],
+        variadic: Variadic,
+        list: &mut TokenStack<'x>,
+    ) -> Result<Action<'t, 'x, 'a>, Memory>
+        requires head { HasSets self.old.sets head }
+        requires list { AllKnown self.old.sets list.old }
+        ensures is { IfOk result (λ n. step_in self.new.sets list.new n
+            ≡ function_step (hiding self.old.sets head.entry) replaced.now names.now variadic (hidings self.old.sets list.old)) }
+        ensures known { IfOk result (λ n. ActionKnown self.new.sets list.new n) }
+        ensures keeps { KeepsSets self.old.sets self.new.sets }
+    {
+        let Some(next) = list.next() else {
+            return Ok(Action {
+                step: ActionKind::Emits(head),
+            });
+        };
+        if !is_open(&next) {
+            list.push(next)?;
+            return Ok(Action {
+                step: ActionKind::Emits(head),
+            });
+        }
+        // The `(` is dropped before the step.
+        drop(next);
+        self.invocation_step(head, replaced, names, variadic, list)
+    }
+
+    /// Makes the step of a macro's name.
+    fn macro_step<'t, 'a: 'x>(
+        &mut self,
+        env: &Env,
+        head: Hidden<'x>,
+        replaced: &'t Macro<'a>,
+        list: &mut TokenStack<'x>,
+    ) -> Result<Action<'t, 'x, 'a>, Memory>
+        requires head { HasSets self.old.sets head }
+        requires list { AllKnown self.old.sets list.old }
+        ensures is { IfOk result (λ n. step_in self.new.sets list.new n
+            ≡ macro_step env.now (hiding self.old.sets head.entry) (hidings self.old.sets list.old) replaced.now replaced.now.kind) }
+        ensures known { IfOk result (λ n. ActionKnown self.new.sets list.new n) }
+        ensures keeps { KeepsSets self.old.sets self.new.sets }
+    {
+        match &replaced.kind {
+            MacroKind::Predefined(builtin) => { self.predefined_step(env, &head, *builtin, list) }
+            MacroKind::ObjectLike => self.object_step(&head, replaced, list),
+            MacroKind::FunctionLike {
+                parameters,
+                variadic,
+            } => {
+                let names = parameters.as_slice();
+                self.function_step(head, replaced, names, *variadic, list)
+            }
+        }
+    }
+
+    /// Removes the next token of a list, which names the macro `named`, and its invocation, and pushes the replacement.
+    ///
+    /// Returns what is to be done next. If nothing is left of the budget, a name that is to be replaced is refused.
+    pub(crate) fn next_step<'t, 'a: 'x>(
+        &mut self,
+        context: &Context<'_, 'a>,
+        left: Option<u64>,
+        named: Option<&'t Macro<'a>>,
+        list: &mut TokenStack<'x>,
+    ) -> Result<Action<'t, 'x, 'a>, Memory>
+        requires named { option_copied named ≡ next_macro context.now.table.now.macros (tokens_of list.old) }
+        requires known { AllKnown self.old.sets list.old }
+        ensures is { IfOk result (λ n. step_in self.new.sets list.new n ≡ step_in_budget context.now.table.now.macros context.now.env.now left (hidings self.old.sets list.old)) }
+        ensures known { IfOk result (λ n. ActionKnown self.new.sets list.new n) }
+        ensures keeps { KeepsSets self.old.sets self.new.sets }
+    {
+        let Some(head) = list.next() else {
+            return Ok(Action { step: ActionKind::Done });
+        };
+        if is_quote(&head) {
+            return refused_quote(&head);
+        }
+        let Some(replaced) = named else {
+            return Ok(Action {
+                step: ActionKind::Emits(head),
+            });
+        };
+        if self.sets.hides(&head) {
+            return Ok(Action {
+                step: ActionKind::Emits(head),
+            });
+        }
+        if is_exhausted(left) {
+            return exhausted_step(head, replaced, list);
+        }
+        self.macro_step(context.env, head, replaced, list)
+    }
+
+    /// Pushes the replacement of an invocation whose arguments are expanded, or stores the fault in `fault`.
+    ///
+    /// `pattern` is the replacement list of the macro.
+    #[inline(never)]
+    pub(crate) fn finish_call<'a: 'x>(
+        &mut self,
+        call: &Invocation<'_, 'x, 'a>,
+        pattern: &Pattern<'a>,
+        expanded: &[Expansion<'x>],
+        list: &mut TokenStack<'x>,
+        fault: &mut Option<Fault>,
+    ) -> Result<(), Memory>
+        requires call { CallKnown self.old.sets call.now.head call.now.arguments.items call.now.both }
+        requires chains { listed pattern.now ≡ chains_of call.now.replaced.now }
+        requires expanded { ExpansionsKnown self.old.sets expanded.now }
+        requires list { AllKnown self.old.sets list.old }
+        requires no_fault { fault.old ≡ None }
+        ensures is { OnOk result (finished_in self.new.sets list.new fault.new
+            ≡ finish_call (call_in self.old.sets call.now.head call.now.replaced.now call.now.arguments.items call.now.both list.old)
+            (expanded_in self.old.sets call.now.arguments.items expanded.now)) }
+        ensures known { OnOk result (fault.new ≡ None → AllKnown self.new.sets list.new) }
+        ensures keeps { KeepsSets self.old.sets self.new.sets }
+    {
+        let arguments = Arguments {
+            given: call.arguments.as_slice(),
+            expanded,
+        };
+        match self.replace(pattern, arguments, call.both, &call.head, list)? {
+            Ok(()) => Ok(()),
+            Err(found) => {
+                *fault = Some(found);
+                Ok(())
+            }
+        }
+    }
+}

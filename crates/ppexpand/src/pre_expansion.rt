@@ -1,0 +1,91 @@
+//! Finds the parameters whose arguments are pre-expanded: those that a replacement list uses without `#` and `##` (6.10.3.1).
+ghost use Rattle.std.specs.Prelude.{◌≡◌, ◌<◌, ◌||◌, ℕ, false, IfOk, get_or, length, map};
+ghost use Rattle.ppmacro.specs.Chains.{parameter_names};
+ghost use Rattle.ppmacro.specs.Patterns.{entry_chain, listed};
+ghost use Rattle.ppexpand.specs.ExpansionStep.{is_lone_parameter, pre_expands};
+
+use ppmacro::{Chain, Macro, Entry, Operand, Pattern, MacroKind};
+use std::alloc::{AllocError, Global};
+
+/// Returns the number of parameters of a macro.
+pub(crate) fn parameter_count(replaced: &Macro) -> usize
+    ensures { result ≡ length (parameter_names replaced.now.kind) }
+{
+    match &replaced.kind {
+        MacroKind::FunctionLike { parameters, .. } => parameters.as_slice().len(),
+        _ => 0,
+    }
+}
+
+/// Sets the entry of a parameter if the chain consists of that parameter alone.
+fn flag(used: &mut Vec<bool>, operands: &[Operand])
+    ensures len { length used.new.items ≡ length used.old.items }
+    ensures marks { (i : ℕ) → i < length used.old.items → get_or used.new.items i false ≡ get_or used.old.items i false || is_lone_parameter i operands.now }
+{
+    if let [operand] = operands {
+        if let Operand::Param(index) = operand {
+            if *index < used.len() {
+                used[*index] = true;
+            }
+        }
+    }
+}
+
+/// Sets the entry of a parameter if the list entry is that parameter.
+fn set_entry_used(used: &mut Vec<bool>, entry: &Entry)
+    ensures len { length used.new.items ≡ length used.old.items }
+    ensures marks { (i : ℕ) → i < length used.old.items → get_or used.new.items i false ≡ get_or used.old.items i false || is_lone_parameter i (entry_chain entry.now).operands }
+{
+    if let Entry::Param(_, index) = entry {
+        if *index < used.len() {
+            used[*index] = true;
+        }
+    }
+}
+
+/// Returns, for each parameter, whether a replacement list without `#` and `##` uses it.
+fn parameters_in_entries(
+    alloc: Global,
+    parameters: usize,
+    entries: &[Entry],
+) -> Result<Vec<bool>, AllocError>
+    ensures len { IfOk result (λ v. length v.items ≡ parameters) }
+    ensures used { IfOk result (λ v. (i : ℕ) → i < parameters → get_or v.items i false ≡ pre_expands i (map entry_chain entries.now)) }
+{
+    let mut used = vec![in alloc; false; parameters]?;
+    for entry in entries {
+        set_entry_used(&mut used, entry);
+    }
+    Ok(used)
+}
+
+/// Returns, for each parameter of a macro, whether its replacement list uses it without `#` and `##`.
+///
+/// The list is read once, whatever the number of parameters.
+#[inline(never)]
+pub(crate) fn pre_expanded_parameters(
+    alloc: Global,
+    replaced: &Macro,
+    pattern: &Pattern,
+) -> Result<Vec<bool>, AllocError>
+    ensures len { IfOk result (λ v. length v.items ≡ length (parameter_names replaced.now.kind)) }
+    ensures used { IfOk result (λ v. (i : ℕ) → i < length (parameter_names replaced.now.kind) → get_or v.items i false ≡ pre_expands i (listed pattern.now)) }
+{
+    let parameters = parameter_count(replaced);
+    match pattern {
+        Pattern::Plain(entries) => parameters_in_entries(alloc, parameters, entries.as_slice()),
+        Pattern::Pasted(chains) => parameters_in_chains(alloc, parameters, chains.as_slice()),
+    }
+}
+
+/// Returns, for each parameter, whether the chains use it without `#` and `##`.
+fn parameters_in_chains(alloc: Global, parameters: usize, chains: &[Chain]) -> Result<Vec<bool>, AllocError>
+    ensures len { IfOk result (λ v. length v.items ≡ parameters) }
+    ensures used { IfOk result (λ v. (i : ℕ) → i < parameters → get_or v.items i false ≡ pre_expands i chains.now) }
+{
+    let mut used = vec![in alloc; false; parameters]?;
+    for chain in chains {
+        flag(&mut used, chain.operands.as_slice());
+    }
+    Ok(used)
+}

@@ -1,0 +1,171 @@
+//! The stack of tokens that are still to be expanded.
+ghost use Rattle.std.specs.Prelude.{◌≡◌, ◌∷◌, [], ◌++◌, map, true, Some, MatchOption, IfOk, OnOk};
+ghost use Rattle.std.specs.Option.{option_copied};
+ghost use Rattle.ppmacro.specs.Substituting.{tokens_of};
+ghost use Rattle.ppexpand.specs.code.Lists.{marked, with_set, never_expands, next_macro, NeverExpand};
+
+use crate::lists::put;
+use crate::token_span::TokenSpan;
+use crate::expand_step::macro_at;
+use ppmacro::{Macro, Hidden, Set, Table};
+use pptext::Token;
+use std::alloc::{AllocError, Global};
+use std::marker::Model;
+
+/// The tokens that are still to be expanded. Contracts see them as a list that begins with the next token.
+///
+/// `pushed` holds the tokens that replacements pushed, in reverse order: to pop a token takes constant time, and to push tokens takes time
+/// linear in their number. `below` holds the tokens of a file that follow them. If `pending` is set, the first of these has a leading space.
+#[derive(Drop)]
+pub(crate) struct TokenStack<'a> {
+    pushed: Vec<Hidden<'a>>,
+    below: TokenSpan<'a>,
+    pending: bool,
+}
+
+impl<'a> Model for TokenStack<'a> {
+    ghost use Rattle.std.specs.Prelude.{List, reverse, ◌++◌};
+    ghost use Rattle.ppmacro.specs.declared.hidden_token.Hidden.{Hidden};
+
+    ghost Value = { List Hidden };
+
+    ghost use Rattle.ppexpand.specs.code.Lists.{marked};
+
+    ghost view = { λ c. reverse c.pushed.items ++ marked c.pending c.below };
+}
+
+/// The next token of a stack, as far as a check without hide sets can tell.
+#[derive(Drop)]
+pub(crate) enum Lookahead<'t, 'x, 'a> {
+    /// A token that is emitted unchanged. It is popped.
+    Emits(Hidden<'x>),
+    /// A token that names this macro.
+    Names(&'t Macro<'a>),
+    /// Not known: the token comes from the file, or it is an unmatched quote.
+    Unknown,
+}
+
+impl<'a> TokenStack<'a> {
+    /// Creates a stack of tokens of a file, each with this hide set.
+    pub(crate) fn over(alloc: Global, tokens: &'a [Token], hide: Set) -> TokenStack<'a>
+        ensures { result ≡ map (with_set hide) tokens.now }
+    {
+        TokenStack {
+            pushed: Vec::new(alloc),
+            below: TokenSpan::new(tokens, hide),
+            pending: false,
+        }
+    }
+
+    /// Creates a stack of copies of these tokens, without tokens of a file. `hide` has no effect.
+    #[inline(never)]
+    pub(crate) fn of_clones(
+        alloc: Global,
+        tokens: &[Hidden<'a>],
+        hide: Set,
+    ) -> Result<TokenStack<'a>, AllocError>
+        ensures { IfOk result (λ list. list ≡ tokens.now) }
+    {
+        let mut pushed = Vec::from_clones(alloc, tokens)?;
+        pushed.reverse();
+        Ok(TokenStack {
+            pushed,
+            below: TokenSpan::new(Default::default(), hide),
+            pending: false,
+        })
+    }
+
+    /// Pops the next token.
+    pub(crate) fn next(&mut self) -> Option<Hidden<'a>>
+        ensures { MatchOption result ((self.old ≡ []) × (self.new ≡ [])) (λ h. self.old ≡ h ∷ self.new) }
+    {
+        if let Some(hidden) = self.pushed.pop() {
+            return Some(hidden);
+        }
+        let Some(mut hidden) = self.below.next() else {
+            return None;
+        };
+        if self.pending {
+            hidden.flag(true);
+        }
+        self.pending = false;
+        Some(hidden)
+    }
+
+    /// Pushes a token.
+    pub(crate) fn push(&mut self, hidden: Hidden<'a>) -> Result<(), AllocError>
+        ensures { OnOk result (self.new ≡ hidden.entry ∷ self.old) }
+    {
+        put(&mut self.pushed, hidden)
+    }
+
+    /// Pushes tokens, the last one first.
+    pub(crate) fn push_all(&mut self, tokens: Vec<Hidden<'a>>) -> Result<(), AllocError>
+        ensures { OnOk result (self.new ≡ tokens.entry.items ++ self.old) }
+    {
+        let mut tokens = tokens;
+        tokens.reverse();
+        if self.pushed.is_empty() {
+            self.pushed = tokens;
+            return Ok(());
+        }
+        self.pushed.append(&mut tokens)?;
+        Ok(())
+    }
+
+    /// Sets the leading-space flag of the next token, if there is one and a space is pending.
+    pub(crate) fn mark_next(&mut self, pending: bool)
+        ensures { self.new ≡ marked pending self.old }
+    {
+        if !pending {
+            return;
+        }
+        if let Some(last) = self.pushed.last_mut() {
+            last.flag(true);
+            return;
+        }
+        self.pending = true;
+    }
+
+    /// Pops the next token if a replacement pushed it and it is emitted unchanged; or returns the macro that it names.
+    pub(crate) fn next_unexpanded<'t, 'b>(&mut self, table: &'t Table<'b>) -> Lookahead<'t, 'a, 'b>
+        ensures { elim result [
+          | Lookahead.Emits h ↦ (self.old ≡ h ∷ self.new) × (never_expands table.now.macros h.token ≡ true)
+          | Lookahead.Names m ↦ (self.new ≡ self.old) × (next_macro table.now.macros (tokens_of self.old) ≡ Some m.now)
+          | Lookahead.Unknown ↦ self.new ≡ self.old
+        ] }
+    {
+        let Some(last) = self.pushed.last() else {
+            return Lookahead::Unknown;
+        };
+        let token = last.token();
+        if let Some(named) = macro_at(table, token) {
+            return Lookahead::Names(named);
+        }
+        if token.is_unmatched_quote() {
+            return Lookahead::Unknown;
+        }
+        match self.pushed.pop() {
+            Some(hidden) => Lookahead::Emits(hidden),
+            None => Lookahead::Unknown,
+        }
+    }
+
+    /// Pops the tokens of the file that are emitted unchanged, if they are next. Also returns the macro that the token after them names.
+    pub(crate) fn take_unexpanded<'t, 'b>(
+        &mut self,
+        table: &'t Table<'b>,
+    ) -> (TokenSpan<'a>, Option<&'t Macro<'b>>)
+        ensures laid_out { self.old ≡ result.0 ++ self.new }
+        ensures plain { NeverExpand table.now.macros result.0 }
+        ensures named { option_copied result.1 ≡ next_macro table.now.macros (tokens_of self.new) }
+    {
+        if let Some(last) = self.pushed.last() {
+            return (self.below.none(), macro_at(table, last.token()));
+        }
+        if self.pending {
+            return (self.below.none(), self.below.next_macro(table));
+        }
+        self.below.take_unexpanded(table)
+    }
+}
