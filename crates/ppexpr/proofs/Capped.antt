@@ -15,7 +15,7 @@ use Rattle.ppexpand.proofs.Refusing.{expansion_never_refused}
 use Rattle.ppexpr.specs.Outcomes.{Value, Failure, ZeroDivisor, Overflow, Shift}
 use Rattle.ppexpr.specs.Symbols.{Symbol}
 use Rattle.ppexpr.specs.Tokens.{symbol_by, symbol_of, before, symbols_of, constant_or}
-use Rattle.ppexpr.specs.Conditions.{Condition, taken, Evaluates, no_expression, has_value, Judges, too_nested, not_nested, Decides, made_defined, bad_constant, constants, IsCondition, ill_formed, not_replaced, replaced, count_condition}
+use Rattle.ppexpr.specs.Conditions.{Condition, taken, EvaluatesShallow, no_expression, has_value, EvaluatesSymbols, too_nested, not_nested, EvaluatesTokens, made_defined, bad_constant, constants, IsCondition, ill_formed, not_replaced, replaced, count_condition}
 
 -- ---- the budget
 
@@ -42,11 +42,11 @@ pub condition_short : {macros : Macros} {env : Env} {at : Place} {tokens : List 
     → b < count_condition d
     → (f : Fault) × (f.number ≡ 35) × IsCondition macros env at tokens (Some b) (Err f) (Some 0)
 condition_short b is (ill_formed bad) less = absurd (omega arith)
-condition_short {macros} {env} b is (not_replaced {asked = asked} {e = e} asks x leaves faulty) less =
-    let s : StopsEarly macros env b asked e = expansion_short macros env b is x less in
+condition_short {macros} {env} b is (not_replaced {without_defined = without_defined} {e = e} asks x leaves faulty) less =
+    let s : StopsEarly macros env b without_defined e = expansion_short macros env b is x less in
     (s.fault, s.number, not_replaced asks s.is s.nothing s.stopped)
-condition_short {macros} {env} b is (replaced {asked = asked} {e = e} asks x leaves whole decides) less =
-    let s : StopsEarly macros env b asked e = expansion_short macros env b is x less in
+condition_short {macros} {env} b is (replaced {without_defined = without_defined} {e = e} asks x leaves whole decides) less =
+    let s : StopsEarly macros env b without_defined e = expansion_short macros env b is x less in
     (s.fault, s.number, not_replaced asks s.is s.nothing s.stopped)
 
 -- a condition without a budget leaves none
@@ -89,15 +89,15 @@ taken_other at (Err (ZeroDivisor o)) = λ e. absurd (omega arith)
 taken_other at (Err (Overflow o)) = λ e. absurd (omega arith)
 taken_other at (Err (Shift o)) = λ e. absurd (omega arith)
 
-evaluates_other : (at : Place) (s : List Symbol) (c : Condition) → Evaluates at s c → IsOther c
+evaluates_other : (at : Place) (s : List Symbol) (c : Condition) → EvaluatesShallow at s c → IsOther c
 evaluates_other at s c (no_expression none) = λ e. absurd (omega arith)
 evaluates_other at s c (has_value {o = o} h) = taken_other at o.value
 
-judges_other : (at : Place) (s : List Symbol) (c : Condition) → Judges at s c → IsOther c
+judges_other : (at : Place) (s : List Symbol) (c : Condition) → EvaluatesSymbols at s c → IsOther c
 judges_other at s c (too_nested deep) = λ e. absurd (omega arith)
 judges_other at s c (not_nested shallow h) = evaluates_other at s c h
 
-decides_other : (at : Place) (ts : List Token) (c : Condition) → Decides at ts c → IsOther c
+decides_other : (at : Place) (ts : List Token) (c : Condition) → EvaluatesTokens at ts c → IsOther c
 decides_other at ts c (made_defined e) = λ e. absurd (omega arith)
 decides_other at ts c (bad_constant e g) = subst IsOther g (symbols_other at ts)
 decides_other at ts c (constants {symbols = s} e g h) = judges_other at s c h
@@ -107,7 +107,7 @@ condition_other : {macros : Macros} {env : Env} {at : Place} {tokens : List Toke
     → IsCondition macros env at tokens left c after
     → IsOther c
 condition_other is (ill_formed none) = λ e. absurd (omega arith)
-condition_other {macros} {env} is (not_replaced {asked = asked} {e = e} asks x leaves faulty) = expansion_never_refused macros env (subst (λ l. IsExpansion macros env l asked e) is x) faulty
+condition_other {macros} {env} is (not_replaced {without_defined = without_defined} {e = e} asks x leaves faulty) = expansion_never_refused macros env (subst (λ l. IsExpansion macros env l without_defined e) is x) faulty
 condition_other {at = at} {c = c} is (replaced {e = e} asks x leaves whole decides) = decides_other at e.tokens c decides
 
 pub condition_never_refused : {macros : Macros} {env : Env} {at : Place} {tokens : List Token} {left after : Option ℕ} {f : Fault}

@@ -8,7 +8,7 @@ use Rattle.ppexpr.specs.Trees.{Tree, Leaf, Applied, Joined, Chosen}
 use Rattle.ppexpr.specs.Grammar.{IsExpression}
 use Rattle.ppexpr.specs.Values.{unary_outcome, binary_outcome, choice_outcome, outcome_of}
 use Rattle.ppexpr.specs.Reading.{Denotes}
-use Rattle.ppexpr.specs.Pending.{State, outcomes, step, finish}
+use Rattle.ppexpr.specs.code.Pending.{State, outcomes, step, finish}
 use Rattle.ppexpr.proofs.Complete.{meaning, complete}
 use Rattle.ppexpr.proofs.Sound.{Means, sound}
 use Rattle.ppexpr.proofs.Machine.{run}

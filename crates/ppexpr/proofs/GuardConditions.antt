@@ -7,7 +7,7 @@ use Rattle.pptext.specs.declared.tokens.Kind.TheVariants.{Ident, Number, Punct}
 use Rattle.ppmacro.specs.Names.{Macros}
 use Rattle.ppexpand.specs.declared.env.Env.{Env}
 use Rattle.ppexpand.specs.Expansion.{IsExpansion, ended}
-use Rattle.ppexpand.proofs.Skipping.{expansion-behind, expands-nothing}
+use Rattle.ppexpand.proofs.Skipping.{expansion-following, expands-nothing}
 use Rattle.ppexpr.specs.Outcomes.{Signed}
 use Rattle.ppexpr.specs.Operators.{Bang}
 use Rattle.ppexpr.specs.Symbols.{Symbol, Constant, Operator}
@@ -15,9 +15,9 @@ use Rattle.ppexpr.specs.Operations.{Not}
 use Rattle.ppexpr.specs.Trees.{Tree, Leaf, Applied}
 use Rattle.ppexpr.specs.Values.{unary_outcome, constant_outcome}
 use Rattle.ppexpr.specs.Grammar.{Derives, constant, unary, tighter}
-use Rattle.ppexpr.specs.Asking.{Asks, nothing, other, question, answer}
+use Rattle.ppexpr.specs.DefinedOperator.{ReplacesDefined, nothing, other, defined_use, defined_value}
 use Rattle.ppexpr.specs.Nesting.{IsTooNested}
-use Rattle.ppexpr.specs.Conditions.{Evaluates, has_value, not_nested, constants, IsCondition, replaced}
+use Rattle.ppexpr.specs.Conditions.{EvaluatesShallow, has_value, not_nested, constants, IsCondition, replaced}
 use Rattle.ppexpr.proofs.Shallow.{few_shallow}
 
 -- ---- `! 1`
@@ -36,7 +36,7 @@ loosest (suc k) d = loosest k (tighter {k = k} d)
 shallow : ¬ IsTooNested symbols
 shallow = few_shallow symbols (omega arith)
 
-is_false : (at : Place) → Evaluates at symbols (Ok false)
+is_false : (at : Place) → EvaluatesShallow at symbols (Ok false)
 unfolding tree unary_outcome constant_outcome
 is_false at = has_value (tree, loosest 12 (unary Bang Not refl (tighter {k = 12} (constant (Signed (pos 1))))), refl)
 
@@ -60,24 +60,24 @@ not_one n f = punctuator (codes "!") n ∷ as_one f ∷ []
 
 not_one_expands : (macros : Macros) (env : Env) (left : Option ℕ) (n f : Token) → IsExpansion macros env left (not_one n f) (record { tokens = not_one n f; fault = None; left = left })
 not_one_expands macros env left n f =
-    expansion-behind macros env left (not_one n f) (not_one n f) [] (record { tokens = not_one n f; fault = None; left = left }) (ended left None) refl (refl, (refl, tt)) (expands-nothing macros env 0 left) refl refl refl
+    expansion-following macros env left (not_one n f) (not_one n f) [] (record { tokens = not_one n f; fault = None; left = left }) (ended left None) refl (refl, (refl, tt)) (expands-nothing macros env 0 left) refl refl refl
 
 asked_false : (macros : Macros) (env : Env) (at : Place) (tokens : List Token) (left : Option ℕ) (n f x : Token)
     → is_some (table.get macros x.text) ≡ true
-    → Asks macros tokens (punctuator (codes "!") n ∷ answer macros (as_defined f) (as_name x) ∷ [])
+    → ReplacesDefined macros tokens (punctuator (codes "!") n ∷ defined_value macros (as_defined f) (as_name x) ∷ [])
     → IsCondition macros env at tokens left (Ok false) left
 asked_false macros env at tokens left n f x known asks =
     let one = ap (λ (b : Bool). punctuator (codes "!") n ∷ record f { kind = Number; text = if b then codes "1" else codes "0" } ∷ []) known in
-    replaced (subst (Asks macros tokens) one asks) (not_one_expands macros env left n f) refl refl (constants refl refl (not_nested shallow (is_false at)))
+    replaced (subst (ReplacesDefined macros tokens) one asks) (not_one_expands macros env left n f) refl refl (constants refl refl (not_nested shallow (is_false at)))
 
 -- ---- `! defined X` and `! defined ( X )`
 
 pub bare_false : (macros : Macros) (env : Env) (at : Place) (left : Option ℕ) (n f x : Token)
     → is_some (table.get macros x.text) ≡ true
     → IsCondition macros env at (punctuator (codes "!") n ∷ as_defined f ∷ as_name x ∷ []) left (Ok false) left
-bare_false macros env at left n f x known = asked_false macros env at _ left n f x known (other refl (question refl refl nothing))
+bare_false macros env at left n f x known = asked_false macros env at _ left n f x known (other refl (defined_use refl refl nothing))
 
 pub parenthesized_false : (macros : Macros) (env : Env) (at : Place) (left : Option ℕ) (n f l x r : Token)
     → is_some (table.get macros x.text) ≡ true
     → IsCondition macros env at (punctuator (codes "!") n ∷ as_defined f ∷ punctuator (codes "(") l ∷ as_name x ∷ punctuator (codes ")") r ∷ []) left (Ok false) left
-parenthesized_false macros env at left n f l x r known = asked_false macros env at _ left n f x known (other refl (question refl refl nothing))
+parenthesized_false macros env at left n f l x r known = asked_false macros env at _ left n f x known (other refl (defined_use refl refl nothing))

@@ -4,7 +4,7 @@ use Rattle.std.specs.Prelude.{IfSome, option_and_then, if◌then◌else◌}
 use Rattle.std.proofs.lemmas.Bool.Decides.{nat_tests}
 use Rattle.ppexpr.specs.Outcomes.{Value}
 use Rattle.ppexpr.specs.Integers.{digits_len, number, is_one_of, plain_suffixes, unsigned_suffixes, as_uintmax, typed, in_base}
-use Rattle.ppexpr.specs.Characters.{quoted, character, up_to, of_type}
+use Rattle.ppexpr.specs.Characters.{unquoted, character, up_to, of_type}
 
 uintmax_large : (n : ℕ) → 2 ^ 64 ≤ n → as_uintmax n ≡ None
 uintmax_large n h = grind (arith, nat_tests)
@@ -34,5 +34,5 @@ no_character greatest unsigned (Some n) g h =
     let above : nat_le n greatest ≡ false = grind (arith, nat_tests) in
     rw above refl
 
-pub of_type_large : (greatest : ℕ) (unsigned : Bool) (s body : List ℕ) → greatest < 2 ^ 63 → quoted s ≡ Some body → IfSome (character body) (λ n. 2 ^ 64 ≤ n) → of_type greatest unsigned s ≡ None
+pub of_type_large : (greatest : ℕ) (unsigned : Bool) (s body : List ℕ) → greatest < 2 ^ 63 → unquoted s ≡ Some body → IfSome (character body) (λ n. 2 ^ 64 ≤ n) → of_type greatest unsigned s ≡ None
 of_type_large greatest unsigned s body g e h = ap (λ x. option_and_then (up_to greatest unsigned) (option_and_then character x)) e ∙ no_character greatest unsigned (character body) g h

@@ -17,7 +17,7 @@ pub mod Exact
 -- An expression has one tree.
 pub mod OneTree
 -- How far the uses of `defined` have been replaced by numbers.
-pub mod Asked
+pub mod DefinedReplaced
 -- The symbols of the tokens so far.
 pub mod SymbolSteps
 -- The steps of a condition.

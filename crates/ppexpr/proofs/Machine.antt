@@ -1,7 +1,7 @@
 -- The parser's steps over a whole list.
 use Rattle.std.specs.Prelude.{List, [], ◌∷◌, Option, option_and_then}
 use Rattle.ppexpr.specs.Symbols.{Symbol}
-use Rattle.ppexpr.specs.Pending.{Meaning, State, step, finish}
+use Rattle.ppexpr.specs.code.Pending.{Meaning, State, step, finish}
 
 abbrev pub run : {A : Type 0} → Meaning A → State A → List Symbol → Option A
 run m s [] = finish m s

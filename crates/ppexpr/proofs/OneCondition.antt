@@ -12,23 +12,23 @@ use Rattle.ppexpr.specs.Symbols.{Symbol}
 use Rattle.ppexpr.specs.Outcomes.{Outcome}
 use Rattle.ppexpr.specs.Reading.{Denotes}
 use Rattle.ppexpr.specs.Values.{outcome_of}
-use Rattle.ppexpr.specs.Asking.{answer, Asks, nothing, other, question}
+use Rattle.ppexpr.specs.DefinedOperator.{defined_value, ReplacesDefined, nothing, other, defined_use}
 use Rattle.ppexpr.specs.Tokens.{symbols_of}
-use Rattle.ppexpr.specs.Conditions.{Condition, taken, Evaluates, no_expression, has_value, Judges, too_nested, not_nested, Decides, made_defined, bad_constant, constants, IsCondition, ill_formed, not_replaced, replaced}
+use Rattle.ppexpr.specs.Conditions.{Condition, taken, EvaluatesShallow, no_expression, has_value, EvaluatesSymbols, too_nested, not_nested, EvaluatesTokens, made_defined, bad_constant, constants, IsCondition, ill_formed, not_replaced, replaced}
 use Rattle.ppexpr.proofs.OneTree.{same_tree}
-use Rattle.ppexpr.proofs.Asked.{Begins, begins_other, begins_question}
+use Rattle.ppexpr.proofs.DefinedReplaced.{Begins, begins_other, begins_question}
 
-same_nothing : (macros : Macros) (vs : List Token) → Asks macros [] vs → [] ≡ vs
+same_nothing : (macros : Macros) (vs : List Token) → ReplacesDefined macros [] vs → [] ≡ vs
 same_nothing macros vs nothing = refl
 
-same_asks : (macros : Macros) (ts us vs : List Token) → Asks macros ts us → Asks macros ts vs → us ≡ vs
+same_asks : (macros : Macros) (ts us vs : List Token) → ReplacesDefined macros ts us → ReplacesDefined macros ts vs → us ≡ vs
 same_asks macros ts us vs nothing h = same_nothing macros vs h
 same_asks macros ts us vs (other {t = t} {ts = ss} {us = xs} e a) h =
     let b : Begins macros t ss vs = begins_other macros t ss vs e h in
     ap (λ x. t ∷ x) (same_asks macros ss xs b.us a b.asks) ∙ sym b.is
-same_asks macros ts us vs (question {d = d} {ts = ss} {us = xs} {o = o} e g a) h =
-    let b : Begins macros (answer macros d o.name) o.rest vs = begins_question macros d ss vs o e g h in
-    ap (λ x. answer macros d o.name ∷ x) (same_asks macros o.rest xs b.us a b.asks) ∙ sym b.is
+same_asks macros ts us vs (defined_use {d = d} {ts = ss} {us = xs} {o = o} e g a) h =
+    let b : Begins macros (defined_value macros d o.name) o.rest vs = begins_question macros d ss vs o e g h in
+    ap (λ x. defined_value macros d o.name ∷ x) (same_asks macros o.rest xs b.us a b.asks) ∙ sym b.is
 
 same_expansion : (macros : Macros) (env : Env) (left : Option ℕ) (ts : List Token) (d e : Expanded) → IsExpansion macros env left ts d → IsExpansion macros env left ts e → d ≡ e
 same_expansion macros env left ts d e g h =
@@ -41,13 +41,13 @@ same_expansion macros env left ts d e g h =
 same_outcomes : (s : List Symbol) (o p : Outcome) → Denotes s o → Denotes s p → o ≡ p
 same_outcomes s o p h k = sym h.2 ∙ (ap outcome_of (same_tree s h.0 k.0 h.1 k.1) ∙ k.2)
 
-same_evaluation : (at : Place) (s : List Symbol) (c d : Condition) → Evaluates at s c → Evaluates at s d → c ≡ d
+same_evaluation : (at : Place) (s : List Symbol) (c d : Condition) → EvaluatesShallow at s c → EvaluatesShallow at s d → c ≡ d
 same_evaluation at s c d (no_expression n) (no_expression m) = refl
 same_evaluation at s c d (no_expression n) (has_value h) = absurd (n (h.0, h.1))
 same_evaluation at s c d (has_value h) (no_expression n) = absurd (n (h.0, h.1))
 same_evaluation at s c d (has_value {o = o} h) (has_value {o = p} k) = ap (λ (x : Outcome). taken at x.value) (same_outcomes s o p h k)
 
-same_judgement : (at : Place) (s : List Symbol) (c d : Condition) → Judges at s c → Judges at s d → c ≡ d
+same_judgement : (at : Place) (s : List Symbol) (c d : Condition) → EvaluatesSymbols at s c → EvaluatesSymbols at s d → c ≡ d
 same_judgement at s c d (too_nested n) (too_nested m) = refl
 same_judgement at s c d (too_nested n) (not_nested m h) = absurd (m n)
 same_judgement at s c d (not_nested m h) (too_nested n) = absurd (m n)
@@ -56,7 +56,7 @@ same_judgement at s c d (not_nested m h) (not_nested n k) = same_evaluation at s
 same_symbols : (at : Place) (ts : List Token) (s r : List Symbol) → symbols_of at ts ≡ Ok s → symbols_of at ts ≡ Ok r → s ≡ r
 same_symbols at ts s r e f = cc
 
-same_decision : (at : Place) (ts : List Token) (c d : Condition) → Decides at ts c → Decides at ts d → c ≡ d
+same_decision : (at : Place) (ts : List Token) (c d : Condition) → EvaluatesTokens at ts c → EvaluatesTokens at ts d → c ≡ d
 same_decision at ts c d (made_defined e) (made_defined f) = refl
 same_decision at ts c d (made_defined e) (bad_constant f g) = cc
 same_decision at ts c d (made_defined e) (constants f g j) = cc
@@ -66,10 +66,10 @@ same_decision at ts c d (bad_constant e f) (constants g h j) = cc
 same_decision at ts c d (constants f g j) (made_defined e) = cc
 same_decision at ts c d (constants g h j) (bad_constant e f) = cc
 same_decision at ts c d (constants {symbols = s} e f j) (constants {symbols = r} g h k) =
-    same_judgement at r c d (subst (λ (x : List Symbol). Judges at x c) (same_symbols at ts s r f h) j) k
+    same_judgement at r c d (subst (λ (x : List Symbol). EvaluatesSymbols at x c) (same_symbols at ts s r f h) j) k
 
 -- what the tokens with numbers in place of `defined` are expanded to
-same_replacement : (macros : Macros) (env : Env) (left : Option ℕ) (ts us vs : List Token) (d e : Expanded) → Asks macros ts us → Asks macros ts vs → IsExpansion macros env left us d → IsExpansion macros env left vs e → d ≡ e
+same_replacement : (macros : Macros) (env : Env) (left : Option ℕ) (ts us vs : List Token) (d e : Expanded) → ReplacesDefined macros ts us → ReplacesDefined macros ts vs → IsExpansion macros env left us d → IsExpansion macros env left vs e → d ≡ e
 same_replacement macros env left ts us vs d e a b g h = same_expansion macros env left vs d e (subst (λ (x : List Token). IsExpansion macros env left x d) (same_asks macros ts us vs a b) g) h
 
 same_fault : (d e : Expanded) (f q : Fault) → d ≡ e → d.fault ≡ Some f → e.fault ≡ Some q → f ≡ q
@@ -78,25 +78,25 @@ same_fault d e f q s g h = let k : d.fault ≡ e.fault = ap (λ (x : Expanded). 
 no_fault : (d e : Expanded) (f : Fault) → d ≡ e → d.fault ≡ Some f → e.fault ≡ None → ⊥
 no_fault d e f s g h = let k : d.fault ≡ e.fault = ap (λ (x : Expanded). x.fault) s in cc
 
-same_left : (d e : Expanded) (after behind : Option ℕ) → d ≡ e → d.left ≡ after → e.left ≡ behind → after ≡ behind
-same_left d e after behind s g h = sym g ∙ (ap (λ (x : Expanded). x.left) s ∙ h)
+same_left : (d e : Expanded) (after following : Option ℕ) → d ≡ e → d.left ≡ after → e.left ≡ following → after ≡ following
+same_left d e after following s g h = sym g ∙ (ap (λ (x : Expanded). x.left) s ∙ h)
 
-pub same_condition : (macros : Macros) (env : Env) (at : Place) (ts : List Token) (left after behind : Option ℕ) (c d : Condition)
+pub same_condition : (macros : Macros) (env : Env) (at : Place) (ts : List Token) (left after following : Option ℕ) (c d : Condition)
     → IsCondition macros env at ts left c after
-    → IsCondition macros env at ts left d behind
-    → (c ≡ d) × (after ≡ behind)
-same_condition macros env at ts left after behind c d (ill_formed n) (ill_formed m) = (refl, refl)
-same_condition macros env at ts left after behind c d (ill_formed n) (not_replaced a g l h) = absurd (n _ a)
-same_condition macros env at ts left after behind c d (ill_formed n) (replaced a g l h j) = absurd (n _ a)
-same_condition macros env at ts left after behind c d (not_replaced a g l h) (ill_formed n) = absurd (n _ a)
-same_condition macros env at ts left after behind c d (replaced a g l h j) (ill_formed n) = absurd (n _ a)
-same_condition macros env at ts left after behind c d (not_replaced {asked = us} {e = x} {f = f} a g l h) (not_replaced {asked = vs} {e = y} {f = q} b k m i) =
+    → IsCondition macros env at ts left d following
+    → (c ≡ d) × (after ≡ following)
+same_condition macros env at ts left after following c d (ill_formed n) (ill_formed m) = (refl, refl)
+same_condition macros env at ts left after following c d (ill_formed n) (not_replaced a g l h) = absurd (n _ a)
+same_condition macros env at ts left after following c d (ill_formed n) (replaced a g l h j) = absurd (n _ a)
+same_condition macros env at ts left after following c d (not_replaced a g l h) (ill_formed n) = absurd (n _ a)
+same_condition macros env at ts left after following c d (replaced a g l h j) (ill_formed n) = absurd (n _ a)
+same_condition macros env at ts left after following c d (not_replaced {without_defined = us} {e = x} {f = f} a g l h) (not_replaced {without_defined = vs} {e = y} {f = q} b k m i) =
     let same : x ≡ y = same_replacement macros env left ts us vs x y a b g k in
-    (ap (λ (z : Fault). Err z) (same_fault x y f q same h i), same_left x y after behind same l m)
-same_condition macros env at ts left after behind c d (not_replaced {asked = us} {e = x} {f = f} a g l h) (replaced {asked = vs} {e = y} b k m i j) =
+    (ap (λ (z : Fault). Err z) (same_fault x y f q same h i), same_left x y after following same l m)
+same_condition macros env at ts left after following c d (not_replaced {without_defined = us} {e = x} {f = f} a g l h) (replaced {without_defined = vs} {e = y} b k m i j) =
     absurd (no_fault x y f (same_replacement macros env left ts us vs x y a b g k) h i)
-same_condition macros env at ts left after behind c d (replaced {asked = vs} {e = y} b k m i j) (not_replaced {asked = us} {e = x} {f = f} a g l h) =
+same_condition macros env at ts left after following c d (replaced {without_defined = vs} {e = y} b k m i j) (not_replaced {without_defined = us} {e = x} {f = f} a g l h) =
     absurd (no_fault x y f (same_replacement macros env left ts us vs x y a b g k) h i)
-same_condition macros env at ts left after behind c d (replaced {asked = us} {e = x} a g l h i) (replaced {asked = vs} {e = y} b k m n j) =
+same_condition macros env at ts left after following c d (replaced {without_defined = us} {e = x} a g l h i) (replaced {without_defined = vs} {e = y} b k m n j) =
     let same : x ≡ y = same_replacement macros env left ts us vs x y a b g k in
-    (same_decision at y.tokens c d (subst (λ (z : Expanded). Decides at z.tokens c) same i) j, same_left x y after behind same l m)
+    (same_decision at y.tokens c d (subst (λ (z : Expanded). EvaluatesTokens at z.tokens c) same i) j, same_left x y after following same l m)

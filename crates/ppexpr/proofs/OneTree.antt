@@ -4,7 +4,7 @@ use Rattle.std.specs.Prelude.{Some}
 use Rattle.ppexpr.specs.Symbols.{Symbol}
 use Rattle.ppexpr.specs.Trees.{Tree, Leaf, Applied, Joined, Chosen}
 use Rattle.ppexpr.specs.Grammar.{Parses}
-use Rattle.ppexpr.specs.Pending.{Meaning}
+use Rattle.ppexpr.specs.code.Pending.{Meaning}
 use Rattle.ppexpr.proofs.Complete.{meaning, complete}
 
 -- a tree that means itself

@@ -15,7 +15,7 @@ use Rattle.ppexpr.specs.Symbols.{Symbol, Constant, Operator, Open, Close, Questi
 use Rattle.ppexpr.specs.Trees.{Tree}
 use Rattle.ppexpr.specs.Grammar.{Derives, constant, parentheses, unary, binary, conditional, tighter, Parses}
 use Rattle.ppexpr.specs.Integers.{as_uintmax, typed, in_base, integer_of, is_one_of, plain_suffixes, unsigned_suffixes, is_hexadecimal, digits_len, number}
-use Rattle.ppexpr.specs.Characters.{up_to, of_type, character_of, character, quoted}
+use Rattle.ppexpr.specs.Characters.{up_to, of_type, character_of, character, unquoted}
 use Rattle.ppexpr.specs.Tokens.{spelling_of, operators, other_punctuator, punctuator_among, constant_or, symbol_by, symbol_of, before, symbols_of}
 use Rattle.ppexpr.specs.Laws.{IsInRange}
 use Rattle.ppexpr.specs.Values.{outcome_of}
@@ -78,7 +78,7 @@ range-number greatest unsigned None h = tt
 range-number greatest unsigned (Some n) h = range-up_to greatest unsigned n h
 
 range-of_type : (greatest : ℕ) (unsigned : Bool) (s : List ℕ) → greatest < 2 ^ 63 → IfInRange (of_type greatest unsigned s)
-range-of_type greatest unsigned s h = range-number greatest unsigned (option_and_then character (quoted s)) h
+range-of_type greatest unsigned s h = range-number greatest unsigned (option_and_then character (unquoted s)) h
 
 range-character : (s : List ℕ) → IfInRange (character_of s)
 range-character s =
@@ -120,10 +120,10 @@ either false x y h k = k
 range-other : (s : List ℕ) → IsRanged (other_punctuator s)
 range-other s =
     let colon : Symbol = if bytes_eq (codes ":") s then Colon else Other in
-    let question : Symbol = if bytes_eq (codes "?") s then Question else colon in
-    let close : Symbol = if bytes_eq (codes ")") s then Close else question in
+    let defined_use : Symbol = if bytes_eq (codes "?") s then Question else colon in
+    let close : Symbol = if bytes_eq (codes ")") s then Close else defined_use in
     either (bytes_eq (codes "(") s) Open close tt
-    (either (bytes_eq (codes ")") s) Close question tt
+    (either (bytes_eq (codes ")") s) Close defined_use tt
     (either (bytes_eq (codes "?") s) Question colon tt (either (bytes_eq (codes ":") s) Colon Other tt tt)))
 
 range-punctuator : (os : List OperatorSign) (s : List ℕ) → IsRanged (punctuator_among os s)

@@ -16,12 +16,12 @@ use Rattle.ppexpr.specs.Operations.{Unary, Binary, Multiply, Divide, Remainder, 
 use Rattle.ppexpr.specs.Operations as unary
 use Rattle.ppexpr.specs.Laws.{IsInRange}
 use Rattle.ppexpr.specs.Trees.{Tree, Leaf, Applied, Joined, Chosen}
-use Rattle.ppexpr.specs.Values.{Answer, Operands, BothSigned, BothUnsigned, is_intmax, modulo, whole, is_zero, truth, signed, unsigned, unary_value, converted, arithmetic, division, comparison, bitwise, is_amount, left_shift}
-use Rattle.ppexpr.specs.Values.{right_shift, shift, binary_value, unary_answer, with_right, decides, binary_answer, with_type, choice_answer, constant_outcome, unary_outcome, binary_outcome, choice_outcome}
+use Rattle.ppexpr.specs.Values.{Evaluation, Operands, BothSigned, BothUnsigned, is_intmax, modulo, whole, is_zero, truth, signed, unsigned, unary_value, converted, arithmetic, division, comparison, bitwise, is_amount, left_shift}
+use Rattle.ppexpr.specs.Values.{right_shift, shift, binary_value, unary_evaluation, with_right, decides, binary_evaluation, with_type, choice_evaluation, constant_outcome, unary_outcome, binary_outcome, choice_outcome}
 use Rattle.ppexpr.specs.Values.{outcome_of}
 
 -- a value, if there is one, is in range
-abbrev pub InRange : Answer → Type 0
+abbrev pub InRange : Evaluation → Type 0
 InRange (Ok v) = IsInRange v
 InRange (Err f) = Unit {0}
 
@@ -147,7 +147,7 @@ range-right_shift (Signed (pos a)) n h = let l = pos_small a h in let m = div-le
 range-right_shift (Signed (negsuc a)) n h = let l = neg_small a h in let m = div-le_self a (2 ^ n) in small_neg (a / 2 ^ n) (omega arith)
 range-right_shift (Unsigned m) n h = modulo_small (int_div_euclid (pos m) (pos (2 ^ n)))
 
-range-shift : (o : Operator) (f : Value → ℕ → Answer) (v w : Value) → ((n : ℕ) → InRange (f v n)) → InRange (shift o f v w)
+range-shift : (o : Operator) (f : Value → ℕ → Evaluation) (v w : Value) → ((n : ℕ) → InRange (f v n)) → InRange (shift o f v w)
 range-shift o f v w h =
     elim (is_amount (whole w)) as (λ b. InRange (if b then f v (unsigned_abs (whole w)) else Err (Shift o))) [ true ↦ h (unsigned_abs (whole w)) | false ↦ tt ]
 
@@ -187,30 +187,30 @@ range-unary_value unary.Not v h = range-truth (is_zero v)
 
 -- ---- operands that may have no value
 
-range-unary_answer : (o : Unary) (a : Answer) → InRange a → InRange (unary_answer o a)
-range-unary_answer o (Ok v) h = range-unary_value o v h
-range-unary_answer o (Err f) h = tt
+range-unary_evaluation : (o : Unary) (a : Evaluation) → InRange a → InRange (unary_evaluation o a)
+range-unary_evaluation o (Ok v) h = range-unary_value o v h
+range-unary_evaluation o (Err f) h = tt
 
-range-with_right : (o : Binary) (v : Value) (b : Answer) → IsInRange v → InRange b → InRange (with_right o v b)
+range-with_right : (o : Binary) (v : Value) (b : Evaluation) → IsInRange v → InRange b → InRange (with_right o v b)
 range-with_right o v (Ok w) h k = range-binary_value o v w h k
 range-with_right o v (Err f) h k = tt
 
-either : (z : Bool) (a b : Answer) → InRange a → InRange b → InRange (if z then b else a)
+either : (z : Bool) (a b : Evaluation) → InRange a → InRange b → InRange (if z then b else a)
 either true a b h k = k
 either false a b h k = h
 
-range-binary_answer : (o : Binary) (a b : Answer) → InRange a → InRange b → InRange (binary_answer o a b)
-range-binary_answer o (Ok v) b h k = either (decides o v) (with_right o v b) (Ok (truth (not (is_zero v)))) (range-with_right o v b h k) (range-truth (not (is_zero v)))
-range-binary_answer o (Err f) b h k = tt
+range-binary_evaluation : (o : Binary) (a b : Evaluation) → InRange a → InRange b → InRange (binary_evaluation o a b)
+range-binary_evaluation o (Ok v) b h k = either (decides o v) (with_right o v b) (Ok (truth (not (is_zero v)))) (range-with_right o v b h k) (range-truth (not (is_zero v)))
+range-binary_evaluation o (Err f) b h k = tt
 
-range-with_type : (u : Bool) (a : Answer) → InRange a → InRange (with_type u a)
+range-with_type : (u : Bool) (a : Evaluation) → InRange a → InRange (with_type u a)
 range-with_type true (Ok v) h = modulo_small (whole v)
 range-with_type true (Err f) h = tt
 range-with_type false a h = h
 
-range-choice_answer : (u : Bool) (c a b : Answer) → InRange a → InRange b → InRange (choice_answer u c a b)
-range-choice_answer u (Ok v) a b h k = range-with_type u (if is_zero v then b else a) (either (is_zero v) a b h k)
-range-choice_answer u (Err f) a b h k = tt
+range-choice_evaluation : (u : Bool) (c a b : Evaluation) → InRange a → InRange b → InRange (choice_evaluation u c a b)
+range-choice_evaluation u (Ok v) a b h k = range-with_type u (if is_zero v then b else a) (either (is_zero v) a b h k)
+range-choice_evaluation u (Err f) a b h k = tt
 
 -- ---- trees
 
@@ -224,9 +224,9 @@ AreLeavesInRange (Chosen c t u) = AreLeavesInRange c × AreLeavesInRange t × Ar
 range-tree : (t : Tree) → AreLeavesInRange t → InRange (outcome_of t).value
 unfolding constant_outcome unary_outcome binary_outcome choice_outcome
 range-tree (Leaf v) h = h
-range-tree (Applied o t) h = range-unary_answer o (outcome_of t).value (range-tree t h)
-range-tree (Joined o t u) h = range-binary_answer o (outcome_of t).value (outcome_of u).value (range-tree t h.0) (range-tree u h.1)
-range-tree (Chosen c t u) h = range-choice_answer ((outcome_of t).unsigned || (outcome_of u).unsigned) (outcome_of c).value (outcome_of t).value (outcome_of u).value (range-tree t h.1) (range-tree u h.2)
+range-tree (Applied o t) h = range-unary_evaluation o (outcome_of t).value (range-tree t h)
+range-tree (Joined o t u) h = range-binary_evaluation o (outcome_of t).value (outcome_of u).value (range-tree t h.0) (range-tree u h.1)
+range-tree (Chosen c t u) h = range-choice_evaluation ((outcome_of t).unsigned || (outcome_of u).unsigned) (outcome_of c).value (outcome_of t).value (outcome_of u).value (range-tree t h.1) (range-tree u h.2)
 
 pub tree_in_range : (t : Tree) (v : Value) → AreLeavesInRange t → (outcome_of t).value ≡ Ok v → IsInRange v
 tree_in_range t v h e = subst InRange e (range-tree t h)

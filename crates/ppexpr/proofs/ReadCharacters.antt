@@ -11,7 +11,7 @@ use Rattle.std.proofs.lemmas.Option.{none-some, same_Some}
 use Rattle.pptext.specs.Spellings.{char_prefixes, IsElement, IsCharConst}
 use Rattle.ppexpr.specs.Outcomes.{Value, Signed, Unsigned}
 use Rattle.ppexpr.specs.Integers.{number}
-use Rattle.ppexpr.specs.Characters.{quoted, simple_escape, are_digits, is_octal_escape, is_hexadecimal_escape, other_escape, escape, character, up_to, of_type, character_of}
+use Rattle.ppexpr.specs.Characters.{unquoted, simple_escape, are_digits, is_octal_escape, is_hexadecimal_escape, other_escape, escape, character, up_to, of_type, character_of}
 use Rattle.ppexpr.specs.Constants.{Continues, done, digit, Writes, IsSimpleEscape, single_quote, double_quote, question_mark, backslash, alert, backspace, form_feed, new_line, carriage_return, horizontal_tab, vertical_tab}
 use Rattle.ppexpr.specs.Constants.{IsCharacter, byte, simple, octal_escape, hexadecimal_escape, IsPrefix, no_prefix, wide, char16, char32, IsCharacterConstant}
 use Rattle.ppexpr.proofs.ReadIntegers.{number_is, starts}
@@ -164,10 +164,10 @@ quoted_by (a ∷ c ∷ s) body true e f =
     let inner : take (length s) (c ∷ s) ≡ body = ap (λ (k : ℕ). take k (c ∷ s)) (sym many) ∙ same_Some _ body f in
     ap (λ (x : ℕ). x ∷ c ∷ s) first ∙ ap (λ (x : List ℕ). 39 ∷ x) (last_of c s ∙ (ap (λ (x : List ℕ). x ++ get_or (c ∷ s) (length s) 0 ∷ []) inner ∙ ap (λ (x : ℕ). body ++ x ∷ []) last))
 
-quoted_is : (s body : List ℕ) → quoted s ≡ Some body → s ≡ 39 ∷ (body ++ 39 ∷ [])
+quoted_is : (s body : List ℕ) → unquoted s ≡ Some body → s ≡ 39 ∷ (body ++ 39 ∷ [])
 quoted_is s body e = quoted_by s body (nat_le 2 (length s) && (get_or s 0 0 == 39 && get_or s (length s - 1) 0 == 39)) refl e
 
-quoted_read : (body : List ℕ) → quoted (39 ∷ (body ++ 39 ∷ [])) ≡ Some body
+quoted_read : (body : List ℕ) → unquoted (39 ∷ (body ++ 39 ∷ [])) ≡ Some body
 quoted_read body =
     let s : List ℕ = 39 ∷ (body ++ 39 ∷ []) in
     let many : length s ≡ length body + 2 = grind (arith, common_steps) in
@@ -186,22 +186,22 @@ record Typed (greatest : ℕ) (unsigned : Bool) (s : List ℕ) (v : Value) : Typ
   pub fits : number ≤ greatest
   pub value : v ≡ (if unsigned then Unsigned number else Signed (pos number))
 
-typed_number : (greatest : ℕ) (unsigned : Bool) (s body : List ℕ) (n : ℕ) (v : Value) (b : Bool) → quoted s ≡ Some body → character body ≡ Some n → nat_le n greatest ≡ b
+typed_number : (greatest : ℕ) (unsigned : Bool) (s body : List ℕ) (n : ℕ) (v : Value) (b : Bool) → unquoted s ≡ Some body → character body ≡ Some n → nat_le n greatest ≡ b
     → (if b then Some (if unsigned then Unsigned n else Signed (pos n)) else None) ≡ Some v
     → Typed greatest unsigned s v
 typed_number greatest unsigned s body n v true e f g h = record { body = body; number = n; laid_out = quoted_is s body e; reads = f; fits = grind (arith, nat_tests); value = sym (same_Some _ v h) }
 typed_number greatest unsigned s body n v false e f g h = absurd (none-some v h)
 
-typed_body : (greatest : ℕ) (unsigned : Bool) (s body : List ℕ) (v : Value) (o : Option ℕ) → quoted s ≡ Some body → character body ≡ o → option_and_then (up_to greatest unsigned) o ≡ Some v → Typed greatest unsigned s v
+typed_body : (greatest : ℕ) (unsigned : Bool) (s body : List ℕ) (v : Value) (o : Option ℕ) → unquoted s ≡ Some body → character body ≡ o → option_and_then (up_to greatest unsigned) o ≡ Some v → Typed greatest unsigned s v
 typed_body greatest unsigned s body v None e f g = absurd (none-some v g)
 typed_body greatest unsigned s body v (Some n) e f g = typed_number greatest unsigned s body n v (nat_le n greatest) e f refl g
 
-typed_by : (greatest : ℕ) (unsigned : Bool) (s : List ℕ) (v : Value) (o : Option (List ℕ)) → quoted s ≡ o → option_and_then (up_to greatest unsigned) (option_and_then character o) ≡ Some v → Typed greatest unsigned s v
+typed_by : (greatest : ℕ) (unsigned : Bool) (s : List ℕ) (v : Value) (o : Option (List ℕ)) → unquoted s ≡ o → option_and_then (up_to greatest unsigned) (option_and_then character o) ≡ Some v → Typed greatest unsigned s v
 typed_by greatest unsigned s v None e f = absurd (none-some v f)
 typed_by greatest unsigned s v (Some body) e f = typed_body greatest unsigned s body v (character body) e refl f
 
 typed_is : (greatest : ℕ) (unsigned : Bool) (s : List ℕ) (v : Value) → of_type greatest unsigned s ≡ Some v → Typed greatest unsigned s v
-typed_is greatest unsigned s v e = typed_by greatest unsigned s v (quoted s) refl e
+typed_is greatest unsigned s v e = typed_by greatest unsigned s v (unquoted s) refl e
 
 type_read : (greatest : ℕ) (unsigned : Bool) (body : List ℕ) (n : ℕ) → IsCharacter body n → n ≤ greatest → of_type greatest unsigned (39 ∷ (body ++ 39 ∷ [])) ≡ Some (if unsigned then Unsigned n else Signed (pos n))
 type_read greatest unsigned body n h fits = let e : nat_le n greatest ≡ true = grind (arith, nat_tests) in rw (quoted_read body, body_read body n h, e) refl
@@ -281,9 +281,9 @@ sound_by s (c ∷ []) element more e f h = λ other. sound_element c (39 ∷ [])
 sound_by s (c ∷ d ∷ body) element more e f h = tt
 
 sound_text : (s : List ℕ) → IsCharConst s → IsSoundText s
-sound_text s (p, rest, is, has, (q, behind, rest_is, quote, (element, more, behind_is, h, tail))) prefix body greatest unsigned t e =
+sound_text s (p, rest, is, has, (q, following, rest_is, quote, (element, more, behind_is, h, tail))) prefix body greatest unsigned t e =
     let mine : bare s ≡ 39 ∷ (body ++ 39 ∷ []) = ap bare e ∙ bare_prefix prefix greatest unsigned (body ++ 39 ∷ []) t in
-    let after : rest ≡ 39 ∷ (element ++ more) = rest_is ∙ (ap (λ (l : List ℕ). l ++ behind) quote ∙ ap (λ (l : List ℕ). 39 ∷ l) behind_is) in
+    let after : rest ≡ 39 ∷ (element ++ more) = rest_is ∙ (ap (λ (l : List ℕ). l ++ following) quote ∙ ap (λ (l : List ℕ). 39 ∷ l) behind_is) in
     let theirs : bare s ≡ 39 ∷ (element ++ more) = ap bare (is ∙ ap (λ (l : List ℕ). p ++ l) after) ∙ bare_of p (element ++ more) has in
     sound_by s body element more mine theirs h
 

@@ -17,12 +17,12 @@ use Rattle.ppexpr.specs.Symbols.{Symbol}
 use Rattle.ppexpr.specs.Outcomes.{Outcome}
 use Rattle.ppexpr.specs.Grammar.{IsExpression}
 use Rattle.ppexpr.specs.Reading.{Denotes}
-use Rattle.ppexpr.specs.Asking.{is_defined, Operand, operand, answer, Asks, nothing, other, question}
+use Rattle.ppexpr.specs.DefinedOperator.{is_defined, Operand, operand, defined_value, ReplacesDefined, nothing, other, defined_use}
 use Rattle.ppexpr.specs.Tokens.{symbols_of}
-use Rattle.ppexpr.specs.Pending.{outcomes}
+use Rattle.ppexpr.specs.code.Pending.{outcomes}
 use Rattle.ppexpr.specs.Nesting.{is_open, is_close, is_question, is_sign, IsTooNested}
-use Rattle.ppexpr.specs.Conditions.{Condition, taken, Evaluates, no_expression, has_value, Judges, too_nested, not_nested, Decides, made_defined, bad_constant, constants, IsCondition, ill_formed, not_replaced, replaced}
-use Rattle.ppexpr.proofs.Asked.{Begins, begins_other, begins_question, asks_none}
+use Rattle.ppexpr.specs.Conditions.{Condition, taken, EvaluatesShallow, no_expression, has_value, EvaluatesSymbols, too_nested, not_nested, EvaluatesTokens, made_defined, bad_constant, constants, IsCondition, ill_formed, not_replaced, replaced}
+use Rattle.ppexpr.proofs.DefinedReplaced.{Begins, begins_other, begins_question, asks_none}
 use Rattle.ppexpr.proofs.Exact.{exact}
 use Rattle.ppexpr.proofs.Unreplaced.{operand_shorter}
 use Rattle.ppexpr.proofs.Machine.{run}
@@ -30,15 +30,15 @@ use Rattle.ppexpr.proofs.Machine.{run}
 -- ---- the uses of `defined` are replaced by numbers, or one is ill-formed
 
 abbrev Answered : Macros → List Token → Type 0
-Answered macros ts = ((us : List Token) × Asks macros ts us) ⊎ ((us : List Token) → ¬ Asks macros ts us)
+Answered macros ts = ((us : List Token) × ReplacesDefined macros ts us) ⊎ ((us : List Token) → ¬ ReplacesDefined macros ts us)
 
 behind_other : (macros : Macros) (t : Token) (ts : List Token) → is_defined t ≡ false → Answered macros ts → Answered macros (t ∷ ts)
 behind_other macros t ts e (inl h) = inl (t ∷ h.0, other e h.1)
 behind_other macros t ts e (inr none) = inr (λ us a. let b : Begins macros t ts us = begins_other macros t ts us e a in none b.us b.asks)
 
 behind_question : (macros : Macros) (d : Token) (ts : List Token) (o : Operand) → is_defined d ≡ true → operand ts ≡ Some o → Answered macros o.rest → Answered macros (d ∷ ts)
-behind_question macros d ts o e k (inl h) = inl (answer macros d o.name ∷ h.0, question e k h.1)
-behind_question macros d ts o e k (inr none) = inr (λ us a. let b : Begins macros (answer macros d o.name) o.rest us = begins_question macros d ts us o e k a in none b.us b.asks)
+behind_question macros d ts o e k (inl h) = inl (defined_value macros d o.name ∷ h.0, defined_use e k h.1)
+behind_question macros d ts o e k (inr none) = inr (λ us a. let b : Begins macros (defined_value macros d o.name) o.rest us = begins_question macros d ts us o e k a in none b.us b.asks)
 
 -- the result for every shorter list
 abbrev Behind : Macros → List Token → Type 0
@@ -98,26 +98,26 @@ too_nested_or s = elim (somewhere s (λ l. count_by is_close l + 257 ≤ count_b
 
 -- ---- the steps
 
-some_value : (at : Place) (s : List Symbol) (r : Option Outcome) → MatchOption r (¬ IsExpression s) (Denotes s) → (c : Condition) × Evaluates at s c
+some_value : (at : Place) (s : List Symbol) (r : Option Outcome) → MatchOption r (¬ IsExpression s) (Denotes s) → (c : Condition) × EvaluatesShallow at s c
 some_value at s None h = (Err (fault 23 at []), no_expression h)
 some_value at s (Some o) h = (taken at o.value, has_value h)
 
-some_judgement : (at : Place) (s : List Symbol) → (c : Condition) × Judges at s c
+some_judgement : (at : Place) (s : List Symbol) → (c : Condition) × EvaluatesSymbols at s c
 some_judgement at s = elim (too_nested_or s) [
   | inl deep ↦ (Err (fault 29 at []), too_nested deep)
   | inr shallow ↦ let e = some_value at s (run outcomes ([], None) s) (exact s (run outcomes ([], None) s) refl) in (e.0, not_nested shallow e.1)
 ]
 
-some_constants : (at : Place) (ts : List Token) (r : Result (List Symbol) Fault) → list_any is_defined ts ≡ false → symbols_of at ts ≡ r → (c : Condition) × Decides at ts c
+some_constants : (at : Place) (ts : List Token) (r : Result (List Symbol) Fault) → list_any is_defined ts ≡ false → symbols_of at ts ≡ r → (c : Condition) × EvaluatesTokens at ts c
 some_constants at ts (Err f) e h = (Err f, bad_constant e h)
 some_constants at ts (Ok s) e h = let j = some_judgement at s in (j.0, constants e h j.1)
 
-some_decision : (at : Place) (ts : List Token) (b : Bool) → list_any is_defined ts ≡ b → (c : Condition) × Decides at ts c
+some_decision : (at : Place) (ts : List Token) (b : Bool) → list_any is_defined ts ≡ b → (c : Condition) × EvaluatesTokens at ts c
 some_decision at ts true e = (Err (fault 22 at []), made_defined e)
 some_decision at ts false e = some_constants at ts (symbols_of at ts) e refl
 
 some_replacement : (macros : Macros) (env : Env) (at : Place) (ts us : List Token) (left : Option ℕ) (e : Expanded) (f : Option Fault)
-    → Asks macros ts us
+    → ReplacesDefined macros ts us
     → IsExpansion macros env left us e
     → e.fault ≡ f
     → (c : Condition) × (after : Option ℕ) × IsCondition macros env at ts left c after

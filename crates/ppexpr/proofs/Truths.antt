@@ -16,11 +16,11 @@ use Rattle.ppexpr.specs.Operations as operation
 use Rattle.ppexpr.specs.Trees.{Tree, Leaf, Applied, Joined}
 use Rattle.ppexpr.specs.Values.{truth, constant_outcome, unary_outcome, binary_outcome}
 use Rattle.ppexpr.specs.Grammar.{Derives, constant, unary, binary, tighter}
-use Rattle.ppexpr.specs.Asking.{is_defined}
+use Rattle.ppexpr.specs.DefinedOperator.{is_defined}
 use Rattle.ppexpr.specs.Tokens.{operators, punctuator_among, symbol_by}
-use Rattle.ppexpr.specs.Direct.{BeginsWith, token, StandFor, nothing, more}
-use Rattle.ppexpr.specs.Definitions.{BeginsMark, BeginsTruth, HasTruth}
-use Rattle.ppexpr.specs.Conditions.{taken, Evaluates, has_value, not_nested}
+use Rattle.ppexpr.specs.code.Unexpanded.{BeginsWith, token, StandFor, nothing, more}
+use Rattle.ppexpr.specs.code.DefinedOnly.{BeginsPunct, BeginsTruth, HasTruth}
+use Rattle.ppexpr.specs.Conditions.{taken, EvaluatesShallow, has_value, not_nested}
 use Rattle.ppexpr.proofs.Shallow.{few_shallow}
 use Rattle.ppexpr.proofs.Unreplaced.{rest_shorter}
 
@@ -42,7 +42,7 @@ mark_plain : (macros : Macros) (t : Token) → t.kind ≡ Punct → never_expand
 mark_plain macros t e = rw e refl
 
 -- a punctuator has the symbol of its spelling
-begins_mark : (macros : Macros) (ts rest : List Token) (text : List ℕ) (s : Symbol) → punctuator_among operators text ≡ s → BeginsMark text ts rest → BeginsWith macros ts s rest
+begins_mark : (macros : Macros) (ts rest : List Token) (text : List ℕ) (s : Symbol) → punctuator_among operators text ≡ s → BeginsPunct text ts rest → BeginsWith macros ts s rest
 begins_mark macros ts rest text s e m =
     let parts = and_parts _ _ m.spelled in
     let kind : m.mark.kind ≡ Punct = mark_kind m.mark.kind parts.0 in
@@ -88,7 +88,7 @@ asked_truth macros ts rest b w = record {
   shorter = rest_shorter macros ts rest (Constant (truth b)) w;
 }
 
-pub negated_truth : (macros : Macros) (ts next rest : List Token) (b : Bool) → BeginsMark (codes "!") ts next → BeginsWith macros next (Constant (truth b)) rest → BeginsTruth macros 12 ts (not b) rest
+pub negated_truth : (macros : Macros) (ts next rest : List Token) (b : Bool) → BeginsPunct (codes "!") ts next → BeginsWith macros next (Constant (truth b)) rest → BeginsTruth macros 12 ts (not b) rest
 negated_truth macros ts next rest b m w =
     let v : BeginsWith macros ts (Operator sign.Bang) next = begins_mark macros ts next (codes "!") (Operator sign.Bang) refl m in
     record {
@@ -127,7 +127,7 @@ as_disjunction macros ts rest b x = record {
 pub and_truth : (macros : Macros) (ts rest next far : List Token) (a b h : Bool)
     → h ≡ (a && b)
     → BeginsTruth macros 3 ts a rest
-    → BeginsMark (codes "&&") rest next
+    → BeginsPunct (codes "&&") rest next
     → BeginsTruth macros 12 next b far
     → BeginsTruth macros 3 ts h far
 and_truth macros ts rest next far a b h e x m y =
@@ -144,7 +144,7 @@ and_truth macros ts rest next far a b h e x m y =
 pub or_truth : (macros : Macros) (ts rest next far : List Token) (a b h : Bool)
     → h ≡ (a || b)
     → BeginsTruth macros 2 ts a rest
-    → BeginsMark (codes "||") rest next
+    → BeginsPunct (codes "||") rest next
     → BeginsTruth macros 3 next b far
     → BeginsTruth macros 2 ts h far
 or_truth macros ts rest next far a b h e x m y =
@@ -174,6 +174,6 @@ has_truth macros ts rest b short e x =
     record {
       symbols = x.symbols;
       stands = stands;
-      judged = λ at. not_nested (few_shallow x.symbols (omega (arith, short, few_symbols macros ts x.symbols stands)))
-          (subst (Evaluates at x.symbols) (taken_truth at b) (has_value (x.tree, tighter {k = 0} (tighter {k = 1} x.derives), x.value)));
+      evaluated = λ at. not_nested (few_shallow x.symbols (omega (arith, short, few_symbols macros ts x.symbols stands)))
+          (subst (EvaluatesShallow at x.symbols) (taken_truth at b) (has_value (x.tree, tighter {k = 0} (tighter {k = 1} x.derives), x.value)));
     }

@@ -9,12 +9,12 @@ use Rattle.ppexpr.specs.Operators as operator
 use Rattle.ppexpr.specs.Operations.{Unary, Binary, Multiply, Divide, Remainder, Add, Subtract, ShiftLeft, ShiftRight, Less, Greater, LessOrEqual, GreaterOrEqual, Equal, NotEqual, BitAnd, BitXor, BitOr, And, Or}
 use Rattle.ppexpr.specs.Operations as unary
 use Rattle.ppexpr.specs.Trees.{Tree, Leaf, Applied, Joined, Chosen}
-use Rattle.ppexpr.specs.Values.{Answer, Operands, BothSigned, BothUnsigned, is_intmax, whole, has_unsigned_type, is_zero, truth, signed, unsigned, unary_value, converted, arithmetic, division, comparison, bitwise, is_amount, left_shift}
-use Rattle.ppexpr.specs.Values.{right_shift, shift, binary_value, unary_answer, with_right, decides, binary_answer, with_type, choice_answer, unary_unsigned, binary_unsigned, constant_outcome, unary_outcome, binary_outcome, choice_outcome}
+use Rattle.ppexpr.specs.Values.{Evaluation, Operands, BothSigned, BothUnsigned, is_intmax, whole, has_unsigned_type, is_zero, truth, signed, unsigned, unary_value, converted, arithmetic, division, comparison, bitwise, is_amount, left_shift}
+use Rattle.ppexpr.specs.Values.{right_shift, shift, binary_value, unary_evaluation, with_right, decides, binary_evaluation, with_type, choice_evaluation, unary_unsigned, binary_unsigned, constant_outcome, unary_outcome, binary_outcome, choice_outcome}
 use Rattle.ppexpr.specs.Values.{outcome_of}
 
 -- a value, if there is one, is of this type
-abbrev pub HasType : Bool → Answer → Type 0
+abbrev pub HasType : Bool → Evaluation → Type 0
 HasType u (Ok v) = has_unsigned_type v ≡ u
 HasType u (Err f) = Unit {0}
 
@@ -61,12 +61,12 @@ type-right_shift : (v : Value) (n : ℕ) → HasType (has_unsigned_type v) (righ
 type-right_shift (Signed z) n = refl
 type-right_shift (Unsigned m) n = refl
 
-type-shift : (o : Operator) (f : Value → ℕ → Answer) (v w : Value) → ((n : ℕ) → HasType (has_unsigned_type v) (f v n)) → HasType (has_unsigned_type v) (shift o f v w)
+type-shift : (o : Operator) (f : Value → ℕ → Evaluation) (v w : Value) → ((n : ℕ) → HasType (has_unsigned_type v) (f v n)) → HasType (has_unsigned_type v) (shift o f v w)
 type-shift o f v w h =
     elim (is_amount (whole w)) as (λ b. HasType (has_unsigned_type v) (if b then f v (unsigned_abs (whole w)) else Err (Shift o))) [ true ↦ h (unsigned_abs (whole w)) | false ↦ tt ]
 
 -- operands of one type
-common : (v w : Value) (a : Operands → Answer) → ((x : Operands) → HasType (type_of x) (a x)) → HasType (has_unsigned_type v || has_unsigned_type w) (a (converted v w))
+common : (v w : Value) (a : Operands → Evaluation) → ((x : Operands) → HasType (type_of x) (a x)) → HasType (has_unsigned_type v || has_unsigned_type w) (a (converted v w))
 common v w a h = subst (λ (u : Bool). HasType u (a (converted v w))) (type-converted v w) (h (converted v w))
 
 type-binary_value : (o : Binary) (v w : Value) → HasType (binary_unsigned o (has_unsigned_type v) (has_unsigned_type w)) (binary_value o v w)
@@ -97,9 +97,9 @@ type-unary_value unary.Complement (Signed z) = refl
 type-unary_value unary.Complement (Unsigned n) = refl
 type-unary_value unary.Not v = refl
 
-type-unary_answer : (o : Unary) (u : Bool) (a : Answer) → HasType u a → HasType (unary_unsigned o u) (unary_answer o a)
-type-unary_answer o u (Ok v) e = subst (λ (x : Bool). HasType (unary_unsigned o x) (unary_value o v)) e (type-unary_value o v)
-type-unary_answer o u (Err f) e = tt
+type-unary_evaluation : (o : Unary) (u : Bool) (a : Evaluation) → HasType u a → HasType (unary_unsigned o u) (unary_evaluation o a)
+type-unary_evaluation o u (Ok v) e = subst (λ (x : Bool). HasType (unary_unsigned o x) (unary_value o v)) e (type-unary_value o v)
+type-unary_evaluation o u (Err f) e = tt
 
 -- an operator whose left operand may decide has a signed result
 decided : (o : Binary) (v : Value) (u w : Bool) → decides o v ≡ true → binary_unsigned o u w ≡ false
@@ -107,39 +107,39 @@ decided And v u w e = refl
 decided Or v u w e = refl
 decided _ v u w e = cc
 
-type-with_right : (o : Binary) (v : Value) (u w : Bool) (b : Answer) → has_unsigned_type v ≡ u → HasType w b → HasType (binary_unsigned o u w) (with_right o v b)
+type-with_right : (o : Binary) (v : Value) (u w : Bool) (b : Evaluation) → has_unsigned_type v ≡ u → HasType w b → HasType (binary_unsigned o u w) (with_right o v b)
 type-with_right o v u w (Ok x) e f =
     subst (λ (p : Bool). HasType (binary_unsigned o p w) (binary_value o v x)) e (subst (λ (q : Bool). HasType (binary_unsigned o (has_unsigned_type v) q) (binary_value o v x)) f (type-binary_value o v x))
 type-with_right o v u w (Err f) e g = tt
 
-by_decision : (u : Bool) (d : Bool) (v : Value) (a : Answer) → has_unsigned_type v ≡ false → (d ≡ true → u ≡ false) → HasType u a → HasType u (if d then Ok v else a)
+by_decision : (u : Bool) (d : Bool) (v : Value) (a : Evaluation) → has_unsigned_type v ≡ false → (d ≡ true → u ≡ false) → HasType u a → HasType u (if d then Ok v else a)
 by_decision u true v a e h g = e ∙ sym (h refl)
 by_decision u false v a e h g = g
 
-type-binary_answer : (o : Binary) (u w : Bool) (a b : Answer) → HasType u a → HasType w b → HasType (binary_unsigned o u w) (binary_answer o a b)
-type-binary_answer o u w (Ok v) b e f = by_decision (binary_unsigned o u w) (decides o v) (truth (not (is_zero v))) (with_right o v b) refl (decided o v u w) (type-with_right o v u w b e f)
-type-binary_answer o u w (Err g) b e f = tt
+type-binary_evaluation : (o : Binary) (u w : Bool) (a b : Evaluation) → HasType u a → HasType w b → HasType (binary_unsigned o u w) (binary_evaluation o a b)
+type-binary_evaluation o u w (Ok v) b e f = by_decision (binary_unsigned o u w) (decides o v) (truth (not (is_zero v))) (with_right o v b) refl (decided o v u w) (type-with_right o v u w b e f)
+type-binary_evaluation o u w (Err g) b e f = tt
 
-type-with_type : (a : Answer) → HasType true (with_type true a)
+type-with_type : (a : Evaluation) → HasType true (with_type true a)
 type-with_type (Ok v) = refl
 type-with_type (Err f) = tt
 
-either : (u : Bool) (z : Bool) (a b : Answer) → HasType u a → HasType u b → HasType u (if z then b else a)
+either : (u : Bool) (z : Bool) (a b : Evaluation) → HasType u a → HasType u b → HasType u (if z then b else a)
 either u true a b e f = f
 either u false a b e f = e
 
-type-choice_answer : (u w : Bool) (c a b : Answer) → HasType u a → HasType w b → HasType (u || w) (choice_answer (u || w) c a b)
-type-choice_answer u w (Err f) a b e g = tt
-type-choice_answer true w (Ok v) a b e g = type-with_type (if is_zero v then b else a)
-type-choice_answer false true (Ok v) a b e g = type-with_type (if is_zero v then b else a)
-type-choice_answer false false (Ok v) a b e g = either false (is_zero v) a b e g
+type-choice_evaluation : (u w : Bool) (c a b : Evaluation) → HasType u a → HasType w b → HasType (u || w) (choice_evaluation (u || w) c a b)
+type-choice_evaluation u w (Err f) a b e g = tt
+type-choice_evaluation true w (Ok v) a b e g = type-with_type (if is_zero v then b else a)
+type-choice_evaluation false true (Ok v) a b e g = type-with_type (if is_zero v then b else a)
+type-choice_evaluation false false (Ok v) a b e g = either false (is_zero v) a b e g
 
 type-tree : (t : Tree) → HasType (outcome_of t).unsigned (outcome_of t).value
 unfolding constant_outcome unary_outcome binary_outcome choice_outcome
 type-tree (Leaf v) = refl
-type-tree (Applied o t) = type-unary_answer o (outcome_of t).unsigned (outcome_of t).value (type-tree t)
-type-tree (Joined o t u) = type-binary_answer o (outcome_of t).unsigned (outcome_of u).unsigned (outcome_of t).value (outcome_of u).value (type-tree t) (type-tree u)
-type-tree (Chosen c t u) = type-choice_answer (outcome_of t).unsigned (outcome_of u).unsigned (outcome_of c).value (outcome_of t).value (outcome_of u).value (type-tree t) (type-tree u)
+type-tree (Applied o t) = type-unary_evaluation o (outcome_of t).unsigned (outcome_of t).value (type-tree t)
+type-tree (Joined o t u) = type-binary_evaluation o (outcome_of t).unsigned (outcome_of u).unsigned (outcome_of t).value (outcome_of u).value (type-tree t) (type-tree u)
+type-tree (Chosen c t u) = type-choice_evaluation (outcome_of t).unsigned (outcome_of u).unsigned (outcome_of c).value (outcome_of t).value (outcome_of u).value (type-tree t) (type-tree u)
 
 pub has_its_type : (t : Tree) (v : Value) → (outcome_of t).value ≡ Ok v → has_unsigned_type v ≡ (outcome_of t).unsigned
-has_its_type t v e = subst (λ (a : Answer). HasType (outcome_of t).unsigned a) e (type-tree t)
+has_its_type t v e = subst (λ (a : Evaluation). HasType (outcome_of t).unsigned a) e (type-tree t)

@@ -11,21 +11,21 @@ use Rattle.ppmacro.specs.Names.{Macros}
 use Rattle.ppexpand.specs.declared.env.Env.{Env}
 use Rattle.ppexpand.specs.code.Lists.{never_expands}
 use Rattle.ppexpand.specs.Expansion.{IsExpansion, ended}
-use Rattle.ppexpand.proofs.Skipping.{expansion-behind, expands-nothing}
+use Rattle.ppexpand.proofs.Skipping.{expansion-following, expands-nothing}
 use Rattle.ppexpr.specs.Symbols.{Symbol, Constant}
 use Rattle.ppexpr.specs.Values.{truth}
-use Rattle.ppexpr.specs.Asking.{is_defined, Operand, parenthesized, operand, answer, Asks, nothing as asks_nothing, other, question as asks_question}
+use Rattle.ppexpr.specs.DefinedOperator.{is_defined, Operand, parenthesized, operand, defined_value, ReplacesDefined, nothing as asks_nothing, other, defined_use as asks_question}
 use Rattle.ppexpr.specs.Tokens.{symbol_of, symbols_of, before}
-use Rattle.ppexpr.specs.Direct.{BeginsWith, token, question, StandFor, nothing, more}
-use Rattle.ppexpr.specs.Conditions.{Condition, Judges, IsCondition, replaced, constants}
+use Rattle.ppexpr.specs.code.Unexpanded.{BeginsWith, token, defined_use, StandFor, nothing, more}
+use Rattle.ppexpr.specs.Conditions.{Condition, EvaluatesSymbols, IsCondition, replaced, constants}
 
 -- what the tokens become before replacement, which leaves it as it is
 record Unreplaced (macros : Macros) (ts : List Token) (ss : List Symbol) : Type 0 where
-  asked : List Token
-  asks : Asks macros ts asked
-  plain : AllByRecursion (λ t. never_expands macros t ≡ true) asked
-  undefined : list_any is_defined asked ≡ false
-  symbols : (at : Place) → symbols_of at asked ≡ Ok ss
+  without_defined : List Token
+  asks : ReplacesDefined macros ts without_defined
+  plain : AllByRecursion (λ t. never_expands macros t ≡ true) without_defined
+  undefined : list_any is_defined without_defined ≡ false
+  symbols : (at : Place) → symbols_of at without_defined ≡ Ok ss
 
 answer_symbol : (b : Bool) (at : Place) (d : Token) → symbol_of at (record d { kind = Number; text = if b then codes "1" else codes "0" }) ≡ Ok (Constant (truth b))
 answer_symbol true at d = refl
@@ -33,14 +33,14 @@ answer_symbol false at d = refl
 
 unreplaced_more : (macros : Macros) (ts rest : List Token) (s : Symbol) (ss : List Symbol) → BeginsWith macros ts s rest → Unreplaced macros rest ss → Unreplaced macros ts (s ∷ ss)
 unreplaced_more macros ts rest s ss (token {t = t} e h) u = record {
-  asked = t ∷ u.asked;
+  without_defined = t ∷ u.without_defined;
   asks = other e u.asks;
   plain = (h.plain, u.plain);
   undefined = rw e u.undefined;
   symbols = λ at. λ i. before (h.symbol at i) (u.symbols at i);
 }
-unreplaced_more macros ts rest s ss (question {d = d} {o = o} e k) u = record {
-  asked = answer macros d o.name ∷ u.asked;
+unreplaced_more macros ts rest s ss (defined_use {d = d} {o = o} e k) u = record {
+  without_defined = defined_value macros d o.name ∷ u.without_defined;
   asks = asks_question e k u.asks;
   plain = (refl, u.plain);
   undefined = u.undefined;
@@ -48,17 +48,17 @@ unreplaced_more macros ts rest s ss (question {d = d} {o = o} e k) u = record {
 }
 
 unreplaced : (macros : Macros) (ts : List Token) (ss : List Symbol) → StandFor macros ts ss → Unreplaced macros ts ss
-unreplaced macros ts ss nothing = record { asked = []; asks = asks_nothing; plain = tt; undefined = refl; symbols = λ at. refl }
+unreplaced macros ts ss nothing = record { without_defined = []; asks = asks_nothing; plain = tt; undefined = refl; symbols = λ at. refl }
 unreplaced macros ts ss (more {rest = rest} {s = s} {ss = qs} b h) = unreplaced_more macros ts rest s qs b (unreplaced macros rest qs h)
 
 expands_as_is : (macros : Macros) (env : Env) (left : Option ℕ) (ts : List Token) → AllByRecursion (λ t. never_expands macros t ≡ true) ts → IsExpansion macros env left ts (record { tokens = ts; fault = None; left = left })
-expands_as_is macros env left ts h = expansion-behind macros env left ts ts [] (record { tokens = ts; fault = None; left = left }) (ended left None) (sym (append-nil ts)) h (expands-nothing macros env 0 left) (sym (append-nil ts)) refl refl
+expands_as_is macros env left ts h = expansion-following macros env left ts ts [] (record { tokens = ts; fault = None; left = left }) (ended left None) (sym (append-nil ts)) h (expands-nothing macros env 0 left) (sym (append-nil ts)) refl refl
 
 -- the condition of the symbols is the condition of the tokens, and nothing is spent
-pub direct_condition : (macros : Macros) (env : Env) (at : Place) (ts : List Token) (left : Option ℕ) (ss : List Symbol) (c : Condition) → StandFor macros ts ss → Judges at ss c → IsCondition macros env at ts left c left
+pub direct_condition : (macros : Macros) (env : Env) (at : Place) (ts : List Token) (left : Option ℕ) (ss : List Symbol) (c : Condition) → StandFor macros ts ss → EvaluatesSymbols at ss c → IsCondition macros env at ts left c left
 direct_condition macros env at ts left ss c h j =
     let u : Unreplaced macros ts ss = unreplaced macros ts ss h in
-    replaced u.asks (expands_as_is macros env left u.asked u.plain) refl refl (constants u.undefined (u.symbols at) j)
+    replaced u.asks (expands_as_is macros env left u.without_defined u.plain) refl refl (constants u.undefined (u.symbols at) j)
 
 -- ---- the tokens after an operand and a symbol
 
@@ -91,4 +91,4 @@ operand_shorter (x ∷ ts) o e = elim (picked (is_identifier x) (record { name =
 
 pub rest_shorter : (macros : Macros) (ts rest : List Token) (s : Symbol) → BeginsWith macros ts s rest → length rest < length ts
 rest_shorter macros ts rest s (token {t = t} {ts = us} e h) = omega arith
-rest_shorter macros ts rest s (question {d = d} {ts = us} {o = o} e k) = omega (arith, operand_shorter us o k)
+rest_shorter macros ts rest s (defined_use {d = d} {ts = us} {o = o} e k) = omega (arith, operand_shorter us o k)

@@ -7,8 +7,8 @@ use Rattle.ppexpr.specs.Integers.{number}
 use Rattle.ppexpr.specs.Outcomes.{Value, Signed, Unsigned}
 
 -- the bytes between the quotes
-abbrev pub quoted : List ℕ → Option (List ℕ)
-quoted s =
+abbrev pub unquoted : List ℕ → Option (List ℕ)
+unquoted s =
     if nat_le 2 (length s) && (slice_index s 0 == 39 && slice_index s (length s - 1) == 39) then Some (slice_range s 1 (length s - 1)) else None
 
 -- `\'` `\"` `\?` `\\` `\a` `\b` `\t` `\n` `\v` `\f` `\r`
@@ -49,7 +49,7 @@ up_to greatest unsigned n = if nat_le n greatest then Some (if unsigned then Uns
 
 -- of the type `int`, `char16_t`, `char32_t` or `wchar_t`: the greatest value, whether it is unsigned, and the spelling without its prefix
 abbrev pub of_type : ℕ → Bool → List ℕ → Option Value
-of_type greatest unsigned s = option_and_then (up_to greatest unsigned) (option_and_then character (quoted s))
+of_type greatest unsigned s = option_and_then (up_to greatest unsigned) (option_and_then character (unquoted s))
 
 abbrev pub character_of : List ℕ → Option Value
 character_of s =

@@ -14,7 +14,7 @@ use Rattle.ppexpr.specs.Symbols.{Symbol}
 use Rattle.ppexpr.specs.Grammar.{IsExpression}
 use Rattle.ppexpr.specs.Reading.{Denotes}
 use Rattle.ppexpr.specs.Values.{is_zero}
-use Rattle.ppexpr.specs.Asking.{is_defined, Asks}
+use Rattle.ppexpr.specs.DefinedOperator.{is_defined, ReplacesDefined}
 use Rattle.ppexpr.specs.Tokens.{spelling_of, symbols_of}
 use Rattle.ppexpr.specs.Nesting.{IsTooNested}
 
@@ -36,43 +36,43 @@ taken at (Err f) = Err (failure_fault at f)
 -- ---- the steps, from the last to the first
 
 -- a list that is no expression, such as the empty list, is fault 23
-pub data Evaluates (at : Place) (symbols : List Symbol) : Condition → Type 0 where
-  no_expression : ¬ IsExpression symbols → Evaluates at symbols (Err (fault 23 at []))
-  has_value : {o : Outcome} → Denotes symbols o → Evaluates at symbols (taken at o.value)
+pub data EvaluatesShallow (at : Place) (symbols : List Symbol) : Condition → Type 0 where
+  no_expression : ¬ IsExpression symbols → EvaluatesShallow at symbols (Err (fault 23 at []))
+  has_value : {o : Outcome} → Denotes symbols o → EvaluatesShallow at symbols (taken at o.value)
 
 -- an expression that is nested too deep is fault 29
-pub data Judges (at : Place) (symbols : List Symbol) : Condition → Type 0 where
-  too_nested : IsTooNested symbols → Judges at symbols (Err (fault 29 at []))
-  not_nested : {c : Condition} → ¬ IsTooNested symbols → Evaluates at symbols c → Judges at symbols c
+pub data EvaluatesSymbols (at : Place) (symbols : List Symbol) : Condition → Type 0 where
+  too_nested : IsTooNested symbols → EvaluatesSymbols at symbols (Err (fault 29 at []))
+  not_nested : {c : Condition} → ¬ IsTooNested symbols → EvaluatesShallow at symbols c → EvaluatesSymbols at symbols c
 
 -- a `defined` that replacement made is fault 22; then the first constant from the left without a value is fault 24 or 25
-pub data Decides (at : Place) (tokens : List Token) : Condition → Type 0 where
-  made_defined : list_any is_defined tokens ≡ true → Decides at tokens (Err (fault 22 at []))
-  bad_constant : {f : Fault} → list_any is_defined tokens ≡ false → symbols_of at tokens ≡ Err f → Decides at tokens (Err f)
+pub data EvaluatesTokens (at : Place) (tokens : List Token) : Condition → Type 0 where
+  made_defined : list_any is_defined tokens ≡ true → EvaluatesTokens at tokens (Err (fault 22 at []))
+  bad_constant : {f : Fault} → list_any is_defined tokens ≡ false → symbols_of at tokens ≡ Err f → EvaluatesTokens at tokens (Err f)
   constants : {symbols : List Symbol} {c : Condition}
       → list_any is_defined tokens ≡ false
       → symbols_of at tokens ≡ Ok symbols
-      → Judges at symbols c
-      → Decides at tokens c
+      → EvaluatesSymbols at symbols c
+      → EvaluatesTokens at tokens c
 
 -- The budget before the condition, the result, and the rest of the budget. A use of `defined` without a name is fault 22. A fault of macro
 -- replacement is the result.
 pub data IsCondition (macros : Macros) (env : Env) (at : Place) (tokens : List Token) : Option ℕ → Condition → Option ℕ → Type 0 where
   ill_formed : {left : Option ℕ}
-      → ((asked : List Token) → ¬ Asks macros tokens asked)
+      → ((without_defined : List Token) → ¬ ReplacesDefined macros tokens without_defined)
       → IsCondition macros env at tokens left (Err (fault 22 at [])) left
-  not_replaced : {left after : Option ℕ} {asked : List Token} {e : Expanded} {f : Fault}
-      → Asks macros tokens asked
-      → IsExpansion macros env left asked e
+  not_replaced : {left after : Option ℕ} {without_defined : List Token} {e : Expanded} {f : Fault}
+      → ReplacesDefined macros tokens without_defined
+      → IsExpansion macros env left without_defined e
       → e.left ≡ after
       → e.fault ≡ Some f
       → IsCondition macros env at tokens left (Err f) after
-  replaced : {left after : Option ℕ} {asked : List Token} {e : Expanded} {c : Condition}
-      → Asks macros tokens asked
-      → IsExpansion macros env left asked e
+  replaced : {left after : Option ℕ} {without_defined : List Token} {e : Expanded} {c : Condition}
+      → ReplacesDefined macros tokens without_defined
+      → IsExpansion macros env left without_defined e
       → e.left ≡ after
       → e.fault ≡ None
-      → Decides at e.tokens c
+      → EvaluatesTokens at e.tokens c
       → IsCondition macros env at tokens left c after
 
 -- the number of replacements in a condition

@@ -5,15 +5,13 @@ pub mod Symbols
 pub mod Trees
 pub mod Values
 pub mod Grammar
-pub mod Pending
 pub mod Reading
 pub mod Integers
 pub mod Characters
 pub mod Constants
-pub mod Asking
+pub mod DefinedOperator
 pub mod Tokens
 pub mod Nesting
-pub mod Direct
 pub mod Conditions
 pub mod Laws
-pub mod Definitions
+pub mod code

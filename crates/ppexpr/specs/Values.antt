@@ -39,29 +39,29 @@ has_unsigned_type (Unsigned n) = true
 abbrev pub truth : Bool → Value
 truth b = Signed (pos (if b then 1 else 0))
 
-abbrev pub Answer : Type 0
-Answer = Result Value Failure
+abbrev pub Evaluation : Type 0
+Evaluation = Result Value Failure
 
 -- a signed result
-abbrev pub signed : Operator → ℤ → Answer
+abbrev pub signed : Operator → ℤ → Evaluation
 signed o z = if is_intmax z then Ok (Signed z) else Err (Overflow o)
 
 -- an unsigned result
-abbrev pub unsigned : ℤ → Answer
+abbrev pub unsigned : ℤ → Evaluation
 unsigned z = Ok (Unsigned (modulo z))
 
 -- ---- unary operators (6.5.3.3)
 
-abbrev pub negative : Value → Answer
+abbrev pub negative : Value → Evaluation
 negative (Signed z) = signed Minus (neg_ℤ z)
 negative (Unsigned n) = unsigned (neg_ℤ (pos n))
 
 -- -1 - z has each bit of z inverted
-abbrev pub complement : Value → Answer
+abbrev pub complement : Value → Evaluation
 complement (Signed z) = Ok (Signed (neg_ℤ (pos 1) -ℤ z))
 complement (Unsigned n) = unsigned (neg_ℤ (pos 1) -ℤ pos n)
 
-abbrev pub unary_value : Unary → Value → Answer
+abbrev pub unary_value : Unary → Value → Evaluation
 unary_value unary.Plus v = Ok v
 unary_value unary.Minus v = negative v
 unary_value unary.Complement v = complement v
@@ -78,24 +78,24 @@ converted (Signed a) (Signed b) = BothSigned a b
 converted v w = BothUnsigned (as_unsigned v) (as_unsigned w)
 
 -- `* + -` (6.5.5, 6.5.6)
-abbrev pub arithmetic : Operator → (ℤ → ℤ → ℤ) → Operands → Answer
+abbrev pub arithmetic : Operator → (ℤ → ℤ → ℤ) → Operands → Evaluation
 arithmetic o f (BothSigned a b) = signed o (f a b)
 arithmetic o f (BothUnsigned a b) = unsigned (f (pos a) (pos b))
 
 -- `/` and `%` (6.5.5p5, p6): neither has a value if the quotient, rounded toward 0, is out of range
-abbrev pub division : Operator → (ℤ → ℤ → ℤ) → Operands → Answer
+abbrev pub division : Operator → (ℤ → ℤ → ℤ) → Operands → Evaluation
 division o f (BothSigned a b) =
     if int_eq b (pos 0) then Err (ZeroDivisor o) else (
     if is_intmax (int_div a b) then Ok (Signed (f a b)) else Err (Overflow o))
 division o f (BothUnsigned a b) = if b == 0 then Err (ZeroDivisor o) else unsigned (f (pos a) (pos b))
 
 -- 6.5.8, 6.5.9
-abbrev pub comparison : (ℤ → ℤ → Bool) → Operands → Answer
+abbrev pub comparison : (ℤ → ℤ → Bool) → Operands → Evaluation
 comparison f (BothSigned a b) = Ok (truth (f a b))
 comparison f (BothUnsigned a b) = Ok (truth (f (pos a) (pos b)))
 
 -- 6.5.10 to 6.5.12, signed numbers in two's complement
-abbrev pub bitwise : (ℤ → ℤ → ℤ) → (ℕ → ℕ → ℕ) → Operands → Answer
+abbrev pub bitwise : (ℤ → ℤ → ℤ) → (ℕ → ℕ → ℕ) → Operands → Evaluation
 bitwise f g (BothSigned a b) = Ok (Signed (f a b))
 bitwise f g (BothUnsigned a b) = Ok (Unsigned (g a b))
 
@@ -105,22 +105,22 @@ abbrev pub is_amount : ℤ → Bool
 is_amount z = int_le (pos 0) z && int_lt z (pos 64)
 
 -- z * 2^n
-abbrev pub left_shift : Value → ℕ → Answer
+abbrev pub left_shift : Value → ℕ → Evaluation
 left_shift (Signed z) n =
     if int_le (pos 0) z && is_intmax (z *ℤ pos (2 ^ n)) then Ok (Signed (z *ℤ pos (2 ^ n))) else Err (Shift operator.ShiftLeft)
 left_shift (Unsigned m) n = unsigned (pos m *ℤ pos (2 ^ n))
 
 -- z / 2^n, rounded down
-abbrev pub right_shift : Value → ℕ → Answer
+abbrev pub right_shift : Value → ℕ → Evaluation
 right_shift (Signed z) n = Ok (Signed (int_div_euclid z (pos (2 ^ n))))
 right_shift (Unsigned m) n = unsigned (int_div_euclid (pos m) (pos (2 ^ n)))
 
-abbrev pub shift : Operator → (Value → ℕ → Answer) → Value → Value → Answer
+abbrev pub shift : Operator → (Value → ℕ → Evaluation) → Value → Value → Evaluation
 shift o f v w = if is_amount (whole w) then f v (unsigned_abs (whole w)) else Err (Shift o)
 
 -- ---- both operands have a value
 
-abbrev pub binary_value : Binary → Value → Value → Answer
+abbrev pub binary_value : Binary → Value → Value → Evaluation
 binary_value Multiply v w = arithmetic Star (λ a b. a *ℤ b) (converted v w)
 binary_value Divide v w = division Slash int_div (converted v w)
 binary_value Remainder v w = division Percent int_rem (converted v w)
@@ -142,11 +142,11 @@ binary_value Or v w = Ok (truth (not (is_zero v) || not (is_zero w)))
 
 -- ---- operands that may have no value: the first failure is the result, but a failure in an operand that is not evaluated is ignored
 
-abbrev pub unary_answer : Unary → Answer → Answer
-unary_answer o (Ok v) = unary_value o v
-unary_answer o (Err f) = Err f
+abbrev pub unary_evaluation : Unary → Evaluation → Evaluation
+unary_evaluation o (Ok v) = unary_value o v
+unary_evaluation o (Err f) = Err f
 
-abbrev pub with_right : Binary → Value → Answer → Answer
+abbrev pub with_right : Binary → Value → Evaluation → Evaluation
 with_right o v (Ok w) = binary_value o v w
 with_right o v (Err f) = Err f
 
@@ -156,19 +156,19 @@ decides And v = is_zero v
 decides Or v = not (is_zero v)
 decides _ v = false
 
-abbrev pub binary_answer : Binary → Answer → Answer → Answer
-binary_answer o (Ok v) b = if decides o v then Ok (truth (not (is_zero v))) else with_right o v b
-binary_answer o (Err f) b = Err f
+abbrev pub binary_evaluation : Binary → Evaluation → Evaluation → Evaluation
+binary_evaluation o (Ok v) b = if decides o v then Ok (truth (not (is_zero v))) else with_right o v b
+binary_evaluation o (Err f) b = Err f
 
 -- converted to the type of a conditional expression
-abbrev pub with_type : Bool → Answer → Answer
+abbrev pub with_type : Bool → Evaluation → Evaluation
 with_type true (Ok v) = Ok (Unsigned (as_unsigned v))
 with_type _ a = a
 
 -- 6.5.15p4, p5
-abbrev pub choice_answer : Bool → Answer → Answer → Answer → Answer
-choice_answer u (Ok v) a b = with_type u (if is_zero v then b else a)
-choice_answer u (Err f) a b = Err f
+abbrev pub choice_evaluation : Bool → Evaluation → Evaluation → Evaluation → Evaluation
+choice_evaluation u (Ok v) a b = with_type u (if is_zero v then b else a)
+choice_evaluation u (Err f) a b = Err f
 
 -- ---- types: whether it is `uintmax_t`
 
@@ -195,14 +195,14 @@ unfoldable pub constant_outcome : Value → Outcome
 constant_outcome v = record { unsigned = has_unsigned_type v; value = Ok v }
 
 unfoldable pub unary_outcome : Unary → Outcome → Outcome
-unary_outcome o x = record { unsigned = unary_unsigned o x.unsigned; value = unary_answer o x.value }
+unary_outcome o x = record { unsigned = unary_unsigned o x.unsigned; value = unary_evaluation o x.value }
 
 unfoldable pub binary_outcome : Binary → Outcome → Outcome → Outcome
-binary_outcome o x y = record { unsigned = binary_unsigned o x.unsigned y.unsigned; value = binary_answer o x.value y.value }
+binary_outcome o x y = record { unsigned = binary_unsigned o x.unsigned y.unsigned; value = binary_evaluation o x.value y.value }
 
 -- the type is the common type of the second and third operands (6.5.15p5)
 unfoldable pub choice_outcome : Outcome → Outcome → Outcome → Outcome
-choice_outcome c x y = record { unsigned = x.unsigned || y.unsigned; value = choice_answer (x.unsigned || y.unsigned) c.value x.value y.value }
+choice_outcome c x y = record { unsigned = x.unsigned || y.unsigned; value = choice_evaluation (x.unsigned || y.unsigned) c.value x.value y.value }
 
 abbrev pub outcome_of : Tree → Outcome
 outcome_of (Leaf v) = constant_outcome v

@@ -1,6 +1,6 @@
 //! Reads character constants (6.4.4.4).
 ghost use Rattle.std.specs.Prelude.{◌≡◌, ◌<◌, ◌≤◌, ◌^◌, MatchOption, IfSome, None, Some};
-ghost use Rattle.ppexpr.specs.Characters.{quoted, simple_escape, are_digits, is_octal_escape, is_hexadecimal_escape, other_escape, escape, character};
+ghost use Rattle.ppexpr.specs.Characters.{unquoted, simple_escape, are_digits, is_octal_escape, is_hexadecimal_escape, other_escape, escape, character};
 ghost use Rattle.ppexpr.specs.Characters.{of_type, character_of};
 ghost use Rattle.std.specs.List.{list_all};
 ghost use Rattle.std.specs.Char.{is_digit};
@@ -9,8 +9,8 @@ use crate::integers::{is_digit, number};
 use crate::symbols::Value;
 
 /// Returns the bytes between the quotes.
-fn quoted(text: &[u8]) -> Option<&[u8]>
-    ensures { MatchOption result (quoted text.now ≡ None) (λ s. quoted text.now ≡ Some s.now) }
+fn unquoted(text: &[u8]) -> Option<&[u8]>
+    ensures { MatchOption result (unquoted text.now ≡ None) (λ s. unquoted text.now ≡ Some s.now) }
 {
     let [b'\'', body @ .., b'\''] = text else {
         return None;
@@ -92,7 +92,7 @@ fn character(text: &[u8]) -> Option<u64>
 {
     match text {
         [] => None,
-        [b'\\', behind @ ..] => escape(behind),
+        [b'\\', following @ ..] => escape(following),
         [c] => Some(u64::from(*c)),
         _ => None,
     }
@@ -103,7 +103,7 @@ fn of_type(greatest: u64, unsigned: bool, text: &[u8]) -> Option<Value>
     requires { greatest < 2 ^ 63 }
     ensures { result ≡ of_type greatest unsigned text.now }
 {
-    let body = quoted(text)?;
+    let body = unquoted(text)?;
     let number = character(body)?;
     if number > greatest {
         return None;

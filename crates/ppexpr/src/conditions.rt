@@ -2,11 +2,11 @@
 ghost use Rattle.std.specs.Prelude.{◌≡◌, IfOk, Ok};
 ghost use Rattle.std.specs.List.{list_any};
 ghost use Rattle.pptext.specs.Errors.{UnlessOutOfMemory, split_memory};
-ghost use Rattle.ppexpr.specs.Asking.{is_defined};
-ghost use Rattle.ppexpr.specs.Conditions.{failure_fault, taken, Evaluates, Judges, Decides, IsCondition};
+ghost use Rattle.ppexpr.specs.DefinedOperator.{is_defined};
+ghost use Rattle.ppexpr.specs.Conditions.{failure_fault, taken, EvaluatesShallow, EvaluatesSymbols, EvaluatesTokens, IsCondition};
 
-use crate::asking::{asked, is_defined};
-use crate::definitions::definitions_hold;
+use crate::defined_operator::{without_defined, is_defined};
+use crate::defined_only::evaluate_defined_only;
 use crate::nesting::is_too_nested;
 use crate::parsing::parse;
 use crate::symbols::{Failure, FailureKind, Symbol, Value};
@@ -39,8 +39,8 @@ fn taken(alloc: Global, at: Place, value: Result<Value, Failure>) -> Result<bool
 }
 
 /// Evaluates symbols that are not nested too deep.
-fn evaluate_symbols(alloc: Global, at: Place, symbols: &[Symbol]) -> Result<bool, Error>
-    ensures { UnlessOutOfMemory result (λ c. Evaluates at symbols.now c) }
+fn evaluate_shallow(alloc: Global, at: Place, symbols: &[Symbol]) -> Result<bool, Error>
+    ensures { UnlessOutOfMemory result (λ c. EvaluatesShallow at symbols.now c) }
 {
     let Some(outcome) = parse(alloc, symbols)? else {
         return Err(Error::Fault(Fault::bare(23, at)));
@@ -49,13 +49,13 @@ fn evaluate_symbols(alloc: Global, at: Place, symbols: &[Symbol]) -> Result<bool
 }
 
 /// Evaluates symbols.
-fn judge(alloc: Global, at: Place, symbols: &[Symbol]) -> Result<bool, Error>
-    ensures { UnlessOutOfMemory result (λ c. Judges at symbols.now c) }
+fn evaluate_symbols(alloc: Global, at: Place, symbols: &[Symbol]) -> Result<bool, Error>
+    ensures { UnlessOutOfMemory result (λ c. EvaluatesSymbols at symbols.now c) }
 {
     if is_too_nested(symbols) {
         return Err(Error::Fault(Fault::bare(29, at)));
     }
-    evaluate_symbols(alloc, at, symbols)
+    evaluate_shallow(alloc, at, symbols)
 }
 
 /// Returns whether one of the tokens is `defined`.
@@ -66,29 +66,29 @@ fn has_defined(tokens: &[Token]) -> bool
 }
 
 /// Evaluates tokens after macro replacement.
-fn decide(alloc: Global, at: Place, tokens: &[Token]) -> Result<bool, Error>
-    ensures { UnlessOutOfMemory result (λ c. Decides at tokens.now c) }
+fn evaluate_tokens(alloc: Global, at: Place, tokens: &[Token]) -> Result<bool, Error>
+    ensures { UnlessOutOfMemory result (λ c. EvaluatesTokens at tokens.now c) }
 {
     if has_defined(tokens) {
         return Err(Error::Fault(Fault::bare(22, at)));
     }
     let symbols = symbols_of(alloc, at, tokens)?;
-    judge(alloc, at, symbols.as_slice())
+    evaluate_symbols(alloc, at, symbols.as_slice())
 }
 
 /// Evaluates an expanded list. Copies the tokens only if macros were replaced.
-fn decide_run(alloc: Global, at: Place, run: &TokenRope) -> Result<bool, Error>
-    ensures { UnlessOutOfMemory result (λ c. Decides at run.now c) }
+fn evaluate_rope(alloc: Global, at: Place, run: &TokenRope) -> Result<bool, Error>
+    ensures { UnlessOutOfMemory result (λ c. EvaluatesTokens at run.now c) }
 {
     if let Some(tokens) = run.unchanged() {
-        return decide(alloc, at, tokens);
+        return evaluate_tokens(alloc, at, tokens);
     }
     let tokens = run.to_vec(alloc)?;
-    decide(alloc, at, tokens.as_slice())
+    evaluate_tokens(alloc, at, tokens.as_slice())
 }
 
 /// Returns the result together with the rest of the budget.
-fn beside(
+fn with_rest(
     decided: Result<bool, Error>,
     left: Option<u64>,
 ) -> Result<(Result<bool, Fault>, Option<u64>), Memory>
@@ -108,18 +108,18 @@ fn evaluate_replaced(
 ) -> Result<(Result<bool, Fault>, Option<u64>), Memory>
     ensures { IfOk result (λ r. IsCondition table.now.macros env.now at tokens.now left r.0 r.1) }
 {
-    let Some(asked) = asked(alloc, table, tokens)? else {
+    let Some(without_defined) = without_defined(alloc, table, tokens)? else {
         return Ok((Err(Fault::bare(22, at)), left));
     };
-    let asked = asked.as_slice();
+    let without_defined = without_defined.as_slice();
     let Expanded {
         tokens,
         fault,
         left: after,
-    } = expand(alloc, table, env, left, asked)?;
+    } = expand(alloc, table, env, left, without_defined)?;
     match fault {
         Some(fault) => Ok((Err(fault), after)),
-        None => beside(decide_run(alloc, at, &tokens), after),
+        None => with_rest(evaluate_rope(alloc, at, &tokens), after),
     }
 }
 
@@ -152,7 +152,7 @@ pub fn evaluate(
     ensures { IfOk result (λ r. IsCondition table.now.macros env.now at tokens.now left r.0 r.1) }
 {
     // Fast path: most conditions consist of uses of `defined` alone.
-    if let Some(taken) = definitions_hold(table, tokens) {
+    if let Some(taken) = evaluate_defined_only(table, tokens) {
         return Ok((Ok(taken), left));
     }
     evaluate_replaced(alloc, table, env, left, at, tokens)

@@ -43,10 +43,10 @@ pub fn reads_constants()
 
 /// A condition has at most one result (true, false or one fault), and at most one rest of the budget.
 pub fn one_condition()
-    ensures { (macros : Macros) (env : Env) (at : Place) (tokens : List Token) (left after behind : Option ℕ) (c d : Condition)
+    ensures { (macros : Macros) (env : Env) (at : Place) (tokens : List Token) (left after following : Option ℕ) (c d : Condition)
         → IsCondition macros env at tokens left c after
-        → IsCondition macros env at tokens left d behind
-        → (c ≡ d) × (after ≡ behind) }
+        → IsCondition macros env at tokens left d following
+        → (c ≡ d) × (after ≡ following) }
 {}
 
 /// Each list of tokens has a result, for all macros and all budgets.

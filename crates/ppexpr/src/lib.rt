@@ -1,10 +1,10 @@
 //! Conditional inclusion of C11 (6.10.1): evaluates the controlling expressions of `#if` and `#elif`.
 #![tactic(auto)]
 
-mod asking;
+mod defined_operator;
 mod characters;
 mod conditions;
-mod definitions;
+mod defined_only;
 mod integers;
 mod laws;
 mod nesting;

@@ -39,56 +39,56 @@ pub(crate) enum OperatorKind {
 }
 
 impl Model for Operator {
-    ghost use Rattle.ppexpr.specs.Operators as definitions;
+    ghost use Rattle.ppexpr.specs.Operators as specification;
     ghost use Rattle.ppexpr.specs.declared.operators.OperatorKind.TheVariants as code;
 
-    ghost Value = { definitions.Operator };
+    ghost Value = { specification.Operator };
 
     ghost view = { λ o. elim o.kind [
-      | code.Plus ↦ definitions.Plus
-      | code.Minus ↦ definitions.Minus
-      | code.Tilde ↦ definitions.Tilde
-      | code.Bang ↦ definitions.Bang
-      | code.Star ↦ definitions.Star
-      | code.Slash ↦ definitions.Slash
-      | code.Percent ↦ definitions.Percent
-      | code.ShiftLeft ↦ definitions.ShiftLeft
-      | code.ShiftRight ↦ definitions.ShiftRight
-      | code.Less ↦ definitions.Less
-      | code.Greater ↦ definitions.Greater
-      | code.LessOrEqual ↦ definitions.LessOrEqual
-      | code.GreaterOrEqual ↦ definitions.GreaterOrEqual
-      | code.Equal ↦ definitions.Equal
-      | code.NotEqual ↦ definitions.NotEqual
-      | code.Ampersand ↦ definitions.Ampersand
-      | code.Caret ↦ definitions.Caret
-      | code.Bar ↦ definitions.Bar
-      | code.And ↦ definitions.And
-      | code.Or ↦ definitions.Or
+      | code.Plus ↦ specification.Plus
+      | code.Minus ↦ specification.Minus
+      | code.Tilde ↦ specification.Tilde
+      | code.Bang ↦ specification.Bang
+      | code.Star ↦ specification.Star
+      | code.Slash ↦ specification.Slash
+      | code.Percent ↦ specification.Percent
+      | code.ShiftLeft ↦ specification.ShiftLeft
+      | code.ShiftRight ↦ specification.ShiftRight
+      | code.Less ↦ specification.Less
+      | code.Greater ↦ specification.Greater
+      | code.LessOrEqual ↦ specification.LessOrEqual
+      | code.GreaterOrEqual ↦ specification.GreaterOrEqual
+      | code.Equal ↦ specification.Equal
+      | code.NotEqual ↦ specification.NotEqual
+      | code.Ampersand ↦ specification.Ampersand
+      | code.Caret ↦ specification.Caret
+      | code.Bar ↦ specification.Bar
+      | code.And ↦ specification.And
+      | code.Or ↦ specification.Or
     ] };
 
     ghost inverse = { λ o. record {
       kind = elim o [
-        | definitions.Plus ↦ code.Plus
-        | definitions.Minus ↦ code.Minus
-        | definitions.Tilde ↦ code.Tilde
-        | definitions.Bang ↦ code.Bang
-        | definitions.Star ↦ code.Star
-        | definitions.Slash ↦ code.Slash
-        | definitions.Percent ↦ code.Percent
-        | definitions.ShiftLeft ↦ code.ShiftLeft
-        | definitions.ShiftRight ↦ code.ShiftRight
-        | definitions.Less ↦ code.Less
-        | definitions.Greater ↦ code.Greater
-        | definitions.LessOrEqual ↦ code.LessOrEqual
-        | definitions.GreaterOrEqual ↦ code.GreaterOrEqual
-        | definitions.Equal ↦ code.Equal
-        | definitions.NotEqual ↦ code.NotEqual
-        | definitions.Ampersand ↦ code.Ampersand
-        | definitions.Caret ↦ code.Caret
-        | definitions.Bar ↦ code.Bar
-        | definitions.And ↦ code.And
-        | definitions.Or ↦ code.Or
+        | specification.Plus ↦ code.Plus
+        | specification.Minus ↦ code.Minus
+        | specification.Tilde ↦ code.Tilde
+        | specification.Bang ↦ code.Bang
+        | specification.Star ↦ code.Star
+        | specification.Slash ↦ code.Slash
+        | specification.Percent ↦ code.Percent
+        | specification.ShiftLeft ↦ code.ShiftLeft
+        | specification.ShiftRight ↦ code.ShiftRight
+        | specification.Less ↦ code.Less
+        | specification.Greater ↦ code.Greater
+        | specification.LessOrEqual ↦ code.LessOrEqual
+        | specification.GreaterOrEqual ↦ code.GreaterOrEqual
+        | specification.Equal ↦ code.Equal
+        | specification.NotEqual ↦ code.NotEqual
+        | specification.Ampersand ↦ code.Ampersand
+        | specification.Caret ↦ code.Caret
+        | specification.Bar ↦ code.Bar
+        | specification.And ↦ code.And
+        | specification.Or ↦ code.Or
       ];
     } };
 }
@@ -109,24 +109,24 @@ pub(crate) enum UnaryKind {
 }
 
 impl Model for Unary {
-    ghost use Rattle.ppexpr.specs.Operations as definitions;
+    ghost use Rattle.ppexpr.specs.Operations as specification;
     ghost use Rattle.ppexpr.specs.declared.operators.UnaryKind.TheVariants as code;
 
-    ghost Value = { definitions.Unary };
+    ghost Value = { specification.Unary };
 
     ghost view = { λ o. elim o.kind [
-      | code.Plus ↦ definitions.Plus
-      | code.Minus ↦ definitions.Minus
-      | code.Complement ↦ definitions.Complement
-      | code.Not ↦ definitions.Not
+      | code.Plus ↦ specification.Plus
+      | code.Minus ↦ specification.Minus
+      | code.Complement ↦ specification.Complement
+      | code.Not ↦ specification.Not
     ] };
 
     ghost inverse = { λ o. record {
       kind = elim o [
-        | definitions.Plus ↦ code.Plus
-        | definitions.Minus ↦ code.Minus
-        | definitions.Complement ↦ code.Complement
-        | definitions.Not ↦ code.Not
+        | specification.Plus ↦ code.Plus
+        | specification.Minus ↦ code.Minus
+        | specification.Complement ↦ code.Complement
+        | specification.Not ↦ code.Not
       ];
     } };
 }
@@ -161,52 +161,52 @@ pub(crate) enum BinaryKind {
 }
 
 impl Model for Binary {
-    ghost use Rattle.ppexpr.specs.Operations as definitions;
+    ghost use Rattle.ppexpr.specs.Operations as specification;
     ghost use Rattle.ppexpr.specs.declared.operators.BinaryKind.TheVariants as code;
 
-    ghost Value = { definitions.Binary };
+    ghost Value = { specification.Binary };
 
     ghost view = { λ o. elim o.kind [
-      | code.Multiply ↦ definitions.Multiply
-      | code.Divide ↦ definitions.Divide
-      | code.Remainder ↦ definitions.Remainder
-      | code.Add ↦ definitions.Add
-      | code.Subtract ↦ definitions.Subtract
-      | code.ShiftLeft ↦ definitions.ShiftLeft
-      | code.ShiftRight ↦ definitions.ShiftRight
-      | code.Less ↦ definitions.Less
-      | code.Greater ↦ definitions.Greater
-      | code.LessOrEqual ↦ definitions.LessOrEqual
-      | code.GreaterOrEqual ↦ definitions.GreaterOrEqual
-      | code.Equal ↦ definitions.Equal
-      | code.NotEqual ↦ definitions.NotEqual
-      | code.BitAnd ↦ definitions.BitAnd
-      | code.BitXor ↦ definitions.BitXor
-      | code.BitOr ↦ definitions.BitOr
-      | code.And ↦ definitions.And
-      | code.Or ↦ definitions.Or
+      | code.Multiply ↦ specification.Multiply
+      | code.Divide ↦ specification.Divide
+      | code.Remainder ↦ specification.Remainder
+      | code.Add ↦ specification.Add
+      | code.Subtract ↦ specification.Subtract
+      | code.ShiftLeft ↦ specification.ShiftLeft
+      | code.ShiftRight ↦ specification.ShiftRight
+      | code.Less ↦ specification.Less
+      | code.Greater ↦ specification.Greater
+      | code.LessOrEqual ↦ specification.LessOrEqual
+      | code.GreaterOrEqual ↦ specification.GreaterOrEqual
+      | code.Equal ↦ specification.Equal
+      | code.NotEqual ↦ specification.NotEqual
+      | code.BitAnd ↦ specification.BitAnd
+      | code.BitXor ↦ specification.BitXor
+      | code.BitOr ↦ specification.BitOr
+      | code.And ↦ specification.And
+      | code.Or ↦ specification.Or
     ] };
 
     ghost inverse = { λ o. record {
       kind = elim o [
-        | definitions.Multiply ↦ code.Multiply
-        | definitions.Divide ↦ code.Divide
-        | definitions.Remainder ↦ code.Remainder
-        | definitions.Add ↦ code.Add
-        | definitions.Subtract ↦ code.Subtract
-        | definitions.ShiftLeft ↦ code.ShiftLeft
-        | definitions.ShiftRight ↦ code.ShiftRight
-        | definitions.Less ↦ code.Less
-        | definitions.Greater ↦ code.Greater
-        | definitions.LessOrEqual ↦ code.LessOrEqual
-        | definitions.GreaterOrEqual ↦ code.GreaterOrEqual
-        | definitions.Equal ↦ code.Equal
-        | definitions.NotEqual ↦ code.NotEqual
-        | definitions.BitAnd ↦ code.BitAnd
-        | definitions.BitXor ↦ code.BitXor
-        | definitions.BitOr ↦ code.BitOr
-        | definitions.And ↦ code.And
-        | definitions.Or ↦ code.Or
+        | specification.Multiply ↦ code.Multiply
+        | specification.Divide ↦ code.Divide
+        | specification.Remainder ↦ code.Remainder
+        | specification.Add ↦ code.Add
+        | specification.Subtract ↦ code.Subtract
+        | specification.ShiftLeft ↦ code.ShiftLeft
+        | specification.ShiftRight ↦ code.ShiftRight
+        | specification.Less ↦ code.Less
+        | specification.Greater ↦ code.Greater
+        | specification.LessOrEqual ↦ code.LessOrEqual
+        | specification.GreaterOrEqual ↦ code.GreaterOrEqual
+        | specification.Equal ↦ code.Equal
+        | specification.NotEqual ↦ code.NotEqual
+        | specification.BitAnd ↦ code.BitAnd
+        | specification.BitXor ↦ code.BitXor
+        | specification.BitOr ↦ code.BitOr
+        | specification.And ↦ code.And
+        | specification.Or ↦ code.Or
       ];
     } };
 }

@@ -1,6 +1,6 @@
 //! Evaluates an expression from the outcomes of its operands.
 ghost use Rattle.std.specs.Prelude.{◌≡◌, Ok};
-ghost use Rattle.ppexpr.specs.Values.{decides, binary_answer, with_type};
+ghost use Rattle.ppexpr.specs.Values.{decides, binary_evaluation, with_type};
 ghost use Rattle.ppexpr.specs.Values.{unary_unsigned, binary_unsigned, constant_outcome, unary_outcome, binary_outcome, choice_outcome};
 
 use crate::operators::{Binary, BinaryKind, Unary, UnaryKind};
@@ -50,8 +50,8 @@ impl Binary {
     }
 
     /// Returns the value of the expression, if the left operand has a value.
-    fn answer(self, left: Value, right: Result<Value, Failure>) -> Result<Value, Failure>
-        ensures { result ≡ binary_answer self (Ok left) right }
+    fn evaluation(self, left: Value, right: Result<Value, Failure>) -> Result<Value, Failure>
+        ensures { result ≡ binary_evaluation self (Ok left) right }
     {
         if self.decides(left) {
             return Ok(Value::truth(!left.is_zero()));
@@ -102,7 +102,7 @@ impl Outcome {
         Outcome {
             unsigned: operator.is_unsigned(left.unsigned, right.unsigned),
             value: match left.value {
-                Ok(value) => operator.answer(value, right.value),
+                Ok(value) => operator.evaluation(value, right.value),
                 Err(failure) => Err(failure),
             },
         }

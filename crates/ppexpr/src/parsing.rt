@@ -2,7 +2,7 @@
 ghost use Rattle.std.specs.Prelude.{◌≡◌, Some, None, IfOk, MatchOption, ◌∷◌, MatchBool, reverse};
 ghost use Rattle.ppexpr.specs.Grammar.{IsExpression, level_of};
 ghost use Rattle.ppexpr.specs.Outcomes.{Outcome};
-ghost use Rattle.ppexpr.specs.Pending.{Group, Test, frame_level, outcomes, completed, kept, split_memory, between, closed, Takes, finish};
+ghost use Rattle.ppexpr.specs.code.Pending.{Group, Test, frame_level, outcomes, completed, unreduced, split_memory, between, closed, ParserTakes, finish};
 ghost use Rattle.ppexpr.specs.Reading.{Denotes};
 
 use crate::operators::{Binary, BinaryKind, Unary};
@@ -39,26 +39,26 @@ enum PendingKind {
 
 impl Model for Pending {
     ghost use Rattle.ppexpr.specs.Outcomes.{Outcome};
-    ghost use Rattle.ppexpr.specs.Pending as definitions;
+    ghost use Rattle.ppexpr.specs.code.Pending as specification;
     ghost use Rattle.ppexpr.specs.declared.parsing.PendingKind.TheVariants as code;
 
-    ghost Value = { definitions.Frame Outcome };
+    ghost Value = { specification.Frame Outcome };
 
     ghost view = { λ p. elim p.kind [
-      | code.Group ↦ definitions.Group
-      | code.Sign o ↦ definitions.Sign o
-      | code.Left o x ↦ definitions.Left o x
-      | code.Test x ↦ definitions.Test x
-      | code.Arms x y ↦ definitions.Arms x y
+      | code.Group ↦ specification.Group
+      | code.Sign o ↦ specification.Sign o
+      | code.Left o x ↦ specification.Left o x
+      | code.Test x ↦ specification.Test x
+      | code.Arms x y ↦ specification.Arms x y
     ] };
 
     ghost inverse = { λ p. record {
       kind = elim p [
-        | definitions.Group ↦ code.Group
-        | definitions.Sign o ↦ code.Sign o
-        | definitions.Left o x ↦ code.Left o x
-        | definitions.Test x ↦ code.Test x
-        | definitions.Arms x y ↦ code.Arms x y
+        | specification.Group ↦ code.Group
+        | specification.Sign o ↦ code.Sign o
+        | specification.Left o x ↦ code.Left o x
+        | specification.Test x ↦ code.Test x
+        | specification.Arms x y ↦ code.Arms x y
       ];
     } };
 }
@@ -73,7 +73,7 @@ struct Parser {
 impl Model for Parser {
     ghost use Rattle.std.specs.Prelude.{reverse};
     ghost use Rattle.ppexpr.specs.Outcomes.{Outcome};
-    ghost use Rattle.ppexpr.specs.Pending.{State};
+    ghost use Rattle.ppexpr.specs.code.Pending.{State};
 
     ghost Value = { State Outcome };
 
@@ -132,8 +132,8 @@ impl Pending {
 }
 
 /// Applies the entries at this level or a tighter one to the operand, and removes them.
-fn settle(pending: &mut Vec<Pending>, level: u8, mut operand: Outcome) -> Outcome
-    ensures stay { reverse pending.new.items ≡ kept level (reverse pending.old.items) }
+fn reduce(pending: &mut Vec<Pending>, level: u8, mut operand: Outcome) -> Outcome
+    ensures stay { reverse pending.new.items ≡ unreduced level (reverse pending.old.items) }
     ensures value { result ≡ split_memory outcomes level (reverse pending.old.items) operand }
 {
     while let Some(last) = pending.pop_if(|last| last.level() >= level) {
@@ -168,7 +168,7 @@ impl Parser {
     /// Reads a symbol where an operand is expected. Returns false if no operand begins with it.
     fn begin(&mut self, symbol: Symbol) -> Result<bool, AllocError>
         requires { self.old.1 ≡ None }
-        ensures { IfOk result (λ more. Takes self.old symbol more self.new) }
+        ensures { IfOk result (λ more. ParserTakes self.old symbol more self.new) }
     {
         let kind = symbol.kind;
         match kind {
@@ -192,7 +192,7 @@ impl Parser {
     /// Reads a symbol after an operand. Returns false if no expression continues with it.
     fn go_on(&mut self, operand: Outcome, symbol: Symbol) -> Result<bool, AllocError>
         requires { self.old.1 ≡ Some operand }
-        ensures { IfOk result (λ more. Takes self.old symbol more self.new) }
+        ensures { IfOk result (λ more. ParserTakes self.old symbol more self.new) }
     {
         let kind = symbol.kind;
         match kind {
@@ -200,17 +200,17 @@ impl Parser {
                 let Some(operator) = sign.binary() else {
                     return Ok(false);
                 };
-                let left = settle(&mut self.pending, operator.level(), operand);
+                let left = reduce(&mut self.pending, operator.level(), operand);
                 let kind = PendingKind::Left(operator, left);
                 self.pending.push(Pending { kind })?;
             }
             SymbolKind::Question => {
-                let test = settle(&mut self.pending, LOGICAL_OR, operand);
+                let test = reduce(&mut self.pending, LOGICAL_OR, operand);
                 let kind = PendingKind::Test(test);
                 self.pending.push(Pending { kind })?;
             }
             SymbolKind::Colon => {
-                let yes = settle(&mut self.pending, CONDITIONAL, operand);
+                let yes = reduce(&mut self.pending, CONDITIONAL, operand);
                 let Some(test) = pop_test(&mut self.pending) else {
                     return Ok(false);
                 };
@@ -218,7 +218,7 @@ impl Parser {
                 self.pending.push(Pending { kind })?;
             }
             SymbolKind::Close => {
-                let inside = settle(&mut self.pending, CONDITIONAL, operand);
+                let inside = reduce(&mut self.pending, CONDITIONAL, operand);
                 self.operand = Some(inside);
                 return Ok(pop_group(&mut self.pending));
             }
@@ -230,7 +230,7 @@ impl Parser {
 
     /// Reads the next symbol. Returns false if no expression continues with it.
     fn take(&mut self, symbol: Symbol) -> Result<bool, AllocError>
-        ensures { IfOk result (λ more. Takes self.old symbol more self.new) }
+        ensures { IfOk result (λ more. ParserTakes self.old symbol more self.new) }
     {
         match self.operand {
             None => self.begin(symbol),
@@ -246,7 +246,7 @@ impl Parser {
             mut pending,
             operand,
         } = self;
-        let whole = settle(&mut pending, CONDITIONAL, operand?);
+        let whole = reduce(&mut pending, CONDITIONAL, operand?);
         pending.is_empty().then_some(whole)
     }
 }

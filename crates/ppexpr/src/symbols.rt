@@ -23,14 +23,14 @@ pub(crate) enum Number {
 }
 
 impl Model for Value {
-    ghost use Rattle.ppexpr.specs.Outcomes as definitions;
+    ghost use Rattle.ppexpr.specs.Outcomes as specification;
     ghost use Rattle.ppexpr.specs.declared.symbols.Number.TheVariants as code;
 
-    ghost Value = { definitions.Value };
+    ghost Value = { specification.Value };
 
-    ghost view = { λ v. elim v.number [ code.Signed z ↦ definitions.Signed z | code.Unsigned n ↦ definitions.Unsigned n ] };
+    ghost view = { λ v. elim v.number [ code.Signed z ↦ specification.Signed z | code.Unsigned n ↦ specification.Unsigned n ] };
 
-    ghost inverse = { λ v. record { number = elim v [ definitions.Signed z ↦ code.Signed z | definitions.Unsigned n ↦ code.Unsigned n ] } };
+    ghost inverse = { λ v. record { number = elim v [ specification.Signed z ↦ code.Signed z | specification.Unsigned n ↦ code.Unsigned n ] } };
 }
 
 impl Value {
@@ -71,30 +71,30 @@ pub(crate) enum SymbolKind {
 }
 
 impl Model for Symbol {
-    ghost use Rattle.ppexpr.specs.Symbols as definitions;
+    ghost use Rattle.ppexpr.specs.Symbols as specification;
     ghost use Rattle.ppexpr.specs.declared.symbols.SymbolKind.TheVariants as code;
 
-    ghost Value = { definitions.Symbol };
+    ghost Value = { specification.Symbol };
 
     ghost view = { λ s. elim s.kind [
-      | code.Constant v ↦ definitions.Constant v
-      | code.Operator o ↦ definitions.Operator o
-      | code.Open ↦ definitions.Open
-      | code.Close ↦ definitions.Close
-      | code.Question ↦ definitions.Question
-      | code.Colon ↦ definitions.Colon
-      | code.Other ↦ definitions.Other
+      | code.Constant v ↦ specification.Constant v
+      | code.Operator o ↦ specification.Operator o
+      | code.Open ↦ specification.Open
+      | code.Close ↦ specification.Close
+      | code.Question ↦ specification.Question
+      | code.Colon ↦ specification.Colon
+      | code.Other ↦ specification.Other
     ] };
 
     ghost inverse = { λ s. record {
       kind = elim s [
-        | definitions.Constant v ↦ code.Constant v
-        | definitions.Operator o ↦ code.Operator o
-        | definitions.Open ↦ code.Open
-        | definitions.Close ↦ code.Close
-        | definitions.Question ↦ code.Question
-        | definitions.Colon ↦ code.Colon
-        | definitions.Other ↦ code.Other
+        | specification.Constant v ↦ code.Constant v
+        | specification.Operator o ↦ code.Operator o
+        | specification.Open ↦ code.Open
+        | specification.Close ↦ code.Close
+        | specification.Question ↦ code.Question
+        | specification.Colon ↦ code.Colon
+        | specification.Other ↦ code.Other
       ];
     } };
 }
@@ -152,22 +152,22 @@ pub(crate) enum FailureKind {
 }
 
 impl Model for Failure {
-    ghost use Rattle.ppexpr.specs.Outcomes as definitions;
+    ghost use Rattle.ppexpr.specs.Outcomes as specification;
     ghost use Rattle.ppexpr.specs.declared.symbols.FailureKind.TheVariants as code;
 
-    ghost Value = { definitions.Failure };
+    ghost Value = { specification.Failure };
 
     ghost view = { λ f. elim f.kind [
-      | code.ZeroDivisor o ↦ definitions.ZeroDivisor o
-      | code.Overflow o ↦ definitions.Overflow o
-      | code.Shift o ↦ definitions.Shift o
+      | code.ZeroDivisor o ↦ specification.ZeroDivisor o
+      | code.Overflow o ↦ specification.Overflow o
+      | code.Shift o ↦ specification.Shift o
     ] };
 
     ghost inverse = { λ f. record {
       kind = elim f [
-        | definitions.ZeroDivisor o ↦ code.ZeroDivisor o
-        | definitions.Overflow o ↦ code.Overflow o
-        | definitions.Shift o ↦ code.Shift o
+        | specification.ZeroDivisor o ↦ code.ZeroDivisor o
+        | specification.Overflow o ↦ code.Overflow o
+        | specification.Shift o ↦ code.Shift o
       ];
     } };
 }

@@ -1,12 +1,11 @@
-use Rattle.std.proofs.Common.{ap, ◌∙◌}
-use Rattle.ppexpr.specs.Conditions.{taken}
-use Rattle.ppexpr.proofs.ConditionSteps.{evaluates_none, evaluates_some}
+use Rattle.std.proofs.Common.{refl}
+use Rattle.std.proofs.lemmas.Bool.{false≢true}
+use Rattle.ppexpr.specs.Conditions.{too_nested, not_nested}
 use Rattle.pptext.proofs.Stopping.{if_settled-weaker}
 use Rattle.ppexpr.proofs.conditions.evaluate_symbols.Goals as goal
 
-pub returns-in_default : goal.returns-in_default
-returns-in_default c = evaluates_none c.args.at c.args.symbols.now c.in_ok-outcome.field-0 c.bare.result c.in_default.is c.bare.ensures c.in_ok-outcome.ensures
+pub returns-then-is_too_nested : goal.returns-then-is_too_nested
+returns-then-is_too_nested c = let h = c.if-is_too_nested.ensures in rw c.bare.ensures (too_nested (h.0 refl))
 
 pub returns : goal.returns
-returns c =
-    if_settled-weaker _ _ _ (λ x h. evaluates_some c.args.at c.args.symbols.now c.in_ok-outcome.field-0 c.in-Some.outcome x c.in-Some.is (h ∙ ap (λ o. taken c.args.at o.value) c.outcome.view_is) c.in_ok-outcome.ensures) c.taken.ensures
+returns c = let n = c.if-is_too_nested.ensures in if_settled-weaker _ _ _ (λ x h. not_nested (λ t. false≢true (n.1 t)) h) c.evaluate_shallow.ensures

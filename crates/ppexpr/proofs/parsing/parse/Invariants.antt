@@ -1,6 +1,6 @@
 use Rattle.std.proofs.Common.{◌≡◌, [], drop}
 use Rattle.std.specs.Prelude.{None}
-use Rattle.ppexpr.specs.Pending.{outcomes}
+use Rattle.ppexpr.specs.code.Pending.{outcomes}
 use Rattle.ppexpr.proofs.parsing.parse.Given as goal
 use Rattle.ppexpr.proofs.Machine.{run}
 

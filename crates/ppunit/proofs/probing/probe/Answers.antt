@@ -1,5 +1,5 @@
 use Rattle.std.proofs.Common.{◌∙◌, sym}
-use Rattle.ppexpr.proofs.Asked.{same_token}
+use Rattle.ppexpr.proofs.DefinedReplaced.{same_token}
 use Rattle.ppunit.specs.States.{search_in}
 use Rattle.ppunit.proofs.Options.{none_of}
 use Rattle.ppunit.proofs.Probed.{rest_behind, probes_other, probes_number, probes_open, probes_unasked}

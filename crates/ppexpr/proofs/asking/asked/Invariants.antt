@@ -1,9 +1,0 @@
-use Rattle.std.proofs.Common.{length}
-use Rattle.ppexpr.proofs.Asked.{Follows}
-use Rattle.ppexpr.proofs.asking.asked.Given as goal
-
-abbrev pub invariant-loop-first : goal.invariant-loop-first
-invariant-loop-first l = Follows l.table.macros l.tokens l.asked.items l.rest
-
-abbrev pub decreases-loop-first : goal.decreases-loop-first
-decreases-loop-first l = length l.rest

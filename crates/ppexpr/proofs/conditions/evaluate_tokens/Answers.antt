@@ -1,0 +1,15 @@
+use Rattle.std.proofs.Common.{sym}
+use Rattle.ppexpr.specs.Conditions.{made_defined, bad_constant, constants}
+use Rattle.pptext.proofs.Stopping.{if_settled-weaker, raises}
+use Rattle.ppexpr.proofs.conditions.evaluate_tokens.Goals as goal
+
+pub returns-then-has_defined : goal.returns-then-has_defined
+returns-then-has_defined c = rw c.bare.ensures (made_defined (sym c.if-has_defined.ensures))
+
+pub returns : goal.returns
+returns c =
+    if_settled-weaker _ _ _ (λ x h. constants (sym c.if-has_defined.ensures) (sym c.in_ok-symbols.ensures) (rw c.as_slice.ensures.value at h)) c.evaluate_symbols.ensures
+
+pub returns-in_err-symbols : goal.returns-in_err-symbols
+returns-in_err-symbols c =
+    raises _ _ _ _ _ c.from_residual.ensures.1 c.in_err-symbols.ensures (λ f e. bad_constant (sym c.if-has_defined.ensures) (sym e))

@@ -1,0 +1,17 @@
+use Rattle.std.proofs.Common.{sym}
+use Rattle.ppexpr.proofs.DefinedReplaced.{same_token, follows_other, follows_question, follows_end}
+use Rattle.ppexpr.proofs.defined_operator.without_defined.Goals as goal
+
+pub loop-first-preserved-then-not-is_defined : goal.loop-first-preserved-then-not-is_defined
+loop-first-preserved-then-not-is_defined c =
+    follows_other c.args.table.now.macros c.args.tokens.now c.loop-first.without_defined.items c.push.new.self.items c.loop-first.rest.now c.in-Some.following.now c.in-Some.first.now c.in_ok-clone.field-0
+    (sym c.if-not-is_defined.ensures) c.in-Some.ensures.cases.0 (same_token c.in_ok-clone.field-0 c.in-Some.first.now c.in_ok-clone.ensures.cases) c.in_ok-push.ensures.items c.loop-first.invariant
+
+pub loop-first-preserved : goal.loop-first-preserved
+loop-first-preserved c =
+    follows_question c.args.table.now.macros c.args.tokens.now c.loop-first.without_defined.items c.push-in-Some.new.self.items c.loop-first.rest.now c.in-Some.following.now c.in-Some.first.now c.in_ok-defined_value.field-0
+    (record { name = c.in-Some-operand.name.now; rest = c.in-Some-operand.following.now })
+    (sym c.if-not-is_defined.ensures) c.in-Some.ensures.cases.0 c.in-Some-operand.ensures c.in_ok-defined_value.ensures c.in_ok-push-2.ensures.items c.loop-first.invariant
+
+pub returns : goal.returns
+returns c = follows_end c.args.table.now.macros c.args.tokens.now c.loop-first.without_defined.items c.loop-first.rest.now c.in_default.ensures.cases c.loop-first.invariant

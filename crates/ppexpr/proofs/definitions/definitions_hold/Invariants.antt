@@ -1,9 +1,0 @@
-use Rattle.std.proofs.Common.{length}
-use Rattle.ppexpr.specs.Definitions.{BeginsTruth}
-use Rattle.ppexpr.proofs.definitions.definitions_hold.Given as goal
-
-abbrev pub invariant-loop-next : goal.invariant-loop-next
-invariant-loop-next l = BeginsTruth l.table.macros 2 l.tokens l.holds l.rest
-
-abbrev pub decreases-loop-next : goal.decreases-loop-next
-decreases-loop-next l = length l.rest

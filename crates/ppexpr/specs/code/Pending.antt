@@ -1,0 +1,94 @@
+-- The parser's stack of what waits for its last operand, and its steps: vocabulary of the code. No definition rests on this file: the grammar alone
+-- says what an expression is.
+use Rattle.std.specs.Prelude.{◌≡◌, ℕ, Bool, List, [], ◌∷◌, Option, Some, None, nat_le, if◌then◌else◌}
+use Rattle.ppexpr.specs.Outcomes.{Value, Outcome}
+use Rattle.ppexpr.specs.Symbols.{Symbol, Constant, Operator, Open, Close, Question, Colon, unary_of, binary_of}
+use Rattle.ppexpr.specs.Operations.{Unary, Binary}
+use Rattle.ppexpr.specs.Grammar.{level_of}
+use Rattle.ppexpr.specs.Values.{constant_outcome, unary_outcome, binary_outcome, choice_outcome}
+
+-- What trees are evaluated to: outcomes, or the trees themselves.
+pub record Meaning (A : Type 0) : Type 0 where
+  pub leaf : Value → A
+  pub applied : Unary → A → A
+  pub joined : Binary → A → A → A
+  pub chosen : A → A → A → A
+
+abbrev pub outcomes : Meaning Outcome
+outcomes = record { leaf = constant_outcome; applied = unary_outcome; joined = binary_outcome; chosen = choice_outcome }
+
+-- An entry of the stack: a `(`; an operator that waits for its last operand, with the operands that it has; or a condition that waits for its `:`.
+pub data Frame (A : Type 0) : Type 0 where
+  Group : Frame A
+  Sign : Unary → Frame A
+  Left : Binary → A → Frame A
+  Test : A → Frame A
+  Arms : A → A → Frame A
+
+-- the level of the expression that the frame becomes with its last operand; 0 if a closing symbol must come first
+abbrev pub frame_level : {A : Type 0} → Frame A → ℕ
+frame_level Group = 0
+frame_level (Sign o) = 12
+frame_level (Left o x) = level_of o
+frame_level (Test x) = 0
+frame_level (Arms x y) = 1
+
+abbrev pub completed : {A : Type 0} → Meaning A → Frame A → A → A
+completed m Group z = z
+completed m (Sign o) z = m.applied o z
+completed m (Left o x) z = m.joined o x z
+completed m (Test x) z = z
+completed m (Arms x y) z = m.chosen x y z
+
+-- After an operand, the frames of this level or tighter have all their operands. These are the frames that stay, and what the operand becomes.
+abbrev pub unreduced : {A : Type 0} → ℕ → List (Frame A) → List (Frame A)
+unreduced p [] = []
+unreduced p (f ∷ fs) = if nat_le p (frame_level f) then unreduced p fs else (f ∷ fs)
+
+abbrev pub split_memory : {A : Type 0} → Meaning A → ℕ → List (Frame A) → A → A
+split_memory m p [] z = z
+split_memory m p (f ∷ fs) z = if nat_le p (frame_level f) then split_memory m p fs (completed m f z) else z
+
+-- the frames, the innermost first, and the operand that was just read, if any
+abbrev pub State : Type 0 → Type 0
+State A = List (Frame A) × Option A
+
+abbrev pub signed : {A : Type 0} → List (Frame A) → Option Unary → Option (State A)
+signed fs None = None
+signed fs (Some o) = Some (Sign o ∷ fs, None)
+
+abbrev pub operated : {A : Type 0} → Meaning A → List (Frame A) → A → Option Binary → Option (State A)
+operated m fs z None = None
+operated m fs z (Some o) = Some (Left o (split_memory m (level_of o) fs z) ∷ unreduced (level_of o) fs, None)
+
+abbrev pub between : {A : Type 0} → List (Frame A) → A → Option (State A)
+between (Test x ∷ fs) z = Some (Arms x z ∷ fs, None)
+between fs z = None
+
+abbrev pub closed : {A : Type 0} → List (Frame A) → A → Option (State A)
+closed (Group ∷ fs) z = Some (fs, Some z)
+closed fs z = None
+
+abbrev pub ended : {A : Type 0} → List (Frame A) → A → Option A
+ended [] z = Some z
+ended (f ∷ fs) z = None
+
+-- one more symbol
+abbrev pub step : {A : Type 0} → Meaning A → State A → Symbol → Option (State A)
+step m (fs, None) (Constant v) = Some (fs, Some (m.leaf v))
+step m (fs, None) Open = Some (Group ∷ fs, None)
+step m (fs, None) (Operator o) = signed fs (unary_of o)
+step m (fs, None) s = None
+step m (fs, Some z) (Operator o) = operated m fs z (binary_of o)
+step m (fs, Some z) Question = Some (Test (split_memory m 2 fs z) ∷ unreduced 2 fs, None)
+step m (fs, Some z) Colon = between (unreduced 1 fs) (split_memory m 1 fs z)
+step m (fs, Some z) Close = closed (unreduced 1 fs) (split_memory m 1 fs z)
+step m (fs, Some z) s = None
+
+-- the parser reads the symbol, or there is no step
+abbrev pub ParserTakes : State Outcome → Symbol → Bool → State Outcome → Type 0
+ParserTakes old s more new = step outcomes old s ≡ (if more then Some new else None)
+
+abbrev pub finish : {A : Type 0} → Meaning A → State A → Option A
+finish m (fs, None) = None
+finish m (fs, Some z) = ended (unreduced 1 fs) (split_memory m 1 fs z)
