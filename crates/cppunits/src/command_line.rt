@@ -109,7 +109,7 @@ fn read_options(alloc: Global, matches: &ArgMatches<'_>) -> Result<Options, Allo
     ensures { IfOk result InRange }
 {
     let root = match matches.get_str("root") {
-        Some(folder) => Some(String::from_str(alloc, folder)?),
+        Some(directory) => Some(String::from_str(alloc, directory)?),
         None => None,
     };
     let mode = if matches.subcommand_name() == Some("deps") {

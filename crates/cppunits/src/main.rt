@@ -8,7 +8,7 @@ use command_line::Asked;
 use ppserve::{
     AtEnd, ReaderFeed, RunFault, RunOptions, WriterSink, serve, serve_from, status, words,
 };
-use ppshelf::FolderDisk;
+use ppshelf::DirDisk;
 use pptext::Hashing;
 use room::reserve;
 use std::hash::RandomState;
@@ -56,9 +56,9 @@ fn main(rt: HostRuntime) -> ExitCode {
     };
     let outcome = match &options.root {
         None => serve(&rt, rt.alloc(), &mut reader, &mut writer, run),
-        Some(folder) => {
-            let (files, folder) = (&rt, folder.as_str());
-            let disk = FolderDisk { files, folder };
+        Some(directory) => {
+            let (files, directory) = (&rt, directory.as_str());
+            let disk = DirDisk { files, directory };
             serve_from(&rt, rt.alloc(), &mut reader, &mut writer, &disk, run)
         }
     };

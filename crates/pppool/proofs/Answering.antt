@@ -4,7 +4,7 @@ use Rattle.std.proofs.lemmas.Bool.{cases_lt, cases_eq}
 use Rattle.std.proofs.lemmas.Bool.Decides.{nat_tests}
 use Rattle.std.proofs.lemmas.List.{get_or_read}
 use Rattle.std.proofs.lemmas.List.Elements.{All-push}
-use Rattle.ppshelf.specs.Files.{Files, Extends, Stock}
+use Rattle.ppshelf.specs.Files.{Files, Extends, TableView}
 use Rattle.ppunit.specs.declared.units.Unit.{Unit as UnitOfList}
 use Rattle.ppunit.specs.declared.units.Setting.{Setting}
 use Rattle.ppunit.specs.declared.units.UnitOut.{UnitOut}
@@ -18,7 +18,7 @@ use Rattle.pppool.proofs.Totals.{times-append, times_at}
 
 -- what is true of an answer over some files is true over more
 pub answers_grow : Grows
-    → (keep : Keep) (stock : Stock) (old new : Files) (setting : Setting) (units : List UnitOfList) (answers : List Answer)
+    → (keep : Keep) (stock : TableView) (old new : Files) (setting : Setting) (units : List UnitOfList) (answers : List Answer)
     → Extends new old
     → AreAnswers keep stock old setting units answers
     → AreAnswers keep stock new setting units answers
@@ -27,7 +27,7 @@ answers_grow grows keep stock old new setting units answers more all k d w =
     record { within = a.within; value = λ u. kept_grows grows keep stock.names old new setting (get_or units (get_or answers k d).unit u) (get_or answers k d).out more (a.value u) }
 
 -- one answer more
-pub answers_push : Grows → (keep : Keep) (stock : Stock) (old new : Files) (setting : Setting) (units : List UnitOfList) (answers : List Answer) (number : ℕ) (unit : UnitOfList) (out : UnitOut)
+pub answers_push : Grows → (keep : Keep) (stock : TableView) (old new : Files) (setting : Setting) (units : List UnitOfList) (answers : List Answer) (number : ℕ) (unit : UnitOfList) (out : UnitOut)
     → Extends new old → AreAnswers keep stock old setting units answers → number < length units → unit ≡ get_or units number unit → IsKept keep stock.names new setting unit out
     → AreAnswers keep stock new setting units (answers ++ record { unit = number; out = out } ∷ [])
 answers_push grows keep stock old new setting units answers number unit out more all w read is =

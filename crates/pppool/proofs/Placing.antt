@@ -6,7 +6,7 @@ use Rattle.std.proofs.lemmas.Bool.{cases_lt, cases_eq}
 use Rattle.std.proofs.lemmas.List.{length-set, get_or-set_same, get_or-set_other, get_or_default, set_past}
 use Rattle.std.proofs.lemmas.Slice.Zip.{AllZip-long}
 use Rattle.ppshelf.specs.Names.{AreNames}
-use Rattle.ppshelf.specs.Files.{Files, Extends, Stock}
+use Rattle.ppshelf.specs.Files.{Files, Extends, TableView}
 use Rattle.ppunit.specs.declared.units.Unit.{Unit as UnitOfList}
 use Rattle.ppunit.specs.declared.units.Setting.{Setting}
 use Rattle.ppunit.specs.declared.units.UnitOut.{UnitOut}
@@ -48,7 +48,7 @@ if_some_map P Q (Some x) more h = more x h
 
 -- what stands in slots over some files stands there over more
 pub slots_grow : Grows
-    → (keep : Keep) (stock : Stock) (old new : Files) (setting : Setting) (units : List UnitOfList) (slots : List (Option UnitOut))
+    → (keep : Keep) (stock : TableView) (old new : Files) (setting : Setting) (units : List UnitOfList) (slots : List (Option UnitOut))
     → Extends new old
     → FitSlots keep stock old setting units slots
     → FitSlots keep stock new setting units slots
@@ -58,7 +58,7 @@ slots_grow grows keep stock old new setting units slots more fit =
     (λ unit slot h. if_some_map (At old unit) (At new unit) slot (λ out is. kept_grows grows keep stock.names old new setting unit out more is) h) fit
 
 -- answers that are their units' values go into slots
-pub slots_placed : (keep : Keep) (stock : Stock) (files : Files) (setting : Setting) (units : List UnitOfList) (slots : List (Option UnitOut))
+pub slots_placed : (keep : Keep) (stock : TableView) (files : Files) (setting : Setting) (units : List UnitOfList) (slots : List (Option UnitOut))
     (answers : List Answer)
     → FitSlots keep stock files setting units slots
     → AreAnswers keep stock files setting units answers
@@ -69,12 +69,12 @@ slots_placed keep stock files setting units slots (a ∷ answers) fit all =
     let R : UnitOfList → Option UnitOut → Type 0 = λ unit slot. IfSome slot (λ out. IsKept keep stock.names files setting unit out) in
     slots_placed keep stock files setting units (set slots a.unit (Some a.out)) answers (zip_set R units slots a.unit (Some a.out) fit (λ d w. first.value d)) (λ k d w. all (suc k) d (omega arith))
 
-none_fit : (keep : Keep) (stock : Stock) (files : Files) (setting : Setting) (units : List UnitOfList) → FitSlots keep stock files setting units (replicate (length units) None)
+none_fit : (keep : Keep) (stock : TableView) (files : Files) (setting : Setting) (units : List UnitOfList) → FitSlots keep stock files setting units (replicate (length units) None)
 none_fit keep stock files setting [] = tt
 none_fit keep stock files setting (u ∷ units) = (tt, none_fit keep stock files setting units)
 
 -- empty slots
-pub slots_empty : (keep : Keep) (stock : Stock) (files : Files) (setting : Setting) (units : List UnitOfList) (slots : List (Option UnitOut)) → slots ≡ replicate (length units) None → FitSlots keep stock files setting units slots
+pub slots_empty : (keep : Keep) (stock : TableView) (files : Files) (setting : Setting) (units : List UnitOfList) (slots : List (Option UnitOut)) → slots ≡ replicate (length units) None → FitSlots keep stock files setting units slots
 slots_empty keep stock files setting units slots is =
     let P : List (Option UnitOut) → Type 0 = FitSlots keep stock files setting units in
     subst P (sym is) (none_fit keep stock files setting units)
@@ -108,7 +108,7 @@ placed_fills slots (a ∷ answers) i w h =
     ]
 
 -- at the end the slots have what is kept of the units' values
-pub are_kept : (keep : Keep) (stock : Stock) (files : Files) (setting : Setting) (units : List UnitOfList) (outs : List UnitOut)
+pub are_kept : (keep : Keep) (stock : TableView) (files : Files) (setting : Setting) (units : List UnitOfList) (outs : List UnitOut)
     → FitSlots keep stock files setting units (map (λ x. Some x) outs)
     → AreKept keep stock.names files setting units outs
 are_kept keep stock files setting [] [] fit = record { wholes = []; values = tt; same = refl }
@@ -125,7 +125,7 @@ are_kept keep stock files setting (u ∷ units) (out ∷ outs) fit =
 -- ---- what comes of a worker that is done
 
 -- each unit has a slot
-pub slots_long : (keep : Keep) (stock : Stock) (files : Files) (setting : Setting) (units : List UnitOfList) (slots : List (Option UnitOut))
+pub slots_long : (keep : Keep) (stock : TableView) (files : Files) (setting : Setting) (units : List UnitOfList) (slots : List (Option UnitOut))
     → FitSlots keep stock files setting units slots
     → (i : ℕ)
     → i < length units
@@ -135,7 +135,7 @@ slots_long keep stock files setting units slots fit i w =
     omega arith
 
 -- each answer has a slot
-pub within_slots : (keep : Keep) (stock : Stock) (mine theirs : Files) (setting : Setting) (units : List UnitOfList) (slots : List (Option UnitOut))
+pub within_slots : (keep : Keep) (stock : TableView) (mine theirs : Files) (setting : Setting) (units : List UnitOfList) (slots : List (Option UnitOut))
     (answers : List Answer)
     → FitSlots keep stock mine setting units slots
     → AreAnswers keep stock theirs setting units answers
@@ -171,7 +171,7 @@ if_ok_then (Ok x) p more = more x p
 if_ok_then (Err e) p more = tt
 
 -- where each block was claimed, all slots are full
-pub all_full : (keep : Keep) (stock : Stock) (files : Files) (setting : Setting) (units : List UnitOfList) (block blocks : ℕ) (claims : List ℕ) (slots : List (Option UnitOut)) → FitSlots keep stock files setting units slots
+pub all_full : (keep : Keep) (stock : TableView) (files : Files) (setting : Setting) (units : List UnitOfList) (block blocks : ℕ) (claims : List ℕ) (slots : List (Option UnitOut)) → FitSlots keep stock files setting units slots
     → AllFilled (length units) block claims slots → ((x : ℕ) → times x claims ≡ once_below x blocks) → ((i : ℕ) → i < length units → i / block < blocks) → All (λ s. IsSome s) slots
 all_full keep stock files setting units block blocks claims slots fit full whole below k d w =
     let long = AllZip-long (λ unit slot. IfSome slot (λ out. IsKept keep stock.names files setting unit out)) units slots fit in

@@ -2,7 +2,7 @@
 -- of private types cite this.
 use Rattle.std.specs.Prelude.{◌≡◌, ℕ, ◌<◌, ◌/◌, List, [], ◌∷◌, length, All, Option, Some, None, IfSome, IsSome, true, slice_index_or, slice_set}
 use Rattle.std.specs.List.{AllZip}
-use Rattle.ppshelf.specs.Files.{Files, Stock, Known}
+use Rattle.ppshelf.specs.Files.{Files, TableView, PassView}
 use Rattle.ppunit.specs.declared.units.Unit.{Unit as UnitOfList}
 use Rattle.ppunit.specs.declared.units.Setting.{Setting}
 use Rattle.ppunit.specs.declared.units.UnitOut.{UnitOut}
@@ -16,11 +16,11 @@ pub record Answer : Type 0 where
   pub out : UnitOut
 
 -- the output is what is kept of the value of the unit with its number
-pub record IsAnswer (keep : Keep) (stock : Stock) (files : Files) (setting : Setting) (units : List UnitOfList) (a : Answer) : Type 0 where
+pub record IsAnswer (keep : Keep) (stock : TableView) (files : Files) (setting : Setting) (units : List UnitOfList) (a : Answer) : Type 0 where
   pub within : a.unit < length units
   pub value : (d : UnitOfList) → IsKept keep stock.names files setting (slice_index_or units a.unit d) a.out
 
-abbrev pub AreAnswers : Keep → Stock → Files → Setting → List UnitOfList → List Answer → Type 0
+abbrev pub AreAnswers : Keep → TableView → Files → Setting → List UnitOfList → List Answer → Type 0
 AreAnswers keep stock files setting units answers = All (λ a. IsAnswer keep stock files setting units a) answers
 
 -- the numbers of the units that have outputs
@@ -34,8 +34,8 @@ AllAnswered count block blocks units = (i : ℕ) → i < count → 0 < times (i 
 
 -- The result of a worker: a seat that found no block left, a pass, and outputs, over what the pass knows, of all units
 -- of the blocks that the seat claimed.
-pub record IsDone (keep : Keep) (desk : DeskId) (stock : Stock) (setting : Setting)
-    (units : List UnitOfList) (block : ℕ) (seat : SeatView) (pass : Known) (answers : List Answer) : Type 0 where
+pub record IsDone (keep : Keep) (desk : DeskId) (stock : TableView) (setting : Setting)
+    (units : List UnitOfList) (block : ℕ) (seat : SeatView) (pass : PassView) (answers : List Answer) : Type 0 where
   pub at_desk : seat.desk ≡ desk
   pub found_empty : seat.found_empty ≡ true
   pub of_shelf : pass.shelf ≡ stock
@@ -43,7 +43,7 @@ pub record IsDone (keep : Keep) (desk : DeskId) (stock : Stock) (setting : Setti
   pub all : AllAnswered (length units) block seat.claims (answered answers)
 
 -- each slot is empty or has what is kept of its unit's value
-abbrev pub FitSlots : Keep → Stock → Files → Setting → List UnitOfList → List (Option UnitOut) → Type 0
+abbrev pub FitSlots : Keep → TableView → Files → Setting → List UnitOfList → List (Option UnitOut) → Type 0
 FitSlots keep stock files setting units slots = AllZip (λ unit slot. IfSome slot (λ out. IsKept keep stock.names files setting unit out)) units slots
 
 -- the slots with these outputs in the slots of their units

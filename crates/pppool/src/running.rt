@@ -1,6 +1,6 @@
 //! Runs all units of a list.
 ghost use Rattle.std.specs.Prelude.{◌≡◌, ℕ, ◌<◌, ◌≤◌, ◌/◌, [], length, All, IfOk, IsSome, Some, None, true, slice_index_or};
-ghost use Rattle.ppshelf.specs.Files.{most_rows, Extends, Agree, AllLawful};
+ghost use Rattle.ppshelf.specs.Files.{most_rows, Extends, Agree, AllPermitted};
 ghost use Rattle.ppunit.specs.Unit.{IsUnitOf};
 ghost use Rattle.ppunit.specs.Units.{AreUnits, AreWithin, AreCapped};
 ghost use Rattle.pppool.specs.Desk.{most_blocks, new_seat, times, claims_of};
@@ -47,11 +47,11 @@ pub fn run<'a, R: Threads + Sync, D: Disk + Send + Sync, G: Gate + Sync>(
     ensures value { IfOk result (λ outs. AreUnits batch.now.shelf.now.names pass.new.files batch.now.setting.now batch.now.units.now outs.items) }
     ensures within { IfOk result (λ outs. AreWithin batch.now.shelf.now.names pass.new.files batch.now.setting.now batch.now.units.now outs.items) }
     ensures capped { IfOk result (λ outs. AreCapped batch.now.shelf.now.names pass.new.files batch.now.setting.now batch.now.units.now outs.items) }
-    ensures lawful { AllLawful D.may batch.now.shelf.now.names pass.new.files }
+    ensures contents_permitted { AllPermitted D.may batch.now.shelf.now.names pass.new.files }
     ensures filled { Agree batch.now.shelf.now.base pass.new.files }
 {
     let outs = run_keeping(threads, alloc, pass, batch, Keep::Whole)?;
-    batch.shelf.lawful();
+    batch.shelf.contents_permitted();
     stays_within();
     budget_caps_units();
     Ok(outs)
@@ -79,7 +79,7 @@ pub fn run_keeping<'a, R: Threads + Sync, D: Disk + Send + Sync, G: Gate + Sync>
     ensures kept { IfOk result (λ outs. AreKept keep batch.now.shelf.now.names pass.new.files batch.now.setting.now batch.now.units.now outs.items) }
     ensures within { IfOk result (λ outs. AreKeptWithin keep batch.now.shelf.now.names pass.new.files batch.now.setting.now batch.now.units.now outs.items) }
     ensures capped { IfOk result (λ outs. AreKeptCapped keep batch.now.shelf.now.names pass.new.files batch.now.setting.now batch.now.units.now outs.items) }
-    ensures lawful { AllLawful D.may batch.now.shelf.now.names pass.new.files }
+    ensures contents_permitted { AllPermitted D.may batch.now.shelf.now.names pass.new.files }
     ensures filled { Agree batch.now.shelf.now.base pass.new.files }
 {
     let Batch {
@@ -91,7 +91,7 @@ pub fn run_keeping<'a, R: Threads + Sync, D: Disk + Send + Sync, G: Gate + Sync>
         workers,
         block,
     } = *batch;
-    pass.lawful();
+    pass.contents_permitted();
     let (desk, seats) = Desk::new(alloc, block_count(units.len(), block), workers)?;
     let gathered = gather(
         threads,
@@ -109,8 +109,8 @@ pub fn run_keeping<'a, R: Threads + Sync, D: Disk + Send + Sync, G: Gate + Sync>
         seats,
         pass,
     );
-    pass.lawful();
-    shelf.lawful();
+    pass.contents_permitted();
+    shelf.contents_permitted();
     // For proofs: the theorems about budgets hold.
     stays_within();
     budget_caps_units();

@@ -148,11 +148,11 @@ when false o y e = absurd (none-some y e)
 file_from : (inline : Bool) (d : Data) (f : DraftFile) → draft_file inline d ≡ Some f → IsFileDraft inline d f
 file_from inline d f e =
     let m = when (is_object_of (file_members inline) d) _ f e in
-    option_and_then_some _ (text_at (codes "name") d) f m.1 (λ name is_name e.
+    option_and_then_some _ (text_at (codes "name") d) f m.1 (λ name is_file_name e.
     option_and_then_some _ (content_of inline d) f e (λ content is_content e.
     subst (IsFileDraft inline d) (same_Some _ f e) (record {
       object = m.0;
-      name = text_from (codes "name") d name is_name;
+      name = text_from (codes "name") d name is_file_name;
       content = content_from_members inline d content is_content;
     })))
 

@@ -10,7 +10,7 @@ use Rattle.std.proofs.lemmas.List.{ext_get_or, get_or_past, get_or-map, get_or-r
 use Rattle.std.proofs.lemmas.Option.{none-some}
 use Rattle.std.proofs.lemmas.Slice.Zip.{AllZip-long}
 use Rattle.ppshelf.specs.Content.{Content, readable}
-use Rattle.ppshelf.specs.Files.{most_rows, Files, Stock, file_at, Extends, Agree, IsFull, Filled, bytes_at}
+use Rattle.ppshelf.specs.Files.{most_rows, Files, TableView, file_at, Extends, Agree, IsFull, Filled, bytes_at}
 use Rattle.ppunit.specs.declared.units.Setting.{Setting}
 use Rattle.ppunit.specs.declared.units.Unit.{Unit as UnitOfList}
 use Rattle.ppunit.specs.declared.units.UnitOut.{UnitOut}
@@ -34,7 +34,7 @@ content_now None i = absurd (false≢true i)
 content_now (Some c) i = (c, refl)
 
 -- a pass over a full shelf knows nothing but what was filled
-pub knows_files : (shelf : Stock) (files : Files) → IsFull shelf → Agree shelf.base files → length files ≡ length shelf.names → Extends shelf.base files
+pub knows_files : (shelf : TableView) (files : Files) → IsFull shelf → Agree shelf.base files → length files ≡ length shelf.names → Extends shelf.base files
 knows_files shelf files full agree len row c e =
     elim (cases_lt row (length files)) [
       | inl w ↦
@@ -44,7 +44,7 @@ knows_files shelf files full agree len row c e =
     ]
 
 -- what is kept of what units give over a shelf of the list's files is kept of what they give over the list's
-pub gives_all : (keep : Keep) (list : CompilationList) (shelf : Stock) (units : List UnitOfList) (outs : List UnitOut) → shelf.names ≡ list.names → shelf.base ≡ files_of list.contents → units ≡ list.units
+pub gives_all : (keep : Keep) (list : CompilationList) (shelf : TableView) (units : List UnitOfList) (outs : List UnitOut) → shelf.names ≡ list.names → shelf.base ≡ files_of list.contents → units ≡ list.units
     → AreKept keep shelf.names shelf.base list.setting units outs → AreKept keep list.names (files_of list.contents) list.setting list.units outs
 gives_all keep list shelf units outs named is same gives =
     let P : List (List ℕ) → Type 0 = λ ns. AreKept keep ns shelf.base list.setting units outs in
@@ -65,7 +65,7 @@ same_texts (x ∷ xs) [] z = absurd z
 same_texts (x ∷ xs) (y ∷ ys) z = ap (λ b. b ∷ map string_bytes ys) z.0 ∙ ap (λ bs. string_bytes x ∷ bs) (same_texts xs ys z.1)
 
 -- a shelf that was empty holds the contents that were moved to it
-pub filled_files : {A : Type 0} (contents : List (Vec ℕ A)) (old new : Stock) → old.base ≡ replicate (length old.names) None → length contents ≡ length old.names → new.names ≡ old.names → length new.base ≡ length old.names
+pub filled_files : {A : Type 0} (contents : List (Vec ℕ A)) (old new : TableView) → old.base ≡ replicate (length old.names) None → length contents ≡ length old.names → new.names ≡ old.names → length new.base ≡ length old.names
     → ((row : ℕ) → row < length old.names → Filled (λ c. c ≡ readable (bytes_at contents row)) (file_at old.base row) (file_at new.base row)) → IsFull new → new.base ≡ files_of (map (λ bytes. bytes.items) contents)
 filled_files contents old new empty len named long rows full =
     let file : List ℕ → Option Content = λ bytes. Some (readable bytes) in
@@ -84,7 +84,7 @@ filled_files contents old new empty len named long rows full =
     now.1 ∙ (ap Some content ∙ sym (get_or-map file texts row [] None in_texts)))
 
 -- what units give over some files of a shelf, they give for the list whose names the shelf has
-pub gives_from : (may : List ℕ → Content → Type 0) (keep : Keep) (list : CompilationList) (shelf : Stock) (units : List UnitOfList) (outs : List UnitOut) → shelf.names ≡ list.names → units ≡ list.units
+pub gives_from : (may : List ℕ → Content → Type 0) (keep : Keep) (list : CompilationList) (shelf : TableView) (units : List UnitOfList) (outs : List UnitOut) → shelf.names ≡ list.names → units ≡ list.units
     → GiveOverSome may keep shelf.names list.setting units outs → GiveOverSome may keep list.names list.setting list.units outs
 gives_from may keep list shelf units outs named same gives =
     let P : List (List ℕ) → Type 0 = λ ns. GiveOverSome may keep ns list.setting units outs in

@@ -1,7 +1,7 @@
 -- The files of a list.
 use Rattle.std.specs.Prelude.{◌≡◌, ℕ, List, map, Some}
 use Rattle.ppshelf.specs.Content.{Content, readable}
-use Rattle.ppshelf.specs.Files.{Files, AllLawful}
+use Rattle.ppshelf.specs.Files.{Files, AllPermitted}
 use Rattle.pppool.specs.declared.keeping.Keep.{Keep}
 use Rattle.pppool.specs.Kept.{AreKept}
 use Rattle.ppunit.specs.declared.units.Setting.{Setting}
@@ -19,11 +19,11 @@ StandIn list files = files ≡ files_of list.contents
 
 -- each content is one that a disk may return for its name
 abbrev pub MayBe : (List ℕ → Content → Type 0) → CompilationList → Files → Type 0
-MayBe may list files = AllLawful may list.names files
+MayBe may list files = AllPermitted may list.names files
 
 -- what is kept of the units' values over some such files
 pub record GiveOverSome (may : List ℕ → Content → Type 0) (keep : Keep) (names : List (List ℕ)) (setting : Setting)
     (units : List UnitOfList) (outs : List UnitOut) : Type 0 where
   pub files : Files
-  pub lawful : AllLawful may names files
+  pub contents_permitted : AllPermitted may names files
   pub gives : AreKept keep names files setting units outs

@@ -10,7 +10,7 @@ use Rattle.pptext.specs.declared.sources.Profile.{Profile}
 use Rattle.pptext.specs.declared.sources.Profile.TheVariants.{C11, Later, Gnu}
 use Rattle.ppshelf.specs.Content.{longest}
 use Rattle.ppshelf.specs.Files.{most_rows}
-use Rattle.ppshelf.specs.Names.{AreNames, are_names, is_folder, row_among}
+use Rattle.ppshelf.specs.Names.{AreNames, are_names, is_directory, row_among}
 use Rattle.ppunit.specs.Forms.{is_date, is_time, is_one_line, is_setting, is_unit}
 use Rattle.ppunit.specs.Unit.{command_text}
 use Rattle.ppunit.specs.declared.units.Setting.{Setting}
@@ -70,7 +70,7 @@ lines_hold = list_all (λ (u : DraftUnit). list_all is_one_line u.defines)
 
 -- each search path is a directory name
 abbrev pub folders_hold : Draft → Bool
-folders_hold d = list_all is_folder d.setting.search && list_all (λ (u : DraftUnit). list_all is_folder u.search) d.units
+folders_hold d = list_all is_directory d.setting.search && list_all (λ (u : DraftUnit). list_all is_directory u.search) d.units
 
 -- the profile with this name
 abbrev pub profile_named : List ℕ → Option Profile

@@ -170,7 +170,7 @@ pub(crate) fn over_contents<'a, R: Threads + Sync>(
         block: options.share(units.len()),
     };
     let outs = run_keeping(threads, alloc, &mut pass, &batch, needed(options.mode))?;
-    pass.lawful();
+    pass.contents_permitted();
     list_growth();
     Ok(outs)
 }

@@ -9,11 +9,11 @@ use Rattle.std.proofs.lemmas.Option.{none-some, same_Some}
 use Rattle.ppshelf.specs.Content.{Content}
 use Rattle.ppshelf.specs.Files.{Files, file_at, Extends}
 use Rattle.ppshelf.proofs.Files.{none_known}
-use Rattle.ppshelf.specs.Events.{Caller, nobody, Shared, caller_at, learnt_by, changing, learning, keeping, with_block, with_none, advancing, Event, Happens, keeps, reads, claims, finds_none, Happen, none, next, beginning, LearntStays, CallersAgree, times, claims_of, EachBlockOnce}
+use Rattle.ppshelf.specs.Events.{Caller, no_caller, Shared, caller_at, observed_by, with_changed_caller, observing, caching, with_block, with_no_block_left, with_next_block, Event, Happens, keeps, reads, claims, finds_none, Happen, none, next, initial_state, ObservedStays, CallersAgree, times, claims_of, EachBlockOnce}
 
 -- all that a caller has observed is cached
 abbrev Sound : Shared → Type 0
-Sound shared = (caller : ℕ) → Extends shared.kept (learnt_by shared caller)
+Sound shared = (caller : ℕ) → Extends shared.cached (observed_by shared caller)
 
 -- ---- a row of files that is written
 
@@ -48,73 +48,73 @@ set_known files row c at d e =
 
 -- no caller forgets
 abbrev Grown : Shared → Shared → Type 0
-Grown before after = (caller : ℕ) → Extends (learnt_by after caller) (learnt_by before caller)
+Grown before after = (caller : ℕ) → Extends (observed_by after caller) (observed_by before caller)
 
 -- a caller that is changed, and the others
-changed_same : (shared : Shared) (caller : ℕ) (change : Caller → Caller) → caller < length shared.callers → caller_at (changing shared caller change) caller ≡ change (caller_at shared caller)
-changed_same shared caller change within = get_or-set_same shared.callers caller (change (caller_at shared caller)) nobody within
+changed_same : (shared : Shared) (caller : ℕ) (change : Caller → Caller) → caller < length shared.callers → caller_at (with_changed_caller shared caller change) caller ≡ change (caller_at shared caller)
+changed_same shared caller change within = get_or-set_same shared.callers caller (change (caller_at shared caller)) no_caller within
 
-changed_other : (shared : Shared) (caller : ℕ) (change : Caller → Caller) (who : ℕ) → (who ≡ caller → ⊥) → caller_at (changing shared caller change) who ≡ caller_at shared who
-changed_other shared caller change who other = get_or-set_other shared.callers caller who (change (caller_at shared caller)) nobody other
+changed_other : (shared : Shared) (caller : ℕ) (change : Caller → Caller) (who : ℕ) → (who ≡ caller → ⊥) → caller_at (with_changed_caller shared caller change) who ≡ caller_at shared who
+changed_other shared caller change who other = get_or-set_other shared.callers caller who (change (caller_at shared caller)) no_caller other
 
 -- what a caller has observed once some caller observes
 learnt_after : (shared : Shared) (caller row : ℕ) (c : Content) (who : ℕ) → caller < length shared.callers
-    → (learnt_by (learning shared caller row c) who ≡ learnt_by shared who)
-    ⊎ (learnt_by (learning shared caller row c) who ≡ set (learnt_by shared who) row (Some c))
+    → (observed_by (observing shared caller row c) who ≡ observed_by shared who)
+    ⊎ (observed_by (observing shared caller row c) who ≡ set (observed_by shared who) row (Some c))
 learnt_after shared caller row c who within =
-    let change : Caller → Caller = λ (k : Caller). record k { learnt = set k.learnt row (Some c) } in
+    let change : Caller → Caller = λ (k : Caller). record k { observed = set k.observed row (Some c) } in
     elim (cases_eq who caller) [
-      | inr other ↦ inl (ap (λ (k : Caller). k.learnt) (changed_other shared caller change who other))
+      | inr other ↦ inl (ap (λ (k : Caller). k.observed) (changed_other shared caller change who other))
       | inl is ↦
-          let P : ℕ → Type 0 = λ w. learnt_by (learning shared caller row c) w ≡ set (learnt_by shared w) row (Some c) in
-          inr (subst P (sym is) (ap (λ (k : Caller). k.learnt) (changed_same shared caller change within)))
+          let P : ℕ → Type 0 = λ w. observed_by (observing shared caller row c) w ≡ set (observed_by shared w) row (Some c) in
+          inr (subst P (sym is) (ap (λ (k : Caller). k.observed) (changed_same shared caller change within)))
     ]
 
-learns : (shared : Shared) (caller row : ℕ) (c : Content) → caller < length shared.callers → Sound shared → file_at shared.kept row ≡ Some c → Sound (learning shared caller row c) × Grown shared (learning shared caller row c)
-learns shared caller row c within sound kept =
-    let same : (who : ℕ) (d : Content) → file_at (learnt_by shared who) row ≡ Some d → d ≡ c = λ who d e. same_Some d c (sym (sound who row d e) ∙ kept) in (
+learns : (shared : Shared) (caller row : ℕ) (c : Content) → caller < length shared.callers → Sound shared → file_at shared.cached row ≡ Some c → Sound (observing shared caller row c) × Grown shared (observing shared caller row c)
+learns shared caller row c within sound cached =
+    let same : (who : ℕ) (d : Content) → file_at (observed_by shared who) row ≡ Some d → d ≡ c = λ who d e. same_Some d c (sym (sound who row d e) ∙ cached) in (
       λ who at d e.
           elim (learnt_after shared caller row c who within) [
             | inl old ↦ sound who at d (ap (λ (f : Files). file_at f at) (sym old) ∙ e)
             | inr new ↦
-                elim (set_known (learnt_by shared who) row c at d (ap (λ (f : Files). file_at f at) (sym new) ∙ e)) [
+                elim (set_known (observed_by shared who) row c at d (ap (λ (f : Files). file_at f at) (sym new) ∙ e)) [
                   | inl known ↦ sound who at d known
-                  | inr here ↦ ap (file_at shared.kept) here.0 ∙ (kept ∙ ap (λ (x : Content). Some x) here.1)
+                  | inr here ↦ ap (file_at shared.cached) here.0 ∙ (cached ∙ ap (λ (x : Content). Some x) here.1)
                 ]
           ],
       λ who at d e.
           elim (learnt_after shared caller row c who within) [
             | inl old ↦ ap (λ (f : Files). file_at f at) old ∙ e
-            | inr new ↦ ap (λ (f : Files). file_at f at) new ∙ set_extends (learnt_by shared who) row c (same who) at d e
+            | inr new ↦ ap (λ (f : Files). file_at f at) new ∙ set_extends (observed_by shared who) row c (same who) at d e
           ],
     )
 
 -- a change of a caller that leaves what it has observed
-keeps_learnt : (shared : Shared) (caller : ℕ) (change : Caller → Caller) → ((k : Caller) → (change k).learnt ≡ k.learnt) → caller < length shared.callers → (who : ℕ) → learnt_by (changing shared caller change) who ≡ learnt_by shared who
+keeps_learnt : (shared : Shared) (caller : ℕ) (change : Caller → Caller) → ((k : Caller) → (change k).observed ≡ k.observed) → caller < length shared.callers → (who : ℕ) → observed_by (with_changed_caller shared caller change) who ≡ observed_by shared who
 keeps_learnt shared caller change same within who =
     elim (cases_eq who caller) [
-      | inr other ↦ ap (λ (k : Caller). k.learnt) (changed_other shared caller change who other)
+      | inr other ↦ ap (λ (k : Caller). k.observed) (changed_other shared caller change who other)
       | inl is ↦
-          let P : ℕ → Type 0 = λ w. learnt_by (changing shared caller change) w ≡ learnt_by shared w in
-          subst P (sym is) (ap (λ (k : Caller). k.learnt) (changed_same shared caller change within) ∙ same (caller_at shared caller))
+          let P : ℕ → Type 0 = λ w. observed_by (with_changed_caller shared caller change) w ≡ observed_by shared w in
+          subst P (sym is) (ap (λ (k : Caller). k.observed) (changed_same shared caller change within) ∙ same (caller_at shared caller))
     ]
 
-unlearnt : (before after : Shared) → after.kept ≡ before.kept → ((who : ℕ) → learnt_by after who ≡ learnt_by before who) → Sound before → Sound after × Grown before after
-unlearnt before after kept same sound = (
-  λ who at d e. ap (λ (f : Files). file_at f at) kept ∙ sound who at d (ap (λ (f : Files). file_at f at) (sym (same who)) ∙ e),
+unlearnt : (before after : Shared) → after.cached ≡ before.cached → ((who : ℕ) → observed_by after who ≡ observed_by before who) → Sound before → Sound after × Grown before after
+unlearnt before after cached same sound = (
+  λ who at d e. ap (λ (f : Files). file_at f at) cached ∙ sound who at d (ap (λ (f : Files). file_at f at) (sym (same who)) ∙ e),
   λ who at d e. ap (λ (f : Files). file_at f at) (same who) ∙ e,
 )
 
 happens : (blocks : ℕ) (before : Shared) (event : Event) (after : Shared) → Happens blocks before event after → Sound before → Sound after × Grown before after
 happens blocks before event after (keeps {caller = caller} {row = row} {c = c} there within free) sound =
-    let wider : Extends (set before.kept row (Some c)) before.kept = set_extends before.kept row c (λ d e. absurd (none-some d (sym free ∙ e))) in
-    let still : Sound (keeping before row c) = λ who at d e. wider at d (sound who at d e) in
-    learns (keeping before row c) caller row c there still (get_or-set_same before.kept row (Some c) None within)
-happens blocks before event after (reads {caller = caller} {row = row} {c = c} there kept) sound = learns before caller row c there sound kept
+    let wider : Extends (set before.cached row (Some c)) before.cached = set_extends before.cached row c (λ d e. absurd (none-some d (sym free ∙ e))) in
+    let still : Sound (caching before row c) = λ who at d e. wider at d (sound who at d e) in
+    learns (caching before row c) caller row c there still (get_or-set_same before.cached row (Some c) None within)
+happens blocks before event after (reads {caller = caller} {row = row} {c = c} there cached) sound = learns before caller row c there sound cached
 happens blocks before event after (claims {caller = caller} there less) sound =
-    unlearnt before (advancing (changing before caller (with_block before.block))) refl (keeps_learnt before caller (with_block before.block) (λ k. refl) there) sound
+    unlearnt before (with_next_block (with_changed_caller before caller (with_block before.block))) refl (keeps_learnt before caller (with_block before.block) (λ k. refl) there) sound
 happens blocks before event after (finds_none {caller = caller} there past) sound =
-    unlearnt before (advancing (changing before caller with_none)) refl (keeps_learnt before caller with_none (λ k. refl) there) sound
+    unlearnt before (with_next_block (with_changed_caller before caller with_no_block_left)) refl (keeps_learnt before caller with_no_block_left (λ k. refl) there) sound
 
 -- ---- all events
 
@@ -125,20 +125,20 @@ happen blocks before (event ∷ events) after (next {between = between} one more
     let rest = happen blocks between events after more first.0 in
     (rest.0, λ caller at d e. rest.1 caller at d (first.1 caller at d e))
 
-none_learnt : (rows callers caller at : ℕ) → file_at (learnt_by (beginning rows callers) caller) at ≡ None
+none_learnt : (rows callers caller at : ℕ) → file_at (observed_by (initial_state rows callers) caller) at ≡ None
 none_learnt rows zero caller at = refl
 none_learnt rows (suc callers) zero at = none_known rows at
 none_learnt rows (suc callers) (suc caller) at = none_learnt rows callers caller at
 
-sound_first : (rows callers : ℕ) → Sound (beginning rows callers)
+sound_first : (rows callers : ℕ) → Sound (initial_state rows callers)
 sound_first rows callers caller at d e = absurd (none-some d (sym (none_learnt rows callers caller at) ∙ e))
 
-pub learnt_stays : LearntStays
-learnt_stays blocks rows callers events more shared after first later = (happen blocks shared more after later (happen blocks (beginning rows callers) events shared first (sound_first rows callers)).0).1
+pub observed_stays : ObservedStays
+observed_stays blocks rows callers events more shared after first later = (happen blocks shared more after later (happen blocks (initial_state rows callers) events shared first (sound_first rows callers)).0).1
 
 pub callers_agree : CallersAgree
 callers_agree blocks rows callers events shared all one two row c d a b =
-    let sound = (happen blocks (beginning rows callers) events shared all (sound_first rows callers)).0 in
+    let sound = (happen blocks (initial_state rows callers) events shared all (sound_first rows callers)).0 in
     same_Some c d (sym (sound one row c a) ∙ sound two row d b)
 
 -- ---- claims
@@ -149,7 +149,7 @@ times-append x (y ∷ a) b = let e = times-append x a b in omega arith
 
 -- a change of a caller that adds to what it claimed
 claims_more : (x : ℕ) (more : List ℕ) (change : Caller → Caller) → ((k : Caller) → (change k).claims ≡ k.claims ++ more) → (ks : List Caller) (i : ℕ) → i < length ks
-    → times x (claims_of (set ks i (change (get_or ks i nobody)))) ≡ times x (claims_of ks) + times x more
+    → times x (claims_of (set ks i (change (get_or ks i no_caller)))) ≡ times x (claims_of ks) + times x more
 claims_more x more change adds [] i within = absurd (omega arith)
 claims_more x more change adds (k ∷ ks) zero within =
     let all = times-append x (change k).claims (claims_of ks) in
@@ -159,7 +159,7 @@ claims_more x more change adds (k ∷ ks) zero within =
     omega arith
 claims_more x more change adds (k ∷ ks) (suc i) within =
     let rest = claims_more x more change adds ks i (omega arith) in
-    let all = times-append x k.claims (claims_of (set ks i (change (get_or ks i nobody)))) in
+    let all = times-append x k.claims (claims_of (set ks i (change (get_or ks i no_caller)))) in
     let old = times-append x k.claims (claims_of ks) in
     omega arith
 
@@ -175,23 +175,23 @@ none_more : (x n blocks : ℕ) → blocks ≤ n → (if nat_lt x (min n blocks) 
 none_more x n blocks past = grind (arith, nat_tests)
 
 -- a change of a caller that leaves whether it found nothing left
-keeps_empty : (shared : Shared) (caller : ℕ) (change : Caller → Caller) → ((k : Caller) → (change k).found_empty ≡ k.found_empty) → caller < length shared.callers → (who : ℕ) → (caller_at (changing shared caller change) who).found_empty ≡ (caller_at shared who).found_empty
+keeps_empty : (shared : Shared) (caller : ℕ) (change : Caller → Caller) → ((k : Caller) → (change k).found_empty ≡ k.found_empty) → caller < length shared.callers → (who : ℕ) → (caller_at (with_changed_caller shared caller change) who).found_empty ≡ (caller_at shared who).found_empty
 keeps_empty shared caller change same within who =
     elim (cases_eq who caller) [
       | inr other ↦ ap (λ (k : Caller). k.found_empty) (changed_other shared caller change who other)
       | inl is ↦
-          let P : ℕ → Type 0 = λ w. (caller_at (changing shared caller change) w).found_empty ≡ (caller_at shared w).found_empty in
+          let P : ℕ → Type 0 = λ w. (caller_at (with_changed_caller shared caller change) w).found_empty ≡ (caller_at shared w).found_empty in
           subst P (sym is) (ap (λ (k : Caller). k.found_empty) (changed_same shared caller change within) ∙ same (caller_at shared caller))
     ]
 
 -- a change that claims nothing and finds nothing
-uncounted : (blocks : ℕ) (shared : Shared) (caller : ℕ) (change : Caller → Caller) (kept : Files)
+uncounted : (blocks : ℕ) (shared : Shared) (caller : ℕ) (change : Caller → Caller) (cached : Files)
     → ((k : Caller) → (change k).claims ≡ k.claims ++ [])
     → ((k : Caller) → (change k).found_empty ≡ k.found_empty)
     → caller < length shared.callers
     → Counted blocks shared
-    → Counted blocks (record (changing shared caller change) { kept = kept })
-uncounted blocks shared caller change kept adds same there c = record {
+    → Counted blocks (record (with_changed_caller shared caller change) { cached = cached })
+uncounted blocks shared caller change cached adds same there c = record {
   each = λ x. let m = claims_more x [] change adds shared.callers caller there in let e = c.each x in omega arith;
   empty = λ who f. c.empty who (sym (keeps_empty shared caller change same there who) ∙ f);
 }
@@ -202,15 +202,15 @@ append_none (x ∷ xs) = ap (λ (l : List ℕ). x ∷ l) (append_none xs)
 
 counted : (blocks : ℕ) (before : Shared) (event : Event) (after : Shared) → Happens blocks before event after → Counted blocks before → Counted blocks after
 counted blocks before event after (keeps {caller = caller} {row = row} {c = c} there within free) h =
-    uncounted blocks before caller (λ (k : Caller). record k { learnt = set k.learnt row (Some c) }) (set before.kept row (Some c)) (λ k. append_none k.claims) (λ k. refl) there h
-counted blocks before event after (reads {caller = caller} {row = row} {c = c} there kept) h =
-    uncounted blocks before caller (λ (k : Caller). record k { learnt = set k.learnt row (Some c) }) before.kept (λ k. append_none k.claims) (λ k. refl) there h
+    uncounted blocks before caller (λ (k : Caller). record k { observed = set k.observed row (Some c) }) (set before.cached row (Some c)) (λ k. append_none k.claims) (λ k. refl) there h
+counted blocks before event after (reads {caller = caller} {row = row} {c = c} there cached) h =
+    uncounted blocks before caller (λ (k : Caller). record k { observed = set k.observed row (Some c) }) before.cached (λ k. append_none k.claims) (λ k. refl) there h
 counted blocks before event after (claims {caller = caller} there less) h = record {
   each = λ x. claims_more x (before.block ∷ []) (with_block before.block) (λ k. refl) before.callers caller there ∙ (ap (λ (n : ℕ). n + times x (before.block ∷ [])) (h.each x) ∙ one_more x before.block blocks less);
   empty = λ who f. let past = h.empty who (sym (keeps_empty before caller (with_block before.block) (λ k. refl) there who) ∙ f) in omega arith;
 }
 counted blocks before event after (finds_none {caller = caller} there past) h = record {
-  each = λ x. claims_more x [] with_none (λ k. append_none k.claims) before.callers caller there ∙ (ap (λ (n : ℕ). n + 0) (h.each x) ∙ none_more x before.block blocks past);
+  each = λ x. claims_more x [] with_no_block_left (λ k. append_none k.claims) before.callers caller there ∙ (ap (λ (n : ℕ). n + 0) (h.each x) ∙ none_more x before.block blocks past);
   empty = λ who f. omega arith;
 }
 
@@ -218,16 +218,16 @@ all_counted : (blocks : ℕ) (before : Shared) (events : List Event) (after : Sh
 all_counted blocks before [] after none h = h
 all_counted blocks before (event ∷ events) after (next {between = between} one more) h = all_counted blocks between events after more (counted blocks before event between one h)
 
-none_claimed : (rows callers x : ℕ) → times x (claims_of (beginning rows callers).callers) ≡ 0
+none_claimed : (rows callers x : ℕ) → times x (claims_of (initial_state rows callers).callers) ≡ 0
 none_claimed rows zero x = refl
 none_claimed rows (suc callers) x = none_claimed rows callers x
 
-none_found : (rows callers caller : ℕ) → (caller_at (beginning rows callers) caller).found_empty ≡ false
+none_found : (rows callers caller : ℕ) → (caller_at (initial_state rows callers) caller).found_empty ≡ false
 none_found rows zero caller = refl
 none_found rows (suc callers) zero = refl
 none_found rows (suc callers) (suc caller) = none_found rows callers caller
 
-counted_first : (blocks rows callers : ℕ) → Counted blocks (beginning rows callers)
+counted_first : (blocks rows callers : ℕ) → Counted blocks (initial_state rows callers)
 counted_first blocks rows callers = record {
   each = λ x. none_claimed rows callers x ∙ (let e : 0 ≡ (if nat_lt x (min 0 blocks) then 1 else 0) = grind (arith, nat_tests) in e);
   empty = λ caller f. absurd (false≢true (sym (none_found rows callers caller) ∙ f));
@@ -235,5 +235,5 @@ counted_first blocks rows callers = record {
 
 pub each_block_once : EachBlockOnce
 each_block_once blocks rows callers events shared all =
-    let c = all_counted blocks (beginning rows callers) events shared all (counted_first blocks rows callers) in
+    let c = all_counted blocks (initial_state rows callers) events shared all (counted_first blocks rows callers) in
     (c.each, c.empty)

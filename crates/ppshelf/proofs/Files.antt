@@ -8,12 +8,12 @@ use Rattle.std.proofs.Math.ListN.{get_or-map}
 use Rattle.std.proofs.Math.Seq.{map-set_same}
 use Rattle.std.proofs.lemmas.Bool.{cases_lt, cases_eq}
 use Rattle.std.proofs.lemmas.Option.{none-some, same_Some}
-use Rattle.ppshelf.specs.Content.{Content, Lawful}
+use Rattle.ppshelf.specs.Content.{Content, IsPermitted}
 use Rattle.ppshelf.specs.Names.{name_in}
-use Rattle.ppshelf.specs.Files.{Files, Stock, file_at, AllLawful, or_else, Agree, Joined, Extends}
+use Rattle.ppshelf.specs.Files.{Files, TableView, file_at, AllPermitted, or_else, Agree, IsMerged, Extends}
 use Rattle.pptext.specs.declared.hashing.Hashing.{Hashing}
 use Rattle.pptext.specs.declared.sources.Profile.{Profile}
-use Rattle.ppshelf.specs.Shelved.{Held, Spot, Sight, IsPlaced, FitsRow, Placed, IsPass, files_of, names_of, base_of, cells_of, stock_of, spot_at, no_sight, no_spot}
+use Rattle.ppshelf.specs.code.TableRows.{LoadedView, RowState, Observation, IsPlaced, FitsRow, Placed, IsPass, files_of, names_of, base_of, cells_of, table_view, row_state_at, no_observation, no_row_state}
 
 -- a map that knows nothing knows no row
 pub none_known : (rows row : ℕ) → file_at (replicate rows None) row ≡ None
@@ -21,34 +21,34 @@ none_known zero row = refl
 none_known (suc rows) zero = refl
 none_known (suc rows) (suc row) = none_known rows row
 
-abbrev pub content_of_sight : Sight → Option Content
-content_of_sight s = option_map (λ (h : Held). h.content) s.shown
+abbrev pub content_of_sight : Observation → Option Content
+content_of_sight s = option_map (λ (h : LoadedView). h.content) s.shown
 
-pub files_of-at : (sights : List Sight) (row : ℕ) → file_at (files_of sights) row ≡ content_of_sight (get_or sights row no_sight)
-files_of-at sights row = get_or-map content_of_sight sights row no_sight
+pub files_of-at : (sights : List Observation) (row : ℕ) → file_at (files_of sights) row ≡ content_of_sight (get_or sights row no_observation)
+files_of-at sights row = get_or-map content_of_sight sights row no_observation
 
-some_of : (o : Option Held) (c : Content) → option_map (λ (h : Held). h.content) o ≡ Some c → (h : Held) × (o ≡ Some h) × (h.content ≡ c)
+some_of : (o : Option LoadedView) (c : Content) → option_map (λ (h : LoadedView). h.content) o ≡ Some c → (h : LoadedView) × (o ≡ Some h) × (h.content ≡ c)
 some_of None c e = absurd (none-some c e)
 some_of (Some h) c e = (h, refl, same_Some h.content c e)
 
 -- a row that is known was shown
-pub shown_of : (sights : List Sight) (row : ℕ) (c : Content) → file_at (files_of sights) row ≡ Some c → (h : Held) × ((get_or sights row no_sight).shown ≡ Some h) × (h.content ≡ c)
-shown_of sights row c e = some_of (get_or sights row no_sight).shown c (sym (files_of-at sights row) ∙ e)
+pub shown_of : (sights : List Observation) (row : ℕ) (c : Content) → file_at (files_of sights) row ≡ Some c → (h : LoadedView) × ((get_or sights row no_observation).shown ≡ Some h) × (h.content ≡ c)
+shown_of sights row c e = some_of (get_or sights row no_observation).shown c (sym (files_of-at sights row) ∙ e)
 
 -- and lies within the list
-pub known_within : (sights : List Sight) (row : ℕ) (c : Content) → file_at (files_of sights) row ≡ Some c → row < length sights
+pub known_within : (sights : List Observation) (row : ℕ) (c : Content) → file_at (files_of sights) row ≡ Some c → row < length sights
 known_within sights row c e =
     elim (cases_lt row (length sights)) [
       | inl h ↦ h
-      | inr h ↦ absurd (none-some c (ap content_of_sight (sym (get_or_past sights row no_sight h)) ∙ (sym (files_of-at sights row) ∙ e)))
+      | inr h ↦ absurd (none-some c (ap content_of_sight (sym (get_or_past sights row no_observation h)) ∙ (sym (files_of-at sights row) ∙ e)))
     ]
 
 -- ---- what callers see of a row
 
-abbrev held : Profile → ℕ → List ℕ → Content → Held
+abbrev held : Profile → ℕ → List ℕ → Content → LoadedView
 held profile row name c = record { row = row; name = name; profile = profile; content = c }
 
-held_is : (o : Option Held) (profile : Profile) (row : ℕ) (name : List ℕ) → ((h : Held) → o ≡ Some h → IsPlaced profile row name h) → o ≡ option_map (held profile row name) (option_map (λ (h : Held). h.content) o)
+held_is : (o : Option LoadedView) (profile : Profile) (row : ℕ) (name : List ℕ) → ((h : LoadedView) → o ≡ Some h → IsPlaced profile row name h) → o ≡ option_map (held profile row name) (option_map (λ (h : LoadedView). h.content) o)
 held_is None profile row name p = refl
 held_is (Some h) profile row name p =
     let e = p h refl in
@@ -56,90 +56,90 @@ held_is (Some h) profile row name p =
     let two : Some (record h { row = row }) ≡ Some (record h { row = row; name = name }) = ap (λ (n : List ℕ). Some (record h { row = row; name = n })) e.1 in
     one ∙ (two ∙ ap (λ (p : Profile). Some (held p row name h.content)) e.2)
 
-spot_by : (s : Spot) (profile : Profile) (row : ℕ) (name : List ℕ) (base : Option Content) (cell : ℕ)
+spot_by : (s : RowState) (profile : Profile) (row : ℕ) (name : List ℕ) (base : Option Content) (cell : ℕ)
     → name ≡ s.name
-    → base ≡ option_map (λ (h : Held). h.content) s.base
+    → base ≡ option_map (λ (h : LoadedView). h.content) s.base
     → cell ≡ s.cell
-    → ((h : Held) → s.base ≡ Some h → IsPlaced profile row s.name h)
+    → ((h : LoadedView) → s.base ≡ Some h → IsPlaced profile row s.name h)
     → s ≡ record { name = name; base = option_map (held profile row name) base; cell = cell }
 spot_by s profile row name base cell named based celled p =
-    let contents : Option Content = option_map (λ (h : Held). h.content) s.base in
-    let a : s ≡ record s { base = option_map (held profile row s.name) contents } = ap (λ (b : Option Held). record s { base = b }) (held_is s.base profile row s.name p) in
+    let contents : Option Content = option_map (λ (h : LoadedView). h.content) s.base in
+    let a : s ≡ record s { base = option_map (held profile row s.name) contents } = ap (λ (b : Option LoadedView). record s { base = b }) (held_is s.base profile row s.name p) in
     a
     ∙ (ap (λ (n : List ℕ). record { name = n; base = option_map (held profile row n) contents; cell = s.cell }) (sym named)
     ∙ (ap (λ (b : Option Content). record { name = name; base = option_map (held profile row name) b; cell = s.cell }) (sym based)
     ∙ ap (λ (k : ℕ). record { name = name; base = option_map (held profile row name) base; cell = k }) (sym celled)))
 
 -- what a row is, callers see
-pub spot_is : (profile : Profile) (hashing : Hashing) (rows : List Spot) (row : ℕ) (spot : Spot) → Placed profile rows → row < length rows → spot ≡ get_or rows row spot → spot ≡ spot_at (stock_of profile hashing rows) row
+pub spot_is : (profile : Profile) (hashing : Hashing) (rows : List RowState) (row : ℕ) (spot : RowState) → Placed profile rows → row < length rows → spot ≡ get_or rows row spot → spot ≡ row_state_at (table_view profile hashing rows) row
 spot_is profile hashing rows row spot placed within read =
-    let name : Spot → List ℕ = λ s. s.name in
-    let base : Spot → Option Content = λ s. option_map (λ (h : Held). h.content) s.base in
-    let cell : Spot → ℕ = λ s. s.cell in
-    get_or_read rows row spot within read no_spot
-    ∙ spot_by (get_or rows row no_spot) profile row (name_in (names_of rows) row) (file_at (base_of rows) row) (get_or (cells_of rows) row 0)
-    (get_or-map name rows row no_spot) (get_or-map base rows row no_spot) (get_or-map cell rows row no_spot) (placed row)
+    let name : RowState → List ℕ = λ s. s.name in
+    let base : RowState → Option Content = λ s. option_map (λ (h : LoadedView). h.content) s.base in
+    let cell : RowState → ℕ = λ s. s.cell in
+    get_or_read rows row spot within read no_row_state
+    ∙ spot_by (get_or rows row no_row_state) profile row (name_in (names_of rows) row) (file_at (base_of rows) row) (get_or (cells_of rows) row 0)
+    (get_or-map name rows row no_row_state) (get_or-map base rows row no_row_state) (get_or-map cell rows row no_row_state) (placed row)
 
 -- ---- what a pass knows
 
-pub lawful_files : (may : List ℕ → Content → Type 0) (stock : Stock) (sights : List Sight) → IsPass may stock sights → AllLawful may stock.names (files_of sights)
+pub lawful_files : (may : List ℕ → Content → Type 0) (stock : TableView) (sights : List Observation) → IsPass may stock sights → AllPermitted may stock.names (files_of sights)
 lawful_files may stock sights is row c e =
     let s = shown_of sights row c e in
     let within : row < length stock.names = let k = known_within sights row c e in let l = is.len in omega arith in
     let f = (is.rows row within).fits s.0 s.1 in
-    let P : Content → Type 0 = λ x. Lawful may (name_in stock.names row) x in
-    let Q : List ℕ → Type 0 = λ n. Lawful may n s.0.content in
-    subst P s.2 (subst Q f.name_is f.lawful)
+    let P : Content → Type 0 = λ x. IsPermitted may (name_in stock.names row) x in
+    let Q : List ℕ → Type 0 = λ n. IsPermitted may n s.0.content in
+    subst P s.2 (subst Q f.name_is f.contents_permitted)
 
 -- what is known of a row that was filled is what was put there
-pub filled_files : (may : List ℕ → Content → Type 0) (stock : Stock) (sights : List Sight) → IsPass may stock sights → Agree stock.base (files_of sights)
+pub filled_files : (may : List ℕ → Content → Type 0) (stock : TableView) (sights : List Observation) → IsPass may stock sights → Agree stock.base (files_of sights)
 filled_files may stock sights is row c d base known =
     let s = shown_of sights row d known in
     let within : row < length stock.names = let k = known_within sights row d known in let l = is.len in omega arith in
     let f = (is.rows row within).fits s.0 s.1 in
-    let b : Held = held stock.profile row (name_in stock.names row) c in
-    let there : (spot_at stock row).base ≡ Some b = ap (option_map (held stock.profile row (name_in stock.names row))) base in
+    let b : LoadedView = held stock.profile row (name_in stock.names row) c in
+    let there : (row_state_at stock row).base ≡ Some b = ap (option_map (held stock.profile row (name_in stock.names row))) base in
     elim f.from [
-      | inl e ↦ ap (λ (h : Held). h.content) (same_Some b s.0 (sym there ∙ e)) ∙ s.2
+      | inl e ↦ ap (λ (h : LoadedView). h.content) (same_Some b s.0 (sym there ∙ e)) ∙ s.2
       | inr n ↦ absurd (none-some b (sym n.0 ∙ there))
     ]
 
-pub placed_read : (profile : Profile) (stock : List Spot) (row : ℕ) (spot : Spot)
+pub placed_read : (profile : Profile) (stock : List RowState) (row : ℕ) (spot : RowState)
     → Placed profile stock
     → row < length stock
     → spot ≡ get_or stock row spot
-    → (h : Held)
+    → (h : LoadedView)
     → spot.base ≡ Some h
     → IsPlaced profile row spot.name h
 placed_read profile stock row spot placed within read h is =
-    let same : spot ≡ get_or stock row no_spot = get_or_read stock row spot within read no_spot in
-    let at : (get_or stock row no_spot).base ≡ Some h = ap (λ (s : Spot). s.base) (sym same) ∙ is in
+    let same : spot ≡ get_or stock row no_row_state = get_or_read stock row spot within read no_row_state in
+    let at : (get_or stock row no_row_state).base ≡ Some h = ap (λ (s : RowState). s.base) (sym same) ∙ is in
     let p = placed row h at in
-    (p.0, p.1 ∙ ap (λ (s : Spot). s.name) (sym same), p.2)
+    (p.0, p.1 ∙ ap (λ (s : RowState). s.name) (sym same), p.2)
 
 -- what is known after the row is shown h
-pub files_of-set : (sights : List Sight) (row : ℕ) (s : Sight) (h : Held) → s.shown ≡ Some h → files_of (set sights row s) ≡ set (files_of sights) row (Some h.content)
-files_of-set sights row s h is = map-set content_of_sight sights row s ∙ ap (λ (o : Option Held). set (files_of sights) row (option_map (λ (x : Held). x.content) o)) is
+pub files_of-set : (sights : List Observation) (row : ℕ) (s : Observation) (h : LoadedView) → s.shown ≡ Some h → files_of (set sights row s) ≡ set (files_of sights) row (Some h.content)
+files_of-set sights row s h is = map-set content_of_sight sights row s ∙ ap (λ (o : Option LoadedView). set (files_of sights) row (option_map (λ (x : LoadedView). x.content) o)) is
 
 -- where nothing new was shown, what is known stays
-pub files_of-same : (sights : List Sight) (row : ℕ) (s old : Sight) → row < length sights → old ≡ get_or sights row old → s.shown ≡ old.shown → files_of (set sights row s) ≡ files_of sights
+pub files_of-same : (sights : List Observation) (row : ℕ) (s old : Observation) → row < length sights → old ≡ get_or sights row old → s.shown ≡ old.shown → files_of (set sights row s) ≡ files_of sights
 files_of-same sights row s old within read is =
-    let same : old ≡ get_or sights row no_sight = get_or_read sights row old within read no_sight in
-    map-set_same content_of_sight sights row s no_sight (ap (λ (o : Option Held). option_map (λ (x : Held). x.content) o) (is ∙ ap (λ (x : Sight). x.shown) same))
+    let same : old ≡ get_or sights row no_observation = get_or_read sights row old within read no_observation in
+    map-set_same content_of_sight sights row s no_observation (ap (λ (o : Option LoadedView). option_map (λ (x : LoadedView). x.content) o) (is ∙ ap (λ (x : Observation). x.shown) same))
 
 -- a caller that has observed nothing of the first n rows
-pub record Unseen (stock : List Spot) (sights : List Sight) (n : ℕ) : Type 0 where
+pub record Unseen (stock : List RowState) (sights : List Observation) (n : ℕ) : Type 0 where
   pub len : length sights ≡ n
-  pub each : (row : ℕ) → row < n → ((get_or sights row no_sight).cell ≡ (get_or stock row no_spot).cell) × ((get_or sights row no_sight).shown ≡ None)
+  pub each : (row : ℕ) → row < n → ((get_or sights row no_observation).cell ≡ (get_or stock row no_row_state).cell) × ((get_or sights row no_observation).shown ≡ None)
   pub files : files_of sights ≡ replicate n None
 
-get_or_last : (sights : List Sight) (s : Sight) (row : ℕ) → row ≡ length sights → get_or (sights ++ s ∷ []) row no_sight ≡ s
+get_or_last : (sights : List Observation) (s : Observation) (row : ℕ) → row ≡ length sights → get_or (sights ++ s ∷ []) row no_observation ≡ s
 get_or_last sights s row e = grind (arith, common_steps)
 
-get_or_front : (sights : List Sight) (s : Sight) (row : ℕ) → row < length sights → get_or (sights ++ s ∷ []) row no_sight ≡ get_or sights row no_sight
+get_or_front : (sights : List Observation) (s : Observation) (row : ℕ) → row < length sights → get_or (sights ++ s ∷ []) row no_observation ≡ get_or sights row no_observation
 get_or_front sights s row e = grind (arith, common_steps)
 
-pub unseen_more : (stock : List Spot) (sights : List Sight) (n : ℕ) (spot : Spot) (s : Sight)
+pub unseen_more : (stock : List RowState) (sights : List Observation) (n : ℕ) (spot : RowState) (s : Observation)
     → Unseen stock sights n
     → n < length stock
     → spot ≡ get_or stock n spot
@@ -150,39 +150,39 @@ unseen_more stock sights n spot s u within read cell shown = let len = u.len in 
   len = omega (arith, length-append sights (s ∷ []));
   each = λ row below.
       elim (cases_lt row n) [
-        | inl h ↦ let at = get_or_front sights s row (omega arith) in let e = u.each row h in (ap (λ (x : Sight). x.cell) at ∙ e.0, ap (λ (x : Sight). x.shown) at ∙ e.1)
+        | inl h ↦ let at = get_or_front sights s row (omega arith) in let e = u.each row h in (ap (λ (x : Observation). x.cell) at ∙ e.0, ap (λ (x : Observation). x.shown) at ∙ e.1)
         | inr h ↦
             let is : row ≡ n = omega arith in
             let at = get_or_last sights s row (omega arith) in
-            let place : spot ≡ get_or stock row no_spot = get_or_read stock n spot within read no_spot ∙ ap (λ k. get_or stock k no_spot) (sym is) in
-            (ap (λ (x : Sight). x.cell) at ∙ (cell ∙ ap (λ (x : Spot). x.cell) place), ap (λ (x : Sight). x.shown) at ∙ shown)
+            let place : spot ≡ get_or stock row no_row_state = get_or_read stock n spot within read no_row_state ∙ ap (λ k. get_or stock k no_row_state) (sym is) in
+            (ap (λ (x : Observation). x.cell) at ∙ (cell ∙ ap (λ (x : RowState). x.cell) place), ap (λ (x : Observation). x.shown) at ∙ shown)
       ];
   files = map-append content_of_sight sights (s ∷ [])
       ∙ (ap (λ (f : Files). f ++ content_of_sight s ∷ []) u.files
-      ∙ (ap (λ (o : Option Held). replicate n None ++ option_map (λ (h : Held). h.content) o ∷ []) shown ∙ replicate_more n None));
+      ∙ (ap (λ (o : Option LoadedView). replicate n None ++ option_map (λ (h : LoadedView). h.content) o ∷ []) shown ∙ replicate_more n None));
 }
 
-pub unseen_pass : (may : List ℕ → Content → Type 0) (profile : Profile) (hashing : Hashing) (rows : List Spot) (sights : List Sight) → Unseen rows sights (length rows) → IsPass may (stock_of profile hashing rows) sights
+pub unseen_pass : (may : List ℕ → Content → Type 0) (profile : Profile) (hashing : Hashing) (rows : List RowState) (sights : List Observation) → Unseen rows sights (length rows) → IsPass may (table_view profile hashing rows) sights
 unseen_pass may profile hashing rows sights u =
-    let count : length (names_of rows) ≡ length rows = length-map rows (λ (s : Spot). s.name) in
+    let count : length (names_of rows) ≡ length rows = length-map rows (λ (s : RowState). s.name) in
     record {
       len = u.len ∙ sym count;
       rows = λ row below.
           let e = u.each row (omega arith) in
-          record { cell_is = e.0 ∙ sym (get_or-map (λ (s : Spot). s.cell) rows row no_spot); fits = λ h is. absurd (none-some h (sym e.1 ∙ is)) };
+          record { cell_is = e.0 ∙ sym (get_or-map (λ (s : RowState). s.cell) rows row no_row_state); fits = λ h is. absurd (none-some h (sym e.1 ∙ is)) };
     }
 
-set_here : (xs : List Sight) (n row : ℕ) (s : Sight) → row ≡ n → n < length xs → get_or (set xs n s) row no_sight ≡ s
+set_here : (xs : List Observation) (n row : ℕ) (s : Observation) → row ≡ n → n < length xs → get_or (set xs n s) row no_observation ≡ s
 set_here xs n row s e w = grind (arith, common_steps)
 
-set_there : (xs : List Sight) (n row : ℕ) (s : Sight) → (row ≡ n → ⊥) → get_or (set xs n s) row no_sight ≡ get_or xs row no_sight
-set_there xs n row s e = get_or-set_other xs n row s no_sight e
+set_there : (xs : List Observation) (n row : ℕ) (s : Observation) → (row ≡ n → ⊥) → get_or (set xs n s) row no_observation ≡ get_or xs row no_observation
+set_there xs n row s e = get_or-set_other xs n row s no_observation e
 
 -- a row that was looked at again leaves a pass of the shelf
-pub pass_set : (may : List ℕ → Content → Type 0) (stock : Stock) (sights : List Sight) (row : ℕ) (spot : Spot) (s : Sight)
+pub pass_set : (may : List ℕ → Content → Type 0) (stock : TableView) (sights : List Observation) (row : ℕ) (spot : RowState) (s : Observation)
     → IsPass may stock sights
     → row < length stock.names
-    → spot ≡ spot_at stock row
+    → spot ≡ row_state_at stock row
     → FitsRow may stock.profile row spot s
     → IsPass may stock (set sights row s)
 pass_set may stock sights n spot s is w at fits = record {
@@ -190,136 +190,136 @@ pass_set may stock sights n spot s is w at fits = record {
   rows = λ row within.
       elim (cases_eq row n) [
         | inl e ↦
-            let P : Sight → Type 0 = λ x. FitsRow may stock.profile row (spot_at stock row) x in
-            let Q : Spot → Type 0 = λ x. FitsRow may stock.profile n x s in
-            let R : ℕ → Type 0 = λ k. FitsRow may stock.profile k (spot_at stock k) s in
+            let P : Observation → Type 0 = λ x. FitsRow may stock.profile row (row_state_at stock row) x in
+            let Q : RowState → Type 0 = λ x. FitsRow may stock.profile n x s in
+            let R : ℕ → Type 0 = λ k. FitsRow may stock.profile k (row_state_at stock k) s in
             let len = is.len in
             subst P (sym (set_here sights n row s e (omega arith))) (subst R (sym e) (subst Q at fits))
         | inr e ↦
-            let P : Sight → Type 0 = λ x. FitsRow may stock.profile row (spot_at stock row) x in
+            let P : Observation → Type 0 = λ x. FitsRow may stock.profile row (row_state_at stock row) x in
             subst P (sym (set_there sights n row s e)) (is.rows row within)
       ];
 }
 
 -- ---- a row of a shelf that is looked at
 
-pub fits_at : (may : List ℕ → Content → Type 0) (profile : Profile) (hashing : Hashing) (rows : List Spot) (stock : Stock) (sights : List Sight) (row : ℕ) (spot : Spot) (s : Sight)
+pub fits_at : (may : List ℕ → Content → Type 0) (profile : Profile) (hashing : Hashing) (rows : List RowState) (stock : TableView) (sights : List Observation) (row : ℕ) (spot : RowState) (s : Observation)
     → Placed profile rows
-    → stock ≡ stock_of profile hashing rows
+    → stock ≡ table_view profile hashing rows
     → row < length rows
     → spot ≡ get_or rows row spot
     → IsPass may stock sights
     → s ≡ get_or sights row s → FitsRow may profile row spot s
 fits_at may profile hashing rows stock sights row spot s placed same w read is mine =
-    let count : length (names_of rows) ≡ length rows = length-map rows (λ (x : Spot). x.name) in
-    let long : length stock.names ≡ length (names_of rows) = ap (λ (x : Stock). length x.names) same in
+    let count : length (names_of rows) ≡ length rows = length-map rows (λ (x : RowState). x.name) in
+    let long : length stock.names ≡ length (names_of rows) = ap (λ (x : TableView). length x.names) same in
     let len = is.len in
-    let at : spot ≡ spot_at stock row = spot_is profile hashing rows row spot placed w read ∙ ap (λ (x : Stock). spot_at x row) (sym same) in
-    let P : Sight → Type 0 = λ x. FitsRow may profile row spot x in
-    let Q : Spot → Type 0 = λ x. FitsRow may profile row x (get_or sights row no_sight) in
-    let R : Profile → Type 0 = λ p. FitsRow may p row (spot_at stock row) (get_or sights row no_sight) in
-    subst P (sym (get_or_read sights row s (omega arith) mine no_sight)) (subst Q (sym at) (subst R (ap (λ (x : Stock). x.profile) same) (is.rows row (omega arith))))
+    let at : spot ≡ row_state_at stock row = spot_is profile hashing rows row spot placed w read ∙ ap (λ (x : TableView). row_state_at x row) (sym same) in
+    let P : Observation → Type 0 = λ x. FitsRow may profile row spot x in
+    let Q : RowState → Type 0 = λ x. FitsRow may profile row x (get_or sights row no_observation) in
+    let R : Profile → Type 0 = λ p. FitsRow may p row (row_state_at stock row) (get_or sights row no_observation) in
+    subst P (sym (get_or_read sights row s (omega arith) mine no_observation)) (subst Q (sym at) (subst R (ap (λ (x : TableView). x.profile) same) (is.rows row (omega arith))))
 
-pub shown_pass : (may : List ℕ → Content → Type 0) (profile : Profile) (hashing : Hashing) (rows : List Spot) (stock : Stock) (sights : List Sight) (row : ℕ) (spot : Spot)
-    (s : Sight)
+pub shown_pass : (may : List ℕ → Content → Type 0) (profile : Profile) (hashing : Hashing) (rows : List RowState) (stock : TableView) (sights : List Observation) (row : ℕ) (spot : RowState)
+    (s : Observation)
     → Placed profile rows
-    → stock ≡ stock_of profile hashing rows
+    → stock ≡ table_view profile hashing rows
     → row < length rows
     → spot ≡ get_or rows row spot
     → IsPass may stock sights
     → FitsRow may profile row spot s → IsPass may stock (set sights row s)
 shown_pass may profile hashing rows stock sights row spot s placed same w read is fits =
-    let count : length (names_of rows) ≡ length rows = length-map rows (λ (x : Spot). x.name) in
-    let long : length stock.names ≡ length (names_of rows) = ap (λ (x : Stock). length x.names) same in
-    pass_set may stock sights row spot s is (omega arith) (spot_is profile hashing rows row spot placed w read ∙ ap (λ (x : Stock). spot_at x row) (sym same))
-    (let R : Profile → Type 0 = λ p. FitsRow may p row spot s in subst R (ap (λ (x : Stock). x.profile) (sym same)) fits)
+    let count : length (names_of rows) ≡ length rows = length-map rows (λ (x : RowState). x.name) in
+    let long : length stock.names ≡ length (names_of rows) = ap (λ (x : TableView). length x.names) same in
+    pass_set may stock sights row spot s is (omega arith) (spot_is profile hashing rows row spot placed w read ∙ ap (λ (x : TableView). row_state_at x row) (sym same))
+    (let R : Profile → Type 0 = λ p. FitsRow may p row spot s in subst R (ap (λ (x : TableView). x.profile) (sym same)) fits)
 
 -- two passes are merged at the rows from n on
-pub record Met (may : List ℕ → Content → Type 0) (stock : Stock) (old other new : List Sight) (n : ℕ) : Type 0 where
+pub record Met (may : List ℕ → Content → Type 0) (stock : TableView) (old other new : List Observation) (n : ℕ) : Type 0 where
   pub is : IsPass may stock new
-  pub kept : (row : ℕ) → row < n → get_or new row no_sight ≡ get_or old row no_sight
-  pub joined : (row : ℕ) → n ≤ row → row < length stock.names → (get_or new row no_sight).shown ≡ or_else (get_or old row no_sight).shown (get_or other row no_sight).shown
-  pub agree : (row : ℕ) → n ≤ row → row < length stock.names → (h k : Held) → (get_or old row no_sight).shown ≡ Some h → (get_or other row no_sight).shown ≡ Some k → h ≡ k
+  pub cached : (row : ℕ) → row < n → get_or new row no_observation ≡ get_or old row no_observation
+  pub joined : (row : ℕ) → n ≤ row → row < length stock.names → (get_or new row no_observation).shown ≡ or_else (get_or old row no_observation).shown (get_or other row no_observation).shown
+  pub agree : (row : ℕ) → n ≤ row → row < length stock.names → (h k : LoadedView) → (get_or old row no_observation).shown ≡ Some h → (get_or other row no_observation).shown ≡ Some k → h ≡ k
 
-pub met_none : (may : List ℕ → Content → Type 0) (stock : Stock) (old other : List Sight) (n : ℕ) → IsPass may stock old → length stock.names ≤ n → Met may stock old other old n
+pub met_none : (may : List ℕ → Content → Type 0) (stock : TableView) (old other : List Observation) (n : ℕ) → IsPass may stock old → length stock.names ≤ n → Met may stock old other old n
 met_none may stock old other n is e = record {
   is = is;
-  kept = λ row below. refl;
+  cached = λ row below. refl;
   joined = λ row above within. absurd (omega arith);
   agree = λ row above within. absurd (omega arith);
 }
 
-pub met_more : (may : List ℕ → Content → Type 0) (stock : Stock) (old other new : List Sight) (n : ℕ) (spot : Spot) (mine theirs s : Sight) → Met may stock old other new (n + 1) → n < length stock.names
-    → spot ≡ spot_at stock n → mine ≡ get_or new n mine → theirs ≡ get_or other n no_sight → FitsRow may stock.profile n spot s → s.shown ≡ or_else mine.shown theirs.shown
-    → ((h k : Held) → mine.shown ≡ Some h → theirs.shown ≡ Some k → h ≡ k) → Met may stock old other (set new n s) n
+pub met_more : (may : List ℕ → Content → Type 0) (stock : TableView) (old other new : List Observation) (n : ℕ) (spot : RowState) (mine theirs s : Observation) → Met may stock old other new (n + 1) → n < length stock.names
+    → spot ≡ row_state_at stock n → mine ≡ get_or new n mine → theirs ≡ get_or other n no_observation → FitsRow may stock.profile n spot s → s.shown ≡ or_else mine.shown theirs.shown
+    → ((h k : LoadedView) → mine.shown ≡ Some h → theirs.shown ≡ Some k → h ≡ k) → Met may stock old other (set new n s) n
 met_more may stock old other new n spot mine theirs s m w at mine_read theirs_is fits shown agree =
     let len = m.is.len in
-    let mine_is : mine ≡ get_or new n no_sight = get_or_read new n mine (omega arith) mine_read no_sight in
-    let old_is : mine ≡ get_or old n no_sight = mine_is ∙ m.kept n (omega arith) in
+    let mine_is : mine ≡ get_or new n no_observation = get_or_read new n mine (omega arith) mine_read no_observation in
+    let old_is : mine ≡ get_or old n no_observation = mine_is ∙ m.cached n (omega arith) in
     record {
       is = pass_set may stock new n spot s m.is w at fits;
-      kept = λ row below. set_there new n row s (λ e. absurd (omega arith)) ∙ m.kept row (omega arith);
+      cached = λ row below. set_there new n row s (λ e. absurd (omega arith)) ∙ m.cached row (omega arith);
       joined = λ row above within.
           elim (cases_eq row n) [
             | inl e ↦
-                let P : ℕ → Type 0 = λ k. (get_or (set new n s) k no_sight).shown ≡ or_else (get_or old k no_sight).shown (get_or other k no_sight).shown in
+                let P : ℕ → Type 0 = λ k. (get_or (set new n s) k no_observation).shown ≡ or_else (get_or old k no_observation).shown (get_or other k no_observation).shown in
                 subst P (sym e)
-                (ap (λ (x : Sight). x.shown) (set_here new n n s refl (omega arith))
+                (ap (λ (x : Observation). x.shown) (set_here new n n s refl (omega arith))
                 ∙ (shown
-                ∙ (ap (λ (x : Sight). or_else x.shown theirs.shown) old_is ∙ ap (λ (x : Sight). or_else (get_or old n no_sight).shown x.shown) theirs_is)))
-            | inr e ↦ ap (λ (x : Sight). x.shown) (set_there new n row s e) ∙ m.joined row (omega arith) within
+                ∙ (ap (λ (x : Observation). or_else x.shown theirs.shown) old_is ∙ ap (λ (x : Observation). or_else (get_or old n no_observation).shown x.shown) theirs_is)))
+            | inr e ↦ ap (λ (x : Observation). x.shown) (set_there new n row s e) ∙ m.joined row (omega arith) within
           ];
       agree = λ row above within h k a b.
           elim (cases_eq row n) [
-            | inl e ↦ agree h k (ap (λ (x : Sight). x.shown) (old_is ∙ ap (λ j. get_or old j no_sight) (sym e)) ∙ a) (ap (λ (x : Sight). x.shown) (theirs_is ∙ ap (λ j. get_or other j no_sight) (sym e)) ∙ b)
+            | inl e ↦ agree h k (ap (λ (x : Observation). x.shown) (old_is ∙ ap (λ j. get_or old j no_observation) (sym e)) ∙ a) (ap (λ (x : Observation). x.shown) (theirs_is ∙ ap (λ j. get_or other j no_observation) (sym e)) ∙ b)
             | inr e ↦ m.agree row (omega arith) within h k a b
           ];
     }
 
 -- at the end every row is merged
-pub met_agree : (may : List ℕ → Content → Type 0) (stock : Stock) (old other new : List Sight) → Met may stock old other new 0 → length old ≡ length stock.names → Agree (files_of old) (files_of other)
+pub met_agree : (may : List ℕ → Content → Type 0) (stock : TableView) (old other new : List Observation) → Met may stock old other new 0 → length old ≡ length stock.names → Agree (files_of old) (files_of other)
 met_agree may stock old other new m len row c d a b =
     let s = shown_of old row c a in
     let t = shown_of other row d b in
     let k = known_within old row c a in
-    sym s.2 ∙ (ap (λ (h : Held). h.content) (m.agree row (omega arith) (omega arith) s.0 t.0 s.1 t.1) ∙ t.2)
+    sym s.2 ∙ (ap (λ (h : LoadedView). h.content) (m.agree row (omega arith) (omega arith) s.0 t.0 s.1 t.1) ∙ t.2)
 
-or_else_content : (a b : Option Held) → option_map (λ (h : Held). h.content) (or_else a b) ≡ or_else (option_map (λ (h : Held). h.content) a) (option_map (λ (h : Held). h.content) b)
+or_else_content : (a b : Option LoadedView) → option_map (λ (h : LoadedView). h.content) (or_else a b) ≡ or_else (option_map (λ (h : LoadedView). h.content) a) (option_map (λ (h : LoadedView). h.content) b)
 or_else_content None b = refl
 or_else_content (Some h) b = refl
 
-pub met_joined : (may : List ℕ → Content → Type 0) (stock : Stock) (old other new : List Sight)
+pub met_joined : (may : List ℕ → Content → Type 0) (stock : TableView) (old other new : List Observation)
     → Met may stock old other new 0
     → length old ≡ length stock.names
     → length other ≡ length stock.names
-    → Joined (files_of old) (files_of other) (files_of new)
+    → IsMerged (files_of old) (files_of other) (files_of new)
 met_joined may stock old other new m lo lt row =
     let ln = m.is.len in
-    let cs : List Sight → Option Content = λ xs. content_of_sight (get_or xs row no_sight) in
+    let cs : List Observation → Option Content = λ xs. content_of_sight (get_or xs row no_observation) in
     files_of-at new row
     ∙ (elim (cases_lt row (length stock.names)) [
-      | inl w ↦ ap (λ (o : Option Held). option_map (λ (h : Held). h.content) o) (m.joined row (omega arith) w) ∙ or_else_content (get_or old row no_sight).shown (get_or other row no_sight).shown
+      | inl w ↦ ap (λ (o : Option LoadedView). option_map (λ (h : LoadedView). h.content) o) (m.joined row (omega arith) w) ∙ or_else_content (get_or old row no_observation).shown (get_or other row no_observation).shown
       | inr w ↦
-          let past : (xs : List Sight) → length xs ≡ length stock.names → cs xs ≡ None = λ xs e. ap content_of_sight (get_or_past xs row no_sight (omega arith)) in
+          let past : (xs : List Observation) → length xs ≡ length stock.names → cs xs ≡ None = λ xs e. ap content_of_sight (get_or_past xs row no_observation (omega arith)) in
           past new ln ∙ sym (ap (λ (o : Option Content). or_else o (cs other)) (past old lo) ∙ past other lt)
     ]
     ∙ (ap (λ (o : Option Content). or_else o (cs other)) (sym (files_of-at old row)) ∙ ap (λ (o : Option Content). or_else (file_at (files_of old) row) o) (sym (files_of-at other row))))
 
-pub popped_last : (other items : List Sight) (len n : ℕ) (theirs : Sight) → items ≡ take len other → theirs ≡ get_or items (len - 1) no_sight → n + 1 ≡ len → theirs ≡ get_or other n no_sight
+pub popped_last : (other items : List Observation) (len n : ℕ) (theirs : Observation) → items ≡ take len other → theirs ≡ get_or items (len - 1) no_observation → n + 1 ≡ len → theirs ≡ get_or other n no_observation
 popped_last other items len n theirs is value e = grind (arith, common_steps)
 
-pub popped_rest : (other items rest : List Sight) (len n : ℕ) → items ≡ take len other → rest ≡ take (len - 1) items → n + 1 ≡ len → rest ≡ take n other
+pub popped_rest : (other items rest : List Observation) (len n : ℕ) → items ≡ take len other → rest ≡ take (len - 1) items → n + 1 ≡ len → rest ≡ take n other
 popped_rest other items rest len n is value e = grind (arith, common_steps)
 
-pub fits_read : (may : List ℕ → Content → Type 0) (stock : Stock) (sights : List Sight) (row : ℕ) (spot : Spot) (s : Sight)
+pub fits_read : (may : List ℕ → Content → Type 0) (stock : TableView) (sights : List Observation) (row : ℕ) (spot : RowState) (s : Observation)
     → IsPass may stock sights
     → row < length stock.names
-    → spot ≡ spot_at stock row
-    → s ≡ get_or sights row no_sight
+    → spot ≡ row_state_at stock row
+    → s ≡ get_or sights row no_observation
     → FitsRow may stock.profile row spot s
 fits_read may stock sights row spot s is w read at =
-    let P : Sight → Type 0 = λ x. FitsRow may stock.profile row spot x in
-    let Q : Spot → Type 0 = λ x. FitsRow may stock.profile row x (get_or sights row no_sight) in
+    let P : Observation → Type 0 = λ x. FitsRow may stock.profile row spot x in
+    let Q : RowState → Type 0 = λ x. FitsRow may stock.profile row x (get_or sights row no_observation) in
     subst P (sym at) (subst Q (sym read) (is.rows row w))
 
 some_join : (a b c' : Option Content) (c : Content) → ((d e : Content) → a ≡ Some d → b ≡ Some e → d ≡ e) → c' ≡ or_else a b → b ≡ Some c → c' ≡ Some c
@@ -327,5 +327,5 @@ some_join None b c' c same is e = is ∙ e
 some_join (Some d) b c' c same is e = is ∙ ap (λ (x : Content). Some x) (same d c refl e)
 
 -- what the other pass knew stays
-pub joined_theirs : (one two both : Files) → Agree one two → Joined one two both → Extends both two
+pub joined_theirs : (one two both : Files) → Agree one two → IsMerged one two both → Extends both two
 joined_theirs one two both agree joined row c e = some_join (file_at one row) (file_at two row) (file_at both row) c (λ d e. agree row d e) (joined row) e

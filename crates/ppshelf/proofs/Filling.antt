@@ -3,31 +3,31 @@ use Rattle.std.proofs.Common.{Vec, Global, Option, IsSome, ◌+◌, ◌≡◌, �
 use Rattle.std.proofs.lemmas.List.{ext_get_or, get_or_past, get_or_read, get_or-map, get_or-set_other, get_or-set_same, length-map, length-set}
 use Rattle.std.proofs.lemmas.Bool.{cases_lt, cases_eq}
 use Rattle.std.proofs.lemmas.Option.{none-some}
-use Rattle.ppshelf.specs.Content.{Content, readable, Lawful}
+use Rattle.ppshelf.specs.Content.{Content, readable, IsPermitted}
 use Rattle.std.specs.Option.{option_map}
 use Rattle.ppshelf.specs.Names.{name_in}
-use Rattle.ppshelf.specs.Indexed.{IndexOfNames}
-use Rattle.ppshelf.specs.Files.{Stock, IsFull, Filled, file_at, bytes_at}
+use Rattle.ppshelf.specs.IndexView.{IndexView}
+use Rattle.ppshelf.specs.Files.{TableView, IsFull, Filled, file_at, bytes_at}
 use Rattle.pptext.specs.declared.hashing.Hashing.{Hashing}
 use Rattle.pptext.specs.declared.sources.Profile.{Profile}
-use Rattle.ppshelf.specs.Shelved.{Held, Spot, FilledRow, Placed, IsShelf, names_of, base_of, cells_of, stock_of, no_spot}
+use Rattle.ppshelf.specs.code.TableRows.{LoadedView, RowState, FilledRow, Placed, IsShelf, names_of, base_of, cells_of, table_view, no_row_state}
 
-pub record Turned (profile : Profile) (gives : ℕ → List ℕ → Content → Type 0) (old new : List Spot) : Type 0 where
+pub record Turned (profile : Profile) (gives : ℕ → List ℕ → Content → Type 0) (old new : List RowState) : Type 0 where
   pub len : length new ≡ length old
-  pub rows : (row : ℕ) → row < length old → FilledRow (gives row) profile row (get_or old row no_spot) (get_or new row no_spot)
+  pub rows : (row : ℕ) → row < length old → FilledRow (gives row) profile row (get_or old row no_row_state) (get_or new row no_row_state)
 
-pub record Filling (profile : Profile) (gives : ℕ → List ℕ → Content → Type 0) (old new : List Spot) (n : ℕ) : Type 0 where
+pub record Filling (profile : Profile) (gives : ℕ → List ℕ → Content → Type 0) (old new : List RowState) (n : ℕ) : Type 0 where
   pub turned : Turned profile gives old new
-  pub full : (row : ℕ) → row < n → IsSome (get_or new row no_spot).base
-  pub ahead : (row : ℕ) → n ≤ row → get_or new row no_spot ≡ get_or old row no_spot
+  pub full : (row : ℕ) → row < n → IsSome (get_or new row no_row_state).base
+  pub ahead : (row : ℕ) → n ≤ row → get_or new row no_row_state ≡ get_or old row no_row_state
 
-untouched_row : (profile : Profile) (gives : ℕ → List ℕ → Content → Type 0) (row : ℕ) (s : Spot) → FilledRow (gives row) profile row s s
+untouched_row : (profile : Profile) (gives : ℕ → List ℕ → Content → Type 0) (row : ℕ) (s : RowState) → FilledRow (gives row) profile row s s
 untouched_row profile gives row s = record { name = refl; cell = refl; stays = λ h e. e; put = λ h a b. absurd (none-some h (sym a ∙ b)) }
 
-pub none_filled : (profile : Profile) (gives : ℕ → List ℕ → Content → Type 0) (old : List Spot) → Filling profile gives old old 0
-none_filled profile gives old = record { turned = record { len = refl; rows = λ row w. untouched_row profile gives row (get_or old row no_spot) }; full = λ row w. absurd (omega arith); ahead = λ row w. refl }
+pub none_filled : (profile : Profile) (gives : ℕ → List ℕ → Content → Type 0) (old : List RowState) → Filling profile gives old old 0
+none_filled profile gives old = record { turned = record { len = refl; rows = λ row w. untouched_row profile gives row (get_or old row no_row_state) }; full = λ row w. absurd (omega arith); ahead = λ row w. refl }
 
-pub turned_set : (profile : Profile) (gives : ℕ → List ℕ → Content → Type 0) (old new : List Spot) (n : ℕ) (mine s : Spot)
+pub turned_set : (profile : Profile) (gives : ℕ → List ℕ → Content → Type 0) (old new : List RowState) (n : ℕ) (mine s : RowState)
     → Filling profile gives old new n
     → n < length old
     → mine ≡ get_or new n mine
@@ -35,23 +35,23 @@ pub turned_set : (profile : Profile) (gives : ℕ → List ℕ → Content → T
     → Turned profile gives old (set new n s)
 turned_set profile gives old new n mine s f w read turned =
     let len = f.turned.len in
-    let at : mine ≡ get_or old n no_spot = get_or_read new n mine (omega arith) read no_spot ∙ f.ahead n (omega arith) in
+    let at : mine ≡ get_or old n no_row_state = get_or_read new n mine (omega arith) read no_row_state ∙ f.ahead n (omega arith) in
     record {
       len = length-set new n s ∙ len;
       rows = λ row below.
           elim (cases_eq row n) [
             | inl e ↦
-                let P : ℕ → Type 0 = λ k. FilledRow (gives k) profile k (get_or old k no_spot) (get_or (set new n s) k no_spot) in
-                let Q : Spot → Type 0 = λ x. FilledRow (gives n) profile n (get_or old n no_spot) x in
-                let R : Spot → Type 0 = λ x. FilledRow (gives n) profile n x s in
-                subst P (sym e) (subst Q (sym (get_or-set_same new n s no_spot (omega arith))) (subst R at turned))
+                let P : ℕ → Type 0 = λ k. FilledRow (gives k) profile k (get_or old k no_row_state) (get_or (set new n s) k no_row_state) in
+                let Q : RowState → Type 0 = λ x. FilledRow (gives n) profile n (get_or old n no_row_state) x in
+                let R : RowState → Type 0 = λ x. FilledRow (gives n) profile n x s in
+                subst P (sym e) (subst Q (sym (get_or-set_same new n s no_row_state (omega arith))) (subst R at turned))
             | inr e ↦
-                let Q : Spot → Type 0 = λ x. FilledRow (gives row) profile row (get_or old row no_spot) x in
-                subst Q (sym (get_or-set_other new n row s no_spot e)) (f.turned.rows row below)
+                let Q : RowState → Type 0 = λ x. FilledRow (gives row) profile row (get_or old row no_row_state) x in
+                subst Q (sym (get_or-set_other new n row s no_row_state e)) (f.turned.rows row below)
           ];
     }
 
-pub filling_more : (profile : Profile) (gives : ℕ → List ℕ → Content → Type 0) (old new : List Spot) (n : ℕ) (mine s : Spot)
+pub filling_more : (profile : Profile) (gives : ℕ → List ℕ → Content → Type 0) (old new : List RowState) (n : ℕ) (mine s : RowState)
     → Filling profile gives old new n
     → n < length old
     → mine ≡ get_or new n mine
@@ -63,62 +63,62 @@ filling_more profile gives old new n mine s f w read turned some = let len = f.t
   full = λ row below.
       elim (cases_eq row n) [
         | inl e ↦
-            let P : ℕ → Type 0 = λ k. IsSome (get_or (set new n s) k no_spot).base in
-            let Q : Spot → Type 0 = λ x. IsSome x.base in
-            subst P (sym e) (subst Q (sym (get_or-set_same new n s no_spot (omega arith))) some)
-        | inr e ↦ let Q : Spot → Type 0 = λ x. IsSome x.base in subst Q (sym (get_or-set_other new n row s no_spot e)) (f.full row (omega arith))
+            let P : ℕ → Type 0 = λ k. IsSome (get_or (set new n s) k no_row_state).base in
+            let Q : RowState → Type 0 = λ x. IsSome x.base in
+            subst P (sym e) (subst Q (sym (get_or-set_same new n s no_row_state (omega arith))) some)
+        | inr e ↦ let Q : RowState → Type 0 = λ x. IsSome x.base in subst Q (sym (get_or-set_other new n row s no_row_state e)) (f.full row (omega arith))
       ];
-  ahead = λ row above. get_or-set_other new n row s no_spot (λ e. absurd (omega arith)) ∙ f.ahead row (omega arith);
+  ahead = λ row above. get_or-set_other new n row s no_row_state (λ e. absurd (omega arith)) ∙ f.ahead row (omega arith);
 }
 
-old_or_new : (o : Option Held) → (o ≡ None) ⊎ ((h : Held) × (o ≡ Some h))
+old_or_new : (o : Option LoadedView) → (o ≡ None) ⊎ ((h : LoadedView) × (o ≡ Some h))
 old_or_new None = inl refl
 old_or_new (Some h) = inr (h, refl)
 
-pub placed_turned : (profile : Profile) (gives : ℕ → List ℕ → Content → Type 0) (old new : List Spot) → Placed profile old → Turned profile gives old new → Placed profile new
+pub placed_turned : (profile : Profile) (gives : ℕ → List ℕ → Content → Type 0) (old new : List RowState) → Placed profile old → Turned profile gives old new → Placed profile new
 placed_turned profile gives old new placed t row h is =
     elim (cases_lt row (length old)) [
       | inl w ↦
           let f = t.rows row w in
-          elim (old_or_new (get_or old row no_spot).base) [
+          elim (old_or_new (get_or old row no_row_state).base) [
             | inl e ↦ let l = (f.put h e is).0 in (l.0, l.1 ∙ sym f.name, l.2)
             | inr e ↦
                 let same : e.0 ≡ h = let a : Some e.0 ≡ Some h = sym (f.stays e.0 e.1) ∙ is in cc in
-                let p = placed row h (e.1 ∙ ap (λ (x : Held). Some x) same) in (p.0, p.1 ∙ sym f.name, p.2)
+                let p = placed row h (e.1 ∙ ap (λ (x : LoadedView). Some x) same) in (p.0, p.1 ∙ sym f.name, p.2)
           ]
-      | inr w ↦ absurd (none-some h (let l = t.len in ap (λ (s : Spot). s.base) (sym (get_or_past new row no_spot (omega arith))) ∙ is))
+      | inr w ↦ absurd (none-some h (let l = t.len in ap (λ (s : RowState). s.base) (sym (get_or_past new row no_row_state (omega arith))) ∙ is))
     ]
 
 -- a fill keeps the names
-pub names_turned : (profile : Profile) (gives : ℕ → List ℕ → Content → Type 0) (old new : List Spot) → Turned profile gives old new → names_of new ≡ names_of old
+pub names_turned : (profile : Profile) (gives : ℕ → List ℕ → Content → Type 0) (old new : List RowState) → Turned profile gives old new → names_of new ≡ names_of old
 names_turned profile gives old new t =
-    let name : Spot → List ℕ = λ s. s.name in
+    let name : RowState → List ℕ = λ s. s.name in
     let len : length (names_of new) ≡ length (names_of old) = length-map new name ∙ (t.len ∙ sym (length-map old name)) in
     ext_get_or [] (names_of new) (names_of old) len (λ row below.
     let within : row < length new = let l = length-map new name in omega arith in
     let before : row < length old = let l = t.len in omega arith in
-    get_or-map name new row no_spot [] within ∙ ((t.rows row before).name ∙ sym (get_or-map name old row no_spot [] before)))
+    get_or-map name new row no_row_state [] within ∙ ((t.rows row before).name ∙ sym (get_or-map name old row no_row_state [] before)))
 
-cells_turned : (profile : Profile) (gives : ℕ → List ℕ → Content → Type 0) (old new : List Spot) → Turned profile gives old new → cells_of new ≡ cells_of old
+cells_turned : (profile : Profile) (gives : ℕ → List ℕ → Content → Type 0) (old new : List RowState) → Turned profile gives old new → cells_of new ≡ cells_of old
 cells_turned profile gives old new t =
-    let cell : Spot → ℕ = λ s. s.cell in
+    let cell : RowState → ℕ = λ s. s.cell in
     let len : length (cells_of new) ≡ length (cells_of old) = length-map new cell ∙ (t.len ∙ sym (length-map old cell)) in
     ext_get_or 0 (cells_of new) (cells_of old) len (λ row below.
     let within : row < length new = let l = length-map new cell in omega arith in
     let before : row < length old = let l = t.len in omega arith in
-    get_or-map cell new row no_spot 0 within ∙ ((t.rows row before).cell ∙ sym (get_or-map cell old row no_spot 0 before)))
+    get_or-map cell new row no_row_state 0 within ∙ ((t.rows row before).cell ∙ sym (get_or-map cell old row no_row_state 0 before)))
 
-filled_by : (P : Content → Type 0) (old new : Option Held)
-    → ((h : Held) → old ≡ Some h → new ≡ Some h)
-    → ((h : Held) → old ≡ None → new ≡ Some h → P h.content)
-    → Filled P (option_map (λ (h : Held). h.content) old) (option_map (λ (h : Held). h.content) new)
-filled_by P (Some h) new stays put = ap (option_map (λ (h : Held). h.content)) (stays h refl)
+filled_by : (P : Content → Type 0) (old new : Option LoadedView)
+    → ((h : LoadedView) → old ≡ Some h → new ≡ Some h)
+    → ((h : LoadedView) → old ≡ None → new ≡ Some h → P h.content)
+    → Filled P (option_map (λ (h : LoadedView). h.content) old) (option_map (λ (h : LoadedView). h.content) new)
+filled_by P (Some h) new stays put = ap (option_map (λ (h : LoadedView). h.content)) (stays h refl)
 filled_by P None None stays put = tt
 filled_by P None (Some h) stays put = put h refl refl
 
-filled_row : (gives : List ℕ → Content → Type 0) (profile : Profile) (row : ℕ) (old new : Spot)
+filled_row : (gives : List ℕ → Content → Type 0) (profile : Profile) (row : ℕ) (old new : RowState)
     → FilledRow gives profile row old new
-    → Filled (gives old.name) (option_map (λ (h : Held). h.content) old.base) (option_map (λ (h : Held). h.content) new.base)
+    → Filled (gives old.name) (option_map (λ (h : LoadedView). h.content) old.base) (option_map (λ (h : LoadedView). h.content) new.base)
 filled_row gives profile row old new f =
     filled_by (gives old.name) old.base new.base f.stays (λ h was now.
     let l = f.put h was now in
@@ -126,16 +126,16 @@ filled_row gives profile row old new f =
     subst P l.0.1 l.1)
 
 -- what a fill makes of a shelf, as callers see it
-pub record Fills (gives : ℕ → List ℕ → Content → Type 0) (old new : Stock) : Type 0 where
+pub record Fills (gives : ℕ → List ℕ → Content → Type 0) (old new : TableView) : Type 0 where
   pub shelf : (new.names ≡ old.names) × (new.profile ≡ old.profile) × (new.cells ≡ old.cells)
   pub hashing : new.hashing ≡ old.hashing
   pub base : (row : ℕ) → row < length old.names → Filled (gives row (name_in old.names row)) (file_at old.base row) (file_at new.base row)
   pub len : length new.base ≡ length old.names
 
-fills_turned : (profile : Profile) (hashing : Hashing) (gives : ℕ → List ℕ → Content → Type 0) (old new : List Spot) → Turned profile gives old new → Fills gives (stock_of profile hashing old) (stock_of profile hashing new)
+fills_turned : (profile : Profile) (hashing : Hashing) (gives : ℕ → List ℕ → Content → Type 0) (old new : List RowState) → Turned profile gives old new → Fills gives (table_view profile hashing old) (table_view profile hashing new)
 fills_turned profile hashing gives old new t =
-    let name : Spot → List ℕ = λ s. s.name in
-    let base : Spot → Option Content = λ s. option_map (λ (h : Held). h.content) s.base in
+    let name : RowState → List ℕ = λ s. s.name in
+    let base : RowState → Option Content = λ s. option_map (λ (h : LoadedView). h.content) s.base in
     record {
       shelf = (names_turned profile gives old new t, refl, cells_turned profile gives old new t);
       hashing = refl;
@@ -143,28 +143,28 @@ fills_turned profile hashing gives old new t =
           let before : row < length old = let l = length-map old name in omega arith in
           let within : row < length new = let l = t.len in omega arith in
           let P : List ℕ → Type 0 = λ n. Filled (gives row n) (file_at (base_of old) row) (file_at (base_of new) row) in
-          let Q : Option Content → Type 0 = λ o. Filled (gives row (get_or old row no_spot).name) o (file_at (base_of new) row) in
-          let R : Option Content → Type 0 = λ o. Filled (gives row (get_or old row no_spot).name) (base (get_or old row no_spot)) o in
-          subst P (sym (get_or-map name old row no_spot [] before))
-          (subst Q (sym (get_or-map base old row no_spot None before))
-          (subst R (sym (get_or-map base new row no_spot None within))
-          (filled_row (gives row) profile row (get_or old row no_spot) (get_or new row no_spot) (t.rows row before))));
+          let Q : Option Content → Type 0 = λ o. Filled (gives row (get_or old row no_row_state).name) o (file_at (base_of new) row) in
+          let R : Option Content → Type 0 = λ o. Filled (gives row (get_or old row no_row_state).name) (base (get_or old row no_row_state)) o in
+          subst P (sym (get_or-map name old row no_row_state [] before))
+          (subst Q (sym (get_or-map base old row no_row_state None before))
+          (subst R (sym (get_or-map base new row no_row_state None within))
+          (filled_row (gives row) profile row (get_or old row no_row_state) (get_or new row no_row_state) (t.rows row before))));
       len = length-map new base ∙ (t.len ∙ sym (length-map old name));
     }
 
-some_content : (o : Option Held) → IsSome o → IsSome (option_map (λ (h : Held). h.content) o)
+some_content : (o : Option LoadedView) → IsSome o → IsSome (option_map (λ (h : LoadedView). h.content) o)
 some_content None some = some
 some_content (Some h) some = refl
 
 -- at the end each row is filled
-pub full_turned : (profile : Profile) (hashing : Hashing) (gives : ℕ → List ℕ → Content → Type 0) (old new : List Spot) (n : ℕ) → length old ≤ n → Filling profile gives old new n → IsFull (stock_of profile hashing new)
+pub full_turned : (profile : Profile) (hashing : Hashing) (gives : ℕ → List ℕ → Content → Type 0) (old new : List RowState) (n : ℕ) → length old ≤ n → Filling profile gives old new n → IsFull (table_view profile hashing new)
 full_turned profile hashing gives old new n past f row below =
-    let base : Spot → Option Content = λ s. option_map (λ (h : Held). h.content) s.base in
-    let within : row < length new = let l = length-map new (λ (s : Spot). s.name) in omega arith in
+    let base : RowState → Option Content = λ s. option_map (λ (h : LoadedView). h.content) s.base in
+    let within : row < length new = let l = length-map new (λ (s : RowState). s.name) in omega arith in
     let P : Option Content → Type 0 = λ o. IsSome o in
-    subst P (sym (get_or-map base new row no_spot None within)) (some_content (get_or new row no_spot).base (f.full row (let l = f.turned.len in omega arith)))
+    subst P (sym (get_or-map base new row no_row_state None within)) (some_content (get_or new row no_row_state).base (f.full row (let l = f.turned.len in omega arith)))
 
-shelf_turned : (profile : Profile) (gives : ℕ → List ℕ → Content → Type 0) (names : List (List ℕ)) (old new : List Spot) → IsShelf profile names old → Turned profile gives old new → IsShelf profile names new
+shelf_turned : (profile : Profile) (gives : ℕ → List ℕ → Content → Type 0) (names : List (List ℕ)) (old new : List RowState) → IsShelf profile names old → Turned profile gives old new → IsShelf profile names new
 shelf_turned profile gives names old new s t = record {
   small = let l = t.len in let m = s.small in omega arith;
   named = s.named ∙ sym (names_turned profile gives old new t);
@@ -173,7 +173,7 @@ shelf_turned profile gives names old new s t = record {
 }
 
 -- a fill leaves a shelf where it began at one, since the profile and the index stay
-pub shelf_kept : {gives : ℕ → List ℕ → Content → Type 0} {before index : IndexOfNames} {was is : Profile} {old new : List Spot}
+pub shelf_kept : {gives : ℕ → List ℕ → Content → Type 0} {before index : IndexView} {was is : Profile} {old new : List RowState}
     → is ≡ was
     → index ≡ before
     → IsShelf was before.names old
@@ -182,17 +182,17 @@ pub shelf_kept : {gives : ℕ → List ℕ → Content → Type 0} {before index
 shelf_kept {gives = gives} {before = before} {was = was} {old = old} {new = new} profile index s t = rw (profile, index) (shelf_turned was gives before.names old new s t)
 
 -- and fills what callers see
-pub fills_kept : {gives : ℕ → List ℕ → Content → Type 0} {before index : IndexOfNames} {was is : Profile} {old new : List Spot} {now : Stock}
+pub fills_kept : {gives : ℕ → List ℕ → Content → Type 0} {before index : IndexView} {was is : Profile} {old new : List RowState} {now : TableView}
     → is ≡ was
     → index ≡ before
-    → stock_of was before.hashing old ≡ now
+    → table_view was before.hashing old ≡ now
     → Turned was gives old new
-    → Fills gives now (stock_of is index.hashing new)
+    → Fills gives now (table_view is index.hashing new)
 fills_kept {gives = gives} {before = before} {was = was} {old = old} {new = new} profile index view t = rw (profile, index, ← view) (fills_turned was before.hashing gives old new t)
 
 -- the rows are as many as the names that callers see
-pub rows_counted : (profile : Profile) (hashing : Hashing) (rows : List Spot) {now : Stock} → stock_of profile hashing rows ≡ now → length rows ≡ length now.names
-rows_counted profile hashing rows view = sym (length-map rows (λ (s : Spot). s.name)) ∙ ap (λ (s : Stock). length s.names) view
+pub rows_counted : (profile : Profile) (hashing : Hashing) (rows : List RowState) {now : TableView} → table_view profile hashing rows ≡ now → length rows ≡ length now.names
+rows_counted profile hashing rows view = sym (length-map rows (λ (s : RowState). s.name)) ∙ ap (λ (s : TableView). length s.names) view
 
 -- what a shelf that is filled with contents holds in each row
 abbrev pub given : List (Vec ℕ Global) → ℕ → List ℕ → Content → Type 0
@@ -207,7 +207,7 @@ bytes_here contents row n bytes e t =
     subst P (sym e) (t.0, at)
 
 -- a row to which these bytes were moved has the content of its place
-pub given_row : (contents : List (Vec ℕ Global)) (profile : Profile) (row : ℕ) (bytes : List ℕ) (old new : Spot)
+pub given_row : (contents : List (Vec ℕ Global)) (profile : Profile) (row : ℕ) (bytes : List ℕ) (old new : RowState)
     → bytes ≡ bytes_at contents row
     → FilledRow (λ name c. c ≡ readable bytes) profile row old new
     → FilledRow (given contents row) profile row old new
@@ -216,18 +216,18 @@ given_row contents profile row bytes old new e f =
     subst P e f
 
 -- what is permitted for a row by its name is permitted for what stands there now
-pub lawful_here : (profile : Profile) (may : List ℕ → Content → Type 0) (gives : ℕ → List ℕ → Content → Type 0) (old new : List Spot) (row : ℕ) (mine : Spot)
+pub lawful_here : (profile : Profile) (may : List ℕ → Content → Type 0) (gives : ℕ → List ℕ → Content → Type 0) (old new : List RowState) (row : ℕ) (mine : RowState)
     (bytes theirs : List ℕ)
     → Filling profile gives old new row
     → row < length old
     → mine ≡ get_or new row mine
     → bytes ≡ theirs
-    → Lawful may (name_in (names_of old) row) (readable theirs) → Lawful may mine.name (readable bytes)
-lawful_here profile may gives old new row mine bytes theirs f w read same lawful =
+    → IsPermitted may (name_in (names_of old) row) (readable theirs) → IsPermitted may mine.name (readable bytes)
+lawful_here profile may gives old new row mine bytes theirs f w read same contents_permitted =
     let len = f.turned.len in
-    let at : mine ≡ get_or old row no_spot = get_or_read new row mine (omega arith) read no_spot ∙ f.ahead row (omega arith) in
-    let P : List ℕ → Type 0 = λ b. Lawful may mine.name (readable b) in
-    let Q : List ℕ → Type 0 = λ n. Lawful may n (readable theirs) in
-    let name : Spot → List ℕ = λ s. s.name in
-    let named : mine.name ≡ name_in (names_of old) row = ap name at ∙ sym (get_or-map name old row no_spot [] w) in
-    subst P (sym same) (subst Q (sym named) lawful)
+    let at : mine ≡ get_or old row no_row_state = get_or_read new row mine (omega arith) read no_row_state ∙ f.ahead row (omega arith) in
+    let P : List ℕ → Type 0 = λ b. IsPermitted may mine.name (readable b) in
+    let Q : List ℕ → Type 0 = λ n. IsPermitted may n (readable theirs) in
+    let name : RowState → List ℕ = λ s. s.name in
+    let named : mine.name ≡ name_in (names_of old) row = ap name at ∙ sym (get_or-map name old row no_row_state [] w) in
+    subst P (sym same) (subst Q (sym named) contents_permitted)

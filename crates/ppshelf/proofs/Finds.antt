@@ -8,17 +8,17 @@ use Rattle.std.proofs.lemmas.Bool.{cases_lt}
 use Rattle.std.proofs.lemmas.Option.{none-some}
 use Rattle.std.proofs.lemmas.Slice.Eq.{bytes_eq-Decides}
 use Rattle.ppshelf.specs.Names.{AreNames, IsRowOf}
-use Rattle.ppshelf.specs.Search.{Path, Candidate, IsFirstRow, IsRowAt, IsEndOf, candidate, candidates, candidates_behind, inside, lead}
+use Rattle.ppshelf.specs.Search.{Path, Candidate, IsFirstRow, IsRowAt, IsEndOf, candidate, candidates, candidates_after, candidates_in, follow}
 use Rattle.ppshelf.specs.declared.search.Form.TheVariants.{Angle}
 
-nothing_left : (folders : List (List ℕ)) (i : ℕ) → length folders ≤ i → drop i folders ≡ []
-nothing_left folders i past = grind (arith, common_steps)
+nothing_left : (directories : List (List ℕ)) (i : ℕ) → length directories ≤ i → drop i directories ≡ []
+nothing_left directories i past = grind (arith, common_steps)
 
 module _ (names : List (List ℕ)) where
   -- where none of the first candidates is there, the others decide
   pub first_later : (xs ys : List Candidate) (found : Option (ℕ × ℕ)) → IsFirstRow names xs None → IsFirstRow names ys found → IsFirstRow names (xs ++ ys) found
   first_later [] ys found none h = h
-  first_later (x ∷ xs) ys found none h = elim none [ inl a ↦ absurd (none-some (a.0, x.folder) a.1.0) | inr b ↦ inr (b.0, first_later xs ys found b.1 h) ]
+  first_later (x ∷ xs) ys found none h = elim none [ inl a ↦ absurd (none-some (a.0, x.directory) a.1.0) | inr b ↦ inr (b.0, first_later xs ys found b.1 h) ]
 
   -- and what is found among the first is found among all
   pub first_here : (xs ys : List Candidate) (found : ℕ × ℕ) → IsFirstRow names xs (Some found) → IsFirstRow names (xs ++ ys) (Some found)
@@ -38,44 +38,44 @@ module _ (names : List (List ℕ)) where
   first_alone k (Some path) (Some row) h = inl (row, (refl, h))
 
   -- a search that begins after the directory of number j and has skipped those up to number i
-  pub record Passed (folders : List (List ℕ)) (text : List ℕ) (j i : ℕ) : Type 0 where
-    pub rest : (found : Option (ℕ × ℕ)) → IsFirstRow names (inside (suc i) (drop i folders) text) found → IsFirstRow names (inside (suc j) (drop j folders) text) found
+  pub record Passed (directories : List (List ℕ)) (text : List ℕ) (j i : ℕ) : Type 0 where
+    pub rest : (found : Option (ℕ × ℕ)) → IsFirstRow names (candidates_in (suc i) (drop i directories) text) found → IsFirstRow names (candidates_in (suc j) (drop j directories) text) found
 
-  there : (folders : List (List ℕ)) (i : ℕ) (folder : List ℕ) → i < length folders → folder ≡ get_or folders i [] → drop i folders ≡ folder ∷ drop (suc i) folders
-  there folders i folder within is = drop-cons folders i [] within ∙ ap (λ (x : List ℕ). x ∷ drop (suc i) folders) (sym is)
+  there : (directories : List (List ℕ)) (i : ℕ) (directory : List ℕ) → i < length directories → directory ≡ get_or directories i [] → drop i directories ≡ directory ∷ drop (suc i) directories
+  there directories i directory within is = drop-cons directories i [] within ∙ ap (λ (x : List ℕ). x ∷ drop (suc i) directories) (sym is)
 
-  pub pass_over : (folders : List (List ℕ)) (text : List ℕ) (j i : ℕ) (folder : List ℕ)
-      → Passed folders text j i
-      → i < length folders
-      → folder ≡ get_or folders i []
-      → IsRowAt names (lead (lead (Some []) folder) text) None
-      → Passed folders text j (i + 1)
-  pass_over folders text j i folder p within is none = record {
+  pub pass_over : (directories : List (List ℕ)) (text : List ℕ) (j i : ℕ) (directory : List ℕ)
+      → Passed directories text j i
+      → i < length directories
+      → directory ≡ get_or directories i []
+      → IsRowAt names (follow (follow (Some []) directory) text) None
+      → Passed directories text j (i + 1)
+  pass_over directories text j i directory p within is none = record {
     rest = λ found h.
         let next : i + 1 ≡ suc i = omega arith in
-        let path = lead (lead (Some []) folder) text in
-        let P : List (List ℕ) → Type 0 = λ fs. IsFirstRow names (inside (suc i) fs text) found in
-        let Q : ℕ → Type 0 = λ k. IsFirstRow names (inside (suc k) (drop k folders) text) found in
-        p.rest found (subst P (sym (there folders i folder within is)) (first_later (candidate (suc i) path) (inside (suc (suc i)) (drop (suc i) folders) text) found (first_alone (suc i) path None none) (subst Q next h)));
+        let path = follow (follow (Some []) directory) text in
+        let P : List (List ℕ) → Type 0 = λ fs. IsFirstRow names (candidates_in (suc i) fs text) found in
+        let Q : ℕ → Type 0 = λ k. IsFirstRow names (candidates_in (suc k) (drop k directories) text) found in
+        p.rest found (subst P (sym (there directories i directory within is)) (first_later (candidate (suc i) path) (candidates_in (suc (suc i)) (drop (suc i) directories) text) found (first_alone (suc i) path None none) (subst Q next h)));
   }
 
-  pub found_here : (folders : List (List ℕ)) (text : List ℕ) (j i : ℕ) (folder : List ℕ) (row : ℕ)
-      → Passed folders text j i
-      → i < length folders
-      → folder ≡ get_or folders i []
-      → IsRowAt names (lead (lead (Some []) folder) text) (Some row)
-      → IsFirstRow names (inside (suc j) (drop j folders) text) (Some (row, i + 1))
-  found_here folders text j i folder row p within is h =
+  pub found_here : (directories : List (List ℕ)) (text : List ℕ) (j i : ℕ) (directory : List ℕ) (row : ℕ)
+      → Passed directories text j i
+      → i < length directories
+      → directory ≡ get_or directories i []
+      → IsRowAt names (follow (follow (Some []) directory) text) (Some row)
+      → IsFirstRow names (candidates_in (suc j) (drop j directories) text) (Some (row, i + 1))
+  found_here directories text j i directory row p within is h =
       let next : suc i ≡ i + 1 = omega arith in
-      let path = lead (lead (Some []) folder) text in
-      let P : List (List ℕ) → Type 0 = λ fs. IsFirstRow names (inside (suc i) fs text) (Some (row, suc i)) in
-      let Q : ℕ → Type 0 = λ k. IsFirstRow names (inside (suc j) (drop j folders) text) (Some (row, k)) in
-      subst Q next (p.rest (Some (row, suc i)) (subst P (sym (there folders i folder within is)) (first_here (candidate (suc i) path) (inside (suc (suc i)) (drop (suc i) folders) text) (row, suc i) (first_alone (suc i) path (Some row) h))))
+      let path = follow (follow (Some []) directory) text in
+      let P : List (List ℕ) → Type 0 = λ fs. IsFirstRow names (candidates_in (suc i) fs text) (Some (row, suc i)) in
+      let Q : ℕ → Type 0 = λ k. IsFirstRow names (candidates_in (suc j) (drop j directories) text) (Some (row, k)) in
+      subst Q next (p.rest (Some (row, suc i)) (subst P (sym (there directories i directory within is)) (first_here (candidate (suc i) path) (candidates_in (suc (suc i)) (drop (suc i) directories) text) (row, suc i) (first_alone (suc i) path (Some row) h))))
 
-  pub found_nowhere : (folders : List (List ℕ)) (text : List ℕ) (j i : ℕ) → Passed folders text j i → length folders ≤ i → IsFirstRow names (inside (suc j) (drop j folders) text) None
-  found_nowhere folders text j i p past =
-      let P : List (List ℕ) → Type 0 = λ fs. IsFirstRow names (inside (suc i) fs text) None in
-      let e : drop i folders ≡ [] = nothing_left folders i past in
+  pub found_nowhere : (directories : List (List ℕ)) (text : List ℕ) (j i : ℕ) → Passed directories text j i → length directories ≤ i → IsFirstRow names (candidates_in (suc j) (drop j directories) text) None
+  found_nowhere directories text j i p past =
+      let P : List (List ℕ) → Type 0 = λ fs. IsFirstRow names (candidates_in (suc i) fs text) None in
+      let e : drop i directories ≡ [] = nothing_left directories i past in
       p.rest None (subst P (sym e) refl)
 
 same_row : (names : List (List ℕ)) → AreNames names → (name : List ℕ) (i j : ℕ) → IsRowOf names name (Some i) → IsRowOf names name (Some j) → i ≡ j
@@ -96,26 +96,26 @@ one_first names good (c ∷ cs) a b x y =
     elim x [
       | inl h ↦
           elim y [
-            | inl k ↦ h.1.0 ∙ ap (λ (row : ℕ). Some (row, c.folder)) (same_row names good c.name h.0 k.0 h.1.1 k.1.1) ∙ sym k.1.0
+            | inl k ↦ h.1.0 ∙ ap (λ (row : ℕ). Some (row, c.directory)) (same_row names good c.name h.0 k.0 h.1.1 k.1.1) ∙ sym k.1.0
             | inr k ↦ absurd (k.0 h.0 h.1.1.0 h.1.1.1)
           ]
       | inr h ↦ elim y [ inl k ↦ absurd (h.0 k.0 k.1.1.0 k.1.1.1) | inr k ↦ one_first names good cs a b h.1 k.1 ]
     ]
 
 -- the candidates in some directories: those in the first j, and those in the others
-parted : (folders : List (List ℕ)) (text : List ℕ) (j k m : ℕ) → m ≡ k + j → inside k folders text ≡ inside k (take j folders) text ++ inside m (drop j folders) text
-parted folders text zero k m e = let same : k ≡ m = omega (arith, e) in ap (λ (n : ℕ). inside n folders text) same
+parted : (directories : List (List ℕ)) (text : List ℕ) (j k m : ℕ) → m ≡ k + j → candidates_in k directories text ≡ candidates_in k (take j directories) text ++ candidates_in m (drop j directories) text
+parted directories text zero k m e = let same : k ≡ m = omega (arith, e) in ap (λ (n : ℕ). candidates_in n directories text) same
 parted [] text (suc j) k m e = refl
-parted (folder ∷ more) text (suc j) k m e =
-    let here = candidate k (lead (lead (Some []) folder) text) in
+parted (directory ∷ more) text (suc j) k m e =
+    let here = candidate k (follow (follow (Some []) directory) text) in
     let next : m ≡ suc k + j = omega (arith, e) in
-    ap (λ (cs : List Candidate). here ++ cs) (parted more text j (suc k) m next) ∙ sym (append_assoc here (inside (suc k) (take j more) text) (inside m (drop j more) text))
+    ap (λ (cs : List Candidate). here ++ cs) (parted more text j (suc k) m next) ∙ sym (append_assoc here (candidates_in (suc k) (take j more) text) (candidates_in m (drop j more) text))
 
 -- the candidates after a directory are the last candidates
-pub behind_ends : (from text : List ℕ) (unit setting : List (List ℕ)) (j : ℕ) → IsEndOf (candidates_behind j unit setting text) (candidates Angle from unit setting text)
+pub behind_ends : (from text : List ℕ) (unit setting : List (List ℕ)) (j : ℕ) → IsEndOf (candidates_after j unit setting text) (candidates Angle from unit setting text)
 behind_ends from text unit setting j =
     let first : suc j ≡ 1 + j = omega arith in
-    (inside 1 (take j (unit ++ setting)) text, parted (unit ++ setting) text j 1 (suc j) first)
+    (candidates_in 1 (take j (unit ++ setting)) text, parted (unit ++ setting) text j 1 (suc j) first)
 
 -- what is found in directories that are numbered from k on has no smaller number
 above_one : (names : List (List ℕ)) (path : Option Path) (k : ℕ) (more : List Candidate) (found : ℕ × ℕ) → (IsFirstRow names more (Some found) → k ≤ found.1) → IsFirstRow names (candidate k path ++ more) (Some found) → k ≤ found.1
@@ -125,14 +125,14 @@ above_one names (Some path) k more found later h =
     let own : k ≤ k = omega arith in
     elim h [ inl a ↦ subst P (sym a.1.0) own | inr b ↦ later b.1 ]
 
-above : (names folders : List (List ℕ)) (text : List ℕ) (k : ℕ) (found : ℕ × ℕ) → IsFirstRow names (inside k folders text) (Some found) → k ≤ found.1
+above : (names directories : List (List ℕ)) (text : List ℕ) (k : ℕ) (found : ℕ × ℕ) → IsFirstRow names (candidates_in k directories text) (Some found) → k ≤ found.1
 above names [] text k found h = absurd (none-some found (sym h))
-above names (folder ∷ more) text k found h =
-    above_one names (lead (lead (Some []) folder) text) k (inside (suc k) more text) found (λ r. let l = above names more text (suc k) found r in omega arith) h
+above names (directory ∷ more) text k found h =
+    above_one names (follow (follow (Some []) directory) text) k (candidates_in (suc k) more text) found (λ r. let l = above names more text (suc k) found r in omega arith) h
 
 -- so a search after a directory finds a file in a later one
-pub found_behind : (names unit setting : List (List ℕ)) (text : List ℕ) (j row folder : ℕ) → IsFirstRow names (candidates_behind j unit setting text) (Some (row, folder)) → j < folder
-found_behind names unit setting text j row folder h = let l = above names (drop j (unit ++ setting)) text (suc j) (row, folder) h in omega arith
+pub found_behind : (names unit setting : List (List ℕ)) (text : List ℕ) (j row directory : ℕ) → IsFirstRow names (candidates_after j unit setting text) (Some (row, directory)) → j < directory
+found_behind names unit setting text j row directory h = let l = above names (drop j (unit ++ setting)) text (suc j) (row, directory) h in omega arith
 
 -- ---- a search has a result
 
@@ -152,7 +152,7 @@ some_row_of (n ∷ names) name = row_here n names name (bytes_eq n name) refl (s
 
 first_or : (names : List (List ℕ)) (c : Candidate) (cs : List Candidate) (row : Option ℕ) → IsRowOf names c.name row → (later : Option (ℕ × ℕ)) → IsFirstRow names cs later → (found : Option (ℕ × ℕ)) × IsFirstRow names (c ∷ cs) found
 first_or names c cs None h later k = (later, inr (h, k))
-first_or names c cs (Some r) h later k = (Some (r, c.folder), inl (r, (refl, h)))
+first_or names c cs (Some r) h later k = (Some (r, c.directory), inl (r, (refl, h)))
 
 -- so each list of candidates has a result, whatever the names
 pub some_first : (names : List (List ℕ)) (cs : List Candidate) → (found : Option (ℕ × ℕ)) × IsFirstRow names cs found

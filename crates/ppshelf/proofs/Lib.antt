@@ -15,6 +15,6 @@ pub mod Paths
 -- Texts whose segments all lead on.
 pub mod Plain
 -- The directory of a file with a name in normal form.
-pub mod Beside
+pub mod IncluderDirectory
 -- The first of several names that a shelf has.
 pub mod Finds

@@ -9,7 +9,7 @@ use Rattle.std.proofs.lemmas.Bool.{false≢true, or_parts}
 use Rattle.std.proofs.lemmas.List.{get_or-map, get_or-take, length-map, map-append, take_more}
 use Rattle.std.proofs.lemmas.List.Quantifiers.{position-Some}
 use Rattle.std.proofs.lemmas.Slice.Eq.{bytes_eq-Decides}
-use Rattle.ppshelf.specs.Names.{is_name, are_names, name_in, AreNames, IsNewName, IsPut, IsRowOf}
+use Rattle.ppshelf.specs.Names.{is_file_name, are_names, name_in, AreNames, IsNewName, IsAppended, IsRowOf}
 
 either : (a b : Bool) → (a || b) ≡ true → (a ≡ false) → b ≡ true
 either false b e f = e
@@ -51,14 +51,14 @@ module _ {X : Type 0} (items : X → List ℕ) (name : List ℕ) where
 -- what a set holds after a key is put in
 pub pushed : {X : Type 0} (items : X → List ℕ) (name : List ℕ) (value : X) (keys after : List X) (new b : Bool)
     → items value ≡ name → list_any (λ x. bytes_eq (items value) (items x)) keys ≡ b → new ≡ not b → after ≡ (if b then keys else keys ++ value ∷ [])
-    → IsPut (map items keys) name new (map items after)
+    → IsAppended (map items keys) name new (map items after)
 pushed items name value keys after new b is any answer now =
     let P : List ℕ → Type 0 = λ n. list_any (λ x. bytes_eq n (items x)) keys ≡ b in
     pushed_by items name value keys after new b is (subst P is any) answer now
   where
     pushed_by : {X : Type 0} (items : X → List ℕ) (name : List ℕ) (value : X) (keys after : List X) (new b : Bool)
         → items value ≡ name → list_any (λ x. bytes_eq name (items x)) keys ≡ b → new ≡ not b → after ≡ (if b then keys else keys ++ value ∷ [])
-        → IsPut (map items keys) name new (map items after)
+        → IsAppended (map items keys) name new (map items after)
     pushed_by items name value keys after true false is any answer now =
         (ap (map items) now ∙ (map-append items keys (value ∷ []) ∙ ap (λ n. map items keys ++ n ∷ []) is), no_row items name keys any)
     pushed_by items name value keys after false true is any answer now = (ap (map items) now, a_row items name keys any)
@@ -77,9 +77,9 @@ position-map p h ys = rw (len-map p h ys, length-map ys h) refl
 -- ---- names, one after another
 
 -- a name that is none of those before it
-pub new_name : (names : List (List ℕ)) (row : ℕ) (name : List ℕ) → row < length names → name_in names row ≡ name → is_name name ≡ true → IsRowOf (take row names) name None → IsNewName names row
+pub new_name : (names : List (List ℕ)) (row : ℕ) (name : List ℕ) → row < length names → name_in names row ≡ name → is_file_name name ≡ true → IsRowOf (take row names) name None → IsNewName names row
 new_name names row name within at form none = record {
-  form = ap is_name at ∙ form;
+  form = ap is_file_name at ∙ form;
   once = λ before below same. none before (let l = length_take row names within in omega arith) (get_or-take row names before [] below ∙ (same ∙ at));
 }
   where
@@ -92,8 +92,8 @@ not_new names row k name within at found new =
     let below : k < row = let w = found.0 in omega arith in
     new.once k below (sym (get_or-take row names k [] below) ∙ (found.1 ∙ sym at))
 
-pub bad_form : (names : List (List ℕ)) (row : ℕ) (name : List ℕ) → name_in names row ≡ name → is_name name ≡ false → IsNewName names row → ⊥
-bad_form names row name at form new = false≢true (sym form ∙ (sym (ap is_name at) ∙ new.form))
+pub bad_form : (names : List (List ℕ)) (row : ℕ) (name : List ℕ) → name_in names row ≡ name → is_file_name name ≡ false → IsNewName names row → ⊥
+bad_form names row name at form new = false≢true (sym form ∙ (sym (ap is_file_name at) ∙ new.form))
 
 -- an index of the first names, which are all new
 pub record Indexed (names : List (List ℕ)) (row : ℕ) (index : List (List ℕ)) : Type 0 where
@@ -101,7 +101,7 @@ pub record Indexed (names : List (List ℕ)) (row : ℕ) (index : List (List ℕ
   pub good : (before : ℕ) → before < row → IsNewName names before
 
 pub next_name : (names : List (List ℕ)) (row : ℕ) (name : List ℕ) (index after : List (List ℕ)) → Indexed names row index → row < length names
-    → name_in names row ≡ name → is_name name ≡ true → (new : Bool) → new ≡ true → IsPut index name new after → Indexed names (row + 1) after
+    → name_in names row ≡ name → is_file_name name ≡ true → (new : Bool) → new ≡ true → IsAppended index name new after → Indexed names (row + 1) after
 next_name names row name index after i within at form false is added = absurd (false≢true is)
 next_name names row name index after i within at form true is added = record {
   index_is =
@@ -115,7 +115,7 @@ next_name names row name index after i within at form true is added = record {
 
 -- one that is among those before it is no new name
 pub put_fails : (names : List (List ℕ)) (row : ℕ) (name : List ℕ) (index after : List (List ℕ)) → Indexed names row index → row < length names
-    → name_in names row ≡ name → (new : Bool) → new ≡ false → IsPut index name new after → IsNewName names row → ⊥
+    → name_in names row ≡ name → (new : Bool) → new ≡ false → IsAppended index name new after → IsNewName names row → ⊥
 put_fails names row name index after i within at true is put = absurd (false≢true (sym is))
 put_fails names row name index after i within at false is put =
     let P : List (List ℕ) → Type 0 = λ x. IsRowOf x name (Some put.1.0) in
@@ -153,7 +153,7 @@ names_from_test [] e row within = absurd (omega arith)
 names_from_test (name ∷ more) e zero within =
     record { form = (passes _ _ _ e).0; once = λ before below same. absurd (omega arith) }
 names_from_test (name ∷ more) e (suc row) within =
-    let p = passes (is_name name) (not (list_any (bytes_eq name) more)) (are_names more) e in
+    let p = passes (is_file_name name) (not (list_any (bytes_eq name) more)) (are_names more) e in
     let inside : row < length more = omega arith in
     let later : IsNewName more row = names_from_test more p.2 row inside in
     let apart : IsRowOf more name None = at_no_row name more (not-false (list_any (bytes_eq name) more) p.1) in
@@ -180,7 +180,7 @@ apart_by name more true e are =
 pub test_of_names : (names : List (List ℕ)) → AreNames names → are_names names ≡ true
 test_of_names [] are = refl
 test_of_names (name ∷ more) are =
-    let form : is_name name ≡ true = (are 0 (omega arith)).form in
+    let form : is_file_name name ≡ true = (are 0 (omega arith)).form in
     let apart : not (list_any (bytes_eq name) more) ≡ true = apart_by name more (list_any (bytes_eq name) more) refl are in
     rw (form, apart, test_of_names more (names_behind name more are)) refl
 

@@ -36,13 +36,13 @@ spelled_first [] s e = refl
 spelled_first (t ∷ path) s e = absurd (omega arith)
 
 -- the spelling of one more of a path's segments
-module _ (path : List (List ℕ)) (i : ℕ) (within : i < length path) (before : List ℕ) (spelled : before ≡ join_with_byte 47 (take i path)) where
+module _ (path : List (List ℕ)) (i : ℕ) (within : i < length path) (before : List ℕ) (path_name : before ≡ join_with_byte 47 (take i path)) where
   pub spelled_next : 0 < i → join_with_byte 47 (take (i + 1) path) ≡ (before ++ 47 ∷ []) ++ get_or path i []
   spelled_next some =
       let l : length (take i path) ≡ i = grind (arith, common_steps) in
-      ap (join_with_byte 47) (take_more path i [] within) ∙ (join_more (take i path) (get_or path i []) (omega arith) ∙ ap (λ (x : List ℕ). (x ++ 47 ∷ []) ++ get_or path i []) (sym spelled))
+      ap (join_with_byte 47) (take_more path i [] within) ∙ (join_more (take i path) (get_or path i []) (omega arith) ∙ ap (λ (x : List ℕ). (x ++ 47 ∷ []) ++ get_or path i []) (sym path_name))
 
   pub spelled_front : i ≡ 0 → join_with_byte 47 (take (i + 1) path) ≡ before ++ get_or path i []
   spelled_front none =
       let l : length (take i path) ≡ i = grind (arith, common_steps) in
-      ap (join_with_byte 47) (take_more path i [] within) ∙ (spelled_first (take i path) (get_or path i []) (omega arith) ∙ ap (λ (x : List ℕ). x ++ get_or path i []) (sym spelled))
+      ap (join_with_byte 47) (take_more path i [] within) ∙ (spelled_first (take i path) (get_or path i []) (omega arith) ∙ ap (λ (x : List ℕ). x ++ get_or path i []) (sym path_name))

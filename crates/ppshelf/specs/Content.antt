@@ -13,9 +13,9 @@ pub data Content : Type 0 where
 
 -- A content is permitted for a name by a relation if it is bytes that the relation allows, or if it is unreadable and
 -- the relation allows unreadable or too many bytes
-abbrev pub Lawful : (List ℕ → Content → Type 0) → List ℕ → Content → Type 0
-Lawful may name unreadable = (may name unreadable) ⊎ ((bytes : List ℕ) × (longest < length bytes) × may name (readable bytes))
-Lawful may name (readable bytes) = (length bytes ≤ longest) × may name (readable bytes)
+abbrev pub IsPermitted : (List ℕ → Content → Type 0) → List ℕ → Content → Type 0
+IsPermitted may name unreadable = (may name unreadable) ⊎ ((bytes : List ℕ) × (longest < length bytes) × may name (readable bytes))
+IsPermitted may name (readable bytes) = (length bytes ≤ longest) × may name (readable bytes)
 
 abbrev pub content_of : Option (List ℕ) → Content
 content_of None = unreadable

@@ -6,53 +6,53 @@ use Rattle.ppshelf.specs.Files.{Files, file_at, Extends, Agree}
 
 -- A caller: what it has observed of the shelf, the blocks that it claimed, in order, and whether it found no block left
 pub record Caller : Type 0 where
-  pub learnt : Files
+  pub observed : Files
   pub claims : List ℕ
   pub found_empty : Bool
 
 -- the caller with an index past the last
-abbrev pub nobody : Caller
-nobody = record { learnt = []; claims = []; found_empty = false }
+abbrev pub no_caller : Caller
+no_caller = record { observed = []; claims = []; found_empty = false }
 
 -- What the rows cache, the number of the next block, and the callers
 pub record Shared : Type 0 where
-  pub kept : Files
+  pub cached : Files
   pub block : ℕ
   pub callers : List Caller
 
 abbrev pub caller_at : Shared → ℕ → Caller
-caller_at shared caller = slice_index_or shared.callers caller nobody
+caller_at shared caller = slice_index_or shared.callers caller no_caller
 
-abbrev pub learnt_by : Shared → ℕ → Files
-learnt_by shared caller = (caller_at shared caller).learnt
+abbrev pub observed_by : Shared → ℕ → Files
+observed_by shared caller = (caller_at shared caller).observed
 
 -- the state after a change of one caller
-abbrev pub changing : Shared → ℕ → (Caller → Caller) → Shared
-changing shared caller change = record shared { callers = slice_set shared.callers caller (change (caller_at shared caller)) }
+abbrev pub with_changed_caller : Shared → ℕ → (Caller → Caller) → Shared
+with_changed_caller shared caller change = record shared { callers = slice_set shared.callers caller (change (caller_at shared caller)) }
 
 -- a caller observes the content of a row
-abbrev pub learning : Shared → ℕ → ℕ → Content → Shared
-learning shared caller row c = changing shared caller (λ (k : Caller). record k { learnt = slice_set k.learnt row (Some c) })
+abbrev pub observing : Shared → ℕ → ℕ → Content → Shared
+observing shared caller row c = with_changed_caller shared caller (λ (k : Caller). record k { observed = slice_set k.observed row (Some c) })
 
 -- a row caches a content
-abbrev pub keeping : Shared → ℕ → Content → Shared
-keeping shared row c = record shared { kept = slice_set shared.kept row (Some c) }
+abbrev pub caching : Shared → ℕ → Content → Shared
+caching shared row c = record shared { cached = slice_set shared.cached row (Some c) }
 
 -- a caller gets the next block
 abbrev pub with_block : ℕ → Caller → Caller
 with_block block k = record k { claims = k.claims ++ block ∷ [] }
 
 -- a caller finds that none is left
-abbrev pub with_none : Caller → Caller
-with_none k = record k { found_empty = true }
+abbrev pub with_no_block_left : Caller → Caller
+with_no_block_left k = record k { found_empty = true }
 
 -- the number of the next block rises by one
-abbrev pub advancing : Shared → Shared
-advancing shared = record shared { block = suc shared.block }
+abbrev pub with_next_block : Shared → Shared
+with_next_block shared = record shared { block = suc shared.block }
 
 -- A caller's look caches the first content of a row; a later look reads what is cached; a caller claims a block
 pub data Event : Type 0 where
-  Keep : ℕ → ℕ → Content → Event
+  Cache : ℕ → ℕ → Content → Event
   Read : ℕ → ℕ → Event
   Claim : ℕ → Event
 
@@ -62,21 +62,21 @@ pub data Event : Type 0 where
 pub data Happens (blocks : ℕ) : Shared → Event → Shared → Type 0 where
   keeps : {shared : Shared} {caller row : ℕ} {c : Content}
       → caller < length shared.callers
-      → row < length shared.kept
-      → file_at shared.kept row ≡ None
-      → Happens blocks shared (Keep caller row c) (learning (keeping shared row c) caller row c)
+      → row < length shared.cached
+      → file_at shared.cached row ≡ None
+      → Happens blocks shared (Cache caller row c) (observing (caching shared row c) caller row c)
   reads : {shared : Shared} {caller row : ℕ} {c : Content}
       → caller < length shared.callers
-      → file_at shared.kept row ≡ Some c
-      → Happens blocks shared (Read caller row) (learning shared caller row c)
+      → file_at shared.cached row ≡ Some c
+      → Happens blocks shared (Read caller row) (observing shared caller row c)
   claims : {shared : Shared} {caller : ℕ}
       → caller < length shared.callers
       → shared.block < blocks
-      → Happens blocks shared (Claim caller) (advancing (changing shared caller (with_block shared.block)))
+      → Happens blocks shared (Claim caller) (with_next_block (with_changed_caller shared caller (with_block shared.block)))
   finds_none : {shared : Shared} {caller : ℕ}
       → caller < length shared.callers
       → blocks ≤ shared.block
-      → Happens blocks shared (Claim caller) (advancing (changing shared caller with_none))
+      → Happens blocks shared (Claim caller) (with_next_block (with_changed_caller shared caller with_no_block_left))
 
 -- one event after another
 pub data Happen (blocks : ℕ) : Shared → List Event → Shared → Type 0 where
@@ -87,21 +87,21 @@ pub data Happen (blocks : ℕ) : Shared → List Event → Shared → Type 0 whe
       → Happen blocks shared (event ∷ events) after
 
 -- the first state: no row caches anything, the next block is the first, and no caller has observed or claimed anything
-abbrev pub beginning : ℕ → ℕ → Shared
-beginning rows callers = record { kept = replicate rows None; block = 0; callers = replicate callers (record nobody { learnt = replicate rows None }) }
+abbrev pub initial_state : ℕ → ℕ → Shared
+initial_state rows callers = record { cached = replicate rows None; block = 0; callers = replicate callers (record no_caller { observed = replicate rows None }) }
 
 -- What a caller has observed stays, whatever happens.
-abbrev pub LearntStays : Type 0
-LearntStays =
+abbrev pub ObservedStays : Type 0
+ObservedStays =
     (blocks rows callers : ℕ) (events more : List Event) (shared after : Shared)
-    → Happen blocks (beginning rows callers) events shared → Happen blocks shared more after
-    → (caller : ℕ) → Extends (learnt_by after caller) (learnt_by shared caller)
+    → Happen blocks (initial_state rows callers) events shared → Happen blocks shared more after
+    → (caller : ℕ) → Extends (observed_by after caller) (observed_by shared caller)
 
 -- Callers agree on every row that both have observed.
 abbrev pub CallersAgree : Type 0
 CallersAgree =
-    (blocks rows callers : ℕ) (events : List Event) (shared : Shared) → Happen blocks (beginning rows callers) events shared
-    → (one two : ℕ) → Agree (learnt_by shared one) (learnt_by shared two)
+    (blocks rows callers : ℕ) (events : List Event) (shared : Shared) → Happen blocks (initial_state rows callers) events shared
+    → (one two : ℕ) → Agree (observed_by shared one) (observed_by shared two)
 
 -- ---- claims
 
@@ -119,6 +119,6 @@ claims_of (k ∷ ks) = k.claims ++ claims_of ks
 -- are all blocks.
 abbrev pub EachBlockOnce : Type 0
 EachBlockOnce =
-    (blocks rows callers : ℕ) (events : List Event) (shared : Shared) → Happen blocks (beginning rows callers) events shared
+    (blocks rows callers : ℕ) (events : List Event) (shared : Shared) → Happen blocks (initial_state rows callers) events shared
     → ((x : ℕ) → times x (claims_of shared.callers) ≡ (if nat_lt x (min shared.block blocks) then 1 else 0))
     × ((caller : ℕ) → (caller_at shared caller).found_empty ≡ true → blocks ≤ shared.block)

@@ -3,7 +3,7 @@ use Rattle.std.specs.Prelude.{◌≡◌, ℕ, ◌<◌, List, [], length, map, Op
 use Rattle.std.specs.declared.vec.Vec.{Vec}
 use Rattle.pptext.specs.declared.hashing.Hashing.{Hashing}
 use Rattle.pptext.specs.declared.sources.Profile.{Profile}
-use Rattle.ppshelf.specs.Content.{Content, Lawful}
+use Rattle.ppshelf.specs.Content.{Content, IsPermitted}
 use Rattle.ppshelf.specs.Names.{name_in}
 
 -- The maximum number of rows of a shelf
@@ -30,16 +30,16 @@ or_else None d = d
 or_else (Some c) d = Some c
 
 -- For each row, what either map knows
-abbrev pub Joined : Files → Files → Files → Type 0
-Joined one two both = (row : ℕ) → file_at both row ≡ or_else (file_at one row) (file_at two row)
+abbrev pub IsMerged : Files → Files → Files → Type 0
+IsMerged one two both = (row : ℕ) → file_at both row ≡ or_else (file_at one row) (file_at two row)
 
 -- Every content is permitted for its row's name
-abbrev pub AllLawful : (List ℕ → Content → Type 0) → List (List ℕ) → Files → Type 0
-AllLawful may names files = (row : ℕ) (c : Content) → file_at files row ≡ Some c → Lawful may (name_in names row) c
+abbrev pub AllPermitted : (List ℕ → Content → Type 0) → List (List ℕ) → Files → Type 0
+AllPermitted may names files = (row : ℕ) (c : Content) → file_at files row ≡ Some c → IsPermitted may (name_in names row) c
 
 -- A shelf as callers see it: the names of its rows, the contents from `fill`, the profile by which all are read, the
 -- hash function of the names, and its identity: no other shelf with a row has its cells
-pub record Stock : Type 0 where
+pub record TableView : Type 0 where
   pub names : List (List ℕ)
   pub base : Files
   pub profile : Profile
@@ -47,12 +47,12 @@ pub record Stock : Type 0 where
   pub cells : List ℕ
 
 -- The shelf that a pass belongs to, and what the pass has observed
-pub record Known : Type 0 where
-  pub shelf : Stock
+pub record PassView : Type 0 where
+  pub shelf : TableView
   pub files : Files
 
 -- `fill` put a content into each row
-abbrev pub IsFull : Stock → Type 0
+abbrev pub IsFull : TableView → Type 0
 IsFull shelf = (row : ℕ) → row < length shelf.names → IsSome (file_at shelf.base row)
 
 -- What a fill does to a row: a content stays, and an empty row stays empty or gets one of these contents

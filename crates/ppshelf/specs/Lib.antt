@@ -1,9 +1,9 @@
 pub mod Content
 pub mod Names
-pub mod Indexed
+pub mod IndexView
 pub mod Files
-pub mod Shelved
 pub mod Events
 pub mod Faults
-pub mod OnDisk
+pub mod MemoryFiles
 pub mod Search
+pub mod code

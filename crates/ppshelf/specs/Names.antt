@@ -18,20 +18,20 @@ abbrev pub is_segment : List ℕ → Bool
 is_segment s = not (length s == 0) && not (bytes_eq s (codes ".")) && not (bytes_eq s (codes ".."))
 
 -- a segment with a first byte that is no `.`, which is 46
-abbrev pub is_plain_segment : List ℕ → Bool
-is_plain_segment s = not (length s == 0) && not (slice_index s 0 == 46)
+abbrev pub starts_without_dot : List ℕ → Bool
+starts_without_dot s = not (length s == 0) && not (slice_index s 0 == 46)
 
 -- no control character of ASCII
 abbrev pub is_name_byte : ℕ → Bool
 is_name_byte b = nat_le 32 b && not (b == 127)
 
 -- a name in normal form
-abbrev pub is_name : List ℕ → Bool
-is_name s = nat_le (length s) 1024 && list_all is_name_byte s && list_all is_segment (segments s)
+abbrev pub is_file_name : List ℕ → Bool
+is_file_name s = nat_le (length s) 1024 && list_all is_name_byte s && list_all is_segment (segments s)
 
 -- the root, or a name in normal form
-abbrev pub is_folder : List ℕ → Bool
-is_folder s = bytes_eq s (codes ".") || is_name s
+abbrev pub is_directory : List ℕ → Bool
+is_directory s = bytes_eq s (codes ".") || is_file_name s
 
 -- the name of a row, or the empty text past the last row
 abbrev pub name_in : List (List ℕ) → ℕ → List ℕ
@@ -39,7 +39,7 @@ name_in names row = slice_index_or names row []
 
 -- the name of this row is in normal form, and no earlier row has it
 pub record IsNewName (names : List (List ℕ)) (row : ℕ) : Type 0 where
-  pub form : is_name (name_in names row) ≡ true
+  pub form : is_file_name (name_in names row) ≡ true
   pub once : (before : ℕ) → before < row → name_in names before ≢ name_in names row
 
 -- names in normal form, each once
@@ -49,7 +49,7 @@ AreNames names = (row : ℕ) → row < length names → IsNewName names row
 -- whether the names are in normal form, each once
 abbrev pub are_names : List (List ℕ) → Bool
 are_names [] = true
-are_names (name ∷ more) = is_name name && not (list_any (bytes_eq name) more) && are_names more
+are_names (name ∷ more) = is_file_name name && not (list_any (bytes_eq name) more) && are_names more
 
 -- the first name that isn't in normal form or that an earlier row has
 pub record IsBadName (names : List (List ℕ)) (row : ℕ) : Type 0 where
@@ -68,6 +68,6 @@ row_among name names = position (bytes_eq name) names
 
 -- the result of appending a name to others: a new one is added at the end, and one that occurs among them changes
 -- nothing
-abbrev pub IsPut : List (List ℕ) → List ℕ → Bool → List (List ℕ) → Type 0
-IsPut names name true after = (after ≡ names ++ name ∷ []) × IsRowOf names name None
-IsPut names name false after = (after ≡ names) × ((row : ℕ) × IsRowOf names name (Some row))
+abbrev pub IsAppended : List (List ℕ) → List ℕ → Bool → List (List ℕ) → Type 0
+IsAppended names name true after = (after ≡ names ++ name ∷ []) × IsRowOf names name None
+IsAppended names name false after = (after ≡ names) × ((row : ℕ) × IsRowOf names name (Some row))

@@ -19,56 +19,56 @@ abbrev pub is_here : List ℕ → Bool
 is_here s = (length s == 0) || bytes_eq s (codes ".")
 
 -- the path after one more segment
-abbrev pub step : Path → List ℕ → Option Path
-step path s = if is_here s then Some path else (if bytes_eq s (codes "..") then parent path else Some (path ++ s ∷ []))
+abbrev pub follow_segment : Path → List ℕ → Option Path
+follow_segment path s = if is_here s then Some path else (if bytes_eq s (codes "..") then parent path else Some (path ++ s ∷ []))
 
 -- the path after these segments
 abbrev pub walk : Option Path → List (List ℕ) → Option Path
 walk None more = None
 walk (Some path) [] = Some path
-walk (Some path) (s ∷ more) = walk (step path s) more
+walk (Some path) (s ∷ more) = walk (follow_segment path s) more
 
 -- the path to which a text leads from another path
-abbrev pub lead : Option Path → List ℕ → Option Path
-lead start text = walk start (segments text)
+abbrev pub follow : Option Path → List ℕ → Option Path
+follow start text = walk start (segments text)
 
 abbrev pub parent_of : Option Path → Option Path
 parent_of None = None
 parent_of (Some path) = parent path
 
 -- the name that a path spells; 47 is `/`
-abbrev pub spelled : Path → List ℕ
-spelled path = join_with_byte 47 path
+abbrev pub path_name : Path → List ℕ
+path_name path = join_with_byte 47 path
 
 -- A name that is searched for, and the number of the directory in which it is searched for: 0 for that of the including
 -- file
 pub record Candidate : Type 0 where
   pub name : List ℕ
-  pub folder : ℕ
+  pub directory : ℕ
 
 -- the candidate in the directory of this number, or none if no path leads to it
 abbrev pub candidate : ℕ → Option Path → List Candidate
 candidate k None = []
-candidate k (Some path) = record { name = spelled path; folder = k } ∷ []
+candidate k (Some path) = record { name = path_name path; directory = k } ∷ []
 
 -- for `"name"`, the candidate in the directory of the including file
-abbrev pub beside : Form → List ℕ → List ℕ → List Candidate
-beside Quote from text = candidate 0 (lead (parent_of (lead (Some []) from)) text)
-beside Angle from text = []
+abbrev pub in_includer_dir : Form → List ℕ → List ℕ → List Candidate
+in_includer_dir Quote from text = candidate 0 (follow (parent_of (follow (Some []) from)) text)
+in_includer_dir Angle from text = []
 
 -- the candidates in these directories, which are numbered from k on
-abbrev pub inside : ℕ → List (List ℕ) → List ℕ → List Candidate
-inside k [] text = []
-inside k (folder ∷ more) text = candidate k (lead (lead (Some []) folder) text) ++ inside (suc k) more text
+abbrev pub candidates_in : ℕ → List (List ℕ) → List ℕ → List Candidate
+candidates_in k [] text = []
+candidates_in k (directory ∷ more) text = candidate k (follow (follow (Some []) directory) text) ++ candidates_in (suc k) more text
 
 -- all candidates, in order. A unit's search has its own directories, then those of the setting, numbered from 1.
 abbrev pub candidates : Form → List ℕ → List (List ℕ) → List (List ℕ) → List ℕ → List Candidate
-candidates form from unit setting text = beside form from text ++ inside 1 (unit ++ setting) text
+candidates form from unit setting text = in_includer_dir form from text ++ candidates_in 1 (unit ++ setting) text
 
 -- the candidates after the directory of number j, for `#include_next` in a file that was found there (gcc's manual,
 -- "Wrapper Headers")
-abbrev pub candidates_behind : ℕ → List (List ℕ) → List (List ℕ) → List ℕ → List Candidate
-candidates_behind j unit setting text = inside (suc j) (drop j (unit ++ setting)) text
+abbrev pub candidates_after : ℕ → List (List ℕ) → List (List ℕ) → List ℕ → List Candidate
+candidates_after j unit setting text = candidates_in (suc j) (drop j (unit ++ setting)) text
 
 -- one list is the end of another
 abbrev pub IsEndOf : List Candidate → List Candidate → Type 0
@@ -77,11 +77,11 @@ IsEndOf end all = (front : List Candidate) × (all ≡ front ++ end)
 -- the row of the name that a path spells, if there is a path
 abbrev pub IsRowAt : List (List ℕ) → Option Path → Option ℕ → Type 0
 IsRowAt names None row = row ≡ None
-IsRowAt names (Some path) row = IsRowOf names (spelled path) row
+IsRowAt names (Some path) row = IsRowOf names (path_name path) row
 
 -- the first candidate that is a name of the shelf, as its row and the number of its directory
 abbrev pub IsFirstRow : List (List ℕ) → List Candidate → Option (ℕ × ℕ) → Type 0
 IsFirstRow names [] found = found ≡ None
 IsFirstRow names (c ∷ more) found =
-    ((row : ℕ) × ((found ≡ Some (row, c.folder)) × IsRowOf names c.name (Some row)))
+    ((row : ℕ) × ((found ≡ Some (row, c.directory)) × IsRowOf names c.name (Some row)))
     ⊎ (IsRowOf names c.name None × IsFirstRow names more found)

@@ -2,9 +2,9 @@
 ghost use Rattle.std.specs.Prelude.{◌≡◌, [], map, IfErr, IfOk, OnErr};
 ghost use Rattle.std.specs.String.{string_bytes};
 ghost use Rattle.ppshelf.specs.Faults.{IsShelfFault};
-ghost use Rattle.ppshelf.specs.Names.{AreNames, IsPut, IsRowOf, row_among};
+ghost use Rattle.ppshelf.specs.Names.{AreNames, IsAppended, IsRowOf, row_among};
 
-use crate::names::is_name;
+use crate::names::is_file_name;
 use crate::shelf::ShelfFault;
 use indexmap::IndexSet;
 use pptext::{Hashing, Memory};
@@ -20,11 +20,11 @@ pub struct Index {
 }
 
 impl Model for Index {
-    ghost use Rattle.ppshelf.specs.Indexed.{IndexOfNames, indexed};
+    ghost use Rattle.ppshelf.specs.IndexView.{IndexView, index_view};
 
-    ghost Value = { IndexOfNames };
+    ghost Value = { IndexView };
 
-    ghost view = { λ i. indexed i.names };
+    ghost view = { λ i. index_view i.names };
 }
 
 impl Index {
@@ -71,7 +71,7 @@ impl Index {
     ///
     /// An allocation fails. The index is unchanged.
     pub fn push(&mut self, name: &[u8]) -> Result<bool, Memory>
-        ensures put { IfOk result (λ new. IsPut self.old.names name.now new self.new.names) }
+        ensures put { IfOk result (λ new. IsAppended self.old.names name.now new self.new.names) }
         ensures hashing { self.new.hashing ≡ self.old.hashing }
         ensures err { OnErr result (self.new ≡ self.old) }
     {
@@ -99,7 +99,7 @@ pub(crate) fn index_names(
         return Err(ShelfFault::Memory);
     };
     for (row, name) in names.iter().enumerate() {
-        if !is_name(name.as_bytes()) {
+        if !is_file_name(name.as_bytes()) {
             return Err(ShelfFault::Name(row));
         }
         let Ok(new) = index.push(name.as_bytes()) else {

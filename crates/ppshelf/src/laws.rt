@@ -1,8 +1,8 @@
 //! Theorems about the specification. Each is the contract of a function that does nothing.
 ghost use Rattle.std.specs.Prelude.{◌≡◌, ◌<◌, ℕ, List, Option, Some, IsTrue, ◌↔◌};
-ghost use Rattle.ppshelf.specs.Events.{LearntStays, CallersAgree, EachBlockOnce};
+ghost use Rattle.ppshelf.specs.Events.{ObservedStays, CallersAgree, EachBlockOnce};
 ghost use Rattle.ppshelf.specs.Names.{AreNames, are_names};
-ghost use Rattle.ppshelf.specs.Search.{Candidate, IsEndOf, IsFirstRow, candidates, candidates_behind};
+ghost use Rattle.ppshelf.specs.Search.{Candidate, IsEndOf, IsFirstRow, candidates, candidates_after};
 ghost use Rattle.ppshelf.specs.declared.search.Form.TheVariants.{Angle};
 
 /// Among names that occur once each, a search has at most one result (6.10.2).
@@ -19,18 +19,18 @@ pub fn some_row()
 /// The candidates of `#include_next` after a directory are the last candidates of `#include <..>`.
 pub fn next_ends_search()
     ensures { (from text : List ℕ) (unit setting : List (List ℕ)) (number : ℕ)
-        → IsEndOf (candidates_behind number unit setting text) (candidates Angle from unit setting text) }
+        → IsEndOf (candidates_after number unit setting text) (candidates Angle from unit setting text) }
 {}
 
 /// A search after a directory finds a file in a directory with a larger number.
 pub fn next_goes_on()
-    ensures { (names unit setting : List (List ℕ)) (text : List ℕ) (number row folder : ℕ)
-        → IsFirstRow names (candidates_behind number unit setting text) (Some (row, folder)) → number < folder }
+    ensures { (names unit setting : List (List ℕ)) (text : List ℕ) (number row directory : ℕ)
+        → IsFirstRow names (candidates_after number unit setting text) (Some (row, directory)) → number < directory }
 {}
 
 /// What a caller has observed of a shelf stays true, whatever happens to the shelf.
-pub fn learnt_stays()
-    ensures { LearntStays }
+pub fn observed_stays()
+    ensures { ObservedStays }
 {}
 
 /// Callers of a shelf agree on every row that both have observed.

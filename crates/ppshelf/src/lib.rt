@@ -3,7 +3,7 @@
 #![tactic(auto)]
 
 mod disk;
-mod folder_disk;
+mod dir_disk;
 mod index;
 mod laws;
 mod loaded;
@@ -15,15 +15,15 @@ mod search;
 mod shelf;
 
 pub use disk::{Disk, ReadFault};
-pub use folder_disk::FolderDisk;
+pub use dir_disk::DirDisk;
 pub use index::Index;
 pub use laws::{
-    callers_agree, each_block_once, learnt_stays, names_decide, next_ends_search, next_goes_on,
+    callers_agree, each_block_once, observed_stays, names_decide, next_ends_search, next_goes_on,
     one_row, some_row,
 };
 pub use loaded::Loaded;
 pub use memory_disk::{File, MemoryDisk};
-pub use names::{is_folder, is_name};
+pub use names::{is_directory, is_file_name};
 pub use pptext::LONGEST;
-pub use search::{Folders, Form, resolve, resolve_behind};
+pub use search::{Directories, Form, resolve, resolve_next};
 pub use shelf::{LookFault, MOST_ROWS, Pass, Shelf, ShelfFault};

@@ -4,9 +4,9 @@ ghost use Rattle.std.specs.Prelude.{IfOk, IfSome, IsTrue, MatchOption, MatchResu
 ghost use Rattle.std.specs.Option.{option_map};
 ghost use Rattle.std.specs.String.{string_bytes};
 ghost use Rattle.pptext.specs.Sources.{Reads};
-ghost use Rattle.ppshelf.specs.Content.{unreadable, readable, Lawful, longest, content_of, IsRead};
+ghost use Rattle.ppshelf.specs.Content.{unreadable, readable, IsPermitted, longest, content_of, IsRead};
 ghost use Rattle.ppshelf.specs.Files.{most_rows};
-ghost use Rattle.ppshelf.specs.Shelved.{Held, IsPlaced};
+ghost use Rattle.ppshelf.specs.code.TableRows.{LoadedView, IsPlaced};
 
 use crate::disk::{Disk, ReadFault};
 use pptext::{Fault, LONGEST, Memory, Profile, Source, read_lines};
@@ -35,10 +35,10 @@ impl<D: Disk> Model for Loaded<D> {
     ghost use Rattle.std.specs.Option.{option_map};
     ghost use Rattle.std.specs.String.{string_bytes};
     ghost use Rattle.pptext.specs.Sources.{Reads};
-    ghost use Rattle.ppshelf.specs.Content.{content_of, Lawful};
-    ghost use Rattle.ppshelf.specs.Shelved.{Held};
+    ghost use Rattle.ppshelf.specs.Content.{content_of, IsPermitted};
+    ghost use Rattle.ppshelf.specs.code.TableRows.{LoadedView};
 
-    ghost Value = { Held };
+    ghost Value = { LoadedView };
 
     ghost view = { λ l. record {
       row = l.row;
@@ -47,7 +47,7 @@ impl<D: Disk> Model for Loaded<D> {
       content = content_of (option_map (λ p. p.bytes.items) l.parsed);
     } };
 
-    ghost invariant = { λ l. Lawful D.may (string_bytes l.name) (content_of (option_map (λ p. p.bytes.items) l.parsed))
+    ghost invariant = { λ l. IsPermitted D.may (string_bytes l.name) (content_of (option_map (λ p. p.bytes.items) l.parsed))
         × IfSome l.parsed (λ p. Reads l.profile l.row p.bytes.items p.lines) };
 }
 
@@ -64,7 +64,7 @@ impl<D: Disk> Drop for Loaded<D> {
 }
 
 /// Reads the lines of a row's file from its bytes.
-fn parsed_bytes(
+fn parse_bytes(
     alloc: Global,
     profile: Profile,
     row: usize,
@@ -80,7 +80,7 @@ fn parsed_bytes(
 }
 
 /// Reads the file of a name from the disk. Returns None if it can't be read or is too long.
-fn parsed_of<D: Disk>(
+fn read_parsed<D: Disk>(
     alloc: Global,
     disk: &D,
     profile: Profile,
@@ -88,7 +88,7 @@ fn parsed_of<D: Disk>(
     name: &str,
 ) -> Result<Option<Parsed>, Memory>
     requires { row < most_rows }
-    ensures content { IfOk result (λ parsed. Lawful (D.gives disk.now) name.now (content_of (option_map (λ p. p.bytes.items) parsed))) }
+    ensures content { IfOk result (λ parsed. IsPermitted (D.gives disk.now) name.now (content_of (option_map (λ p. p.bytes.items) parsed))) }
     ensures reading { IfOk result (λ parsed. IfSome parsed (λ p. Reads profile row p.bytes.items p.lines)) }
 {
     match disk.read(alloc, name) {
@@ -96,7 +96,7 @@ fn parsed_of<D: Disk>(
             if bytes.len() > LONGEST {
                 return Ok(None);
             }
-            Ok(Some(parsed_bytes(alloc, profile, row, bytes)?))
+            Ok(Some(parse_bytes(alloc, profile, row, bytes)?))
         }
         Err(ReadFault::Unreadable) => Ok(None),
         Err(ReadFault::Memory) => Err(Memory),
@@ -114,9 +114,9 @@ impl<D: Disk> Loaded<D> {
     ) -> Result<Loaded<D>, Memory>
         requires { row < most_rows }
         ensures place { IfOk result (λ l. IsPlaced profile row name.now l) }
-        ensures content { IfOk result (λ l. Lawful (D.gives disk.now) name.now l.content) }
+        ensures content { IfOk result (λ l. IsPermitted (D.gives disk.now) name.now l.content) }
     {
-        let parsed = parsed_of(alloc, disk, profile, row, name)?;
+        let parsed = read_parsed(alloc, disk, profile, row, name)?;
         let name = String::from_str(alloc, name)?;
         Ok(Loaded {
             row,
@@ -128,7 +128,7 @@ impl<D: Disk> Loaded<D> {
     }
 
     /// Makes the content of a row from these bytes.
-    pub(crate) fn of_bytes(
+    pub(crate) fn from_bytes(
         alloc: Global,
         profile: Profile,
         row: usize,
@@ -136,11 +136,11 @@ impl<D: Disk> Loaded<D> {
         bytes: Vec<u8>,
     ) -> Result<Loaded<D>, Memory>
         requires row { row < most_rows }
-        requires lawful { Lawful D.may name.now (readable bytes.items) }
+        requires contents_permitted { IsPermitted D.may name.now (readable bytes.items) }
         ensures place { IfOk result (λ l. IsPlaced profile row name.now l) }
         ensures content { IfOk result (λ l. l.content ≡ readable bytes.items) }
     {
-        let parsed = parsed_bytes(alloc, profile, row, bytes)?;
+        let parsed = parse_bytes(alloc, profile, row, bytes)?;
         let name = String::from_str(alloc, name)?;
         Ok(Loaded {
             row,
@@ -176,21 +176,21 @@ impl<D: Disk> Loaded<D> {
     /// Returns whether the content is that of this row and name, read by this profile.
     pub(crate) fn is_of(&self, profile: Profile, row: usize, name: &str) -> bool
         ensures same { IsTrue result ↔ IsPlaced profile row name.now self.now }
-        ensures lawful { Lawful D.may self.now.name self.now.content }
+        ensures contents_permitted { IsPermitted D.may self.now.name self.now.content }
     {
         self.row == row && self.name.as_str() == name && self.profile == profile
     }
 
     /// Shows proofs that the content is permitted. Does nothing.
-    pub(crate) fn show_lawful(&self)
-        ensures { Lawful D.may self.now.name self.now.content }
+    pub(crate) fn show_permitted(&self)
+        ensures { IsPermitted D.may self.now.name self.now.content }
     {
         let _row = &self.row;
     }
 
     /// Returns the content itself if it is that of this row and name, read by this profile. It always is, so no caller
     /// gets an error.
-    pub(crate) fn checked(
+    pub(crate) fn verify(
         &self,
         profile: Profile,
         row: usize,
@@ -198,7 +198,7 @@ impl<D: Disk> Loaded<D> {
     ) -> Result<&Loaded<D>, Memory>
         ensures same { IfOk result (λ l. l.now ≡ self.now) }
         ensures place { IfOk result (λ l. IsPlaced profile row name.now l.now) }
-        ensures lawful { IfOk result (λ l. Lawful D.may l.now.name l.now.content) }
+        ensures contents_permitted { IfOk result (λ l. IsPermitted D.may l.now.name l.now.content) }
         ensures err { OnErr result (IsPlaced profile row name.now self.now → ⊥) }
     {
         if self.is_of(profile, row, name) {

@@ -8,17 +8,17 @@ pub(crate) const LONGEST_NAME: usize = 1024;
 
 /// Returns whether the text is a file's name in normal form: 1 to 1,024 bytes without control characters, in segments
 /// between `/`, none of which is empty, `.` or `..`.
-pub fn is_name(text: &[u8]) -> bool
-    ensures { result ≡ spec.is_name text.now }
+pub fn is_file_name(text: &[u8]) -> bool
+    ensures { result ≡ spec.is_file_name text.now }
 {
     text.len() <= LONGEST_NAME && has_name_bytes(text) && has_segments(text)
 }
 
 /// Returns whether the text is a directory: `.` for the root, or a name in normal form.
-pub fn is_folder(text: &[u8]) -> bool
-    ensures { result ≡ spec.is_folder text.now }
+pub fn is_directory(text: &[u8]) -> bool
+    ensures { result ≡ spec.is_directory text.now }
 {
-    text == b".".as_slice() || is_name(text)
+    text == b".".as_slice() || is_file_name(text)
 }
 
 /// Returns whether each byte is allowed in a name.
@@ -52,16 +52,16 @@ fn is_segment(segment: &[u8]) -> bool
 
 /// Returns whether each segment of the text has a first byte that is no `.`. If so, the text has no segment that is
 /// dropped or leads up, so it spells its own path.
-pub(crate) fn is_plain(text: &[u8]) -> bool
-    ensures { result ≡ list_all spec.is_plain_segment (spec.segments text.now) }
+pub(crate) fn has_no_dot_segments(text: &[u8]) -> bool
+    ensures { result ≡ list_all spec.starts_without_dot (spec.segments text.now) }
 {
     text.split(|byte| *byte == b'/')
-        .all(|segment| is_plain_segment(segment))
+        .all(|segment| starts_without_dot(segment))
 }
 
 /// Returns whether the segment has a first byte that is no `.`.
-fn is_plain_segment(segment: &[u8]) -> bool
-    ensures { result ≡ spec.is_plain_segment segment.now }
+fn starts_without_dot(segment: &[u8]) -> bool
+    ensures { result ≡ spec.starts_without_dot segment.now }
 {
     !segment.is_empty() && segment[0] != b'.'
 }

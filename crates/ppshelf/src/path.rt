@@ -10,7 +10,7 @@ use std::alloc::{AllocError, Global};
 use std::marker::Model;
 
 /// A capacity in bytes that is enough for nearly every name.
-pub(crate) const USUAL: usize = 64;
+pub(crate) const USUAL_NAME_LEN: usize = 64;
 
 /// A path from the root, which contracts see as the list of its segments.
 #[derive(Drop)]
@@ -48,13 +48,13 @@ impl<'a> Path<'a> {
     }
 
     /// Follows the segments of a text. Returns false if a `..` would lead above the root.
-    pub(crate) fn lead(&mut self, text: &'a [u8]) -> Result<bool, Memory>
-        ensures { IfOk result (λ there. spec.lead (Some self.old) text.now ≡ (if there then Some self.new else None)) }
+    pub(crate) fn follow(&mut self, text: &'a [u8]) -> Result<bool, Memory>
+        ensures { IfOk result (λ there. spec.follow (Some self.old) text.now ≡ (if there then Some self.new else None)) }
     {
         let mut rest = Some(text);
         while let Some(text) = rest {
             let (segment, more) = first_segment(text);
-            if !self.step(segment)? {
+            if !self.follow_segment(segment)? {
                 return Ok(false);
             }
             rest = more;
@@ -63,14 +63,14 @@ impl<'a> Path<'a> {
     }
 
     /// Follows one segment. Returns false if it would lead above the root.
-    fn step(&mut self, segment: &'a [u8]) -> Result<bool, Memory>
-        ensures { IfOk result (λ there. spec.step self.old segment.now ≡ (if there then Some self.new else None)) }
+    fn follow_segment(&mut self, segment: &'a [u8]) -> Result<bool, Memory>
+        ensures { IfOk result (λ there. spec.follow_segment self.old segment.now ≡ (if there then Some self.new else None)) }
     {
         if segment.is_empty() || segment == b".".as_slice() {
             return Ok(true);
         }
         if segment == b"..".as_slice() {
-            return Ok(self.leave());
+            return Ok(self.go_to_parent());
         }
         let Ok(()) = self.segments.push(segment) else {
             return Err(Memory);
@@ -79,7 +79,7 @@ impl<'a> Path<'a> {
     }
 
     /// Goes to the parent directory, unless this is the root. Returns whether it did.
-    pub(crate) fn leave(&mut self) -> bool
+    pub(crate) fn go_to_parent(&mut self) -> bool
         ensures { spec.parent self.old ≡ (if result then Some self.new else None) }
     {
         self.segments.pop().is_some()
@@ -89,7 +89,7 @@ impl<'a> Path<'a> {
     pub(crate) fn name(&self, alloc: Global) -> Result<Vec<u8>, Memory>
         ensures { IfOk result (λ name. name.items ≡ join_with_byte 47 self.now) }
     {
-        let mut name = Vec::with_capacity(alloc, USUAL)?;
+        let mut name = Vec::with_capacity(alloc, USUAL_NAME_LEN)?;
         for (i, segment) in self.segments.iter().enumerate() {
             if i > 0 {
                 push_slash(&mut name)?;

@@ -1,9 +1,9 @@
 //! Rows that are filled once, and what callers have observed of them.
 ghost use Rattle.std.specs.Prelude.{◌≡◌, ◌<◌, IfOk, OnErr, OnOk, IsSome, IfSome, IsOkAnd, Some, None};
 ghost use Rattle.std.specs.String.{string_bytes};
-ghost use Rattle.ppshelf.specs.Content.{Lawful, readable};
+ghost use Rattle.ppshelf.specs.Content.{IsPermitted, readable};
 ghost use Rattle.ppshelf.specs.Files.{most_rows, or_else};
-ghost use Rattle.ppshelf.specs.Shelved.{Held, IsPlaced, FitsRow, FilledRow};
+ghost use Rattle.ppshelf.specs.code.TableRows.{LoadedView, IsPlaced, FitsRow, FilledRow};
 
 use crate::disk::Disk;
 use crate::loaded::Loaded;
@@ -23,9 +23,9 @@ pub(crate) struct Row<D: Disk> {
 impl<D: Disk> Model for Row<D> {
     ghost use Rattle.std.specs.String.{string_bytes};
     ghost use Rattle.once_cell.specs.Once.{cell_name};
-    ghost use Rattle.ppshelf.specs.Shelved.{Spot};
+    ghost use Rattle.ppshelf.specs.code.TableRows.{RowState};
 
-    ghost Value = { Spot };
+    ghost Value = { RowState };
 
     ghost view = { λ r. record { name = string_bytes r.name; base = r.base; cell = cell_name r.cell } };
 }
@@ -41,23 +41,23 @@ impl<D: Disk> Drop for Row<D> {
 }
 
 /// What a caller has observed of one row: what it knows about the row's cell, and the content that it was given.
-pub(crate) struct Seen<'a, D: Disk> {
+pub(crate) struct RowObservation<'a, D: Disk> {
     note: Note<Loaded<D>>,
     shown: Option<&'a Loaded<D>>,
 }
 
-impl<'a, D: Disk> Model for Seen<'a, D> {
+impl<'a, D: Disk> Model for RowObservation<'a, D> {
     ghost use Rattle.std.specs.Option.{option_copied};
-    ghost use Rattle.ppshelf.specs.Shelved.{Sight};
+    ghost use Rattle.ppshelf.specs.code.TableRows.{Observation};
 
-    ghost Value = { Sight };
+    ghost Value = { Observation };
 
     ghost view = { λ s. record { cell = s.note.cell; noted = s.note.known; shown = option_copied s.shown } };
 }
 
-impl<D: Disk> Drop for Seen<'_, D> {
+impl<D: Disk> Drop for RowObservation<'_, D> {
     fn drop(self) {
-        let Seen { note: _, shown: _ } = self;
+        let RowObservation { note: _, shown: _ } = self;
     }
 }
 
@@ -81,10 +81,10 @@ impl<D: Disk> Row<D> {
     }
 
     /// Creates the observation of a caller that has observed nothing of the row.
-    pub(crate) fn unseen<'a>(&'a self) -> Seen<'a, D>
+    pub(crate) fn new_observation<'a>(&'a self) -> RowObservation<'a, D>
         ensures { (result.cell ≡ self.now.cell) × (result.shown ≡ None) }
     {
-        Seen {
+        RowObservation {
             note: self.cell.note(),
             shown: None,
         }
@@ -99,7 +99,7 @@ impl<D: Disk> Row<D> {
         disk: &D,
     ) -> Result<(), Memory>
         requires { row < most_rows }
-        ensures turned { FilledRow (Lawful (D.gives disk.now)) profile row self.old self.new }
+        ensures turned { FilledRow (IsPermitted (D.gives disk.now)) profile row self.old self.new }
         ensures full { OnOk result (IsSome self.new.base) }
     {
         if self.base.is_none() {
@@ -118,14 +118,14 @@ impl<D: Disk> Row<D> {
         bytes: Vec<u8>,
     ) -> Result<(), Memory>
         requires row { row < most_rows }
-        requires lawful { Lawful D.may self.old.name (readable bytes.items) }
+        requires contents_permitted { IsPermitted D.may self.old.name (readable bytes.items) }
         ensures turned { FilledRow (λ name c. c ≡ readable bytes.items) profile row self.old self.new }
         ensures full { OnOk result (IsSome self.new.base) }
     {
         if self.base.is_some() {
             return Ok(());
         }
-        let loaded = Loaded::of_bytes(alloc, profile, row, self.name.as_str(), bytes)?;
+        let loaded = Loaded::from_bytes(alloc, profile, row, self.name.as_str(), bytes)?;
         self.base = Some(loaded);
         Ok(())
     }
@@ -133,14 +133,14 @@ impl<D: Disk> Row<D> {
     /// Returns the row's content to a caller, and records that it was observed.
     pub(crate) fn look<'a>(
         &'a self,
-        seen: &mut Seen<'a, D>,
+        seen: &mut RowObservation<'a, D>,
         alloc: Global,
         profile: Profile,
         row: usize,
         disk: &D,
     ) -> Result<&'a Loaded<D>, Memory>
         requires row { row < most_rows }
-        requires placed { (h : Held) → self.now.base ≡ Some h → IsPlaced profile row self.now.name h }
+        requires placed { (h : LoadedView) → self.now.base ≡ Some h → IsPlaced profile row self.now.name h }
         requires fits { FitsRow D.may profile row self.now seen.old }
         ensures fits { FitsRow D.may profile row self.now seen.new }
         ensures shown { IfOk result (λ l. seen.new.shown ≡ Some l.now) }
@@ -152,18 +152,18 @@ impl<D: Disk> Row<D> {
             return Ok(loaded);
         }
         if let Some(loaded) = &self.base {
-            loaded.show_lawful();
+            loaded.show_permitted();
             seen.shown = Some(loaded);
             return Ok(loaded);
         }
-        let loaded = self.kept(&mut seen.note, alloc, profile, row, disk)?;
+        let loaded = self.cached(&mut seen.note, alloc, profile, row, disk)?;
         seen.shown = Some(loaded);
         Ok(loaded)
     }
 
     /// Returns the content that the row's cell caches. If the cell is empty, reads the disk and caches the content,
     /// unless another caller does so first.
-    fn kept<'a>(
+    fn cached<'a>(
         &'a self,
         note: &mut Note<Loaded<D>>,
         alloc: Global,
@@ -176,10 +176,10 @@ impl<D: Disk> Row<D> {
         ensures cell { note.new.cell ≡ note.old.cell }
         ensures known { IfOk result (λ l. note.new.known ≡ Some l.now) }
         ensures place { IfOk result (λ l. IsPlaced profile row self.now.name l.now) }
-        ensures lawful { IfOk result (λ l. Lawful D.may l.now.name l.now.content) }
+        ensures contents_permitted { IfOk result (λ l. IsPermitted D.may l.now.name l.now.content) }
     {
         if let Some(loaded) = self.cell.get_as(note) {
-            return loaded.checked(profile, row, self.name.as_str());
+            return loaded.verify(profile, row, self.name.as_str());
         }
         let made = Loaded::read(alloc, disk, profile, row, self.name.as_str())?;
         let Ok(made) = Box::new(alloc, made) else {
@@ -187,22 +187,22 @@ impl<D: Disk> Row<D> {
         };
         let _lost = self.cell.set_as(made, note);
         match self.cell.get_as(note) {
-            Some(loaded) => loaded.checked(profile, row, self.name.as_str()),
+            Some(loaded) => loaded.verify(profile, row, self.name.as_str()),
             None => unreachable!(),
         }
     }
 }
 
-impl<'a, D: Disk> Seen<'a, D> {
+impl<'a, D: Disk> RowObservation<'a, D> {
     /// Adds what another caller has observed of the same row.
-    pub(crate) fn join(&mut self, place: &Row<D>, profile: Profile, row: usize, other: Self)
+    pub(crate) fn merge(&mut self, place: &Row<D>, profile: Profile, row: usize, other: Self)
         requires mine { FitsRow D.may profile row place.now self.old }
         requires theirs { FitsRow D.may profile row place.now other }
         ensures fits { FitsRow D.may profile row place.now self.new }
-        ensures agree { (h k : Held) → self.old.shown ≡ Some h → other.entry.shown ≡ Some k → h ≡ k }
+        ensures agree { (h k : LoadedView) → self.old.shown ≡ Some h → other.entry.shown ≡ Some k → h ≡ k }
         ensures shown { self.new.shown ≡ or_else self.old.shown other.entry.shown }
     {
-        let Seen { note, shown } = other;
+        let RowObservation { note, shown } = other;
         let Some(loaded) = shown else {
             return;
         };

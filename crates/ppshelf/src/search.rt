@@ -3,12 +3,12 @@ ghost use Rattle.std.specs.Prelude.{◌≡◌, ◌<◌, ◌+◌, ◌++◌, ◌�
 ghost use Rattle.std.specs.Option.{option_map};
 ghost use Rattle.std.specs.List.{list_all};
 ghost use Rattle.std.specs.String.{string_bytes};
-ghost use Rattle.ppshelf.specs.Names.{is_name, is_plain_segment, name_in, segments};
+ghost use Rattle.ppshelf.specs.Names.{is_file_name, starts_without_dot, name_in, segments};
 ghost use Rattle.ppshelf.specs.Search as spec;
 
 use crate::disk::Disk;
-use crate::names::is_plain;
-use crate::path::{Path, USUAL};
+use crate::names::has_no_dot_segments;
+use crate::path::{Path, USUAL_NAME_LEN};
 use crate::shelf::Shelf;
 use memchr::memrchr;
 use pptext::Memory;
@@ -26,16 +26,16 @@ pub enum Form {
 /// The directories that are searched for every include: first those of the unit, then those of the setting. They are
 /// numbered from 1.
 #[derive(Clone, Copy)]
-pub struct Folders<'a> {
+pub struct Directories<'a> {
     /// The directories of the unit.
     pub unit: &'a [String],
     /// The directories of the setting.
     pub setting: &'a [String],
 }
 
-impl<'a> Folders<'a> {
+impl<'a> Directories<'a> {
     /// Returns the directory with index `passed` among all of them.
-    fn behind(self, passed: usize) -> &'a [u8]
+    fn at_index(self, passed: usize) -> &'a [u8]
         requires { passed < length self.unit.now + length self.setting.now }
         ensures { result.now ≡ slice_index_or (map string_bytes self.entry.unit.now ++ map string_bytes self.entry.setting.now) passed [] }
     {
@@ -62,20 +62,20 @@ pub fn resolve<D: Disk>(
     from: usize,
     form: Form,
     name: &[u8],
-    folders: Folders<'_>,
+    directories: Directories<'_>,
 ) -> Result<Option<(usize, usize)>, Memory>
     requires { from < length shelf.now.names }
     ensures first { IfOk result (λ found. spec.IsFirstRow shelf.now.names
-        (spec.candidates form (name_in shelf.now.names from) (map string_bytes folders.entry.unit.now)
-        (map string_bytes folders.entry.setting.now) name.now) found) }
+        (spec.candidates form (name_in shelf.now.names from) (map string_bytes directories.entry.unit.now)
+        (map string_bytes directories.entry.setting.now) name.now) found) }
     ensures within { IfOk result (λ found. IfSome found (λ f. f.0 < length shelf.now.names)) }
 {
-    let mut joined = Vec::with_capacity(alloc, USUAL)?;
-    let beside = row_beside(alloc, shelf, from, form, name, &mut joined)?;
-    if let Some(row) = beside {
+    let mut joined = Vec::with_capacity(alloc, USUAL_NAME_LEN)?;
+    let in_includer_dir = row_in_includer_dir(alloc, shelf, from, form, name, &mut joined)?;
+    if let Some(row) = in_includer_dir {
         return Ok(Some((row, 0)));
     }
-    row_inside(alloc, shelf, 0, name, folders, &mut joined)
+    row_in_directories(alloc, shelf, 0, name, directories, &mut joined)
 }
 
 /// Finds the file that `#include_next` names in a file that was found in the directory with this number (gcc's manual,
@@ -84,24 +84,24 @@ pub fn resolve<D: Disk>(
 /// # Errors
 ///
 /// An allocation fails.
-pub fn resolve_behind<D: Disk>(
+pub fn resolve_next<D: Disk>(
     alloc: Global,
     shelf: &Shelf<D>,
     number: usize,
     name: &[u8],
-    folders: Folders<'_>,
+    directories: Directories<'_>,
 ) -> Result<Option<(usize, usize)>, Memory>
     ensures first { IfOk result (λ found. spec.IsFirstRow shelf.now.names
-        (spec.candidates_behind number (map string_bytes folders.entry.unit.now)
-        (map string_bytes folders.entry.setting.now) name.now) found) }
+        (spec.candidates_after number (map string_bytes directories.entry.unit.now)
+        (map string_bytes directories.entry.setting.now) name.now) found) }
     ensures within { IfOk result (λ found. IfSome found (λ f. f.0 < length shelf.now.names)) }
 {
-    let mut joined = Vec::with_capacity(alloc, USUAL)?;
-    row_inside(alloc, shelf, number, name, folders, &mut joined)
+    let mut joined = Vec::with_capacity(alloc, USUAL_NAME_LEN)?;
+    row_in_directories(alloc, shelf, number, name, directories, &mut joined)
 }
 
 /// For `"name"`, returns the row of the name in the directory of the including file.
-fn row_beside<D: Disk>(
+fn row_in_includer_dir<D: Disk>(
     alloc: Global,
     shelf: &Shelf<D>,
     from: usize,
@@ -110,23 +110,23 @@ fn row_beside<D: Disk>(
     joined: &mut Vec<u8>,
 ) -> Result<Option<usize>, Memory>
     requires { from < length shelf.now.names }
-    ensures { IfOk result (λ row. spec.IsFirstRow shelf.now.names (spec.beside form (name_in shelf.now.names from) name.now)
+    ensures { IfOk result (λ row. spec.IsFirstRow shelf.now.names (spec.in_includer_dir form (name_in shelf.now.names from) name.now)
         (option_map (λ r. (r, 0)) row)) }
 {
     if form == Form::Angle {
         return Ok(None);
     }
     // For proofs: the names are in normal form.
-    shelf.lawful();
-    let folder = folder_of(shelf.name(from).as_bytes());
-    row_in_folder(alloc, shelf, folder, name, is_plain(name), joined)
+    shelf.contents_permitted();
+    let directory = directory_of(shelf.name(from).as_bytes());
+    row_in_directory(alloc, shelf, directory, name, has_no_dot_segments(name), joined)
 }
 
 /// Returns the directory of the file with this name: the text before the last slash, or the empty text, which leads to
 /// the root.
-fn folder_of(name: &[u8]) -> &[u8]
-    requires { is_name name.now ≡ true }
-    ensures { spec.lead (Some []) result.now ≡ spec.parent_of (spec.lead (Some []) name.now) }
+fn directory_of(name: &[u8]) -> &[u8]
+    requires { is_file_name name.now ≡ true }
+    ensures { spec.follow (Some []) result.now ≡ spec.parent_of (spec.follow (Some []) name.now) }
 {
     match memrchr(b'/', name) {
         Some(slash) => &name[..slash],
@@ -136,22 +136,22 @@ fn folder_of(name: &[u8]) -> &[u8]
 
 /// Returns the row of the name in the first directory with a number above `number` that has it, and that directory's
 /// number.
-fn row_inside<D: Disk>(
+fn row_in_directories<D: Disk>(
     alloc: Global,
     shelf: &Shelf<D>,
     number: usize,
     name: &[u8],
-    folders: Folders<'_>,
+    directories: Directories<'_>,
     joined: &mut Vec<u8>,
 ) -> Result<Option<(usize, usize)>, Memory>
     ensures { IfOk result (λ found. spec.IsFirstRow shelf.now.names
-        (spec.candidates_behind number (map string_bytes folders.entry.unit.now)
-        (map string_bytes folders.entry.setting.now) name.now) found) }
+        (spec.candidates_after number (map string_bytes directories.entry.unit.now)
+        (map string_bytes directories.entry.setting.now) name.now) found) }
 {
-    let plain = is_plain(name);
-    let count = folders.unit.len() + folders.setting.len();
+    let plain = has_no_dot_segments(name);
+    let count = directories.unit.len() + directories.setting.len();
     for passed in number..count {
-        let row = row_in_folder(alloc, shelf, folders.behind(passed), name, plain, joined)?;
+        let row = row_in_directory(alloc, shelf, directories.at_index(passed), name, plain, joined)?;
         if let Some(row) = row {
             return Ok(Some((row, passed + 1)));
         }
@@ -161,49 +161,49 @@ fn row_inside<D: Disk>(
 
 /// Returns the row of the name in this directory. If no segment of either begins with `.`, the two are joined without
 /// taking them apart, which saves 3 % of the instructions of `deps` on Redis.
-fn row_in_folder<D: Disk>(
+fn row_in_directory<D: Disk>(
     alloc: Global,
     shelf: &Shelf<D>,
-    folder: &[u8],
+    directory: &[u8],
     name: &[u8],
     plain: bool,
     joined: &mut Vec<u8>,
 ) -> Result<Option<usize>, Memory>
-    requires { plain ≡ list_all is_plain_segment (segments name.now) }
-    ensures { IfOk result (λ row. spec.IsRowAt shelf.now.names (spec.lead (spec.lead (Some []) folder.now) name.now) row) }
+    requires { plain ≡ list_all starts_without_dot (segments name.now) }
+    ensures { IfOk result (λ row. spec.IsRowAt shelf.now.names (spec.follow (spec.follow (Some []) directory.now) name.now) row) }
 {
-    if plain && is_plain(folder) {
-        join(joined, folder, name)?;
+    if plain && has_no_dot_segments(directory) {
+        join_path(joined, directory, name)?;
         return Ok(shelf.row_of(joined.as_slice()));
     }
     let mut path = Path::root(alloc);
-    if !path.lead(folder)? {
+    if !path.follow(directory)? {
         return Ok(None);
     }
-    row_led(alloc, shelf, path, name)
+    row_of_path(alloc, shelf, path, name)
 }
 
 /// Replaces `joined` by both texts with `/` between them.
-fn join(joined: &mut Vec<u8>, folder: &[u8], name: &[u8]) -> Result<(), AllocError>
-    ensures { OnOk result (joined.new.items ≡ folder.now ++ 47 ∷ name.now) }
+fn join_path(joined: &mut Vec<u8>, directory: &[u8], name: &[u8]) -> Result<(), AllocError>
+    ensures { OnOk result (joined.new.items ≡ directory.now ++ 47 ∷ name.now) }
 {
     joined.clear();
-    joined.extend_from_slice(folder)?;
+    joined.extend_from_slice(directory)?;
     joined.push(b'/')?;
     joined.extend_from_slice(name)?;
     Ok(())
 }
 
 /// Returns the row of the name to which the text leads from a path.
-fn row_led<'a, D: Disk>(
+fn row_of_path<'a, D: Disk>(
     alloc: Global,
     shelf: &Shelf<D>,
     mut path: Path<'a>,
     text: &'a [u8],
 ) -> Result<Option<usize>, Memory>
-    ensures { IfOk result (λ row. spec.IsRowAt shelf.now.names (spec.lead (Some path.entry) text.now) row) }
+    ensures { IfOk result (λ row. spec.IsRowAt shelf.now.names (spec.follow (Some path.entry) text.now) row) }
 {
-    if !path.lead(text)? {
+    if !path.follow(text)? {
         return Ok(None);
     }
     let name = path.name(alloc)?;

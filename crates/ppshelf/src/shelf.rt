@@ -3,16 +3,16 @@ ghost use Rattle.std.specs.Prelude.{◌≡◌, ℕ, ◌<◌, ◌≤◌, length, 
 ghost use Rattle.std.specs.Prelude.{IfErr, IfOk, OnErr, OnOk, IfSome, IsOkAnd};
 ghost use Rattle.std.specs.String.{string_bytes};
 ghost use Rattle.std.specs.Vec.{vec_len};
-ghost use Rattle.ppshelf.specs.Content.{Lawful, readable};
+ghost use Rattle.ppshelf.specs.Content.{IsPermitted, readable};
 ghost use Rattle.ppshelf.specs.Faults.{IsShelfFault};
-ghost use Rattle.ppshelf.specs.Files.{most_rows, file_at, AllLawful, Agree, Extends, Joined, IsFull, Filled, bytes_at};
+ghost use Rattle.ppshelf.specs.Files.{most_rows, file_at, AllPermitted, Agree, Extends, IsMerged, IsFull, Filled, bytes_at};
 ghost use Rattle.ppshelf.specs.Names.{AreNames, IsRowOf, name_in};
-ghost use Rattle.ppshelf.specs.Shelved.{names_of, base_of};
+ghost use Rattle.ppshelf.specs.code.TableRows.{names_of, base_of};
 
 use crate::disk::Disk;
 use crate::index::{Index, index_names};
 use crate::loaded::Loaded;
-use crate::row::{Row, Seen};
+use crate::row::{Row, RowObservation};
 use pptext::{Hashing, Memory, Profile};
 use std::alloc::Global;
 use std::marker::Model;
@@ -34,12 +34,12 @@ pub struct Shelf<D: Disk> {
 }
 
 impl<D: Disk> Model for Shelf<D> {
-    ghost use Rattle.ppshelf.specs.Files.{Stock};
-    ghost use Rattle.ppshelf.specs.Shelved.{IsShelf, stock_of};
+    ghost use Rattle.ppshelf.specs.Files.{TableView};
+    ghost use Rattle.ppshelf.specs.code.TableRows.{IsShelf, table_view};
 
-    ghost Value = { Stock };
+    ghost Value = { TableView };
 
-    ghost view = { λ s. stock_of s.profile s.index.hashing s.rows.items };
+    ghost view = { λ s. table_view s.profile s.index.hashing s.rows.items };
 
     ghost invariant = { λ s. IsShelf s.profile s.index.names s.rows.items };
 }
@@ -67,14 +67,14 @@ pub enum ShelfFault {
 /// What one caller has observed of a shelf: a finite map from rows to contents.
 pub struct Pass<'a, D: Disk> {
     shelf: &'a Shelf<D>,
-    rows: Vec<Seen<'a, D>>,
+    rows: Vec<RowObservation<'a, D>>,
 }
 
 impl<'a, D: Disk> Model for Pass<'a, D> {
-    ghost use Rattle.ppshelf.specs.Files.{Known};
-    ghost use Rattle.ppshelf.specs.Shelved.{IsPass, files_of};
+    ghost use Rattle.ppshelf.specs.Files.{PassView};
+    ghost use Rattle.ppshelf.specs.code.TableRows.{IsPass, files_of};
 
-    ghost Value = { Known };
+    ghost Value = { PassView };
 
     ghost view = { λ p. record { shelf = p.shelf.now; files = files_of p.rows.items } };
 
@@ -184,7 +184,7 @@ impl<D: Disk> Shelf<D> {
 
     /// Shows proofs that a shelf's names are in normal form, each once, and that `fill` has a content or none for each.
     /// Does nothing.
-    pub fn lawful(&self)
+    pub fn contents_permitted(&self)
         ensures names { AreNames self.now.names }
         ensures base { length self.now.base ≡ length self.now.names }
     {
@@ -200,7 +200,7 @@ impl<D: Disk> Shelf<D> {
         ensures shelf { (self.new.names ≡ self.old.names) × (self.new.profile ≡ self.old.profile) × (self.new.cells ≡ self.old.cells) }
         ensures hashing { self.new.hashing ≡ self.old.hashing }
         ensures base { (row : ℕ) → row < length self.old.names
-            → Filled (Lawful (D.gives disk.now) (name_in self.old.names row)) (file_at self.old.base row) (file_at self.new.base row) }
+            → Filled (IsPermitted (D.gives disk.now) (name_in self.old.names row)) (file_at self.old.base row) (file_at self.new.base row) }
         ensures len { length self.new.base ≡ length self.old.names }
         ensures full { OnOk result (IsFull self.new) }
     {
@@ -219,8 +219,8 @@ impl<D: Disk> Shelf<D> {
     /// An allocation fails. The rows that were read stay filled.
     pub fn fill_with(&mut self, contents: Vec<Vec<u8>>) -> Result<(), Memory>
         requires count { length contents.items ≡ length self.old.names }
-        requires lawful { (row : ℕ) → row < length self.old.names
-            → Lawful D.may (name_in self.old.names row) (readable (bytes_at contents.items row)) }
+        requires contents_permitted { (row : ℕ) → row < length self.old.names
+            → IsPermitted D.may (name_in self.old.names row) (readable (bytes_at contents.items row)) }
         ensures shelf { (self.new.names ≡ self.old.names) × (self.new.profile ≡ self.old.profile) × (self.new.cells ≡ self.old.cells) }
         ensures hashing { self.new.hashing ≡ self.old.hashing }
         ensures base { (row : ℕ) → row < length self.old.names
@@ -248,7 +248,7 @@ impl<D: Disk> Shelf<D> {
     {
         let mut rows = Vec::with_capacity(self.alloc, self.rows.len())?;
         for row in &self.rows {
-            let Ok(()) = rows.push(row.unseen()) else {
+            let Ok(()) = rows.push(row.new_observation()) else {
                 return Err(Memory);
             };
         }
@@ -278,12 +278,12 @@ impl<D: Disk> Shelf<D> {
         ensures stays { IfSome (file_at pass.old.files row) (λ c. IsOkAnd result (λ l. l.now.content ≡ c)) }
         ensures base { IfSome (file_at self.now.base row) (λ c. IsOkAnd result (λ l. l.now.content ≡ c)) }
         ensures err { OnErr result (pass.new ≡ pass.old) }
-        ensures lawful { AllLawful D.may self.now.names pass.new.files }
+        ensures contents_permitted { AllPermitted D.may self.now.names pass.new.files }
         ensures filled { Agree self.now.base pass.new.files }
     {
-        pass.lawful();
-        let shown = pass.show(self, row, disk);
-        pass.lawful();
+        pass.contents_permitted();
+        let shown = pass.look_at_row(self, row, disk);
+        pass.contents_permitted();
         let Ok(loaded) = shown else {
             return Err(LookFault::Memory);
         };
@@ -296,14 +296,14 @@ impl<D: Disk> Shelf<D> {
         requires theirs { other.shelf ≡ self.now }
         ensures shelf { pass.new.shelf ≡ self.now }
         ensures agree { Agree pass.old.files other.entry.files }
-        ensures joined { Joined pass.old.files other.entry.files pass.new.files }
+        ensures joined { IsMerged pass.old.files other.entry.files pass.new.files }
         ensures grows { Extends pass.new.files pass.old.files }
         ensures theirs { Extends pass.new.files other.entry.files }
-        ensures lawful { AllLawful D.may self.now.names pass.new.files }
+        ensures contents_permitted { AllPermitted D.may self.now.names pass.new.files }
         ensures filled { Agree self.now.base pass.new.files }
     {
-        pass.join(self, other);
-        pass.lawful();
+        pass.merge(self, other);
+        pass.contents_permitted();
     }
 }
 
@@ -324,8 +324,8 @@ fn empty_rows<D: Disk>(alloc: Global, names: Vec<String>) -> Result<Vec<Row<D>>,
 impl<'a, D: Disk> Pass<'a, D> {
     /// Shows proofs that a pass has observed only permitted contents, and those of `fill` for the rows that it filled.
     /// Does nothing.
-    pub fn lawful(&self)
-        ensures lawful { AllLawful D.may self.now.shelf.names self.now.files }
+    pub fn contents_permitted(&self)
+        ensures contents_permitted { AllPermitted D.may self.now.shelf.names self.now.files }
         ensures filled { Agree self.now.shelf.base self.now.files }
         ensures rows { length self.now.files ≡ length self.now.shelf.names }
     {
@@ -333,7 +333,7 @@ impl<'a, D: Disk> Pass<'a, D> {
     }
 
     /// Does what `look` does, without the clauses about permitted contents.
-    fn show(
+    fn look_at_row(
         &mut self,
         shelf: &'a Shelf<D>,
         row: usize,
@@ -356,17 +356,17 @@ impl<'a, D: Disk> Pass<'a, D> {
     }
 
     /// Adds what the other pass has observed.
-    fn join(&mut self, shelf: &Shelf<D>, other: Self)
+    fn merge(&mut self, shelf: &Shelf<D>, other: Self)
         requires mine { self.old.shelf ≡ shelf.now }
         requires theirs { other.shelf ≡ shelf.now }
         ensures shelf { self.new.shelf ≡ shelf.now }
         ensures agree { Agree self.old.files other.entry.files }
-        ensures joined { Joined self.old.files other.entry.files self.new.files }
+        ensures joined { IsMerged self.old.files other.entry.files self.new.files }
     {
         let Pass { shelf: _, mut rows } = other;
         while let Some(theirs) = rows.pop() {
             let row = rows.len();
-            self.rows[row].join(&shelf.rows[row], shelf.profile, row, theirs);
+            self.rows[row].merge(&shelf.rows[row], shelf.profile, row, theirs);
         }
     }
 }

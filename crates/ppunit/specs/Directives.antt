@@ -18,7 +18,7 @@ use Rattle.ppmacro.specs.Define.{after_define, after_undef}
 use Rattle.ppexpand.specs.declared.expansion.Expanded.{Expanded}
 use Rattle.ppexpand.specs.Expansion.{IsExpansion}
 use Rattle.ppshelf.specs.Names.{name_in}
-use Rattle.ppshelf.specs.Search.{Candidate, candidates, candidates_behind, IsFirstRow}
+use Rattle.ppshelf.specs.Search.{Candidate, candidates, candidates_after, IsFirstRow}
 use Rattle.ppunit.specs.declared.units.Item.TheVariants as item
 use Rattle.ppunit.specs.States.{State, Surroundings, Reached, going, stopped, emitted, reading_once, with_left}
 use Rattle.ppunit.specs.Lines.{operands, line_fault, named_fault, spaced}
@@ -79,7 +79,7 @@ Asks s line after asked = AsksBy (begins_with_header (operands line)) s line aft
 -- directories after it (gcc's manual, "Wrapper Headers")
 abbrev pub looked_for : Surroundings → ℕ → Option ℕ → Asked → List Candidate
 looked_for around from None a = candidates a.form (name_in around.names from) around.unit_folders around.setting_folders a.name
-looked_for around from (Some number) a = candidates_behind number around.unit_folders around.setting_folders a.name
+looked_for around from (Some number) a = candidates_after number around.unit_folders around.setting_folders a.name
 
 -- the index of the file that is found for the header, if there is one, and the number of the directory in which it is
 -- found

@@ -6,7 +6,7 @@ use Rattle.pptext.specs.Lines.{LogicalLine}
 use Rattle.pptext.specs.Tokens.{fault}
 use Rattle.ppexpand.specs.Budget.{is_exhausted}
 use Rattle.ppshelf.specs.Content.{Content, unreadable, IsRead}
-use Rattle.ppshelf.specs.Files.{Files, Stock, file_at}
+use Rattle.ppshelf.specs.Files.{Files, TableView, file_at}
 use Rattle.ppshelf.specs.Names.{name_in}
 use Rattle.ppunit.specs.declared.states.Context.{Context}
 use Rattle.ppunit.specs.States.{State, context, paying, literal}
@@ -35,11 +35,11 @@ Pays depth at name s t None = (depth ≤ deepest) × (is_exhausted s.left ≡ fa
 Pays depth at name s t (Some f) = (t ≡ s) × IsUnpaid depth at name s f
 
 -- the file at index `row` has these lines
-abbrev pub HasLines : Stock → Files → ℕ → List LogicalLine → Type 0
+abbrev pub HasLines : TableView → Files → ℕ → List LogicalLine → Type 0
 HasLines shelf files row lines = (content : Content) × (file_at files row ≡ Some content) × IsRead shelf.profile row content (Ok lines)
 
 -- the file can't be read, a fault located at `at`, or its lines have a fault
-abbrev pub HasFault : Stock → Files → ℕ → Place → Fault → Type 0
+abbrev pub HasFault : TableView → Files → ℕ → Place → Fault → Type 0
 HasFault shelf files row at f =
     ((file_at files row ≡ Some unreadable) × (f ≡ fault 6 at (name_in shelf.names row)))
     ⊎ ((content : Content) × (file_at files row ≡ Some content) × IsRead shelf.profile row content (Err f))

@@ -6,7 +6,7 @@ use Rattle.ppmacro.specs.Substitution.{escaped}
 use Rattle.ppmacro.specs.Names.{Macros}
 use Rattle.ppexpand.specs.declared.env.Env.{Env}
 use Rattle.ppexpand.specs.Budget.{spend_one}
-use Rattle.ppshelf.specs.Files.{Files, Stock}
+use Rattle.ppshelf.specs.Files.{Files, TableView}
 use Rattle.ppshelf.specs.Names.{name_in}
 use Rattle.ppunit.specs.Dependencies.{among}
 use Rattle.ppunit.specs.declared.states.Context.{Context}
@@ -15,7 +15,7 @@ use Rattle.ppunit.specs.declared.units.UnitOut.{UnitOut}
 
 -- a unit's file table, and the directories that are searched, the unit's before the setting's
 pub record Library : Type 0 where
-  pub shelf : Stock
+  pub shelf : TableView
   pub unit_folders : List (List ℕ)
   pub setting_folders : List (List ℕ)
 

@@ -16,7 +16,7 @@ use crate::including::Asked;
 use crate::indexed::count;
 use crate::states::{Context, State, literal};
 use ppexpand::Env;
-use ppshelf::{Disk, Folders, Form, Pass, Shelf, resolve, resolve_behind};
+use ppshelf::{Disk, Directories, Form, Pass, Shelf, resolve, resolve_next};
 use pptext::{Fault, Memory, Place, Profile, Source, Error};
 use std::alloc::{AllocError, Global};
 use std::marker::Model;
@@ -31,7 +31,7 @@ pub(crate) struct Around<'a, 'b, D: Disk> {
     pub alloc: Global,
     shelf: &'a Shelf<D>,
     disk: &'b D,
-    folders: Folders<'b>,
+    folders: Directories<'b>,
 }
 
 impl<'a, 'b, D: Disk> Model for Around<'a, 'b, D> {
@@ -65,7 +65,7 @@ impl<'a, 'b, D: Disk> Around<'a, 'b, D> {
         alloc: Global,
         shelf: &'a Shelf<D>,
         disk: &'b D,
-        folders: Folders<'b>,
+        folders: Directories<'b>,
     ) -> Around<'a, 'b, D>
         ensures { result ≡ record {
           shelf = shelf.now;
@@ -96,7 +96,7 @@ impl<'a, 'b, D: Disk> Around<'a, 'b, D> {
     }
 
     /// Returns the directories that are searched.
-    fn folders(&self) -> Folders<'b>
+    fn folders(&self) -> Directories<'b>
         ensures unit { map string_bytes result.unit.now ≡ self.now.unit_folders }
         ensures setting { map string_bytes result.setting.now ≡ self.now.setting_folders }
     {
@@ -187,7 +187,7 @@ pub(crate) fn resolve_in<D: Disk>(
     let folders = around.folders();
     let name = asked.name.as_bytes();
     if let Some(number) = from.folder {
-        return resolve_behind(around.alloc, shelf, number, name, folders);
+        return resolve_next(around.alloc, shelf, number, name, folders);
     }
     if from.row < shelf.len() {
         return resolve(around.alloc, shelf, from.row, asked.form, name, folders);

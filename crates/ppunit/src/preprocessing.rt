@@ -3,7 +3,7 @@ ghost use Rattle.std.specs.Prelude.{◌≡◌, ◌<◌, IfOk, Ok, Option, None, 
 ghost use Rattle.std.specs.Result.{result_err};
 ghost use Rattle.pptext.specs.Errors.{UnlessOutOfMemory};
 ghost use Rattle.pptext.specs.declared.tokens.Fault.{Fault};
-ghost use Rattle.ppshelf.specs.Files.{Files, Extends, Agree, AllLawful};
+ghost use Rattle.ppshelf.specs.Files.{Files, Extends, Agree, AllPermitted};
 ghost use Rattle.ppunit.specs.States.{Reached, surroundings_of, given};
 ghost use Rattle.ppunit.specs.Group.{Opened};
 ghost use Rattle.ppunit.specs.Unit.{IsUnit, IsUnitOf, Translates, beginning, first_place};
@@ -17,7 +17,7 @@ use crate::opening::{Around, OpenFile, Opening, open};
 use crate::states::State;
 use crate::units::{Setting, Unit, UnitOut};
 use crate::walking::walk;
-use ppshelf::{Disk, Folders, Pass, Shelf};
+use ppshelf::{Disk, Directories, Pass, Shelf};
 use pptext::{Fault, Memory, Place, Error, split_memory, tree_unless_fault};
 use std::alloc::Global;
 
@@ -200,18 +200,18 @@ pub fn preprocess<'x, 'a: 'x, D: Disk>(
     ensures is { IfOk result (λ out. IsUnit shelf.now.names pass.new.files setting.now unit.now out) }
     ensures within { IfOk result (λ out. IsWithin shelf.now.names pass.new.files setting.now unit.now out) }
     ensures capped { IfOk result (λ out. IsCappedOver shelf.now.names pass.new.files setting.now unit.now out) }
-    ensures lawful { AllLawful D.may shelf.now.names pass.new.files }
+    ensures contents_permitted { AllPermitted D.may shelf.now.names pass.new.files }
     ensures filled { Agree shelf.now.base pass.new.files }
 {
-    let folders = Folders {
+    let folders = Directories {
         unit: unit.search.as_slice(),
         setting: setting.search.as_slice(),
     };
     let around = Around::new(alloc, shelf, disk, folders);
     let given = give(&around, pass, setting, unit);
     // For proofs: file names are distinct, the contents are permitted, and the theorems about budgets hold.
-    shelf.lawful();
-    pass.lawful();
+    shelf.contents_permitted();
+    pass.contents_permitted();
     stays_within();
     budget_caps_units();
     given

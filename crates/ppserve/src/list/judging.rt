@@ -11,7 +11,7 @@ ghost use Rattle.ppserve.specs.declared.list.ListFault.TheVariants.{Bad, Memory 
 
 use crate::list::drafts::{Draft, DraftBudget, DraftFile, DraftSetting, DraftUnit, WrittenBudget};
 use crate::list::{Contents, List, ListFault, Units};
-use ppshelf::{Index, LONGEST, MOST_ROWS, is_folder, is_name};
+use ppshelf::{Index, LONGEST, MOST_ROWS, is_directory, is_file_name};
 use pptext::{Hashing, Memory, Profile, Sequence};
 use ppunit::{Definitions, Setting, Texts, Unit, fits_command, is_date, is_one_line, is_time};
 use std::alloc::{AllocError, Global};
@@ -111,7 +111,7 @@ fn index_files(alloc: Global, files: &[DraftFile], hashing: Hashing) -> Result<I
     let mut index = Index::new(alloc, hashing);
     for file in files {
         let name = file.name.as_str().as_bytes();
-        if !is_name(name) {
+        if !is_file_name(name) {
             return Err(ListFault::Bad(3));
         }
         let new = index.push(name)?;
@@ -353,17 +353,17 @@ fn folders_hold(draft: &Draft) -> bool
 
 /// Returns whether the search paths of all units are directory names.
 fn units_search_folders(units: &[DraftUnit]) -> bool
-    ensures { result ≡ list_all (λ u. list_all shelf_spec.is_folder u.search) units.now }
+    ensures { result ≡ list_all (λ u. list_all shelf_spec.is_directory u.search) units.now }
 {
     units.iter().all(|unit| are_folders(&unit.search))
 }
 
 /// Returns whether all texts are directory names.
 fn are_folders(texts: &Texts) -> bool
-    ensures { result ≡ list_all shelf_spec.is_folder texts.now }
+    ensures { result ≡ list_all shelf_spec.is_directory texts.now }
 {
     texts
         .as_slice()
         .iter()
-        .all(|text| is_folder(text.as_bytes()))
+        .all(|text| is_directory(text.as_bytes()))
 }

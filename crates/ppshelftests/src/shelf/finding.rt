@@ -1,6 +1,6 @@
 //! Searches for included files: the rows that they find, and the numbers of the directories.
 use super::{named, texts};
-use ppshelf::{Folders, Form, MemoryDisk, Shelf, resolve, resolve_behind};
+use ppshelf::{Directories, Form, MemoryDisk, Shelf, resolve, resolve_next};
 use pptext::Memory;
 use std::alloc::Global;
 use std::process::Abort;
@@ -30,7 +30,7 @@ fn assert_finds(
     rt: &impl Abort,
     alloc: Global,
     shelf: &Shelf<MemoryDisk>,
-    folders: Folders<'_>,
+    folders: Directories<'_>,
 ) -> Result<(), Memory> {
     assert!(rt; shelf.len() == 5);
     for &(form, name, row) in INCLUDED {
@@ -38,7 +38,7 @@ fn assert_finds(
         assert!(rt; found == row, "{name}");
     }
     for &(number, row) in BEHIND {
-        let found = resolve_behind(alloc, shelf, number, b"h.h", folders)?;
+        let found = resolve_next(alloc, shelf, number, b"h.h", folders)?;
         assert!(rt; found == row, "{number}");
     }
     Ok(())
@@ -49,7 +49,7 @@ fn searches_number_their_folders(rt: HostRuntime) -> Result<(), Fail> {
     let alloc = rt.alloc();
     let shelf = named(alloc, NAMES)?;
     let (unit, setting) = (texts(alloc, &["one"])?, texts(alloc, &["two", "three"])?);
-    let folders = Folders {
+    let folders = Directories {
         unit: unit.as_slice(),
         setting: setting.as_slice(),
     };

@@ -3,7 +3,7 @@ ghost use Rattle.std.specs.Prelude.{◌≤◌, length};
 ghost use Rattle.ppshelf.specs.Files.{most_rows};
 
 use super::texts;
-use ppshelf::{Folders, Form, Index, MemoryDisk, Shelf, ShelfFault, is_folder, is_name, resolve};
+use ppshelf::{Directories, Form, Index, MemoryDisk, Shelf, ShelfFault, is_directory, is_file_name, resolve};
 use pptext::{Hashing, Memory, Profile};
 use std::alloc::Global;
 use std::hash::RandomState;
@@ -28,7 +28,7 @@ const NUMBERED: &[(&str, Option<usize>)] = &[("a", Some(0)), ("inc/b.h", Some(1)
 fn assert_numbers(rt: &impl Abort, index: &mut Index) -> Result<(), Memory> {
     for &(name, is_new) in PUT {
         assert!(rt;
-            is_name(name.as_bytes()) && is_folder(name.as_bytes()),
+            is_file_name(name.as_bytes()) && is_directory(name.as_bytes()),
             "{name}"
         );
         assert!(rt; index.push(name.as_bytes())? == is_new, "{name}");
@@ -87,7 +87,7 @@ fn assert_finds(
     }
     assert!(rt; shelf.len() == 2);
     assert!(rt; shelf.name(1) == "inc/b.h");
-    let folders = Folders { unit: &[], setting };
+    let folders = Directories { unit: &[], setting };
     let found = resolve(alloc, shelf, 0, Form::Angle, b"b.h", folders)?;
     assert!(rt; found == Some((1, 1)));
     Ok(shelf.hashing())

@@ -1,5 +1,5 @@
 use Rattle.std.proofs.Common.{ℕ, ◌≡◌, ◌<◌, ◌/◌, List, Option, None, sym, ap, ◌∙◌, subst, length, IsSome, get_or}
-use Rattle.ppshelf.specs.Files.{Extends, Known}
+use Rattle.ppshelf.specs.Files.{Extends, PassView}
 use Rattle.ppunit.specs.declared.units.UnitOut.{UnitOut}
 use Rattle.pppool.specs.Desk.{SeatView, times}
 use Rattle.pppool.specs.Workers.{Answer, AreAnswers, FitSlots, placed}
@@ -23,7 +23,7 @@ returns-clause-slots g c =
     let setting = job.setting.now in
     let units = job.units.now in
     let new = c.meet.new.pass.files in
-    let theirs : Extends new c.args.worker.pass.files = let P : Known → Type 0 = λ k. Extends new k.files in subst P c.into_parts-seat.ensures.1 c.meet.ensures.theirs in
+    let theirs : Extends new c.args.worker.pass.files = let P : PassView → Type 0 = λ k. Extends new k.files in subst P c.into_parts-seat.ensures.1 c.meet.ensures.theirs in
     let all : AreAnswers job.keep stock new setting units c.args.worker.answers.items = answers_grow c.growth.ensures job.keep stock c.args.worker.pass.files new setting units c.args.worker.answers.items theirs c.requires.done.values in
     let old : FitSlots job.keep stock new setting units c.args.slots.now.items = slots_grow c.growth.ensures job.keep stock c.args.pass.now.files new setting units c.args.slots.now.items c.meet.ensures.grows c.requires.slots in
     let P : List (Option UnitOut) → Type 0 = FitSlots job.keep stock new setting units in

@@ -1,6 +1,6 @@
 use Rattle.std.proofs.Common.{ℕ, ◌≡◌, ◌<◌, ◌/◌, ◌∙◌, List, length, ap, sym, subst, Option, arith}
 use Rattle.std.proofs.lemmas.Bool.{false≢true}
-use Rattle.ppshelf.specs.Files.{Agree, Stock}
+use Rattle.ppshelf.specs.Files.{Agree, TableView}
 use Rattle.ppunit.specs.declared.units.UnitOut.{UnitOut}
 use Rattle.pppool.specs.declared.hand.Plan.{Plan}
 use Rattle.pppool.specs.Desk.{claims_of}
@@ -46,10 +46,10 @@ returns-clause-capped g c =
     let names = c.args.batch.now.shelf.now.names in
     if_ok_then c.all_of.result (returns-clause-kept g c) (λ v kept. record {
       kept = kept;
-      capped = are_capped c.budget_caps_units.ensures names files c.args.batch.now.setting.now c.args.batch.now.units.now kept.wholes c.lawful-3.ensures.names kept.values;
+      capped = are_capped c.budget_caps_units.ensures names files c.args.batch.now.setting.now c.args.batch.now.units.now kept.wholes c.contents_permitted-3.ensures.names kept.values;
     })
 
 pub returns-clause-filled : goal.returns-clause-filled
 returns-clause-filled g c =
-    let P : Stock → Type 0 = λ s. Agree (s.base) c.gather-gathered.new.pass.files in
-    subst P c.gather-gathered.ensures.shelf c.lawful-2.ensures.filled
+    let P : TableView → Type 0 = λ s. Agree (s.base) c.gather-gathered.new.pass.files in
+    subst P c.gather-gathered.ensures.shelf c.contents_permitted-2.ensures.filled

@@ -1,5 +1,5 @@
 use Rattle.std.proofs.Common.{◌≡◌, ◌∙◌, ap, length, map}
-use Rattle.ppshelf.specs.Files.{Stock}
+use Rattle.ppshelf.specs.Files.{TableView}
 use Rattle.pppool.specs.declared.keeping.Keep.{Keep}
 use Rattle.pppool.specs.Kept.{kept}
 use Rattle.ppserve.proofs.Giving.{knows_files}
@@ -9,7 +9,7 @@ pub returns : goal.returns
 returns g c =
     let known = c.run_keeping.new.pass.files in
     let shelf = c.args.shelf.now in
-    let len : length known ≡ length shelf.names = c.lawful.ensures.rows ∙ ap (λ (s : Stock). length s.names) c.run_keeping.ensures.shelf in
+    let len : length known ≡ length shelf.names = c.contents_permitted.ensures.rows ∙ ap (λ (s : TableView). length s.names) c.run_keeping.ensures.shelf in
     let are = c.in_ok-outs.ensures.kept in
     record {
       wholes = are.wholes;

@@ -23,7 +23,7 @@ returns-clause-ok g c =
     let outs = c.in_ok-outs.outs.items in
     let gives = gives_from _ (needed c.args.options.mode) list c.in_ok-shelf.shelf c.as_slice-units.result.now outs c.in_ok-shelf.ensures.names c.as_slice-units.ensures c.in_ok-outs.ensures in
     if_ok_then c.hand_out-answer.result c.hand_out-answer.ensures.ok (λ any given before after came. served c.args.options.mode list _ _ _ _ any (came_of c.args.options.mode list c.as_slice-units.result.now c.as_slice.result.now outs
-    c.as_slice-units.ensures c.as_slice.ensures.value came gives.files gives.lawful gives.gives) given)
+    c.as_slice-units.ensures c.as_slice.ensures.value came gives.files gives.contents_permitted gives.gives) given)
 
 pub returns-clause-broken_off : goal.returns-clause-broken_off
 returns-clause-broken_off g c = λ failed before after came.
@@ -31,4 +31,4 @@ returns-clause-broken_off g c = λ failed before after came.
     let outs = c.in_ok-outs.outs.items in
     let gives = gives_from _ (needed c.args.options.mode) list c.in_ok-shelf.shelf c.as_slice-units.result.now outs c.in_ok-shelf.ensures.names c.as_slice-units.ensures c.in_ok-outs.ensures in
     broken_off c.args.options.mode list _ _ _ _ (came_of c.args.options.mode list c.as_slice-units.result.now c.as_slice.result.now outs
-    c.as_slice-units.ensures c.as_slice.ensures.value came gives.files gives.lawful gives.gives) (c.hand_out-answer.ensures.front failed)
+    c.as_slice-units.ensures c.as_slice.ensures.value came gives.files gives.contents_permitted gives.gives) (c.hand_out-answer.ensures.front failed)

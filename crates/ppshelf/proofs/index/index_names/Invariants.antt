@@ -4,4 +4,4 @@ use Rattle.ppshelf.proofs.Naming.{Indexed}
 use Rattle.ppshelf.proofs.index.index_names.Given as goal
 
 abbrev pub invariant-loop-row : goal.invariant-loop-row
-invariant-loop-row l = record { indexed : Indexed (map string_bytes l.names) l.row l.index.names; hashing_is : l.index.hashing ≡ l.fn.hashing }
+invariant-loop-row l = record { index_view : Indexed (map string_bytes l.names) l.row l.index.names; hashing_is : l.index.hashing ≡ l.fn.hashing }

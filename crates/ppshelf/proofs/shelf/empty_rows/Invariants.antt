@@ -1,6 +1,6 @@
 use Rattle.std.proofs.Common.{◌≡◌, map, replicate, length, None}
 use Rattle.std.specs.String.{string_bytes}
-use Rattle.ppshelf.specs.Shelved.{names_of, base_of}
+use Rattle.ppshelf.specs.code.TableRows.{names_of, base_of}
 use Rattle.ppshelf.proofs.shelf.empty_rows.Given as goal
 
 abbrev pub invariant-loop-name : goal.invariant-loop-name

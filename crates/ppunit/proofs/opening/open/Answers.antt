@@ -1,6 +1,6 @@
 use Rattle.std.proofs.Common.{ap, ◌∙◌}
 use Rattle.pptext.proofs.Stopping.{stopped}
-use Rattle.ppshelf.specs.Files.{Stock}
+use Rattle.ppshelf.specs.Files.{TableView}
 use Rattle.ppshelf.specs.Names.{name_in}
 use Rattle.ppunit.specs.States.{surroundings_of}
 use Rattle.ppunit.proofs.Opens.{opens_unpaid, opens_known, ready, opens_faulty, opens_begun}
@@ -31,4 +31,4 @@ returns-clause-opened g c =
     c.in_ok-pay_for.ensures c.in_ok-note.ensures.joins c.in_ok-note.ensures.known c.if-branch.false in
     opens_begun c.args.around.now c.source_of.new.pass.files c.args.depth c.args.opening.row c.args.opening.folder c.args.at c.args.state.now c.note.new.state
     c.begin.new.state c.name-name.result.now c.in_ok-source.source.now c.in_ok-begin.field-0 noted c.in_ok-source.ensures.lines
-    (c.name-name.ensures ∙ ap (λ (z : Stock). name_in z.names c.args.opening.row) c.shelf.ensures) c.in_ok-begin.ensures
+    (c.name-name.ensures ∙ ap (λ (z : TableView). name_in z.names c.args.opening.row) c.shelf.ensures) c.in_ok-begin.ensures

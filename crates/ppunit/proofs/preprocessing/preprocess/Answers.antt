@@ -1,6 +1,6 @@
 use Rattle.std.proofs.Common.{◌≡◌, ◌∙◌, ap, subst}
 use Rattle.std.proofs.lemmas.Result.{IfOk-weaker}
-use Rattle.ppshelf.specs.Files.{Agree, Stock}
+use Rattle.ppshelf.specs.Files.{Agree, TableView}
 use Rattle.ppunit.specs.States.{Library, Reached, surroundings_of, given}
 use Rattle.ppunit.specs.Unit.{IsUnit, Translates, beginning}
 use Rattle.ppunit.proofs.Preprocessed.{whole_unit}
@@ -27,7 +27,7 @@ returns-clause-deps g c =
 pub returns-clause-capped : goal.returns-clause-capped
 returns-clause-capped g c =
     IfOk-weaker _ _ _ (λ out is. c.budget_caps_units.ensures c.args.shelf.now.names c.give-given.new.pass.files c.args.setting.now c.args.unit.now out
-    c.lawful.ensures.names is)
+    c.contents_permitted.ensures.names is)
     (returns-clause-is g c)
 
 pub returns-clause-within : goal.returns-clause-within
@@ -37,5 +37,5 @@ returns-clause-within g c =
 
 pub returns-clause-filled : goal.returns-clause-filled
 returns-clause-filled g c =
-    let P : Stock → Type 0 = λ s. Agree (s.base) c.give-given.new.pass.files in
-    subst P (c.give-given.ensures.shelf ∙ ap (λ (l : Library). l.shelf) c.new-around.ensures) c.lawful-2.ensures.filled
+    let P : TableView → Type 0 = λ s. Agree (s.base) c.give-given.new.pass.files in
+    subst P (c.give-given.ensures.shelf ∙ ap (λ (l : Library). l.shelf) c.new-around.ensures) c.contents_permitted-2.ensures.filled

@@ -3,12 +3,12 @@ use Rattle.std.specs.List.{list_all}
 use Rattle.std.proofs.lemmas.Iterator.{YieldsList-from_slice}
 use Rattle.std.proofs.lemmas.Iterator.Search.{all_from_yields_List}
 use Rattle.std.proofs.lemmas.List.Folds.{list_all-map}
-use Rattle.ppshelf.specs.Names.{is_folder}
+use Rattle.ppshelf.specs.Names.{is_directory}
 use Rattle.ppserve.proofs.list.judging.are_folders.Goals as goal
 use borrow.Author.Tests.{tests}
 
 pub returns : goal.returns
-returns c = all_from_yields_List (λ s. is_folder (string_bytes s)) _ _ _ c.all.ensures.ran
+returns c = all_from_yields_List (λ s. is_directory (string_bytes s)) _ _ _ c.all.ensures.ran
     (YieldsList-from_slice c.as_slice.result.now c.iter.ensures.rest)
     (λ x b q k. search (rules, tests))
-    ∙ (sym (list_all-map is_folder string_bytes c.as_slice.result.now) ∙ ap (list_all is_folder) c.as_slice.ensures)
+    ∙ (sym (list_all-map is_directory string_bytes c.as_slice.result.now) ∙ ap (list_all is_directory) c.as_slice.ensures)

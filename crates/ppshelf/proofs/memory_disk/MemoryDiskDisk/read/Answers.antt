@@ -2,7 +2,7 @@ use Rattle.ppshelf.proofs.Finding.{found, skipped}
 use Rattle.std.proofs.Common.{arith, ◌∙◌, ap, sym, subst, List, rules}
 use Rattle.std.proofs.lemmas.Bool.{false≢true}
 use Rattle.ppshelf.specs.Content.{readable}
-use Rattle.ppshelf.specs.OnDisk.{IsFile}
+use Rattle.ppshelf.specs.MemoryFiles.{IsFile}
 use Rattle.ppshelf.specs.declared.memory_disk.File.{File}
 use Rattle.ppshelf.proofs.memory_disk.MemoryDiskDisk.read.Goals as goal
 

@@ -1,5 +1,5 @@
 use Rattle.std.proofs.Common.{rules, ◌<◌, ℕ, List, length, set, arith}
-use Rattle.ppshelf.specs.Content.{Content, Lawful}
+use Rattle.ppshelf.specs.Content.{Content, IsPermitted}
 use Rattle.ppshelf.proofs.Filling.{Turned, shelf_kept, fills_kept, full_turned, turned_set}
 use Rattle.ppshelf.proofs.shelf.Shelf.fill.Given.{Over}
 use Rattle.ppshelf.proofs.shelf.Shelf.fill.Goals as goal
@@ -7,11 +7,11 @@ use Rattle.ppshelf.proofs.shelf.Shelf.fill.Goals.{After-fill}
 
 -- what the fill of a row makes of the rows, whether or not it succeeds
 turned : (g : Over) (c : After-fill g)
-    → Turned c.self.inside.profile (λ _. Lawful (g.D.Disk.gives c.args.disk.now)) c.self.inside.rows.items (set c.loop-row.self-inside.rows.items c.loop-row.row c.fill.new.self)
+    → Turned c.self.inside.profile (λ _. IsPermitted (g.D.Disk.gives c.args.disk.now)) c.self.inside.rows.items (set c.loop-row.self-inside.rows.items c.loop-row.row c.fill.new.self)
 turned g c =
     let f = c.loop-row.invariant.filling in
     let within : c.loop-row.row < length c.self.inside.rows.items = let l = f.turned.len in omega arith in
-    turned_set c.self.inside.profile (λ _. Lawful (g.D.Disk.gives c.args.disk.now)) _ _ c.loop-row.row c.index_mut.result.now c.fill.new.self f within c.index_mut.ensures.value c.fill.ensures.turned
+    turned_set c.self.inside.profile (λ _. IsPermitted (g.D.Disk.gives c.args.disk.now)) _ _ c.loop-row.row c.index_mut.result.now c.fill.new.self f within c.index_mut.ensures.value c.fill.ensures.turned
 
 pub invariant_of-self : goal.invariant_of-self
 invariant_of-self g c = shelf_kept c.loop-row.invariant.profile_is c.loop-row.invariant.index_is c.self.invariant c.loop-row.invariant.filling.turned
@@ -22,7 +22,7 @@ invariant_of-self-in_err-fill g c =
 
 pub returns : goal.returns
 returns g c =
-    let puts : ℕ → List ℕ → Content → Type 0 = λ _. Lawful (g.D.Disk.gives c.args.disk.now) in
+    let puts : ℕ → List ℕ → Content → Type 0 = λ _. IsPermitted (g.D.Disk.gives c.args.disk.now) in
     let fills = fills_kept c.loop-row.invariant.profile_is c.loop-row.invariant.index_is c.self.view_is c.loop-row.invariant.filling.turned in
     record { shelf = fills.shelf; hashing = fills.hashing; base = fills.base; len = fills.len; full = full_turned c.self.inside.profile c.self.inside.index.hashing puts _ _ c.loop-row.row (omega arith) c.loop-row.invariant.filling }
 

@@ -2,10 +2,10 @@ use Rattle.std.proofs.Common.{rules, ◌≡◌, ◌∙◌, ◌<◌, ◌≤◌, l
 use Rattle.std.proofs.lemmas.Iterator.Adapters.{YieldsList-from_vec}
 use Rattle.std.proofs.lemmas.Iterator.Consumers.{YieldsList-turn, YieldsList-end}
 use Rattle.std.proofs.lemmas.List.{length_push}
-use Rattle.ppshelf.specs.Content.{Lawful, readable}
+use Rattle.ppshelf.specs.Content.{IsPermitted, readable}
 use Rattle.ppshelf.specs.Names.{name_in}
-use Rattle.ppshelf.specs.Files.{Stock, bytes_at}
-use Rattle.ppshelf.specs.Shelved.{FilledRow}
+use Rattle.ppshelf.specs.Files.{TableView, bytes_at}
+use Rattle.ppshelf.specs.code.TableRows.{FilledRow}
 use Rattle.ppshelf.proofs.Filling.{Turned, shelf_kept, fills_kept, rows_counted, full_turned, turned_set, filling_more, given, bytes_here, given_row, lawful_here}
 use Rattle.ppshelf.proofs.shelf.Shelf.fill_with.Given.{Over}
 use Rattle.ppshelf.proofs.shelf.Shelf.fill_with.Goals as goal
@@ -41,14 +41,14 @@ module _ (g : Over) (c : After-put g) where
 pub invariant_of-self : goal.invariant_of-self
 invariant_of-self g c = shelf_kept c.loop-bytes.invariant.profile_is c.loop-bytes.invariant.index_is c.self.invariant c.loop-bytes.invariant.filling.turned
 
-pub put-requires-clause-lawful : goal.put-requires-clause-lawful
-put-requires-clause-lawful g c =
+pub put-requires-clause-contents_permitted : goal.put-requires-clause-contents_permitted
+put-requires-clause-contents_permitted g c =
     let contents = c.args.contents.items in
     let row = c.loop-bytes.row in
-    let turn = here g (goal.at.put-requires-clause-lawful g c).In-Some in
-    let P : Stock → Type 0 = λ stock. Lawful g.D.Disk.may (name_in stock.names row) (readable (bytes_at contents row)) in
+    let turn = here g (goal.at.put-requires-clause-contents_permitted g c).In-Some in
+    let P : TableView → Type 0 = λ stock. IsPermitted g.D.Disk.may (name_in stock.names row) (readable (bytes_at contents row)) in
     lawful_here c.self.inside.profile g.D.Disk.may (given contents) _ _ row c.index_mut.result.now c.in-Some.bytes.items (bytes_at contents row)
-    c.loop-bytes.invariant.filling turn.1 c.index_mut.ensures.value turn.2 (subst P (sym c.self.view_is) (c.requires.lawful row turn.0))
+    c.loop-bytes.invariant.filling turn.1 c.index_mut.ensures.value turn.2 (subst P (sym c.self.view_is) (c.requires.contents_permitted row turn.0))
 
 pub invariant_of-self-in_err-put : goal.invariant_of-self-in_err-put
 invariant_of-self-in_err-put g c =

@@ -2,4 +2,4 @@ use Rattle.ppshelf.proofs.Files.{joined_theirs}
 use Rattle.ppshelf.proofs.shelf.Shelf.meet.Goals as goal
 
 pub returns-clause-theirs : goal.returns-clause-theirs
-returns-clause-theirs g c = joined_theirs _ _ _ c.join.ensures.agree c.join.ensures.joined
+returns-clause-theirs g c = joined_theirs _ _ _ c.merge.ensures.agree c.merge.ensures.joined

@@ -1,7 +1,0 @@
-use Rattle.std.proofs.Common.{map, ◌++◌}
-use Rattle.std.specs.String.{string_bytes}
-use Rattle.ppshelf.proofs.Finds.{Passed}
-use Rattle.ppshelf.proofs.search.row_inside.Given as goal
-
-abbrev pub invariant-loop-passed : goal.invariant-loop-passed
-invariant-loop-passed g l = Passed l.shelf.names (map string_bytes l.folders.unit.now ++ map string_bytes l.folders.setting.now) l.name l.number l.passed
