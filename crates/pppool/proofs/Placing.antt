@@ -15,8 +15,8 @@ use Rattle.ppunit.specs.Unit.{IsUnit}
 use Rattle.pppool.specs.declared.keeping.Keep.{Keep}
 use Rattle.pppool.specs.Kept.{IsKept, AreKept, kept}
 use Rattle.pppool.proofs.Kept.{kept_grows}
-use Rattle.ppunit.specs.Capped.{IsWithin, IsCappedOver, StaysWithin, BudgetCaps}
-use Rattle.ppunit.specs.Units.{AreUnits, AreWithin, AreCapped}
+use Rattle.ppunit.specs.Capped.{IsInBudget, IsCappedOver, StaysInBudget, BudgetCaps}
+use Rattle.ppunit.specs.Units.{AreUnits, AreInBudget, AreCapped}
 use Rattle.pppool.specs.Desk.{DeskId, SeatView, times, claims_of, once_below}
 use Rattle.pppool.specs.Laws.{ListGrows}
 use Rattle.pppool.specs.Workers.{Answer, AreAnswers, AllFilled, FitSlots, answered, placed}
@@ -186,11 +186,11 @@ list_grows grows names files more setting units answers extends are =
     zip_map (λ unit out. IsUnit names files setting unit out) (λ unit out. IsUnit names more setting unit out) units answers (λ unit out is. (grows names files more setting unit out extends is).0) are
 
 -- units replace and open no more than their budget allows
-pub are_within : StaysWithin → (names : List (List ℕ)) (files : Files) (setting : Setting) (units : List UnitOfList) (answers : List UnitOut)
-    → AreUnits names files setting units answers → AreWithin names files setting units answers
+pub are_within : StaysInBudget → (names : List (List ℕ)) (files : Files) (setting : Setting) (units : List UnitOfList) (answers : List UnitOut)
+    → AreUnits names files setting units answers → AreInBudget names files setting units answers
 are_within stays names files setting units answers are =
     let Is : UnitOfList → UnitOut → Type 0 = λ unit out. IsUnit names files setting unit out in
-    let Within : UnitOfList → UnitOut → Type 0 = λ unit out. IsWithin names files setting unit out in
+    let Within : UnitOfList → UnitOut → Type 0 = λ unit out. IsInBudget names files setting unit out in
     zip_map Is Within units answers (λ unit out is. stays names files setting unit out) are
 
 -- what units give over some files is capped by their budget over any more

@@ -5,7 +5,7 @@ use Rattle.ppunit.specs.declared.units.Unit.{Unit as UnitOfList}
 use Rattle.ppunit.specs.declared.units.Setting.{Setting}
 use Rattle.ppunit.specs.declared.units.UnitOut.{UnitOut}
 use Rattle.ppunit.specs.Unit.{IsUnit}
-use Rattle.ppunit.specs.Units.{AreUnits, AreWithin, AreCapped}
+use Rattle.ppunit.specs.Units.{AreUnits, AreInBudget, AreCapped}
 use Rattle.pppool.specs.declared.keeping.Keep.{Keep}
 use Rattle.pppool.specs.declared.keeping.Keep.TheVariants.{Whole, Bare}
 
@@ -35,7 +35,7 @@ pub record AreKept (keep : Keep) (names : List (List ℕ)) (files : Files) (sett
 pub record AreKeptWithin (keep : Keep) (names : List (List ℕ)) (files : Files) (setting : Setting)
     (units : List UnitOfList) (outs : List UnitOut) : Type 0 where
   pub kept : AreKept keep names files setting units outs
-  pub within : AreWithin names files setting units kept.wholes
+  pub within : AreInBudget names files setting units kept.wholes
 
 -- these are what is kept of the units' values, each of which is what the budget leaves of the unit's value without one
 pub record AreKeptCapped (keep : Keep) (names : List (List ℕ)) (files : Files) (setting : Setting)

@@ -2,7 +2,7 @@
 ghost use Rattle.std.specs.Prelude.{◌≡◌, ℕ, ◌<◌, ◌≤◌, ◌/◌, [], length, All, IfOk, IsSome, Some, None, true, slice_index_or};
 ghost use Rattle.ppshelf.specs.Files.{most_rows, Extends, Agree, AllPermitted};
 ghost use Rattle.ppunit.specs.Unit.{IsUnitOf};
-ghost use Rattle.ppunit.specs.Units.{AreUnits, AreWithin, AreCapped};
+ghost use Rattle.ppunit.specs.Units.{AreUnits, AreInBudget, AreCapped};
 ghost use Rattle.pppool.specs.Desk.{most_blocks, new_seat, times, claims_of};
 ghost use Rattle.pppool.specs.Kept.{AreKept, AreKeptWithin, AreKeptCapped};
 ghost use Rattle.pppool.specs.Workers.{AllFilled, FitSlots, IsDone};
@@ -15,7 +15,7 @@ use crate::slots::{all_of, empty_slots, place};
 use crate::workers::{Job, Worker};
 use ppshelf::{Disk, Pass};
 use pptext::Memory;
-use ppunit::{UnitOut, budget_caps_units, growth, stays_within};
+use ppunit::{UnitOut, budget_caps_units, growth, stays_in_budget};
 use std::alloc::Global;
 use std::thread;
 use std::thread::Threads;
@@ -45,14 +45,14 @@ pub fn run<'a, R: Threads + Sync, D: Disk + Send + Sync, G: Gate + Sync>(
     ensures shelf { pass.new.shelf ≡ batch.now.shelf.now }
     ensures grows { Extends pass.new.files pass.old.files }
     ensures value { IfOk result (λ outs. AreUnits batch.now.shelf.now.names pass.new.files batch.now.setting.now batch.now.units.now outs.items) }
-    ensures within { IfOk result (λ outs. AreWithin batch.now.shelf.now.names pass.new.files batch.now.setting.now batch.now.units.now outs.items) }
+    ensures within { IfOk result (λ outs. AreInBudget batch.now.shelf.now.names pass.new.files batch.now.setting.now batch.now.units.now outs.items) }
     ensures capped { IfOk result (λ outs. AreCapped batch.now.shelf.now.names pass.new.files batch.now.setting.now batch.now.units.now outs.items) }
     ensures contents_permitted { AllPermitted D.may batch.now.shelf.now.names pass.new.files }
     ensures filled { Agree batch.now.shelf.now.base pass.new.files }
 {
     let outs = run_keeping(threads, alloc, pass, batch, Keep::Whole)?;
     batch.shelf.contents_permitted();
-    stays_within();
+    stays_in_budget();
     budget_caps_units();
     Ok(outs)
 }
@@ -112,7 +112,7 @@ pub fn run_keeping<'a, R: Threads + Sync, D: Disk + Send + Sync, G: Gate + Sync>
     pass.contents_permitted();
     shelf.contents_permitted();
     // For proofs: the theorems about budgets hold.
-    stays_within();
+    stays_in_budget();
     budget_caps_units();
     let (seats, slots) = gathered?;
     let whole = desk.close(seats);

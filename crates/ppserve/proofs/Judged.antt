@@ -12,7 +12,7 @@ use Rattle.std.proofs.lemmas.List.Sums.{AllPass-from_list_all}
 use Rattle.serde_json.specs.Data.{Data}
 use Rattle.pptext.specs.declared.sources.Profile.{Profile}
 use Rattle.pptext.specs.declared.sources.Profile.TheVariants.{C11, Later, Gnu}
-use Rattle.ppunit.specs.Forms.{is_one_line, is_same, is_unit}
+use Rattle.ppunit.specs.WellFormed.{is_one_line, is_same, is_unit}
 use Rattle.ppunit.specs.Unit.{command_text}
 use Rattle.ppunit.specs.declared.units.Unit.{Unit as UnitOfList}
 use Rattle.ppserve.specs.Drafting.{draft}

@@ -11,7 +11,7 @@ use Rattle.pptext.specs.declared.sources.Profile.TheVariants.{C11, Later, Gnu}
 use Rattle.ppshelf.specs.Content.{longest}
 use Rattle.ppshelf.specs.Files.{most_rows}
 use Rattle.ppshelf.specs.Names.{AreNames, are_names, is_directory, row_among}
-use Rattle.ppunit.specs.Forms.{is_date, is_time, is_one_line, is_setting, is_unit}
+use Rattle.ppunit.specs.WellFormed.{is_date, is_time, is_one_line, is_setting, is_unit}
 use Rattle.ppunit.specs.Unit.{command_text}
 use Rattle.ppunit.specs.declared.units.Setting.{Setting}
 use Rattle.ppunit.specs.declared.units.Unit.{Unit as UnitOfList}

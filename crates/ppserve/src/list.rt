@@ -10,7 +10,7 @@ mod judging;
 use crate::list::drafts::{Draft, draft_of};
 use crate::list::judging::judge;
 use pptext::{Hashing, Memory, Sequence};
-use ppunit::{Setting, Texts, Unit};
+use ppunit::{Setting, OwnedTexts, Unit};
 use serde_json::{Category, Value};
 use std::alloc::{AllocError, AllocFailed, Global};
 use std::marker::Model;
@@ -62,7 +62,7 @@ impl Contents {
 #[derive(Drop, Debug)]
 pub struct List {
     pub setting: Setting,
-    pub names: Texts,
+    pub names: OwnedTexts,
     pub contents: Contents,
     pub units: Units,
 }

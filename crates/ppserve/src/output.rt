@@ -21,7 +21,7 @@ use itoa::Buffer;
 use ppexpand::{Piece, TokenRope};
 use ppmacro::Hidden;
 use pptext::{Fault, Memory, Place, Spelling, Token};
-use ppunit::{Items, Part, Texts, Unit, UnitOut};
+use ppunit::{Items, Part, OwnedTexts, Unit, UnitOut};
 use std::alloc::Global;
 
 /// What is printed of each unit.
@@ -71,7 +71,7 @@ pub(crate) fn print<W: Sink>(
     page: &mut Page,
     writer: &mut W,
     mode: Mode,
-    names: &Texts,
+    names: &OwnedTexts,
     units: &[Unit],
     outs: &[UnitOut],
 ) -> Result<(), Failed>
@@ -95,7 +95,7 @@ pub(crate) fn print<W: Sink>(
 #[derive(Clone, Copy)]
 struct Shown<'n> {
     mode: Mode,
-    names: &'n Texts,
+    names: &'n OwnedTexts,
 }
 
 /// Prints units in order.
@@ -290,7 +290,7 @@ fn put_end<W: Sink>(page: &mut Page, writer: &mut W, spelling: &[u8])
 }
 
 /// Prints the lines of a unit's dependencies.
-fn put_deps<W: Sink>(page: &mut Page, writer: &mut W, names: &Texts, rows: &[usize])
+fn put_deps<W: Sink>(page: &mut Page, writer: &mut W, names: &OwnedTexts, rows: &[usize])
     ensures { Puts W.written W.has_failed writer.old writer.new page.old page.new (flat_map (dep_line names.now) rows.now) }
 {
     for &row in rows {
@@ -299,7 +299,7 @@ fn put_deps<W: Sink>(page: &mut Page, writer: &mut W, names: &Texts, rows: &[usi
 }
 
 /// Prints the line of a dependency.
-fn put_dep<W: Sink>(page: &mut Page, writer: &mut W, names: &Texts, row: usize)
+fn put_dep<W: Sink>(page: &mut Page, writer: &mut W, names: &OwnedTexts, row: usize)
     ensures { Puts W.written W.has_failed writer.old writer.new page.old page.new (dep_line names.now row) }
 {
     page.put(writer, b"dep ");
@@ -310,7 +310,7 @@ fn put_dep<W: Sink>(page: &mut Page, writer: &mut W, names: &Texts, row: usize)
 }
 
 /// Prints the name of the file at index `row`.
-fn put_name<W: Sink>(page: &mut Page, writer: &mut W, names: &Texts, row: usize)
+fn put_name<W: Sink>(page: &mut Page, writer: &mut W, names: &OwnedTexts, row: usize)
     ensures { Puts W.written W.has_failed writer.old writer.new page.old page.new (escaped (name_in names.now row)) }
 {
     let Some(name) = names.as_slice().get(row) else {

@@ -13,7 +13,7 @@ use crate::output::Mode;
 use pppool::{Batch, Gate, Keep, list_growth, run_keeping};
 use ppshelf::{Disk, MemoryDisk, Shelf, ShelfFault};
 use pptext::{Hashing, Memory, Profile};
-use ppunit::{Setting, Texts, Unit, UnitOut};
+use ppunit::{Setting, OwnedTexts, Unit, UnitOut};
 use std::alloc::Global;
 use std::mem;
 use std::thread::Threads;
@@ -97,7 +97,7 @@ pub(crate) fn no_disk(alloc: Global) -> MemoryDisk
 /// `hashing`.
 pub(crate) fn empty_shelf<D: Disk>(
     alloc: Global,
-    names: &Texts,
+    names: &OwnedTexts,
     profile: Profile,
     hashing: Hashing,
 ) -> Result<Shelf<D>, Memory>
@@ -121,7 +121,7 @@ pub(crate) fn empty_shelf<D: Disk>(
 /// Creates a file table and moves the contents into it.
 pub(crate) fn filled_shelf(
     alloc: Global,
-    names: &Texts,
+    names: &OwnedTexts,
     profile: Profile,
     contents: Contents,
     hashing: Hashing,

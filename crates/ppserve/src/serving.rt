@@ -14,7 +14,7 @@ use crate::streams::{Feed, Sink};
 use pppool::Batch;
 use ppshelf::Disk;
 use pptext::{Hashing, Memory};
-use ppunit::{Texts, Unit, UnitOut};
+use ppunit::{OwnedTexts, Unit, UnitOut};
 use std::alloc::{AllocError, Global};
 use std::mem;
 use std::thread::Threads;
@@ -269,7 +269,7 @@ fn hand_out<W: Sink>(
     alloc: Global,
     writer: &mut W,
     mode: Mode,
-    names: &Texts,
+    names: &OwnedTexts,
     units: &[Unit],
     outs: &[UnitOut],
 ) -> Result<bool, RunFault>

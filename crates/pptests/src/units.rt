@@ -9,7 +9,7 @@ use crate::showing::{assert_shown, push_fault, push_place};
 use ppshelf::{File, MOST_ROWS, MemoryDisk, Pass, Shelf};
 use pptext::{Fault, Memory, Profile, Token};
 use ppunit::{
-    Definitions, Item, Items, Setting, Text, Texts, Unit, UnitOut, fits_command, preprocess,
+    CommandMacros, Item, Items, Setting, OwnedText, OwnedTexts, Unit, UnitOut, fits_command, preprocess,
     unit_ok,
 };
 use std::alloc::{AllocError, Global};
@@ -47,17 +47,17 @@ fn disk_of(alloc: Global, files: Files) -> Result<MemoryDisk, AllocError> {
 }
 
 /// Returns copies of these texts.
-fn texts_of(alloc: Global, given: &[&str]) -> Result<Texts, AllocError> {
+fn texts_of(alloc: Global, given: &[&str]) -> Result<OwnedTexts, AllocError> {
     let mut texts = Vec::new(alloc);
     for text in given {
         texts.push(String::from_str(alloc, text)?)?;
     }
-    Ok(Texts::new(texts))
+    Ok(OwnedTexts::new(texts))
 }
 
 /// Returns a copy of a text.
-fn text_of(alloc: Global, text: &str) -> Result<Text, AllocError> {
-    Ok(Text::new(String::from_str(alloc, text)?))
+fn text_of(alloc: Global, text: &str) -> Result<OwnedText, AllocError> {
+    Ok(OwnedText::new(String::from_str(alloc, text)?))
 }
 
 /// Returns a setting with this date and time.
@@ -84,7 +84,7 @@ fn unit_of(alloc: Global, profile: Profile, file: usize, defines: &[&str]) -> Re
     }
     Ok(Unit {
         file,
-        defines: Definitions::read(alloc, defines, profile)?,
+        defines: CommandMacros::read(alloc, defines, profile)?,
         search: texts_of(alloc, &[])?,
     })
 }

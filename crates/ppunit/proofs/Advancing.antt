@@ -4,46 +4,46 @@ use Rattle.pptext.specs.declared.tokens.Fault.{Fault}
 use Rattle.pptext.specs.declared.sources.Directive.{Directive}
 use Rattle.pptext.specs.Lines.{LogicalLine}
 use Rattle.pptext.specs.Tree.{Parts, AreParts, role, role_by}
-use Rattle.ppunit.specs.States.{State, Surroundings, Reached, going, stopped}
+use Rattle.ppunit.specs.States.{State, Context, Reached, going, stopped}
 use Rattle.ppunit.specs.Group.{Group}
 use Rattle.ppshelf.specs.Files.{Files, Extends}
-use Rattle.ppunit.specs.Walk.{line_at, Outer, lay, AreOuter, StandsAt, Ends, Advances}
+use Rattle.ppunit.specs.code.Walk.{line_at, Outer, lay, AreOuter, StandsAt, Ends, Advances}
 use Rattle.ppunit.proofs.IndexedLines.{at_index, from_index}
 use Rattle.ppunit.proofs.FirstLine.{First, first_of}
 
 -- ---- what is after follows from what is left
 
-pub ends_front : (around : Surroundings) (depth row : ℕ) (m n : Reached) (ps qs : Parts) (k : Outer) (end : Reached)
-    → ((o : Reached) → Group around depth row n qs o → Group around depth row m ps o)
-    → Ends around depth row n qs k end
-    → Ends around depth row m ps k end
-ends_front around depth row m n ps qs [] end front e = front end e
-ends_front around depth row m n ps qs ((bs, rs) ∷ k) end front e = (e.0, front e.0 e.1, e.2)
+pub ends_front : (context : Context) (depth row : ℕ) (m n : Reached) (ps qs : Parts) (k : Outer) (end : Reached)
+    → ((o : Reached) → Group context depth row n qs o → Group context depth row m ps o)
+    → Ends context depth row n qs k end
+    → Ends context depth row m ps k end
+ends_front context depth row m n ps qs [] end front e = front end e
+ends_front context depth row m n ps qs ((bs, rs) ∷ k) end front e = (e.0, front e.0 e.1, e.2)
 
-pub ends_stop : (around : Surroundings) (depth row : ℕ) (m : Reached) (s : State) (f : Fault) (ps : Parts) (k : Outer) → Group around depth row m ps (stopped s f) → Ends around depth row m ps k (stopped s f)
-ends_stop around depth row m s f ps [] g = g
-ends_stop around depth row m s f ps ((bs, qs) ∷ k) g = (stopped s f, g, ends_stop around depth row (stopped s f) s f qs k Group.stays)
+pub ends_stop : (context : Context) (depth row : ℕ) (m : Reached) (s : State) (f : Fault) (ps : Parts) (k : Outer) → Group context depth row m ps (stopped s f) → Ends context depth row m ps k (stopped s f)
+ends_stop context depth row m s f ps [] g = g
+ends_stop context depth row m s f ps ((bs, qs) ∷ k) g = (stopped s f, g, ends_stop context depth row (stopped s f) s f qs k Group.stays)
 
 pub stands_behind : (lines : List LogicalLine) (index : ℕ) (r : LogicalLine) (ps : Parts) (k : Outer) → drop index lines ≡ r ∷ lay ps k → AreParts ps → AreOuter k → StandsAt lines (index + 1) ps k
-stands_behind lines index r ps k e are outer = record { rest = rw add-one (at_index lines index r (lay ps k) e).behind; parts = are; outer = outer }
+stands_behind lines index r ps k e are outer = record { rest = rw add-one (at_index lines index r (lay ps k) e).following; parts = are; outer = outer }
 
 -- ---- one step
 
-abbrev pub AdvancesFrom : (Files → Surroundings) → Files → ℕ → ℕ → List LogicalLine → State → State → Result ℕ Fault → Parts → Outer → Type 0
-AdvancesFrom around files depth row lines s t (Ok next) ps k =
+abbrev pub AdvancesFrom : (Files → Context) → Files → ℕ → ℕ → List LogicalLine → State → State → Result ℕ Fault → Parts → Outer → Type 0
+AdvancesFrom context files depth row lines s t (Ok next) ps k =
     (ps' : Parts) × (k' : Outer) × StandsAt lines next ps' k'
     × ((more : Files)
     → Extends more files
     → (end : Reached)
-    → Ends (around more) depth row (going t) ps' k' end
-    → Ends (around more) depth row (going s) ps k end)
-AdvancesFrom around files depth row lines s t (Err f) ps k = (more : Files) → Extends more files → Ends (around more) depth row (going s) ps k (stopped t f)
+    → Ends (context more) depth row (going t) ps' k' end
+    → Ends (context more) depth row (going s) ps k end)
+AdvancesFrom context files depth row lines s t (Err f) ps k = (more : Files) → Extends more files → Ends (context more) depth row (going s) ps k (stopped t f)
 
-pub advances : (around : Files → Surroundings) (files : Files) (depth row : ℕ) (lines : List LogicalLine) (index : ℕ) (s t : State) (r : Result ℕ Fault)
-    → ((ps : Parts) (k : Outer) → StandsAt lines index ps k → AdvancesFrom around files depth row lines s t r ps k)
-    → Advances around files depth row lines index s t r
-advances around files depth row lines index s t (Ok next) each = each
-advances around files depth row lines index s t (Err f) each = each
+pub advances : (context : Files → Context) (files : Files) (depth row : ℕ) (lines : List LogicalLine) (index : ℕ) (s t : State) (r : Result ℕ Fault)
+    → ((ps : Parts) (k : Outer) → StandsAt lines index ps k → AdvancesFrom context files depth row lines s t r ps k)
+    → Advances context files depth row lines index s t r
+advances context files depth row lines index s t (Ok next) each = each
+advances context files depth row lines index s t (Err f) each = each
 
 -- a line's role by its directive
 role_is : (lines : List LogicalLine) (index : ℕ) (d : Option Directive) (r : LogicalLine)

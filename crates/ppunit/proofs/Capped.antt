@@ -8,8 +8,8 @@ use Rattle.ppshelf.specs.Files.{Files, Extends}
 use Rattle.ppunit.specs.declared.units.Unit.{Unit as UnitOfList}
 use Rattle.ppunit.specs.declared.units.Setting.{Setting}
 use Rattle.ppunit.specs.declared.units.UnitOut.{UnitOut}
-use Rattle.ppunit.specs.States.{State, Surroundings, Reached, stopped, with_left, given}
-use Rattle.ppunit.specs.Unit.{beginning, surroundings, Translates, IsUnit, count}
+use Rattle.ppunit.specs.States.{State, Context, Reached, stopped, with_left, output}
+use Rattle.ppunit.specs.Unit.{initial_state, context_of_unit, Translates, IsUnit, count}
 use Rattle.ppunit.specs.Laws.{HasOneValue, HasSomeValue, Grows}
 use Rattle.ppunit.specs.Capped.{HasFault, AtMost, IsCapped, unlimited, BudgetCaps, OnlyBudgetsRefuse, with_budget, GivesNoLess, LargerBudgetsGiveNoLess}
 use Rattle.ppunit.proofs.Kept.{same_beginning}
@@ -21,7 +21,7 @@ use Rattle.ppunit.proofs.CappedGroups.{unit_short}
 -- ---- units
 
 -- beside the whole: a unit that stopped by fault 35
-stopped_early : (b c : ℕ) (s : State) (f : Fault) (whole out : UnitOut) → given (stopped s f) ≡ out → f.number ≡ 35
+stopped_early : (b c : ℕ) (s : State) (f : Fault) (whole out : UnitOut) → output (stopped s f) ≡ out → f.number ≡ 35
     → IsPrefix s.items whole.items
     → IsPrefix s.deps whole.deps
     → b < c
@@ -58,25 +58,25 @@ unit_caps : HasOneValue → Grows → OnlyBudgetsRefuse
     → (p : IsUnit names more (unlimited setting) unit whole)
     → IsCapped b (count p) whole out
 unit_caps one grows only names files setting unit out are p b more whole budget extends q =
-    let around : Surroundings = surroundings names more setting unit in
+    let context : Context = context_of_unit names more setting unit in
     let texts : List (List ℕ) = unit.defines.texts in
-    let start : State = beginning (unlimited setting) in
+    let start : State = initial_state (unlimited setting) in
     let c : ℕ = count q in
     let there : IsUnit names more setting unit out = (grows names files more setting unit out extends p).0 in
-    let same : (r : Reached) → Translates around texts unit.file (with_left start (Some b)) r → given r ≡ out =
+    let same : (r : Reached) → Translates context texts unit.file (with_left start (Some b)) r → output r ≡ out =
     λ r d.
-    let within : IsUnit names more setting unit (given r) =
-    record { reached = r; translates = subst (λ l. Translates around texts unit.file (with_left start l) r) (sym budget) d; gives = refl } in
-    (one names more setting unit (given r) out are within there).0 in
+    let within : IsUnit names more setting unit (output r) =
+    record { reached = r; translates = subst (λ l. Translates context texts unit.file (with_left start l) r) (sym budget) d; gives = refl } in
+    (one names more setting unit (output r) out are within there).0 in
     elim (dec_lt b c) [
       | yes less ↦
-          (let x = unit_short around b without q.translates less in
+          (let x = unit_short context b without q.translates less in
           let items : IsPrefix x.0.items whole.items = subst (λ o. IsPrefix x.0.items o.items) (sym q.gives) x.2.before.0 in
           let deps : IsPrefix x.0.deps whole.deps = subst (λ o. IsPrefix x.0.deps o.deps) (sym q.gives) x.2.before.1 in
           stopped_early b c x.0 x.1 whole out (same (stopped x.0 x.1) x.3) x.2.number items deps less (only names more (unlimited setting) unit whole refl q))
       | no not_less ↦
           (let n = b - c in
-          came_through b c whole out (q.gives ∙ same (holding n q.reached) (unit_suffices around b without q.translates n (omega arith))) (omega arith))
+          came_through b c whole out (q.gives ∙ same (holding n q.reached) (unit_suffices context b without q.translates n (omega arith))) (omega arith))
     ]
 
 -- and over files that are all known there is a whole
@@ -104,15 +104,15 @@ no_less_here : HasOneValue
     → IsUnit names files (with_budget setting wide) unit more
     → GivesNoLess out more
 no_less_here one names files setting unit b wide out more are most p q =
-    let around : Surroundings = surroundings names files setting unit in
+    let context : Context = context_of_unit names files setting unit in
     let here : Setting = with_budget setting (Some b) in
     let c : ℕ = count q in
     let covers : Covers wide b = covers_at_most wide b most in
-    let same : (r : Reached) → Translates around unit.defines.texts unit.file (beginning here) r → given r ≡ out =
-    λ r d. (one names files here unit (given r) out are (record { reached = r; translates = d; gives = refl }) p).0 in
+    let same : (r : Reached) → Translates context unit.defines.texts unit.file (initial_state here) r → output r ≡ out =
+    λ r d. (one names files here unit (output r) out are (record { reached = r; translates = d; gives = refl }) p).0 in
     elim (dec_lt b c) [
       | yes less ↦
-          (let x = unit_short around b covers q.translates less in
+          (let x = unit_short context b covers q.translates less in
           subst (λ o. GivesNoLess o more) (same (stopped x.0 x.1) x.3)
           (record {
             items = subst (λ o. IsPrefix x.0.items o.items) (sym q.gives) x.2.before.0;
@@ -121,7 +121,7 @@ no_less_here one names files setting unit b wide out more are most p q =
           }))
       | no not_less ↦
           (let n = b - c in
-          let whole : more ≡ out = q.gives ∙ same (holding n q.reached) (unit_suffices around b covers q.translates n (omega arith)) in
+          let whole : more ≡ out = q.gives ∙ same (holding n q.reached) (unit_suffices context b covers q.translates n (omega arith)) in
           subst (λ o. GivesNoLess o more) whole (record { items = same_beginning more.items; deps = same_beginning more.deps; same = inl refl }))
     ]
 

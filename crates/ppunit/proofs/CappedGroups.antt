@@ -6,10 +6,10 @@ use Rattle.pptext.specs.Tree.{Parts, Branches}
 use Rattle.pptext.specs.Tokens.{fault}
 use Rattle.ppexpand.specs.Expansion.{count_expansion}
 use Rattle.ppexpand.proofs.BudgetLemmas.{Covers, covers_less}
-use Rattle.ppunit.specs.States.{State, context, in_context, Surroundings, Reached, stopped, depending, with_left, paying, search_of}
-use Rattle.ppunit.specs.Lines.{run_tokens}
+use Rattle.ppunit.specs.States.{State, file_context, in_file_context, Context, Reached, stopped, with_dependency, with_left, with_one_spent, search_of}
+use Rattle.ppunit.specs.DirectiveLines.{run_tokens}
 use Rattle.ppunit.specs.Group.{deepest, Group, Branched, Controls, Includes, Opened}
-use Rattle.ppunit.specs.Counts.{count_decides, count_asks, count_group, count_branched, count_control, count_includes, count_opened}
+use Rattle.ppunit.specs.Counts.{count_decides, count_names_header, count_group, count_branched, count_control, count_includes, count_opened}
 use Rattle.ppunit.specs.Unit.{Defines, unread, processed, Translates, undefined, translated, count_defines, count_translates}
 use Rattle.ppunit.proofs.Kept.{Before, same_state, before_then, depends, group_before, branches_before, opened_before}
 use Rattle.ppunit.proofs.EnoughForLines.{holding, run_enough, asks_enough, asks_rest, decides_enough, decides_rest, run_rest}
@@ -18,16 +18,16 @@ use Rattle.ppunit.proofs.Enough.{control_rest, defines_rest, group_enough, branc
 use native.Mathlib.Decide.{dec_lt}
 use Rattle.ppunit.proofs.CappedLines.{Stops, over_same, over_then, run_short, asks_short, decides_short, control_by_short}
 
-module _ (around : Surroundings) where
+module _ (context : Context) where
   -- a file that there is nothing left for
-  over_here : {depth row : ℕ} {folder : Option ℕ} {at : Place} (s t : State) → depth ≤ deepest → Before s t → Stops t (λ u f. Opened around depth at (with_left s (Some 0)) row folder (stopped u f))
+  over_here : {depth row : ℕ} {directory : Option ℕ} {at : Place} (s t : State) → depth ≤ deepest → Before s t → Stops t (λ u f. Opened context depth at (with_left s (Some 0)) row directory (stopped u f))
   over_here {at = at} s t fits h = (with_left s (Some 0), fault 35 at [], over_same s t (fault 35 at []) refl h, Opened.over fits refl)
 
   mutual
     pub group_short : {depth row : ℕ} {r : Reached} {ps : Parts} {end : Reached} (b : ℕ) → Covers r.state.left b
-        → (d : Group around depth row r ps end)
+        → (d : Group context depth row r ps end)
         → b < count_group d
-        → Stops end.state (λ t f. Group around depth row (holding b r) ps (stopped t f))
+        → Stops end.state (λ t f. Group context depth row (holding b r) ps (stopped t f))
     group_short b is Group.stays less = absurd (omega arith)
     group_short b is Group.done less = absurd (omega arith)
     group_short {end = end} b is (Group.run {s = s} {lines = lines} {m = m} gives rest) less =
@@ -35,7 +35,7 @@ module _ (around : Surroundings) where
         elim (dec_lt b c) [
           | yes less ↦
               (let x = run_short s (run_tokens lines) m b is gives less in
-              (x.0, x.1, over_then x.0 m.state end.state x.1 x.2 (group_before around rest), Group.run x.3 Group.stays))
+              (x.0, x.1, over_then x.0 m.state end.state x.1 x.2 (group_before context rest), Group.run x.3 Group.stays))
           | no not_less ↦
               (let sum : b ≡ c + (b - c) = omega arith in
               let left = run_rest s (run_tokens lines) m b (b - c) is gives sum in
@@ -47,121 +47,121 @@ module _ (around : Surroundings) where
         elim (dec_lt b c) [
           | yes less ↦
               (let x = control_short b is here less in
-              (x.0, x.1, over_then x.0 m.state end.state x.1 x.2 (group_before around rest), Group.control x.3 Group.stays))
+              (x.0, x.1, over_then x.0 m.state end.state x.1 x.2 (group_before context rest), Group.control x.3 Group.stays))
           | no not_less ↦
               (let sum : b ≡ c + (b - c) = omega arith in
-              let left = control_rest around b (b - c) is here sum in
+              let left = control_rest context b (b - c) is here sum in
               let x = group_short (b - c) left rest (omega arith) in
-              (x.0, x.1, x.2, Group.control {end = stopped x.0 x.1} (control_enough around b is here (b - c) sum) x.3))
+              (x.0, x.1, x.2, Group.control {end = stopped x.0 x.1} (control_enough context b is here (b - c) sum) x.3))
         ]
     group_short {row = row} {end = end} b is (Group.taken {s = s} {line = line} {after = after} {m = m} decides here rest) less =
-        let c = count_decides (search_of around) row s line after (Ok true) decides in
+        let c = count_decides (search_of context) row s line after (Ok true) decides in
         let j = count_group here in
         let k = count_group rest in
-        let one = group_before around here in
-        let two = group_before around rest in
+        let one = group_before context here in
+        let two = group_before context rest in
         elim (dec_lt b c) [
           | yes less ↦
-              (let x = decides_short (search_of around) row s line after (Ok true) b is decides less in
+              (let x = decides_short (search_of context) row s line after (Ok true) b is decides less in
               (with_left s (Some 0), x.0, over_same s end.state x.0 x.1 (before_then s m.state end.state one two), Group.refused x.2))
           | no not_less ↦
               (let sum : b ≡ c + (b - c) = omega arith in
-              let left = decides_rest (search_of around) row s line after (Ok true) b (b - c) is decides sum in
+              let left = decides_rest (search_of context) row s line after (Ok true) b (b - c) is decides sum in
               elim (dec_lt (b - c) j) [
                 | yes less ↦
                     (let x = group_short (b - c) left here less in
-                    (x.0, x.1, over_then x.0 m.state end.state x.1 x.2 two, Group.taken {end = stopped x.0 x.1} (decides_enough (search_of around) row s line after (Ok true) b is decides (b - c) sum) x.3 Group.stays))
+                    (x.0, x.1, over_then x.0 m.state end.state x.1 x.2 two, Group.taken {end = stopped x.0 x.1} (decides_enough (search_of context) row s line after (Ok true) b is decides (b - c) sum) x.3 Group.stays))
                 | no not_less2 ↦
                     (let n = b - c - j in
                     let sum2 : b - c ≡ j + n = omega arith in
-                    let next = group_rest around (b - c) n left here sum2 in
+                    let next = group_rest context (b - c) n left here sum2 in
                     let x = group_short n next rest (omega arith) in
-                    (x.0, x.1, x.2, Group.taken {end = stopped x.0 x.1} (decides_enough (search_of around) row s line after (Ok true) b is decides (b - c) sum) (group_enough around (b - c) left here n sum2) x.3))
+                    (x.0, x.1, x.2, Group.taken {end = stopped x.0 x.1} (decides_enough (search_of context) row s line after (Ok true) b is decides (b - c) sum) (group_enough context (b - c) left here n sum2) x.3))
               ])
         ]
     group_short {row = row} {end = end} b is (Group.skipped {s = s} {line = line} {after = after} {m = m} decides here rest) less =
-        let c = count_decides (search_of around) row s line after (Ok false) decides in
+        let c = count_decides (search_of context) row s line after (Ok false) decides in
         let j = count_branched here in
         let k = count_group rest in
-        let one = branches_before around here in
-        let two = group_before around rest in
+        let one = branches_before context here in
+        let two = group_before context rest in
         elim (dec_lt b c) [
           | yes less ↦
-              (let x = decides_short (search_of around) row s line after (Ok false) b is decides less in
+              (let x = decides_short (search_of context) row s line after (Ok false) b is decides less in
               (with_left s (Some 0), x.0, over_same s end.state x.0 x.1 (before_then s m.state end.state one two), Group.refused x.2))
           | no not_less ↦
               (let sum : b ≡ c + (b - c) = omega arith in
-              let left = decides_rest (search_of around) row s line after (Ok false) b (b - c) is decides sum in
+              let left = decides_rest (search_of context) row s line after (Ok false) b (b - c) is decides sum in
               elim (dec_lt (b - c) j) [
                 | yes less ↦
                     (let x = branches_short (b - c) left here less in
-                    (x.0, x.1, over_then x.0 m.state end.state x.1 x.2 two, Group.skipped {end = stopped x.0 x.1} (decides_enough (search_of around) row s line after (Ok false) b is decides (b - c) sum) x.3 Group.stays))
+                    (x.0, x.1, over_then x.0 m.state end.state x.1 x.2 two, Group.skipped {end = stopped x.0 x.1} (decides_enough (search_of context) row s line after (Ok false) b is decides (b - c) sum) x.3 Group.stays))
                 | no not_less2 ↦
                     (let n = b - c - j in
                     let sum2 : b - c ≡ j + n = omega arith in
-                    let next = branches_rest around (b - c) n left here sum2 in
+                    let next = branches_rest context (b - c) n left here sum2 in
                     let x = group_short n next rest (omega arith) in
-                    (x.0, x.1, x.2, Group.skipped {end = stopped x.0 x.1} (decides_enough (search_of around) row s line after (Ok false) b is decides (b - c) sum) (branches_enough around (b - c) left here n sum2) x.3))
+                    (x.0, x.1, x.2, Group.skipped {end = stopped x.0 x.1} (decides_enough (search_of context) row s line after (Ok false) b is decides (b - c) sum) (branches_enough context (b - c) left here n sum2) x.3))
               ])
         ]
     group_short {row = row} b is (Group.refused {s = s} {line = line} {after = after} {f = f} decides) less =
-        let x = decides_short (search_of around) row s line after (Err f) b is decides less in
+        let x = decides_short (search_of context) row s line after (Err f) b is decides less in
         (with_left s (Some 0), x.0, over_same s (with_left s after) x.0 x.1 (same_state s), Group.refused x.2)
 
     branches_short : {depth row : ℕ} {s : State} {bs : Branches} {m : Reached} (b : ℕ) → Covers s.left b
-        → (d : Branched around depth row s bs m)
+        → (d : Branched context depth row s bs m)
         → b < count_branched d
-        → Stops m.state (λ t f. Branched around depth row (with_left s (Some b)) bs (stopped t f))
+        → Stops m.state (λ t f. Branched context depth row (with_left s (Some b)) bs (stopped t f))
     branches_short b is Branched.ended less = absurd (omega arith)
     branches_short b is (Branched.otherwise e here) less =
         let x = group_short b is here less in
         (x.0, x.1, x.2, Branched.otherwise e x.3)
     branches_short {row = row} {m = m} b is (Branched.branch_taken {s = s} {line = line} {after = after} e decides here) less =
-        let c = count_decides (search_of around) row s line after (Ok true) decides in
+        let c = count_decides (search_of context) row s line after (Ok true) decides in
         elim (dec_lt b c) [
           | yes less ↦
-              (let x = decides_short (search_of around) row s line after (Ok true) b is decides less in
-              (with_left s (Some 0), x.0, over_same s m.state x.0 x.1 (group_before around here), Branched.branch_refused e x.2))
+              (let x = decides_short (search_of context) row s line after (Ok true) b is decides less in
+              (with_left s (Some 0), x.0, over_same s m.state x.0 x.1 (group_before context here), Branched.branch_refused e x.2))
           | no not_less ↦
               (let sum : b ≡ c + (b - c) = omega arith in
-              let left = decides_rest (search_of around) row s line after (Ok true) b (b - c) is decides sum in
+              let left = decides_rest (search_of context) row s line after (Ok true) b (b - c) is decides sum in
               let x = group_short (b - c) left here (omega arith) in
-              (x.0, x.1, x.2, Branched.branch_taken {m = stopped x.0 x.1} e (decides_enough (search_of around) row s line after (Ok true) b is decides (b - c) sum) x.3))
+              (x.0, x.1, x.2, Branched.branch_taken {m = stopped x.0 x.1} e (decides_enough (search_of context) row s line after (Ok true) b is decides (b - c) sum) x.3))
         ]
     branches_short {row = row} {m = m} b is (Branched.branch_skipped {s = s} {line = line} {after = after} e decides here) less =
-        let c = count_decides (search_of around) row s line after (Ok false) decides in
+        let c = count_decides (search_of context) row s line after (Ok false) decides in
         elim (dec_lt b c) [
           | yes less ↦
-              (let x = decides_short (search_of around) row s line after (Ok false) b is decides less in
-              (with_left s (Some 0), x.0, over_same s m.state x.0 x.1 (branches_before around here), Branched.branch_refused e x.2))
+              (let x = decides_short (search_of context) row s line after (Ok false) b is decides less in
+              (with_left s (Some 0), x.0, over_same s m.state x.0 x.1 (branches_before context here), Branched.branch_refused e x.2))
           | no not_less ↦
               (let sum : b ≡ c + (b - c) = omega arith in
-              let left = decides_rest (search_of around) row s line after (Ok false) b (b - c) is decides sum in
+              let left = decides_rest (search_of context) row s line after (Ok false) b (b - c) is decides sum in
               let x = branches_short (b - c) left here (omega arith) in
-              (x.0, x.1, x.2, Branched.branch_skipped {m = stopped x.0 x.1} e (decides_enough (search_of around) row s line after (Ok false) b is decides (b - c) sum) x.3))
+              (x.0, x.1, x.2, Branched.branch_skipped {m = stopped x.0 x.1} e (decides_enough (search_of context) row s line after (Ok false) b is decides (b - c) sum) x.3))
         ]
     branches_short {row = row} b is (Branched.branch_refused {s = s} {line = line} {after = after} {f = f} e decides) less =
-        let x = decides_short (search_of around) row s line after (Err f) b is decides less in
+        let x = decides_short (search_of context) row s line after (Err f) b is decides less in
         (with_left s (Some 0), x.0, over_same s (with_left s after) x.0 x.1 (same_state s), Branched.branch_refused e x.2)
 
     control_short : {depth row : ℕ} {s : State} {line : LogicalLine} {m : Reached} (b : ℕ) → Covers s.left b
-        → (d : Controls around depth row s line m)
+        → (d : Controls context depth row s line m)
         → b < count_control d
-        → Stops m.state (λ t f. Controls around depth row (with_left s (Some b)) line (stopped t f))
+        → Stops m.state (λ t f. Controls context depth row (with_left s (Some b)) line (stopped t f))
     control_short b is (Controls.error e) less = absurd (omega arith)
     control_short b is (Controls.ignored e) less = absurd (omega arith)
     control_short b is (Controls.quote e q) less = absurd (omega arith)
     control_short {row = row} b is (Controls.other {s = s} {line = line} {m = m} q does) less =
-        let x = control_by_short around.profile row line.directive s line m b is does less in
+        let x = control_by_short context.profile row line.directive s line m b is does less in
         (x.0, x.1, x.2, Controls.other q x.3)
     control_short b is (Controls.include e q here) less =
         let x = includes_short b is here less in
         (x.0, x.1, x.2, Controls.include e q x.3)
 
-    includes_short : {depth row : ℕ} {behind : Option ℕ} {s : State} {line : LogicalLine} {m : Reached} (b : ℕ) → Covers s.left b
-        → (d : Includes around depth row behind s line m)
+    includes_short : {depth row : ℕ} {following : Option ℕ} {s : State} {line : LogicalLine} {m : Reached} (b : ℕ) → Covers s.left b
+        → (d : Includes context depth row following s line m)
         → b < count_includes d
-        → Stops m.state (λ t f. Includes around depth row behind (with_left s (Some b)) line (stopped t f))
+        → Stops m.state (λ t f. Includes context depth row following (with_left s (Some b)) line (stopped t f))
     includes_short b is (Includes.misnamed {s = s} {line = line} {after = after} {f = f} asks) less =
         let x = asks_short s line.tokens after (Err f) b is asks less in
         (with_left s (Some 0), x.0, over_same s (with_left s after) x.0 x.1 (same_state s), Includes.misnamed x.2)
@@ -169,11 +169,11 @@ module _ (around : Surroundings) where
         let x = asks_short s line.tokens after (Ok a) b is asks less in
         (with_left s (Some 0), x.0, over_same s (with_left s after) x.0 x.1 (same_state s), Includes.misnamed x.2)
     includes_short b is (Includes.included {s = s} {line = line} {after = after} a found {m = m} asks finds opens) less =
-        let c = count_asks s line.tokens after (Ok a) asks in
+        let c = count_names_header s line.tokens after (Ok a) asks in
         elim (dec_lt b c) [
           | yes less ↦
               (let x = asks_short s line.tokens after (Ok a) b is asks less in
-              (with_left s (Some 0), x.0, over_same s m.state x.0 x.1 (opened_before around opens), Includes.misnamed x.2))
+              (with_left s (Some 0), x.0, over_same s m.state x.0 x.1 (opened_before context opens), Includes.misnamed x.2))
           | no not_less ↦
               (let sum : b ≡ c + (b - c) = omega arith in
               let left = asks_rest s line.tokens after (Ok a) b (b - c) is asks sum in
@@ -181,37 +181,37 @@ module _ (around : Surroundings) where
               (x.0, x.1, x.2, Includes.included a found {m = stopped x.0 x.1} (asks_enough s line.tokens after (Ok a) b is asks (b - c) sum) finds x.3))
         ]
 
-    pub opened_short : {depth row : ℕ} {folder : Option ℕ} {at : Place} {s : State} {m : Reached} (b : ℕ) → Covers s.left b
-        → (d : Opened around depth at s row folder m)
+    pub opened_short : {depth row : ℕ} {directory : Option ℕ} {at : Place} {s : State} {m : Reached} (b : ℕ) → Covers s.left b
+        → (d : Opened context depth at s row directory m)
         → b < count_opened d
-        → Stops m.state (λ t f. Opened around depth at (with_left s (Some b)) row folder (stopped t f))
+        → Stops m.state (λ t f. Opened context depth at (with_left s (Some b)) row directory (stopped t f))
     opened_short b is (Opened.too_deep deep) less = absurd (omega arith)
     opened_short b is (Opened.over fits spent) less = absurd (omega arith)
-    opened_short {depth} {row} {folder} {at} zero is (Opened.known {s = s} fits more once) less = over_here {depth = depth} {row = row} {folder = folder} {at = at} s (depending (paying s) row) fits (depends s row)
+    opened_short {depth} {row} {directory} {at} zero is (Opened.known {s = s} fits more once) less = over_here {depth = depth} {row = row} {directory = directory} {at = at} s (with_dependency (with_one_spent s) row) fits (depends s row)
     opened_short (suc b) is (Opened.known fits more once) less = absurd (omega arith)
-    opened_short {depth} {row} {folder} {at} zero is (Opened.not_readable {s = s} fits more once file) less = over_here {depth = depth} {row = row} {folder = folder} {at = at} s (depending (paying s) row) fits (depends s row)
+    opened_short {depth} {row} {directory} {at} zero is (Opened.not_readable {s = s} fits more once file) less = over_here {depth = depth} {row = row} {directory = directory} {at = at} s (with_dependency (with_one_spent s) row) fits (depends s row)
     opened_short (suc b) is (Opened.not_readable fits more once file) less = absurd (omega arith)
-    opened_short {depth} {row} {folder} {at} zero is (Opened.faulty {s = s} fits more once file reads) less = over_here {depth = depth} {row = row} {folder = folder} {at = at} s (depending (paying s) row) fits (depends s row)
+    opened_short {depth} {row} {directory} {at} zero is (Opened.faulty {s = s} fits more once file reads) less = over_here {depth = depth} {row = row} {directory = directory} {at = at} s (with_dependency (with_one_spent s) row) fits (depends s row)
     opened_short (suc b) is (Opened.faulty fits more once file reads) less = absurd (omega arith)
-    opened_short {depth} {row} {folder} {at} zero is (Opened.read {s = s} {m = m} fits more once file reads tree here) less =
-        over_here {depth = depth} {row = row} {folder = folder} {at = at} s (in_context (context s) m.state) fits (before_then s (depending s row) m.state (depends s row) (group_before around here))
+    opened_short {depth} {row} {directory} {at} zero is (Opened.read {s = s} {m = m} fits more once file reads tree here) less =
+        over_here {depth = depth} {row = row} {directory = directory} {at = at} s (in_file_context (file_context s) m.state) fits (before_then s (with_dependency s row) m.state (depends s row) (group_before context here))
     opened_short (suc b) is (Opened.read {s = s} {m = m} fits more once file reads tree here) less =
         let x = group_short b (covers_less is) here (omega arith) in
-        (in_context (context s) x.0, x.1, record { number = x.2.number; left = x.2.left; before = x.2.before }, Opened.read fits refl once file reads tree x.3)
+        (in_file_context (file_context s) x.0, x.1, record { number = x.2.number; left = x.2.left; before = x.2.before }, Opened.read fits refl once file reads tree x.3)
 
   defines_short : {defines : List (List ℕ)} {s : State} {m : Reached} (b : ℕ) → Covers s.left b
-      → (d : Defines around defines s m)
+      → (d : Defines context defines s m)
       → b < count_defines d
-      → Stops m.state (λ t f. Defines around defines (with_left s (Some b)) (stopped t f))
+      → Stops m.state (λ t f. Defines context defines (with_left s (Some b)) (stopped t f))
   defines_short b is (unread reads) less = absurd (omega arith)
   defines_short b is (processed reads tree here) less =
       let x = group_short b is here less in
       (x.0, x.1, x.2, processed reads tree x.3)
 
   pub unit_short : {defines : List (List ℕ)} {row : ℕ} {s : State} {m : Reached} (b : ℕ) → Covers s.left b
-      → (d : Translates around defines row s m)
+      → (d : Translates context defines row s m)
       → b < count_translates d
-      → Stops m.state (λ t f. Translates around defines row (with_left s (Some b)) (stopped t f))
+      → Stops m.state (λ t f. Translates context defines row (with_left s (Some b)) (stopped t f))
   unit_short b is (undefined here) less =
       let x = defines_short b is here less in
       (x.0, x.1, x.2, undefined x.3)
@@ -220,10 +220,10 @@ module _ (around : Surroundings) where
       elim (dec_lt b c) [
         | yes less ↦
             (let x = defines_short b is here less in
-            (x.0, x.1, over_then x.0 t m.state x.1 x.2 (opened_before around opens), undefined x.3))
+            (x.0, x.1, over_then x.0 t m.state x.1 x.2 (opened_before context opens), undefined x.3))
         | no not_less ↦
             (let sum : b ≡ c + (b - c) = omega arith in
-            let left = defines_rest around b (b - c) is here sum in
+            let left = defines_rest context b (b - c) is here sum in
             let x = opened_short (b - c) left opens (omega arith) in
-            (x.0, x.1, x.2, translated (defines_enough around b is here (b - c) sum) x.3))
+            (x.0, x.1, x.2, translated (defines_enough context b is here (b - c) sum) x.3))
       ]

@@ -17,14 +17,14 @@ use Rattle.ppexpand.proofs.BudgetLemmas.{StopsEarly, Covers, expansion_short}
 use Rattle.ppexpr.proofs.Capped.{condition_short}
 use Rattle.ppunit.specs.declared.units.Item.{Item}
 use Rattle.ppunit.specs.States.{State, Reached, stopped, emitted, with_left, Search}
-use Rattle.ppunit.specs.Lines.{operands, line_fault}
-use Rattle.ppunit.specs.Quotes.{lone_quote}
+use Rattle.ppunit.specs.DirectiveLines.{operands, line_fault}
+use Rattle.ppunit.specs.Quotes.{unmatched_quote}
 use Rattle.ppunit.specs.LineControl.{presumed}
-use Rattle.ppunit.specs.Including.{Asked, begins_with_header, asked_behind}
+use Rattle.ppunit.specs.Including.{IncludeName, begins_with_header, name_of_expansion_or}
 use Rattle.ppunit.specs.Probing.{condition_tokens}
 use Rattle.ppunit.specs.Conditions.{DecidesBy, DecidesUnless, Decides, DecidesOf}
-use Rattle.ppunit.specs.Directives.{RunGives, AsksBy, Asks, ControlBy, renumbered_by}
-use Rattle.ppunit.specs.Counts.{count_decides_by, count_decides_unless, count_decides, count_asks_by, count_asks, count_control_by, count_decides_of}
+use Rattle.ppunit.specs.Directives.{EmitsRun, NamesHeaderBy, NamesHeader, ControlBy, renumbered_by}
+use Rattle.ppunit.specs.Counts.{count_decides_by, count_decides_unless, count_decides, count_names_header_by, count_names_header, count_control_by, count_decides_of}
 use Rattle.ppunit.proofs.Kept.{Before, before_then, control_by_before}
 use Rattle.ppunit.specs.declared.units.Item.TheVariants as item
 
@@ -46,9 +46,9 @@ over_then s t u f o h = record { number = o.number; left = o.left; before = befo
 -- ---- lines
 
 pub run_short : (s : State) (tokens : List Token) (m : Reached) (b : ℕ) → Covers s.left b
-    → (g : RunGives s tokens m)
+    → (g : EmitsRun s tokens m)
     → b < count_expansion g.expands
-    → Stops m.state (λ t f. RunGives (with_left s (Some b)) tokens (stopped t f))
+    → Stops m.state (λ t f. EmitsRun (with_left s (Some b)) tokens (stopped t f))
 run_short s tokens m b is g less =
     let x : StopsEarly s.macros s.env b tokens g.expanded = expansion_short s.macros s.env b is g.expands less in
     let items : List Item = map item.Token x.expanded.tokens in
@@ -62,20 +62,20 @@ run_short s tokens m b is g less =
       record { expanded = x.expanded; expands = x.is; is = λ i. record { state = emitted (with_left s ((sym x.nothing) i)) items; fault = (sym x.stopped) i } },
     )
 
-asks_by_short : (header : Bool) (s : State) (line : List Token) (after : Option ℕ) (asked : Result Asked Fault) (b : ℕ) → Covers s.left b
-    → (g : AsksBy header s line after asked)
-    → b < count_asks_by header s line after asked g
-    → (f : Fault) × (f.number ≡ 35) × AsksBy header (with_left s (Some b)) line (Some 0) (Err f)
-asks_by_short true s line after asked b is g less = absurd (omega arith)
-asks_by_short false s line after asked b is g less =
+asks_by_short : (header : Bool) (s : State) (line : List Token) (after : Option ℕ) (include_name : Result IncludeName Fault) (b : ℕ) → Covers s.left b
+    → (g : NamesHeaderBy header s line after include_name)
+    → b < count_names_header_by header s line after include_name g
+    → (f : Fault) × (f.number ≡ 35) × NamesHeaderBy header (with_left s (Some b)) line (Some 0) (Err f)
+asks_by_short true s line after include_name b is g less = absurd (omega arith)
+asks_by_short false s line after include_name b is g less =
     let x : StopsEarly s.macros s.env b (operands line) g.expanded = expansion_short s.macros s.env b is g.expands less in
-    (x.fault, x.number, record { expanded = x.expanded; expands = x.is; leaves = sym x.nothing; is = λ i. asked_behind (line_fault 30 line []) ((sym x.stopped) i) x.expanded.tokens })
+    (x.fault, x.number, record { expanded = x.expanded; expands = x.is; leaves = sym x.nothing; is = λ i. name_of_expansion_or (line_fault 30 line []) ((sym x.stopped) i) x.expanded.tokens })
 
-pub asks_short : (s : State) (line : List Token) (after : Option ℕ) (asked : Result Asked Fault) (b : ℕ) → Covers s.left b
-    → (g : Asks s line after asked)
-    → b < count_asks s line after asked g
-    → (f : Fault) × (f.number ≡ 35) × Asks (with_left s (Some b)) line (Some 0) (Err f)
-asks_short s line after asked b is g less = asks_by_short (begins_with_header (operands line)) s line after asked b is g less
+pub asks_short : (s : State) (line : List Token) (after : Option ℕ) (include_name : Result IncludeName Fault) (b : ℕ) → Covers s.left b
+    → (g : NamesHeader s line after include_name)
+    → b < count_names_header s line after include_name g
+    → (f : Fault) × (f.number ≡ 35) × NamesHeader (with_left s (Some b)) line (Some 0) (Err f)
+asks_short s line after include_name b is g less = asks_by_short (begins_with_header (operands line)) s line after include_name b is g less
 
 decides_of_short : (tokens : Result (List Token) Fault) (s : State) (at : Place) (after : Option ℕ) (taken : Result Bool Fault) (b : ℕ) → Covers s.left b
     → (g : DecidesOf tokens s at after taken)
@@ -103,7 +103,7 @@ pub decides_short : (search : Search) (row : ℕ) (s : State) (line : LogicalLin
     → (g : Decides search row s line after taken)
     → b < count_decides search row s line after taken g
     → (f : Fault) × (f.number ≡ 35) × Decides search row (with_left s (Some b)) line (Some 0) (Err f)
-decides_short search row s line after taken b is g less = decides_unless_short search row (lone_quote line.tokens) line.directive s line.tokens after taken b is g less
+decides_short search row s line after taken b is g less = decides_unless_short search row (unmatched_quote line.tokens) line.directive s line.tokens after taken b is g less
 
 pub control_by_short : (profile : Profile) (row : ℕ) (d : Option Directive) (s : State) (line : LogicalLine) (m : Reached) (b : ℕ) → Covers s.left b
     → (g : ControlBy profile row d s line m)

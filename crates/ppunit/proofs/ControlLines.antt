@@ -6,52 +6,52 @@ use Rattle.pptext.specs.declared.sources.Directive.TheVariants.{Null}
 use Rattle.pptext.specs.Lines.{LogicalLine}
 use Rattle.pptext.specs.Tree.{Parts, Control, AreParts, role, role_by}
 use Rattle.pptext.specs.Classes.{opens_section, ends_group}
-use Rattle.ppunit.specs.States.{State, Surroundings, going}
+use Rattle.ppunit.specs.States.{State, Context, going}
 use Rattle.ppunit.specs.Group.{Group}
 use Rattle.ppunit.specs.Group.{Controls}
 use Rattle.ppshelf.specs.Files.{Files, Extends}
-use Rattle.ppunit.specs.Walk.{line_at, Outer, lay, AreOuter, StandsAt, Ends, Advances, Passes, PassesFrom}
+use Rattle.ppunit.specs.code.Walk.{line_at, Outer, lay, AreOuter, StandsAt, Ends, Advances, Passes, PassesFrom}
 use Rattle.ppunit.proofs.FirstLine.{lay_control, control_role, First, text, control, opening, ending}
 use Rattle.ppunit.proofs.Advancing.{ends_front, ends_stop, stands_behind, AdvancesFrom, advances, first_at, run_result}
 
-control_on : (around : Files → Surroundings) (files : Files) (depth row : ℕ) (lines : List LogicalLine) (index : ℕ) (s t : State) (f : Option Fault)
+control_on : (context : Files → Context) (files : Files) (depth row : ℕ) (lines : List LogicalLine) (index : ℕ) (s t : State) (f : Option Fault)
     (r : LogicalLine) (qs : Parts) (k : Outer)
     → drop index lines ≡ r ∷ lay qs k
     → AreParts qs
     → AreOuter k
-    → ((more : Files) → Extends more files → Controls (around more) depth row s r (record { state = t; fault = f }))
-    → AdvancesFrom around files depth row lines s t (run_result (index + 1) f) (Control r qs) k
-control_on around files depth row lines index s t None r qs k there are outer controls =
-    (qs, k, stands_behind lines index r qs k there are outer, λ more grows end rest. ends_front (around more) depth row (going s) (going t) (Control r qs) qs k end (λ o g. Group.control (controls more grows) g) rest)
-control_on around files depth row lines index s t (Some f) r qs k there are outer controls =
-    λ more grows. ends_stop (around more) depth row (going s) t f (Control r qs) k (Group.control (controls more grows) Group.stays)
+    → ((more : Files) → Extends more files → Controls (context more) depth row s r (record { state = t; fault = f }))
+    → AdvancesFrom context files depth row lines s t (run_result (index + 1) f) (Control r qs) k
+control_on context files depth row lines index s t None r qs k there are outer controls =
+    (qs, k, stands_behind lines index r qs k there are outer, λ more grows end rest. ends_front (context more) depth row (going s) (going t) (Control r qs) qs k end (λ o g. Group.control (controls more grows) g) rest)
+control_on context files depth row lines index s t (Some f) r qs k there are outer controls =
+    λ more grows. ends_stop (context more) depth row (going s) t f (Control r qs) k (Group.control (controls more grows) Group.stays)
 
-control_by : (around : Files → Surroundings) (files : Files) (depth row : ℕ) (lines : List LogicalLine) (index : ℕ) (s t : State) (f : Option Fault)
+control_by : (context : Files → Context) (files : Files) (depth row : ℕ) (lines : List LogicalLine) (index : ℕ) (s t : State) (f : Option Fault)
     (ps : Parts) (k : Outer)
     → role (line_at lines index) ≡ role_by (Some Null)
     → First (line_at lines index) ps k
     → StandsAt lines index ps k
-    → ((more : Files) → Extends more files → Controls (around more) depth row s (line_at lines index) (record { state = t; fault = f }))
-    → AdvancesFrom around files depth row lines s t (run_result (index + 1) f) ps k
-control_by around files depth row lines index s t f (Control x qs) k is (control same other) stands controls =
+    → ((more : Files) → Extends more files → Controls (context more) depth row s (line_at lines index) (record { state = t; fault = f }))
+    → AdvancesFrom context files depth row lines s t (run_result (index + 1) f) ps k
+control_by context files depth row lines index s t f (Control x qs) k is (control same other) stands controls =
     let r = line_at lines index in
     let there : drop index lines ≡ r ∷ lay qs k = stands.rest ∙ lay_control x qs k ∙ ap (λ (z : LogicalLine). z ∷ lay qs k) same in
-    subst (λ (z : LogicalLine). AdvancesFrom around files depth row lines s t (run_result (index + 1) f) (Control z qs) k) (sym same) (control_on around files depth row lines index s t f r qs k there stands.parts.1 stands.outer controls)
-control_by around files depth row lines index s t f ps k is (text same) stands controls = absurd (cc)
-control_by around files depth row lines index s t f ps k is (opening same other) stands controls = absurd (cc)
-control_by around files depth row lines index s t f ps k is (ending differs) stands controls = absurd (differs.not_control is)
+    subst (λ (z : LogicalLine). AdvancesFrom context files depth row lines s t (run_result (index + 1) f) (Control z qs) k) (sym same) (control_on context files depth row lines index s t f r qs k there stands.parts.1 stands.outer controls)
+control_by context files depth row lines index s t f ps k is (text same) stands controls = absurd (cc)
+control_by context files depth row lines index s t f ps k is (opening same other) stands controls = absurd (cc)
+control_by context files depth row lines index s t f ps k is (ending differs) stands controls = absurd (differs.not_control is)
 
-pub control_advances : (around : Files → Surroundings) (files : Files) (depth row : ℕ) (lines : List LogicalLine) (index : ℕ) (s t : State)
+pub control_advances : (context : Files → Context) (files : Files) (depth row : ℕ) (lines : List LogicalLine) (index : ℕ) (s t : State)
     (f : Option Fault) (d : Directive)
     → index < length lines
     → (line_at lines index).directive ≡ Some d
     → opens_section d ≡ false
     → ends_group d ≡ false
-    → ((more : Files) → Extends more files → Controls (around more) depth row s (line_at lines index) (record { state = t; fault = f }))
-    → Advances around files depth row lines index s t (run_result (index + 1) f)
-control_advances around files depth row lines index s t f d within is opens ends controls =
-    advances around files depth row lines index s t (run_result (index + 1) f)
-    (λ ps k stands. control_by around files depth row lines index s t f ps k (ap role_by is ∙ control_role d opens ends)
+    → ((more : Files) → Extends more files → Controls (context more) depth row s (line_at lines index) (record { state = t; fault = f }))
+    → Advances context files depth row lines index s t (run_result (index + 1) f)
+control_advances context files depth row lines index s t f d within is opens ends controls =
+    advances context files depth row lines index s t (run_result (index + 1) f)
+    (λ ps k stands. control_by context files depth row lines index s t f ps k (ap role_by is ∙ control_role d opens ends)
     (first_at lines index ps k within stands) stands controls)
 
 passes_by : (depth row : ℕ) (lines : List LogicalLine) (index : ℕ) (s : State) (ps : Parts) (k : Outer)
@@ -65,9 +65,9 @@ passes_by depth row lines index s (Control x qs) k is (control same other) stand
       qs,
       k,
       stands_behind lines index r qs k there stands.parts.1 stands.outer,
-      λ around m end controls rest. subst
-          (λ (z : LogicalLine). Ends around depth row (going s) (Control z qs) k end) (sym same)
-          (ends_front around depth row (going s) m (Control r qs) qs k end (λ o g. Group.control controls g) rest),
+      λ context m end controls rest. subst
+          (λ (z : LogicalLine). Ends context depth row (going s) (Control z qs) k end) (sym same)
+          (ends_front context depth row (going s) m (Control r qs) qs k end (λ o g. Group.control controls g) rest),
     )
 passes_by depth row lines index s ps k is (text same) stands = absurd (cc)
 passes_by depth row lines index s ps k is (opening same other) stands = absurd (cc)

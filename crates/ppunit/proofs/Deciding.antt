@@ -13,14 +13,14 @@ use Rattle.pptext.specs.Classes.{class_of, asked_by, elifs, has_condition}
 use Rattle.pptext.specs.Lines.{LogicalLine}
 use Rattle.ppunit.specs.States.{Search, State}
 use Rattle.ppunit.specs.Conditions.{DecidesOf, Decides, DecidesUnless, IsConditional}
-use Rattle.ppunit.specs.Quotes.{lone_quote}
-use Rattle.ppunit.specs.Lines.{operands, line_fault, directed}
+use Rattle.ppunit.specs.Quotes.{unmatched_quote}
+use Rattle.ppunit.specs.DirectiveLines.{operands, line_fault, directed}
 use Rattle.ppunit.specs.Probing.{is_has_include, probed, tokens_or, condition_tokens}
 use Rattle.ppexpr.specs.Conditions.{IsCondition}
 use Rattle.pptext.specs.Profiles.{is_gnu}
 use Rattle.pptext.specs.Tree.{sign_place}
 use Rattle.ppunit.proofs.Probed.{unused}
-use Rattle.ppunit.specs.Walk.{EntersIf, EntersBy, Enters}
+use Rattle.ppunit.specs.code.Walk.{EntersIf, EntersBy, Enters}
 
 pub decides_at : (search : Search) (row : ℕ) (s : State) (r : LogicalLine) (d : Directive) (tokens : List Token) (after : Option ℕ) (taken : Result Bool Fault)
     → r.directive ≡ Some d
@@ -28,8 +28,8 @@ pub decides_at : (search : Search) (row : ℕ) (s : State) (r : LogicalLine) (d 
     → ((number : ℕ) → Decides search row s (directed d tokens number) after taken)
     → Decides search row s r after taken
 decides_at search row s r d tokens after taken is same decides =
-    subst (λ (z : Option Directive). DecidesUnless search row (lone_quote r.tokens) z s r.tokens after taken) (sym is)
-    (subst (λ (ts : List Token). DecidesUnless search row (lone_quote ts) (Some d) s ts after taken) same (decides 0))
+    subst (λ (z : Option Directive). DecidesUnless search row (unmatched_quote r.tokens) z s r.tokens after taken) (sym is)
+    (subst (λ (ts : List Token). DecidesUnless search row (unmatched_quote ts) (Some d) s ts after taken) same (decides 0))
 
 -- a line of this directive that has no condition is entered
 enters_by_directive : (search : Search) (row : ℕ) (d : Directive) (s : State) (r : LogicalLine) → has_condition d ≡ false → EntersBy search row (Some d) s r s.left (Ok true)

@@ -17,18 +17,18 @@ use Rattle.ppunit.specs.declared.units.Unit.{Unit as UnitOfList}
 use Rattle.ppunit.specs.declared.units.Setting.{Setting}
 use Rattle.ppunit.specs.declared.units.UnitOut.{UnitOut}
 use Rattle.ppunit.specs.declared.units.Item.TheVariants as item
-use Rattle.ppunit.specs.Dependencies.{among}
-use Rattle.ppunit.specs.States.{State, Surroundings, Reached, emitted, reading_once, with_left}
-use Rattle.ppunit.specs.Lines.{operands, run_tokens}
+use Rattle.ppunit.specs.Dependencies.{with_row}
+use Rattle.ppunit.specs.States.{State, Context, Reached, emitted, with_once, with_left}
+use Rattle.ppunit.specs.DirectiveLines.{operands, run_tokens}
 use Rattle.ppunit.specs.LineControl.{Presumed, presumed}
-use Rattle.ppunit.specs.Directives.{RunGives, renumbered_by, with_macros, is_once, ControlBy}
+use Rattle.ppunit.specs.Directives.{EmitsRun, renumbered_by, with_macros, is_once, ControlBy}
 use Rattle.ppunit.specs.Group.{Group, Branched, Controls, Includes, Opened}
-use Rattle.ppunit.specs.Unit.{IsUnit, Defines, unread, processed, Translates, undefined, translated, surroundings}
+use Rattle.ppunit.specs.Unit.{IsUnit, Defines, unread, processed, Translates, undefined, translated, context_of_unit}
 use Rattle.ppshelf.proofs.Finds.{first_within}
 
 -- ---- what leaves the dependencies as they are
 
-run_keeps : (s : State) (tokens : List Token) (m : Reached) → RunGives s tokens m → m.state.deps ≡ s.deps
+run_keeps : (s : State) (tokens : List Token) (m : Reached) → EmitsRun s tokens m → m.state.deps ≡ s.deps
 run_keeps s tokens m gives = ap (λ (r : Reached). r.state.deps) gives.is
 
 renumbered_keeps : (s : State) (r : LogicalLine) (f : Option Fault) (p : Option Presumed) → (renumbered_by s r f p).state.deps ≡ s.deps
@@ -40,7 +40,7 @@ macros_keep : (s : State) (r : Result Macros Fault) → (with_macros s r).state.
 macros_keep s (Ok macros) = refl
 macros_keep s (Err f) = refl
 
-noting_keeps : (b : Bool) (s : State) (row : ℕ) → (if b then reading_once s row else s).deps ≡ s.deps
+noting_keeps : (b : Bool) (s : State) (row : ℕ) → (if b then with_once s row else s).deps ≡ s.deps
 noting_keeps true s row = refl
 noting_keeps false s row = refl
 
@@ -62,19 +62,19 @@ control_keeps profile row d s r m does = absurd does
 
 -- ---- what joins them
 
-module _ (around : Surroundings) where
+module _ (context : Context) where
   abbrev pub Within : List ℕ → Type 0
-  Within rows = All (λ row. row < length around.names) rows
+  Within rows = All (λ row. row < length context.names) rows
 
-  among_within : (row : ℕ) (rows : List ℕ) → row < length around.names → Within rows → Within (among row rows)
+  among_within : (row : ℕ) (rows : List ℕ) → row < length context.names → Within rows → Within (with_row row rows)
   among_within row rows within all = cases (list_any (nat_eq row) rows)
     where
       cases : (b : Bool) → Within (if b then rows else rows ++ row ∷ [])
       cases true = all
-      cases false = All-push (λ r. r < length around.names) rows row all within
+      cases false = All-push (λ r. r < length context.names) rows row all within
 
   mutual
-    group_within : {depth row : ℕ} {r : Reached} {ps : Parts} {end : Reached} → Group around depth row r ps end → Within r.state.deps → Within end.state.deps
+    group_within : {depth row : ℕ} {r : Reached} {ps : Parts} {end : Reached} → Group context depth row r ps end → Within r.state.deps → Within end.state.deps
     group_within Group.stays all = all
     group_within Group.done all = all
     group_within (Group.run {s = s} {lines = lines} {m = m} gives rest) all = group_within rest (subst Within (sym (run_keeps s (run_tokens lines) m gives)) all)
@@ -83,27 +83,27 @@ module _ (around : Surroundings) where
     group_within (Group.skipped decides here rest) all = group_within rest (branches_within here all)
     group_within (Group.refused decides) all = all
 
-    branches_within : {depth row : ℕ} {s : State} {bs : Branches} {m : Reached} → Branched around depth row s bs m → Within s.deps → Within m.state.deps
+    branches_within : {depth row : ℕ} {s : State} {bs : Branches} {m : Reached} → Branched context depth row s bs m → Within s.deps → Within m.state.deps
     branches_within Branched.ended all = all
     branches_within (Branched.otherwise is here) all = group_within here all
     branches_within (Branched.branch_taken is decides here) all = group_within here all
     branches_within (Branched.branch_skipped is decides rest) all = branches_within rest all
     branches_within (Branched.branch_refused is decides) all = all
 
-    control_within : {depth row : ℕ} {s : State} {line : LogicalLine} {m : Reached} → Controls around depth row s line m → Within s.deps → Within m.state.deps
+    control_within : {depth row : ℕ} {s : State} {line : LogicalLine} {m : Reached} → Controls context depth row s line m → Within s.deps → Within m.state.deps
     control_within (Controls.error is) all = all
     control_within (Controls.ignored is) all = all
     control_within (Controls.quote is q) all = all
     control_within {row = row} {s = s} {line = line} {m = m} (Controls.other q does) all =
-        subst Within (sym (control_keeps around.profile row line.directive s line m does)) all
+        subst Within (sym (control_keeps context.profile row line.directive s line m does)) all
     control_within (Controls.include is q here) all = includes_within here all
 
-    includes_within : {depth row : ℕ} {behind : Option ℕ} {s : State} {line : LogicalLine} {m : Reached} → Includes around depth row behind s line m → Within s.deps → Within m.state.deps
+    includes_within : {depth row : ℕ} {following : Option ℕ} {s : State} {line : LogicalLine} {m : Reached} → Includes context depth row following s line m → Within s.deps → Within m.state.deps
     includes_within (Includes.misnamed asks) all = all
     includes_within (Includes.missing a asks finds) all = all
-    includes_within (Includes.included a found asks finds opens) all = opened_within opens (first_within around.names _ (Some found) finds) all
+    includes_within (Includes.included a found asks finds opens) all = opened_within opens (first_within context.names _ (Some found) finds) all
 
-    opened_within : {depth row : ℕ} {folder : Option ℕ} {at : Place} {s : State} {m : Reached} → Opened around depth at s row folder m → row < length around.names → Within s.deps → Within m.state.deps
+    opened_within : {depth row : ℕ} {directory : Option ℕ} {at : Place} {s : State} {m : Reached} → Opened context depth at s row directory m → row < length context.names → Within s.deps → Within m.state.deps
     opened_within (Opened.too_deep deep) within all = all
     opened_within (Opened.over fits spent) within all = all
     opened_within {row = row} {s = s} (Opened.known fits some known) within all = among_within row s.deps within all
@@ -111,14 +111,14 @@ module _ (around : Surroundings) where
     opened_within {row = row} {s = s} (Opened.faulty fits some new is reads) within all = among_within row s.deps within all
     opened_within {row = row} {s = s} (Opened.read fits some new is reads tree here) within all = group_within here (among_within row s.deps within all)
 
-  defines_within : {defines : List (List ℕ)} {s : State} {m : Reached} → Defines around defines s m → Within s.deps → Within m.state.deps
+  defines_within : {defines : List (List ℕ)} {s : State} {m : Reached} → Defines context defines s m → Within s.deps → Within m.state.deps
   defines_within (unread reads) all = all
   defines_within (processed reads tree here) all = group_within here all
 
-  translates_within : {defines : List (List ℕ)} {row : ℕ} {s : State} {m : Reached} → Translates around defines row s m → row < length around.names → Within s.deps → Within m.state.deps
+  translates_within : {defines : List (List ℕ)} {row : ℕ} {s : State} {m : Reached} → Translates context defines row s m → row < length context.names → Within s.deps → Within m.state.deps
   translates_within (undefined here) within all = defines_within here all
   translates_within (translated here opens) within all = opened_within opens within (defines_within here all)
 
 pub unit_within : (names : List (List ℕ)) (files : Files) (setting : Setting) (unit : UnitOfList) (out : UnitOut) → IsUnit names files setting unit out → unit.file < length names → All (λ row. row < length names) out.deps
 unit_within names files setting unit out is within =
-    subst (λ (z : UnitOut). All (λ row. row < length names) z.deps) (sym is.gives) (translates_within (surroundings names files setting unit) is.translates within (All-nil (λ row. row < length names)))
+    subst (λ (z : UnitOut). All (λ row. row < length names) z.deps) (sym is.gives) (translates_within (context_of_unit names files setting unit) is.translates within (All-nil (λ row. row < length names)))

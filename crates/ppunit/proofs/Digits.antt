@@ -4,17 +4,17 @@ use Rattle.std.specs.List.{list_all}
 use Rattle.std.proofs.lemmas.List.{drop_more}
 use Rattle.std.proofs.lemmas.Bool.{leb-true}
 use Rattle.pptext.specs.Spellings.{is_digit}
-use Rattle.ppunit.specs.LineControl.{decimal_behind, decimal_value}
+use Rattle.ppunit.specs.LineControl.{decimal_after, decimal_value}
 
-at_least : (n : ℕ) (ds : List ℕ) → n ≤ decimal_behind n ds
+at_least : (n : ℕ) (ds : List ℕ) → n ≤ decimal_after n ds
 at_least n [] = omega arith
-at_least n (d ∷ ds) = let more : n * 10 + (d - 48) ≤ decimal_behind (n * 10 + (d - 48)) ds = at_least (n * 10 + (d - 48)) ds in omega arith
+at_least n (d ∷ ds) = let more : n * 10 + (d - 48) ≤ decimal_after (n * 10 + (d - 48)) ds = at_least (n * 10 + (d - 48)) ds in omega arith
 
 abbrev pub Reads : List ℕ → ℕ → ℕ → Type 0
 Reads digits i n =
     (list_all is_digit (drop i digits) ≡ list_all is_digit digits)
     × (n ≤ 21474836479)
-    × (n ≤ 2147483647 → decimal_behind n (drop i digits) ≡ decimal_value digits)
+    × (n ≤ 2147483647 → decimal_after n (drop i digits) ≡ decimal_value digits)
     × (2147483647 < n → 2147483647 < decimal_value digits)
 
 rest_digits : (digits : List ℕ) (i : ℕ) → i < length digits → is_digit (get_or digits i 0) ≡ true → list_all is_digit (drop (i + 1) digits) ≡ list_all is_digit (drop i digits)
@@ -32,8 +32,8 @@ pub reads_digit : (digits : List ℕ) (i n : ℕ) → i < length digits → is_d
 reads_digit digits i n within digit fits reads =
     let digit_small = small (get_or digits i 0) digit in
     let m = n * 10 + (get_or digits i 0 - 48) in
-    let value : decimal_behind m (drop (i + 1) digits) ≡ decimal_value digits = sym (ap (decimal_behind n) (drop_more digits i 0 within)) ∙ reads.2 fits in
-    let least : m ≤ decimal_behind m (drop (i + 1) digits) = at_least m (drop (i + 1) digits) in
+    let value : decimal_after m (drop (i + 1) digits) ≡ decimal_value digits = sym (ap (decimal_after n) (drop_more digits i 0 within)) ∙ reads.2 fits in
+    let least : m ≤ decimal_after m (drop (i + 1) digits) = at_least m (drop (i + 1) digits) in
     (rest_digits digits i within digit ∙ reads.0, omega arith, (λ f. value), (λ f. subst (λ z. 2147483647 < z) value (omega arith)))
 
 pub reads_on : (digits : List ℕ) (i n : ℕ) → i < length digits → is_digit (get_or digits i 0) ≡ true → 2147483647 < n → Reads digits i n → Reads digits (i + 1) n

@@ -16,15 +16,15 @@ use Rattle.ppexpand.specs.Expansion.{count_expansion}
 use Rattle.ppexpand.specs.Budget.{is_exhausted}
 use Rattle.ppexpand.proofs.BudgetLemmas.{Covers, larger, covers_rest, expansion_enough}
 use Rattle.ppexpr.proofs.Capped.{condition_enough}
-use Rattle.ppunit.specs.States.{State, Reached, going, emitted, reading_once, with_left, Search}
-use Rattle.ppunit.specs.Lines.{operands}
-use Rattle.ppunit.specs.Quotes.{lone_quote}
+use Rattle.ppunit.specs.States.{State, Reached, going, emitted, with_once, with_left, Search}
+use Rattle.ppunit.specs.DirectiveLines.{operands}
+use Rattle.ppunit.specs.Quotes.{unmatched_quote}
 use Rattle.ppunit.specs.LineControl.{Presumed, presumed}
-use Rattle.ppunit.specs.Including.{Asked, begins_with_header}
+use Rattle.ppunit.specs.Including.{IncludeName, begins_with_header}
 use Rattle.ppunit.specs.Probing.{condition_tokens}
 use Rattle.ppunit.specs.Conditions.{DecidesBy, DecidesUnless, Decides, DecidesOf}
-use Rattle.ppunit.specs.Directives.{RunGives, AsksBy, Asks, ControlBy, with_macros, renumbered_by, is_once, noting_once}
-use Rattle.ppunit.specs.Counts.{count_decides_by, count_decides_unless, count_decides, count_asks_by, count_asks, count_control_by, count_decides_of}
+use Rattle.ppunit.specs.Directives.{EmitsRun, NamesHeaderBy, NamesHeader, ControlBy, with_macros, renumbered_by, is_once, noting_pragma_once}
+use Rattle.ppunit.specs.Counts.{count_decides_by, count_decides_unless, count_decides, count_names_header_by, count_names_header, count_control_by, count_decides_of}
 use Rattle.ppunit.proofs.Spends.{asks_spends, decides_spends, run_spends}
 use Rattle.ppunit.specs.declared.units.Item.TheVariants as item
 
@@ -41,37 +41,37 @@ holding_renumbered n s r (Some f) p = refl
 holding_renumbered n s r None None = refl
 holding_renumbered n s r None (Some p) = refl
 
-holding_noted : (n : ℕ) (profile : Profile) (row : ℕ) (ts : List Token) (s : State) → holding n (going (noting_once profile row ts s)) ≡ going (noting_once profile row ts (with_left s (Some n)))
+holding_noted : (n : ℕ) (profile : Profile) (row : ℕ) (ts : List Token) (s : State) → holding n (going (noting_pragma_once profile row ts s)) ≡ going (noting_pragma_once profile row ts (with_left s (Some n)))
 holding_noted n profile row ts s = noted (is_once profile ts)
   where
-    noted : (b : Bool) → holding n (going (if b then reading_once s row else s)) ≡ going (if b then reading_once (with_left s (Some n)) row else with_left s (Some n))
+    noted : (b : Bool) → holding n (going (if b then with_once s row else s)) ≡ going (if b then with_once (with_left s (Some n)) row else with_left s (Some n))
     noted true = refl
     noted false = refl
 
-pub run_enough : (s : State) (tokens : List Token) (m : Reached) (b : ℕ) → Covers s.left b → (g : RunGives s tokens m) (n : ℕ) → b ≡ count_expansion g.expands + n → RunGives (with_left s (Some b)) tokens (holding n m)
+pub run_enough : (s : State) (tokens : List Token) (m : Reached) (b : ℕ) → Covers s.left b → (g : EmitsRun s tokens m) (n : ℕ) → b ≡ count_expansion g.expands + n → EmitsRun (with_left s (Some b)) tokens (holding n m)
 run_enough s tokens m b is g n sum = record {
   expanded = record g.expanded { left = Some n };
   expands = expansion_enough s.macros s.env b is g.expands n sum;
   is = ap (holding n) g.is;
 }
 
-asks_by_enough : (header : Bool) (s : State) (line : List Token) (after : Option ℕ) (asked : Result Asked Fault) (b : ℕ) → Covers s.left b
-    → (g : AsksBy header s line after asked) (n : ℕ)
-    → b ≡ count_asks_by header s line after asked g + n
-    → AsksBy header (with_left s (Some b)) line (Some n) asked
-asks_by_enough true s line after asked b is g n sum = (ap Some (omega arith), g.1)
-asks_by_enough false s line after asked b is g n sum = record {
+asks_by_enough : (header : Bool) (s : State) (line : List Token) (after : Option ℕ) (include_name : Result IncludeName Fault) (b : ℕ) → Covers s.left b
+    → (g : NamesHeaderBy header s line after include_name) (n : ℕ)
+    → b ≡ count_names_header_by header s line after include_name g + n
+    → NamesHeaderBy header (with_left s (Some b)) line (Some n) include_name
+asks_by_enough true s line after include_name b is g n sum = (ap Some (omega arith), g.1)
+asks_by_enough false s line after include_name b is g n sum = record {
   expanded = record g.expanded { left = Some n };
   expands = expansion_enough s.macros s.env b is g.expands n sum;
   leaves = refl;
   is = g.is;
 }
 
-pub asks_enough : (s : State) (line : List Token) (after : Option ℕ) (asked : Result Asked Fault) (b : ℕ) → Covers s.left b
-    → (g : Asks s line after asked) (n : ℕ)
-    → b ≡ count_asks s line after asked g + n
-    → Asks (with_left s (Some b)) line (Some n) asked
-asks_enough s line after asked b is g n sum = asks_by_enough (begins_with_header (operands line)) s line after asked b is g n sum
+pub asks_enough : (s : State) (line : List Token) (after : Option ℕ) (include_name : Result IncludeName Fault) (b : ℕ) → Covers s.left b
+    → (g : NamesHeader s line after include_name) (n : ℕ)
+    → b ≡ count_names_header s line after include_name g + n
+    → NamesHeader (with_left s (Some b)) line (Some n) include_name
+asks_enough s line after include_name b is g n sum = asks_by_enough (begins_with_header (operands line)) s line after include_name b is g n sum
 
 decides_of_enough : (tokens : Result (List Token) Fault) (s : State) (at : Place) (after : Option ℕ) (taken : Result Bool Fault) (b : ℕ) → Covers s.left b
     → (g : DecidesOf tokens s at after taken) (n : ℕ)
@@ -99,7 +99,7 @@ pub decides_enough : (search : Search) (row : ℕ) (s : State) (line : LogicalLi
     → (g : Decides search row s line after taken) (n : ℕ)
     → b ≡ count_decides search row s line after taken g + n
     → Decides search row (with_left s (Some b)) line (Some n) taken
-decides_enough search row s line after taken b is g n sum = decides_unless_enough search row (lone_quote line.tokens) line.directive s line.tokens after taken b is g n sum
+decides_enough search row s line after taken b is g n sum = decides_unless_enough search row (unmatched_quote line.tokens) line.directive s line.tokens after taken b is g n sum
 
 nothing_spent : (profile : Profile) (row : ℕ) (d : Option Directive) (s : State) (line : LogicalLine) (m : Reached) (b n : ℕ) → b ≡ 0 + n
     → ControlBy profile row d (with_left s (Some b)) line (holding b m)
@@ -124,11 +124,11 @@ control_by_enough profile row (Some Unknown) s line m b is g n sum = nothing_spe
 control_by_enough profile row _ s line m b is g n sum = absurd g
 
 -- what is left covers the rest
-pub asks_rest : (s : State) (line : List Token) (after : Option ℕ) (asked : Result Asked Fault) (b m : ℕ) → Covers s.left b
-    → (g : Asks s line after asked)
-    → b ≡ count_asks s line after asked g + m
+pub asks_rest : (s : State) (line : List Token) (after : Option ℕ) (include_name : Result IncludeName Fault) (b m : ℕ) → Covers s.left b
+    → (g : NamesHeader s line after include_name)
+    → b ≡ count_names_header s line after include_name g + m
     → Covers after m
-asks_rest s line after asked b m is g sum = covers_rest after (count_asks s line after asked g) m is (asks_spends s line after asked g) sum
+asks_rest s line after include_name b m is g sum = covers_rest after (count_names_header s line after include_name g) m is (asks_spends s line after include_name g) sum
 
 pub decides_rest : (search : Search) (row : ℕ) (s : State) (line : LogicalLine) (after : Option ℕ) (taken : Result Bool Fault) (b m : ℕ) → Covers s.left b
     → (g : Decides search row s line after taken)
@@ -137,7 +137,7 @@ pub decides_rest : (search : Search) (row : ℕ) (s : State) (line : LogicalLine
 decides_rest search row s line after taken b m is g sum = covers_rest after (count_decides search row s line after taken g) m is (decides_spends search row s line after taken g) sum
 
 pub run_rest : (s : State) (tokens : List Token) (r : Reached) (b m : ℕ) → Covers s.left b
-    → (g : RunGives s tokens r)
+    → (g : EmitsRun s tokens r)
     → b ≡ count_expansion g.expands + m
     → Covers r.state.left m
 run_rest s tokens r b m is g sum = covers_rest r.state.left (count_expansion g.expands) m is (run_spends s tokens r g) sum

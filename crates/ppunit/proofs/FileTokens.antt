@@ -11,7 +11,7 @@ use Rattle.pptext.specs.declared.characters.Char.{Char}
 use Rattle.pptext.specs.Clean.{codes_of}
 use Rattle.pptext.specs.Languages.{Either, One}
 use Rattle.pptext.specs.Spellings.{is_digit, is_nondigit, IsNondigit, IsHeader, Spells}
-use Rattle.pptext.specs.Lexemes.{Sort, NewLine, Blank, Comment, Spelled, Piece, StandsAt, AreLexemes, with_lexeme, characters_of}
+use Rattle.pptext.specs.Lexemes.{LexemeKind, NewLine, Blank, Comment, Spelled, Lexeme, IsLexemeAt, AreLexemes, with_lexeme, characters_of}
 use Rattle.pptext.specs.Lines.{LogicalLine, leaves_space, tokens_after, lines_ended, lines_after, IsDirected}
 use Rattle.pptext.specs.Sources.{IsSource}
 use Rattle.pptext.proofs.OneKind.{begins, one_kind}
@@ -32,44 +32,44 @@ both P (x ∷ xs) ys a b = (a.0, both P xs ys a.1 b)
 
 -- ---- from the pieces of the text
 
-piece_spelled : (profile : Profile) (line : List (List ℕ)) (chars rest : List Char) (k : Kind) → StandsAt profile line (codes_of (chars ++ rest)) (length chars) (Spelled k) → Spells k (codes_of chars) ⊎ IsHeader (codes_of chars)
+piece_spelled : (profile : Profile) (line : List (List ℕ)) (chars rest : List Char) (k : Kind) → IsLexemeAt profile line (codes_of (chars ++ rest)) (length chars) (Spelled k) → Spells k (codes_of chars) ⊎ IsHeader (codes_of chars)
 piece_spelled profile line chars rest k here = cases here
   where
     front : take (length chars) (codes_of (chars ++ rest)) ≡ codes_of chars
     front = ap (take (length chars)) (map-append (λ (c : Char). c.code) chars rest) ∙ take_at (codes_of chars) (codes_of rest) (length chars) (length-map chars (λ (c : Char). c.code))
 
-    cases : StandsAt profile line (codes_of (chars ++ rest)) (length chars) (Spelled k) → Spells k (codes_of chars) ⊎ IsHeader (codes_of chars)
+    cases : IsLexemeAt profile line (codes_of (chars ++ rest)) (length chars) (Spelled k) → Spells k (codes_of chars) ⊎ IsHeader (codes_of chars)
     cases (inl h) = inr (subst IsHeader front h.0.spelled)
     cases (inr p) = inl (subst (Spells k) front p.spelled)
 
-ended_spelled : (profile : Profile) (tokens : List Token) (chars : List Char) (sort : Sort)
+ended_spelled : (profile : Profile) (tokens : List Token) (chars : List Char) (kind : LexemeKind)
     → AreSpelled tokens
-    → AllByRecursion (IsSpelledLine profile) (lines_ended profile tokens chars sort)
+    → AllByRecursion (IsSpelledLine profile) (lines_ended profile tokens chars kind)
 ended_spelled profile tokens chars NewLine all = ((all, refl), tt)
 ended_spelled profile tokens chars Blank all = tt
 ended_spelled profile tokens chars Comment all = tt
 ended_spelled profile tokens chars (Spelled k) all = tt
 
-after_spelled : (profile : Profile) (line : List (List ℕ)) (space : Bool) (tokens : List Token) (chars rest : List Char) (sort : Sort)
+after_spelled : (profile : Profile) (line : List (List ℕ)) (space : Bool) (tokens : List Token) (chars rest : List Char) (kind : LexemeKind)
     → AreSpelled tokens
-    → StandsAt profile line (codes_of (chars ++ rest)) (length chars) sort
-    → AreSpelled (tokens_after space tokens chars sort)
+    → IsLexemeAt profile line (codes_of (chars ++ rest)) (length chars) kind
+    → AreSpelled (tokens_after space tokens chars kind)
 after_spelled profile line space tokens chars rest NewLine all here = tt
 after_spelled profile line space tokens chars rest Blank all here = all
 after_spelled profile line space tokens chars rest Comment all here = all
 after_spelled profile line space tokens chars rest (Spelled k) all here = both IsSpelled tokens _ all (piece_spelled profile line chars rest k here, tt)
 
-lines_spelled : (profile : Profile) (line : List (List ℕ)) (space : Bool) (tokens : List Token) (ps : List Piece) (rest : List Char)
+lines_spelled : (profile : Profile) (line : List (List ℕ)) (space : Bool) (tokens : List Token) (ps : List Lexeme) (rest : List Char)
     → AreSpelled tokens
     → AreLexemes profile line ps rest
     → AllByRecursion (IsSpelledLine profile) (lines_after profile space tokens ps)
 lines_spelled profile line space tokens [] rest all each = tt
 lines_spelled profile line space tokens (p ∷ ps) rest all each =
-    let after = tokens_after space tokens p.chars p.sort in
-    both (IsSpelledLine profile) (lines_ended profile tokens p.chars p.sort) (lines_after profile (leaves_space p.sort) after ps)
-    (ended_spelled profile tokens p.chars p.sort all)
-    (lines_spelled profile (with_lexeme line p p.sort) (leaves_space p.sort) after ps rest
-    (after_spelled profile line space tokens p.chars (characters_of ps ++ rest) p.sort all each.0) each.1)
+    let after = tokens_after space tokens p.chars p.kind in
+    both (IsSpelledLine profile) (lines_ended profile tokens p.chars p.kind) (lines_after profile (leaves_space p.kind) after ps)
+    (ended_spelled profile tokens p.chars p.kind all)
+    (lines_spelled profile (with_lexeme line p p.kind) (leaves_space p.kind) after ps rest
+    (after_spelled profile line space tokens p.chars (characters_of ps ++ rest) p.kind all each.0) each.1)
 
 pub source_spelled : (profile : Profile) (file : ℕ) (bytes : List ℕ) (lines : List LogicalLine)
     → IsSource profile file bytes lines

@@ -36,7 +36,7 @@ no_name c (n ∷ ns) none =
     (no_name c ns (λ row within. none (suc row) (omega arith)))
 
 -- the first candidate is the name of the row that is found
-found_here : (names : List (List ℕ)) (more : List Candidate) (c : Candidate) (found : Option (ℕ × ℕ)) (row : ℕ) → found ≡ Some (row, c.folder) → IsRowOf names c.name (Some row)
+found_here : (names : List (List ℕ)) (more : List Candidate) (c : Candidate) (found : Option (ℕ × ℕ)) (row : ℕ) → found ≡ Some (row, c.directory) → IsRowOf names c.name (Some row)
     → is_some found ≡ is_found names (c ∷ more)
 found_here names more c found row e is = ap is_some e ∙ sym (ap (λ (z : Bool). z || is_found names more) (a_name c.name names row is.0 is.1))
 

@@ -10,7 +10,7 @@ use Rattle.pptext.specs.Lines.{LogicalLine}
 use Rattle.pptext.specs.Tree.{TextLine, ControlLine, Opens, Elses, Parts, Done, Run, Control, Section, Branches, End, Branch, part_lines, branch_lines, AreParts, AreBranches, role, role_in, role_by}
 use Rattle.ppunit.specs.States.{Search, State}
 use Rattle.ppunit.specs.Conditions.{Decides}
-use Rattle.ppunit.specs.Walk.{Outer, lay, AreOuter, EntersIf, EntersBy}
+use Rattle.ppunit.specs.code.Walk.{Outer, lay, AreOuter, EntersIf, EntersBy}
 
 -- ---- what is laid
 
@@ -100,12 +100,12 @@ ending_in c r e is = absurd (cc)
 pub ending_role : (d : Directive) (r : LogicalLine) → ends_group d ≡ true → role r ≡ role_by (Some d) → Differs r
 ending_role d r e is = ending_in (class_of d) r e is
 
-pub branches_differ : (bs : Branches) (last : Bool) (r : LogicalLine) (rest behind : List LogicalLine) → AreBranches last bs → branch_lines bs ++ rest ≡ r ∷ behind → Differs r
-branches_differ (End x) last r rest behind is e =
+pub branches_differ : (bs : Branches) (last : Bool) (r : LogicalLine) (rest following : List LogicalLine) → AreBranches last bs → branch_lines bs ++ rest ≡ r ∷ following → Differs r
+branches_differ (End x) last r rest following is e =
     let same : x ≡ r = cc in
     let here = ap role (sym same) ∙ is in
     record { not_text = λ h. cc; not_control = λ h. cc; not_opening = λ h. cc }
-branches_differ (Branch x ps bs) last r rest behind (before, final, is, parts, more) e =
+branches_differ (Branch x ps bs) last r rest following (before, final, is, parts, more) e =
     let same : x ≡ r = cc in
     let here = ap role (sym same) ∙ is in
     record { not_text = λ h. cc; not_control = λ h. cc; not_opening = λ h. cc }
@@ -117,19 +117,19 @@ pub data First (r : LogicalLine) : Parts → Outer → Type 0 where
   opening : {x : LogicalLine} {ps qs : Parts} {bs : Branches} {k : Outer} → x ≡ r → role r ≡ role_by (Some If) → First r (Section x ps bs qs) k
   ending : {bs : Branches} {qs : Parts} {k : Outer} → Differs r → First r Done ((bs, qs) ∷ k)
 
-pub first_of : (ps : Parts) (k : Outer) (r : LogicalLine) (behind : List LogicalLine) → lay ps k ≡ r ∷ behind → AreParts ps → AreOuter k → First r ps k
-first_of Done [] r behind e are outer = absurd (cc)
-first_of Done ((bs, qs) ∷ k) r behind e are outer = ending (branches_differ bs outer.0.0 r (lay qs k) behind outer.0.1 e)
-first_of (Run [] ps) k r behind e are outer = absurd (are.0 refl)
-first_of (Run (x ∷ rs) ps) k r behind e are outer =
+pub first_of : (ps : Parts) (k : Outer) (r : LogicalLine) (following : List LogicalLine) → lay ps k ≡ r ∷ following → AreParts ps → AreOuter k → First r ps k
+first_of Done [] r following e are outer = absurd (cc)
+first_of Done ((bs, qs) ∷ k) r following e are outer = ending (branches_differ bs outer.0.0 r (lay qs k) following outer.0.1 e)
+first_of (Run [] ps) k r following e are outer = absurd (are.0 refl)
+first_of (Run (x ∷ rs) ps) k r following e are outer =
     let whole = sym (lay_run (x ∷ rs) ps k) ∙ e in
     let same : x ≡ r = cc in
     text (ap role (sym same) ∙ are.1.0)
-first_of (Control x ps) k r behind e are outer =
+first_of (Control x ps) k r following e are outer =
     let whole = sym (lay_control x ps k) ∙ e in
     let same : x ≡ r = cc in
     control same (ap role (sym same) ∙ are.0)
-first_of (Section x ps bs qs) k r behind e are outer =
+first_of (Section x ps bs qs) k r following e are outer =
     let whole = sym (lay_section x ps qs bs k) ∙ e in
     let same : x ≡ r = cc in
     opening same (ap role (sym same) ∙ are.0)

@@ -6,22 +6,22 @@ use Rattle.pptext.specs.Tree.{Parts, Branches}
 use Rattle.ppexpand.specs.Expansion.{count_expansion}
 use Rattle.ppshelf.specs.Content.{unreadable}
 use Rattle.ppshelf.specs.Files.{Files, Extends}
-use Rattle.ppunit.specs.States.{State, Surroundings, Reached, search_of}
+use Rattle.ppunit.specs.States.{State, Context, Reached, search_of}
 use Rattle.ppunit.specs.Group.{Group, Branched, Controls, Includes, Opened}
-use Rattle.ppunit.specs.Counts.{count_decides, count_asks, count_group, count_branched, count_control, count_includes, count_opened}
-use Rattle.ppunit.specs.Unit.{Defines, unread, processed, Translates, undefined, translated, surroundings, count_defines, count_translates}
+use Rattle.ppunit.specs.Counts.{count_decides, count_names_header, count_group, count_branched, count_control, count_includes, count_opened}
+use Rattle.ppunit.specs.Unit.{Defines, unread, processed, Translates, undefined, translated, context_of_unit, count_defines, count_translates}
 use Rattle.ppunit.specs.Laws.{Grows}
 
-module _ (around : Surroundings) (more : Files) (grows : Extends more around.files) where
-  abbrev pub wider : Surroundings
-  wider = record around { files = more }
+module _ (context : Context) (more : Files) (grows : Extends more context.files) where
+  abbrev pub wider : Context
+  wider = record context { files = more }
 
   -- two that follow one another, each with the same count
   both : {a b c d : ℕ} → a ≡ b → c ≡ d → a + c ≡ b + d
   both p q = λ i. p i + q i
 
   mutual
-    pub group_grows : {depth row : ℕ} {r : Reached} {ps : Parts} {end : Reached} (d : Group around depth row r ps end) → (e : Group wider depth row r ps end) × (count_group e ≡ count_group d)
+    pub group_grows : {depth row : ℕ} {r : Reached} {ps : Parts} {end : Reached} (d : Group context depth row r ps end) → (e : Group wider depth row r ps end) × (count_group e ≡ count_group d)
     group_grows Group.stays = (Group.stays, refl)
     group_grows Group.done = (Group.done, refl)
     group_grows (Group.run gives rest) =
@@ -34,39 +34,39 @@ module _ (around : Surroundings) (more : Files) (grows : Extends more around.fil
     group_grows {row = row} (Group.taken {s = s} {line = line} {after = after} decides here rest) =
         let h = group_grows here in
         let r = group_grows rest in
-        (Group.taken decides h.0 r.0, ap (λ n. count_decides (search_of around) row s line after (Ok true) decides + n) (both h.1 r.1))
+        (Group.taken decides h.0 r.0, ap (λ n. count_decides (search_of context) row s line after (Ok true) decides + n) (both h.1 r.1))
     group_grows {row = row} (Group.skipped {s = s} {line = line} {after = after} decides here rest) =
         let h = branches_grow here in
         let r = group_grows rest in
-        (Group.skipped decides h.0 r.0, ap (λ n. count_decides (search_of around) row s line after (Ok false) decides + n) (both h.1 r.1))
+        (Group.skipped decides h.0 r.0, ap (λ n. count_decides (search_of context) row s line after (Ok false) decides + n) (both h.1 r.1))
     group_grows (Group.refused decides) = (Group.refused decides, refl)
 
-    branches_grow : {depth row : ℕ} {s : State} {bs : Branches} {m : Reached} (d : Branched around depth row s bs m) → (e : Branched wider depth row s bs m) × (count_branched e ≡ count_branched d)
+    branches_grow : {depth row : ℕ} {s : State} {bs : Branches} {m : Reached} (d : Branched context depth row s bs m) → (e : Branched wider depth row s bs m) × (count_branched e ≡ count_branched d)
     branches_grow Branched.ended = (Branched.ended, refl)
     branches_grow (Branched.otherwise is here) = let h = group_grows here in (Branched.otherwise is h.0, h.1)
     branches_grow {row = row} (Branched.branch_taken {s = s} {line = line} {after = after} is decides here) =
         let h = group_grows here in
-        (Branched.branch_taken is decides h.0, ap (λ n. count_decides (search_of around) row s line after (Ok true) decides + n) h.1)
+        (Branched.branch_taken is decides h.0, ap (λ n. count_decides (search_of context) row s line after (Ok true) decides + n) h.1)
     branches_grow {row = row} (Branched.branch_skipped {s = s} {line = line} {after = after} is decides rest) =
         let r = branches_grow rest in
-        (Branched.branch_skipped is decides r.0, ap (λ n. count_decides (search_of around) row s line after (Ok false) decides + n) r.1)
+        (Branched.branch_skipped is decides r.0, ap (λ n. count_decides (search_of context) row s line after (Ok false) decides + n) r.1)
     branches_grow (Branched.branch_refused is decides) = (Branched.branch_refused is decides, refl)
 
-    control_grows : {depth row : ℕ} {s : State} {line : LogicalLine} {m : Reached} (d : Controls around depth row s line m) → (e : Controls wider depth row s line m) × (count_control e ≡ count_control d)
+    control_grows : {depth row : ℕ} {s : State} {line : LogicalLine} {m : Reached} (d : Controls context depth row s line m) → (e : Controls wider depth row s line m) × (count_control e ≡ count_control d)
     control_grows (Controls.error is) = (Controls.error is, refl)
     control_grows (Controls.ignored is) = (Controls.ignored is, refl)
     control_grows (Controls.quote is q) = (Controls.quote is q, refl)
     control_grows (Controls.other q does) = (Controls.other q does, refl)
     control_grows (Controls.include is q here) = let h = includes_grow here in (Controls.include is q h.0, h.1)
 
-    includes_grow : {depth row : ℕ} {behind : Option ℕ} {s : State} {line : LogicalLine} {m : Reached} (d : Includes around depth row behind s line m) → (e : Includes wider depth row behind s line m) × (count_includes e ≡ count_includes d)
+    includes_grow : {depth row : ℕ} {following : Option ℕ} {s : State} {line : LogicalLine} {m : Reached} (d : Includes context depth row following s line m) → (e : Includes wider depth row following s line m) × (count_includes e ≡ count_includes d)
     includes_grow (Includes.misnamed asks) = (Includes.misnamed asks, refl)
     includes_grow (Includes.missing a asks finds) = (Includes.missing a asks finds, refl)
     includes_grow (Includes.included {s = s} {line = line} {after = after} a found asks finds opens) =
         let o = opened_grows opens in
-        (Includes.included a found asks finds o.0, ap (λ n. count_asks s line.tokens after (Ok a) asks + n) o.1)
+        (Includes.included a found asks finds o.0, ap (λ n. count_names_header s line.tokens after (Ok a) asks + n) o.1)
 
-    pub opened_grows : {depth row : ℕ} {folder : Option ℕ} {at : Place} {s : State} {m : Reached} (d : Opened around depth at s row folder m) → (e : Opened wider depth at s row folder m) × (count_opened e ≡ count_opened d)
+    pub opened_grows : {depth row : ℕ} {directory : Option ℕ} {at : Place} {s : State} {m : Reached} (d : Opened context depth at s row directory m) → (e : Opened wider depth at s row directory m) × (count_opened e ≡ count_opened d)
     opened_grows (Opened.too_deep deep) = (Opened.too_deep deep, refl)
     opened_grows (Opened.over fits spent) = (Opened.over fits spent, refl)
     opened_grows (Opened.known fits some known) = (Opened.known fits some known, refl)
@@ -76,11 +76,11 @@ module _ (around : Surroundings) (more : Files) (grows : Extends more around.fil
         let h = group_grows here in
         (Opened.read fits some new (grows row _ is) reads tree h.0, ap suc h.1)
 
-  defines_grow : {defines : List (List ℕ)} {s : State} {m : Reached} (d : Defines around defines s m) → (e : Defines wider defines s m) × (count_defines e ≡ count_defines d)
+  defines_grow : {defines : List (List ℕ)} {s : State} {m : Reached} (d : Defines context defines s m) → (e : Defines wider defines s m) × (count_defines e ≡ count_defines d)
   defines_grow (unread reads) = (unread reads, refl)
   defines_grow (processed reads tree here) = let h = group_grows here in (processed reads tree h.0, h.1)
 
-  pub translates_grows : {defines : List (List ℕ)} {row : ℕ} {s : State} {m : Reached} (d : Translates around defines row s m) → (e : Translates wider defines row s m) × (count_translates e ≡ count_translates d)
+  pub translates_grows : {defines : List (List ℕ)} {row : ℕ} {s : State} {m : Reached} (d : Translates context defines row s m) → (e : Translates wider defines row s m) × (count_translates e ≡ count_translates d)
   translates_grows (undefined here) = let h = defines_grow here in (undefined h.0, h.1)
   translates_grows (translated here opens) =
       let h = defines_grow here in
@@ -89,5 +89,5 @@ module _ (around : Surroundings) (more : Files) (grows : Extends more around.fil
 
 pub unit_grows : Grows
 unit_grows names files more setting unit out grows is =
-    let t = translates_grows (surroundings names files setting unit) more grows is.translates in
+    let t = translates_grows (context_of_unit names files setting unit) more grows is.translates in
     (record { reached = is.reached; translates = t.0; gives = is.gives }, t.1)

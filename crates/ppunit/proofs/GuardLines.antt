@@ -28,8 +28,8 @@ use Rattle.ppexpr.proofs.OneCondition.{same_condition}
 use Rattle.ppexpr.proofs.Capped.{condition_spends, condition_enough}
 use Rattle.ppexpr.proofs.GuardConditions.{punctuator, as_defined, as_name, bare_false, parenthesized_false}
 use Rattle.ppunit.specs.States.{Search, State}
-use Rattle.ppunit.specs.Quotes.{lone_quote}
-use Rattle.ppunit.specs.Lines.{line_fault}
+use Rattle.ppunit.specs.Quotes.{unmatched_quote}
+use Rattle.ppunit.specs.DirectiveLines.{line_fault}
 use Rattle.ppunit.specs.Probing.{probed, tokens_or, condition_tokens}
 use Rattle.ppunit.specs.Conditions.{is_macro_name, by_name, DecidesOf, Decides, DecidesBy, DecidesUnless}
 use Rattle.ppunit.specs.Counts.{count_decides_of, count_decides_by, count_decides_unless, count_decides}
@@ -49,7 +49,7 @@ SkipsUnless search row quote d s tokens = (h : DecidesUnless search row quote d 
 
 -- of a line of these tokens
 abbrev Skips : Search → ℕ → State → Option Directive → List Token → Type 0
-Skips search row s d tokens = SkipsUnless search row (lone_quote tokens) d s tokens
+Skips search row s d tokens = SkipsUnless search row (unmatched_quote tokens) d s tokens
 
 -- of a line without unmatched quotes whose directive is spelled so
 decided : (search : Search) (row : ℕ) (s : State) (profile : Profile) (h d : Token) (ts : List Token) (name : List ℕ) (is_called : Directive)
@@ -61,7 +61,7 @@ decided : (search : Search) (row : ℕ) (s : State) (profile : Profile) (h d : T
     → SkipsBy search row (question_of is_called) s (h ∷ d ∷ ts)
     → Skips search row s (directive_of profile (h ∷ d ∷ ts)) (h ∷ d ∷ ts)
 decided search row s profile h d ts name is_called hash is called plain rest decides =
-    let quotes : lone_quote (h ∷ d ∷ ts) ≡ None = no_quote (h ∷ d ∷ ts) (hash_unquoted h hash, (named_unquoted d name is plain, rest)) in
+    let quotes : unmatched_quote (h ∷ d ∷ ts) ≡ None = no_quote (h ∷ d ∷ ts) (hash_unquoted h hash, (named_unquoted d name is plain, rest)) in
     let directive : directive_of profile (h ∷ d ∷ ts) ≡ Some is_called =
     ap (λ (b : Bool). if b then Some (directive_named profile d.text) else None) hash
     ∙ ap (λ (z : List ℕ). Some (directive_named profile z)) (named_is d name is) ∙ ap (λ (z : Directive). Some z) called in
@@ -196,12 +196,12 @@ by_parenthesized search row s profile h d n f l t r x sn sf sl sr hash g known =
     let forms = and_parts (is_not_defined d n f) (are_parentheses l r) g.form in
     let p = and_parts (named d (codes "if")) (named n (codes "!") && named f (codes "defined")) forms.0 in
     let q = and_parts (named n (codes "!")) (named f (codes "defined")) p.1 in
-    let around = and_parts (named l (codes "(")) (named r (codes ")")) forms.1 in
+    let context = and_parts (named l (codes "(")) (named r (codes ")")) forms.1 in
     let bang = punctuator_is n (codes "!") sn q.0 refl refl in
     let asks = defined_is f sf q.1 in
-    let opens = punctuator_is l (codes "(") sl around.0 refl refl in
+    let opens = punctuator_is l (codes "(") sl context.0 refl refl in
     let name = name_is t g.kind in
-    let closes = punctuator_is r (codes ")") sr around.1 refl refl in
+    let closes = punctuator_is r (codes ")") sr context.1 refl refl in
     let same : (punctuator (codes "!") n ∷ as_defined f ∷ punctuator (codes "(") l ∷ as_name t ∷ punctuator (codes ")") r ∷ []) ≡ (n ∷ f ∷ l ∷ t ∷ r ∷ []) =
     λ i. bang i ∷ asks i ∷ opens i ∷ name i ∷ closes i ∷ [] in
     let stays : probed search row None (n ∷ f ∷ l ∷ t ∷ r ∷ []) ≡ Some (n ∷ f ∷ l ∷ t ∷ r ∷ []) = subst (λ (z : List Token). probed search row None z ≡ Some z) same refl in
@@ -210,7 +210,7 @@ by_parenthesized search row s profile h d n f l t r x sn sf sl sr hash g known =
       named_unquoted n (codes "!") q.0 refl,
       (
         named_unquoted f (codes "defined") q.1 refl,
-        (named_unquoted l (codes "(") around.0 refl, (ident_unquoted t g.kind, (named_unquoted r (codes ")") around.1 refl, tt))),
+        (named_unquoted l (codes "(") context.0 refl, (ident_unquoted t g.kind, (named_unquoted r (codes ")") context.1 refl, tt))),
       ),
     ) (by_condition search row s h d (n ∷ f ∷ l ∷ t ∷ r ∷ []) stays condition)
 

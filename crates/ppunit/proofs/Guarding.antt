@@ -15,11 +15,11 @@ use Rattle.ppexpand.specs.Expansion.{ended, done, step_in_budget, count_expansio
 use Rattle.ppshelf.specs.Content.{Content, unreadable, readable, IsRead}
 use Rattle.ppshelf.specs.Files.{file_at}
 use Rattle.ppunit.specs.declared.units.Item.{Item}
-use Rattle.ppunit.specs.States.{State, Surroundings, search_of, going, depending, entering, paying}
-use Rattle.ppunit.specs.Dependencies.{is_among}
-use Rattle.ppunit.specs.Lines.{run_tokens}
+use Rattle.ppunit.specs.States.{State, Context, search_of, going, with_dependency, entering, with_one_spent}
+use Rattle.ppunit.specs.Dependencies.{has_row}
+use Rattle.ppunit.specs.DirectiveLines.{run_tokens}
 use Rattle.ppunit.specs.Conditions.{is_macro_name}
-use Rattle.ppunit.specs.Directives.{RunGives}
+use Rattle.ppunit.specs.Directives.{EmitsRun}
 use Rattle.ppunit.specs.Group.{deepest, Group, Branched, Opened}
 use Rattle.ppunit.specs.Counts.{count_group, count_opened}
 use Rattle.ppunit.specs.Guarded.{GuardsLeaveOut, IsLeftOut}
@@ -35,7 +35,7 @@ blank_tokens (r ∷ rs) all = ap (λ (z : List Token). z ++ run_tokens rs) all.0
 
 -- the tokens give nothing, at no cost
 abbrev GivesNothing : State → List Token → Type 0
-GivesNothing s tokens = (g : RunGives s tokens (going s)) × (count_expansion g.expands ≡ 0)
+GivesNothing s tokens = (g : EmitsRun s tokens (going s)) × (count_expansion g.expands ≡ 0)
 
 nothing_gives : (s : State) → GivesNothing s []
 unfolding expansion_step
@@ -56,18 +56,18 @@ nothing_gives s = (
 blank_gives : (s : State) (lines : List LogicalLine) → AllByRecursion IsBlankLine lines → GivesNothing s (run_tokens lines)
 blank_gives s lines blank = subst (λ (z : List Token). GivesNothing s z) (sym (blank_tokens lines blank)) (nothing_gives s)
 
-behind : {A : Type 0} (P : A → Type 0) (xs ys : List A) → AllByRecursion P (xs ++ ys) → AllByRecursion P ys
-behind P [] ys all = all
-behind P (x ∷ xs) ys all = behind P xs ys all.1
+following : {A : Type 0} (P : A → Type 0) (xs ys : List A) → AllByRecursion P (xs ++ ys) → AllByRecursion P ys
+following P [] ys all = all
+following P (x ∷ xs) ys all = following P xs ys all.1
 
 -- two that cost nothing, one after the other
 both_free : {m n : ℕ} → m ≡ 0 → n ≡ 0 → m + n ≡ 0
 both_free p q = λ i. p i + q i
 
-module _ (around : Surroundings) (depth row : ℕ) (s : State) where
+module _ (context : Context) (depth row : ℕ) (s : State) where
   -- the parts change nothing, at no cost
   abbrev Passes : Parts → Type 0
-  Passes ps = (d : Group around depth row (going s) ps (going s)) × (count_group d ≡ 0)
+  Passes ps = (d : Group context depth row (going s) ps (going s)) × (count_group d ≡ 0)
 
   run_passes : (rs : List LogicalLine) (ps : Parts) → GivesNothing s (run_tokens rs) → Passes ps → Passes (Run rs ps)
   run_passes rs ps (gives, free) (rest, more) = (Group.run gives rest, both_free free more)
@@ -79,31 +79,31 @@ module _ (around : Surroundings) (depth row : ℕ) (s : State) where
   blank_group (Section r ps bs qs) blank = absurd blank
 
   pub guarded_group : (ps : Parts) (x : List ℕ)
-      → AllByRecursion (IsSpelledLine around.profile) (part_lines ps)
+      → AllByRecursion (IsSpelledLine context.profile) (part_lines ps)
       → AreParts ps
       → GuardedParts ps x
       → is_macro_name s.macros x ≡ true
       → Passes ps
   guarded_group Done x all are g known = absurd g
   guarded_group (Run rs ps) x all are g known =
-      run_passes rs ps (blank_gives s rs g.0) (guarded_group ps x (behind (IsSpelledLine around.profile) rs (part_lines ps) all) are.3 g.1 known)
+      run_passes rs ps (blank_gives s rs g.0) (guarded_group ps x (following (IsSpelledLine context.profile) rs (part_lines ps) all) are.3 g.1 known)
   guarded_group (Control r ps) x all are g known = absurd g
   guarded_group (Section r ps (End e) qs) x all are g known =
-      let skips = guard_line (search_of around) row s around.profile r x all.0 are.0 g.0 known in
+      let skips = guard_line (search_of context) row s context.profile r x all.0 are.0 g.0 known in
       let rest = blank_group qs g.1 in
       (Group.skipped skips.0 Branched.ended rest.0, both_free skips.1 (both_free refl rest.1))
   guarded_group (Section r ps (Branch e ps' bs) qs) x all are g known = absurd g
 
 pub guards_leave_out : GuardsLeaveOut
-guards_leave_out around depth row folder at s bytes lines x fits is reads (parts, tree, guarded) known some = cases (is_among row s.once) refl
+guards_leave_out context depth row directory at s bytes lines x fits is reads (parts, tree, guarded) known some = cases (has_row row s.once) refl
   where
-    spelled : AllByRecursion (IsSpelledLine around.profile) (part_lines parts)
-    spelled = subst (AllByRecursion (IsSpelledLine around.profile)) (sym tree.whole) (source_spelled around.profile row bytes lines reads)
+    spelled : AllByRecursion (IsSpelledLine context.profile) (part_lines parts)
+    spelled = subst (AllByRecursion (IsSpelledLine context.profile)) (sym tree.whole) (source_spelled context.profile row bytes lines reads)
 
-    cases : (b : Bool) → is_among row s.once ≡ b → (d : Opened around depth at s row folder (going (depending (paying s) row))) × (count_opened d ≡ 1)
+    cases : (b : Bool) → has_row row s.once ≡ b → (d : Opened context depth at s row directory (going (with_dependency (with_one_spent s) row))) × (count_opened d ≡ 1)
     cases true once = (Opened.known fits some once, refl)
     cases false new =
-        let inside = guarded_group around depth row (entering around (paying s) row folder) parts x spelled tree.each guarded known in
+        let inside = guarded_group context depth row (entering context (with_one_spent s) row directory) parts x spelled tree.each guarded known in
         (Opened.read fits some new is reads tree inside.0, ap suc inside.1)
 
 -- ---- where a file is left out
@@ -120,18 +120,18 @@ pub one_guard : (lines : List LogicalLine) (x y : List ℕ) → GuardedBy lines 
 one_guard lines x y (parts, tree, guarded) (parts', tree', guarded') =
     parts_guard parts x y guarded (subst (λ (z : Parts). GuardedParts z y) (at_most_one lines parts' parts tree' tree) guarded')
 
-pub opens_left_out : (around : Surroundings) (depth row : ℕ) (folder : Option ℕ) (at : Place) (s a : State) (content : Content) (lines : List LogicalLine)
+pub opens_left_out : (context : Context) (depth row : ℕ) (directory : Option ℕ) (at : Place) (s a : State) (content : Content) (lines : List LogicalLine)
     → depth ≤ deepest
     → is_exhausted s.left ≡ false
-    → file_at around.files row ≡ Some content
-    → IsRead around.profile row content (Ok lines)
-    → a ≡ depending (paying s) row
+    → file_at context.files row ≡ Some content
+    → IsRead context.profile row content (Ok lines)
+    → a ≡ with_dependency (with_one_spent s) row
     → IsLeftOut a lines
-    → Opened around depth at s row folder (going a)
-opens_left_out around depth row folder at s a unreadable lines fits some known reads is left = absurd reads
-opens_left_out around depth row folder at s a (readable bytes) lines fits some known reads is (x, guarded, defined) =
-    subst (λ (z : State). Opened around depth at s row folder (going z)) (sym is)
-    (guards_leave_out around depth row folder at s bytes lines x fits known reads guarded (subst (λ (z : State). is_macro_name z.macros x ≡ true) is defined) some).0
+    → Opened context depth at s row directory (going a)
+opens_left_out context depth row directory at s a unreadable lines fits some known reads is left = absurd reads
+opens_left_out context depth row directory at s a (readable bytes) lines fits some known reads is (x, guarded, defined) =
+    subst (λ (z : State). Opened context depth at s row directory (going z)) (sym is)
+    (guards_leave_out context depth row directory at s bytes lines x fits known reads guarded (subst (λ (z : State). is_macro_name z.macros x ≡ true) is defined) some).0
 
 pub left_out_by : (s : State) (lines : List LogicalLine) (name : List ℕ) (b : Bool) → GuardedBy lines name → b ≡ is_macro_name s.macros name → IsTrue b ↔ IsLeftOut s lines
 left_out_by s lines name b guarded is = (λ e. (name, guarded, sym is ∙ e), λ l. is ∙ ap (λ (z : List ℕ). is_macro_name s.macros z) (one_guard lines name l.0 guarded l.1) ∙ l.2)

@@ -6,7 +6,7 @@ use Rattle.pptext.specs.declared.sources.Line.{Line}
 use Rattle.pptext.specs.Lines.{LogicalLine}
 use Rattle.pptext.specs.Sources.{spans, tokens_of}
 use Rattle.pptext.proofs.Spans.{span, span_at}
-use Rattle.ppunit.specs.Walk.{no_line, line_at}
+use Rattle.ppunit.specs.code.Walk.{no_line, line_at}
 
 -- ---- lines by index
 
@@ -24,13 +24,13 @@ line_is lines index d l =
 pub record At (lines : List LogicalLine) (index : ℕ) (r : LogicalLine) (rest : List LogicalLine) : Type 0 where
   pub within : index < length lines
   pub here : line_at lines index ≡ r
-  pub behind : drop (suc index) lines ≡ rest
+  pub following : drop (suc index) lines ≡ rest
 
 pub at_index : (lines : List LogicalLine) (index : ℕ) (r : LogicalLine) (rest : List LogicalLine) → drop index lines ≡ r ∷ rest → At lines index r rest
 at_index [] zero r rest e = absurd (cc)
 at_index [] (suc index) r rest e = absurd (cc)
-at_index (x ∷ lines) zero r rest e = record { within = omega arith; here = cc; behind = cc }
-at_index (x ∷ lines) (suc index) r rest e = let h = at_index lines index r rest e in record { within = omega (arith, h.within); here = h.here; behind = h.behind }
+at_index (x ∷ lines) zero r rest e = record { within = omega arith; here = cc; following = cc }
+at_index (x ∷ lines) (suc index) r rest e = let h = at_index lines index r rest e in record { within = omega (arith, h.within); here = h.here; following = h.following }
 
 pub from_index : (lines : List LogicalLine) (index : ℕ) → index < length lines → drop index lines ≡ line_at lines index ∷ drop (suc index) lines
 from_index lines index l =

@@ -11,11 +11,11 @@ use Rattle.pptext.specs.Tree.{Parts, Branches, sign_place}
 use Rattle.ppmacro.specs.Names.{Macros}
 use Rattle.ppexpand.specs.Laws.{IsPrefix}
 use Rattle.ppunit.specs.declared.units.Item.{Item}
-use Rattle.ppunit.specs.Dependencies.{is_among}
-use Rattle.ppunit.specs.States.{State, Surroundings, Reached, emitted, depending, reading_once, with_left}
-use Rattle.ppunit.specs.Lines.{operands, run_tokens}
+use Rattle.ppunit.specs.Dependencies.{has_row}
+use Rattle.ppunit.specs.States.{State, Context, Reached, emitted, with_dependency, with_once, with_left}
+use Rattle.ppunit.specs.DirectiveLines.{operands, run_tokens}
 use Rattle.ppunit.specs.LineControl.{Presumed, presumed}
-use Rattle.ppunit.specs.Directives.{RunGives, ControlBy, with_macros, renumbered_by, is_once, pragma_passed}
+use Rattle.ppunit.specs.Directives.{EmitsRun, ControlBy, with_macros, renumbered_by, is_once, pragma_emitted}
 use Rattle.ppunit.specs.Group.{Group, Branched, Controls, Includes, Opened}
 use Rattle.ppunit.specs.declared.units.Item.TheVariants as item
 
@@ -35,8 +35,8 @@ same_state s = (same_beginning s.items, same_beginning s.deps)
 pub before_then : (s t u : State) → Before s t → Before t u → Before s u
 before_then s t u p q = (beginning_of s.items t.items u.items p.0 q.0, beginning_of s.deps t.deps u.deps p.1 q.1)
 
-pub depends : (s : State) (row : ℕ) → Before s (depending s row)
-depends s row = (same_beginning s.items, joined (is_among row s.deps))
+pub depends : (s : State) (row : ℕ) → Before s (with_dependency s row)
+depends s row = (same_beginning s.items, joined (has_row row s.deps))
   where
     joined : (b : Bool) → IsPrefix s.deps (if b then s.deps else s.deps ++ row ∷ [])
     joined true = same_beginning s.deps
@@ -51,15 +51,15 @@ macros_before : (s : State) (m : Result Macros Fault) → Before s (with_macros 
 macros_before s (Ok m) = same_state s
 macros_before s (Err f) = same_state s
 
-pragma_before : (profile : Profile) (row : ℕ) (s : State) (line : List Token) → Before s (pragma_passed profile row s line)
+pragma_before : (profile : Profile) (row : ℕ) (s : State) (line : List Token) → Before s (pragma_emitted profile row s line)
 pragma_before profile row s line = noted (is_once profile (operands line))
   where
-    told : List Item
-    told = item.Pragma (sign_place line) (operands line) ∷ []
+    probe_result : List Item
+    probe_result = item.Pragma (sign_place line) (operands line) ∷ []
 
-    noted : (b : Bool) → Before s (if b then reading_once (emitted s told) row else emitted s told)
-    noted true = ((told, refl), same_beginning s.deps)
-    noted false = ((told, refl), same_beginning s.deps)
+    noted : (b : Bool) → Before s (if b then with_once (emitted s probe_result) row else emitted s probe_result)
+    noted true = ((probe_result, refl), same_beginning s.deps)
+    noted false = ((probe_result, refl), same_beginning s.deps)
 
 pub control_by_before : (profile : Profile) (row : ℕ) (d : Option Directive) (s : State) (line : LogicalLine) (m : Reached) → ControlBy profile row d s line m → Before s m.state
 control_by_before profile row (Some Null) s line m g = subst (λ x. Before s x.state) (sym g) (same_state s)
@@ -71,12 +71,12 @@ control_by_before profile row (Some Pragma) s line m g = subst (λ x. Before s x
 control_by_before profile row (Some Unknown) s line m g = subst (λ x. Before s x.state) (sym g) (same_state s)
 control_by_before profile row _ s line m g = absurd g
 
-run_before : (s : State) (tokens : List Token) (m : Reached) → RunGives s tokens m → Before s m.state
+run_before : (s : State) (tokens : List Token) (m : Reached) → EmitsRun s tokens m → Before s m.state
 run_before s tokens m g = subst (λ x. Before s x.state) (sym g.is) ((map item.Token g.expanded.tokens, refl), same_beginning s.deps)
 
-module _ (around : Surroundings) where
+module _ (context : Context) where
   mutual
-    pub group_before : {depth row : ℕ} {r : Reached} {ps : Parts} {end : Reached} → Group around depth row r ps end → Before r.state end.state
+    pub group_before : {depth row : ℕ} {r : Reached} {ps : Parts} {end : Reached} → Group context depth row r ps end → Before r.state end.state
     group_before (Group.stays {s = s}) = same_state s
     group_before (Group.done {s = s}) = same_state s
     group_before (Group.run {s = s} {lines = lines} {m = m} {end = end} gives rest) = before_then s m.state end.state (run_before s (run_tokens lines) m gives) (group_before rest)
@@ -85,29 +85,29 @@ module _ (around : Surroundings) where
     group_before (Group.skipped {s = s} {m = m} {end = end} decides here rest) = before_then s m.state end.state (branches_before here) (group_before rest)
     group_before (Group.refused {s = s} decides) = same_state s
 
-    pub branches_before : {depth row : ℕ} {s : State} {bs : Branches} {m : Reached} → Branched around depth row s bs m → Before s m.state
+    pub branches_before : {depth row : ℕ} {s : State} {bs : Branches} {m : Reached} → Branched context depth row s bs m → Before s m.state
     branches_before (Branched.ended {s = s}) = same_state s
     branches_before (Branched.otherwise e here) = group_before here
     branches_before (Branched.branch_taken e decides here) = group_before here
     branches_before (Branched.branch_skipped e decides rest) = branches_before rest
     branches_before (Branched.branch_refused {s = s} e decides) = same_state s
 
-    pub control_before : {depth row : ℕ} {s : State} {line : LogicalLine} {m : Reached} → Controls around depth row s line m → Before s m.state
+    pub control_before : {depth row : ℕ} {s : State} {line : LogicalLine} {m : Reached} → Controls context depth row s line m → Before s m.state
     control_before (Controls.error {s = s} e) = same_state s
     control_before (Controls.ignored {s = s} e) = same_state s
     control_before (Controls.quote {s = s} e q) = same_state s
-    control_before {row = row} (Controls.other {s = s} {line = line} {m = m} q does) = control_by_before around.profile row line.directive s line m does
+    control_before {row = row} (Controls.other {s = s} {line = line} {m = m} q does) = control_by_before context.profile row line.directive s line m does
     control_before (Controls.include e q here) = includes_before here
 
-    includes_before : {depth row : ℕ} {behind : Option ℕ} {s : State} {line : LogicalLine} {m : Reached} → Includes around depth row behind s line m → Before s m.state
+    includes_before : {depth row : ℕ} {following : Option ℕ} {s : State} {line : LogicalLine} {m : Reached} → Includes context depth row following s line m → Before s m.state
     includes_before (Includes.misnamed {s = s} asks) = same_state s
     includes_before (Includes.missing {s = s} a asks finds) = same_state s
     includes_before (Includes.included a found asks finds opens) = opened_before opens
 
-    pub opened_before : {depth row : ℕ} {folder : Option ℕ} {at : Place} {s : State} {m : Reached} → Opened around depth at s row folder m → Before s m.state
+    pub opened_before : {depth row : ℕ} {directory : Option ℕ} {at : Place} {s : State} {m : Reached} → Opened context depth at s row directory m → Before s m.state
     opened_before (Opened.too_deep {s = s} deep) = same_state s
     opened_before (Opened.over {s = s} fits spent) = same_state s
     opened_before {row = row} (Opened.known {s = s} fits more once) = depends s row
     opened_before {row = row} (Opened.not_readable {s = s} fits more once file) = depends s row
     opened_before {row = row} (Opened.faulty {s = s} fits more once file reads) = depends s row
-    opened_before {row = row} (Opened.read {s = s} {m = m} fits more once file reads tree here) = before_then s (depending s row) m.state (depends s row) (group_before here)
+    opened_before {row = row} (Opened.read {s = s} {m = m} fits more once file reads tree here) = before_then s (with_dependency s row) m.state (depends s row) (group_before here)

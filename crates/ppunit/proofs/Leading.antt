@@ -10,115 +10,115 @@ use Rattle.pptext.specs.Lines.{LogicalLine}
 use Rattle.pptext.specs.Tree.{sign_place}
 use Rattle.pptext.specs.Classes.{class_by, opens_section, ends_group}
 use Rattle.ppshelf.specs.Files.{Files}
-use Rattle.ppunit.specs.Including.{Asked}
-use Rattle.ppunit.specs.Opening.{Entered}
-use Rattle.ppunit.specs.Directives.{Asks, Finds, ControlBy}
-use Rattle.ppunit.specs.States.{State, Surroundings, Reached, going, stopped, with_left}
-use Rattle.ppunit.specs.Lines.{directed}
-use Rattle.ppunit.specs.Quotes.{lone_quote}
+use Rattle.ppunit.specs.Including.{IncludeName}
+use Rattle.ppunit.specs.code.Opening.{Entered}
+use Rattle.ppunit.specs.Directives.{NamesHeader, FindsFile, ControlBy}
+use Rattle.ppunit.specs.States.{State, Context, Reached, going, stopped, with_left}
+use Rattle.ppunit.specs.DirectiveLines.{directed}
+use Rattle.ppunit.specs.Quotes.{unmatched_quote}
 use Rattle.ppunit.specs.Group.{Controls, Includes, Opened}
-use Rattle.ppunit.specs.Walk.{line_at, Advances, Leads, StepsTo, Steps, back}
+use Rattle.ppunit.specs.code.Walk.{line_at, Advances, Leads, StepsTo, Steps, restored}
 use Rattle.ppunit.proofs.ControlLines.{control_advances, passes}
 
 -- ---- a control line
 
-controls_at : (around : Surroundings) (depth row : ℕ) (s : State) (m : Reached) (r : LogicalLine) (d : Directive) (tokens : List Token) (number : ℕ)
+controls_at : (context : Context) (depth row : ℕ) (s : State) (m : Reached) (r : LogicalLine) (d : Directive) (tokens : List Token) (number : ℕ)
     → r.directive ≡ Some d
     → tokens ≡ r.tokens
     → number ≡ r.number
-    → Controls around depth row s (directed d tokens number) m
-    → Controls around depth row s r m
-controls_at around depth row s m r d tokens number is same_tokens same_number here =
-    subst (λ (z : Option Directive). Controls around depth row s (record { tokens = r.tokens; number = r.number; directive = z }) m) (sym is)
-    (subst (λ (z : ℕ). Controls around depth row s (directed d r.tokens z) m) same_number
-    (subst (λ (z : List Token). Controls around depth row s (directed d z number) m) same_tokens here))
+    → Controls context depth row s (directed d tokens number) m
+    → Controls context depth row s r m
+controls_at context depth row s m r d tokens number is same_tokens same_number here =
+    subst (λ (z : Option Directive). Controls context depth row s (record { tokens = r.tokens; number = r.number; directive = z }) m) (sym is)
+    (subst (λ (z : ℕ). Controls context depth row s (directed d r.tokens z) m) same_number
+    (subst (λ (z : List Token). Controls context depth row s (directed d z number) m) same_tokens here))
 
-pub other_control : (around : Surroundings) (depth row : ℕ) (by : Profile) (s t : State) (d : Directive) (r : LogicalLine) (f : Option Fault)
-    → by ≡ around.profile
+pub other_control : (context : Context) (depth row : ℕ) (by : Profile) (s t : State) (d : Directive) (r : LogicalLine) (f : Option Fault)
+    → by ≡ context.profile
     → r.directive ≡ Some d
-    → lone_quote r.tokens ≡ None
+    → unmatched_quote r.tokens ≡ None
     → ControlBy by row (Some d) s r (record { state = t; fault = f })
-    → Controls around depth row s r (record { state = t; fault = f })
-other_control around depth row by s t d r f one is alone control =
+    → Controls context depth row s r (record { state = t; fault = f })
+other_control context depth row by s t d r f one is alone control =
     let here = subst (λ (z : Profile). ControlBy z row (Some d) s r (record { state = t; fault = f })) one control in
-    let line = subst (λ (z : Option Directive). ControlBy around.profile row z s r (record { state = t; fault = f })) (sym is) here in
+    let line = subst (λ (z : Option Directive). ControlBy context.profile row z s r (record { state = t; fault = f })) (sym is) here in
     Controls.other alone line
 
 -- ---- where a line leads
 
-leads_on : (around : Files → Surroundings) (files : Files) (depth : ℕ) (one other : Files → Reached → Type 0) (t : State)
+leads_on : (context : Files → Context) (files : Files) (depth : ℕ) (one other : Files → Reached → Type 0) (t : State)
     (r : Result (Option Entered) Fault)
     → ((more : Files) (m : Reached) → one more m → other more m)
-    → Leads around files depth one t r
-    → Leads around files depth other t r
-leads_on around files depth one other t (Ok None) expansion_step leads = λ more grows. expansion_step more (going t) (leads more grows)
-leads_on around files depth one other t (Ok (Some e)) expansion_step leads = record {
+    → Leads context files depth one t r
+    → Leads context files depth other t r
+leads_on context files depth one other t (Ok None) expansion_step leads = λ more grows. expansion_step more (going t) (leads more grows)
+leads_on context files depth one other t (Ok (Some e)) expansion_step leads = record {
   fits = leads.fits;
   begins = leads.begins;
   few = leads.few;
   parts = leads.parts;
   tree = leads.tree;
-  group = λ more grows m group. expansion_step more (back e.outer m) (leads.group more grows m group);
+  group = λ more grows m group. expansion_step more (restored e.outer m) (leads.group more grows m group);
 }
-leads_on around files depth one other t (Err f) expansion_step leads = λ more grows. expansion_step more (stopped t f) (leads more grows)
+leads_on context files depth one other t (Err f) expansion_step leads = λ more grows. expansion_step more (stopped t f) (leads more grows)
 
-pub leads_included : (around : Files → Surroundings) (files : Files) (depth deeper row : ℕ) (behind : Option ℕ) (found : ℕ × ℕ) (at : Place)
-    (line : LogicalLine) (s t : State) (after : Option ℕ) (a : Asked) (r : Result (Option Entered) Fault)
+pub leads_included : (context : Files → Context) (files : Files) (depth deeper row : ℕ) (following : Option ℕ) (found : ℕ × ℕ) (at : Place)
+    (line : LogicalLine) (s t : State) (after : Option ℕ) (a : IncludeName) (r : Result (Option Entered) Fault)
     → deeper ≡ suc depth
     → at ≡ sign_place line.tokens
-    → Asks s line.tokens after (Ok a)
-    → ((more : Files) → Finds (around more) row behind a (Some found))
-    → Leads around files deeper (λ more m. Opened (around more) deeper at (with_left s after) found.0 (Some found.1) m) t r
-    → Leads around files (suc depth) (λ more m. Includes (around more) depth row behind s line m) t r
-leads_included around files depth deeper row behind found at line s t after a r one place asks finds leads =
+    → NamesHeader s line.tokens after (Ok a)
+    → ((more : Files) → FindsFile (context more) row following a (Some found))
+    → Leads context files deeper (λ more m. Opened (context more) deeper at (with_left s after) found.0 (Some found.1) m) t r
+    → Leads context files (suc depth) (λ more m. Includes (context more) depth row following s line m) t r
+leads_included context files depth deeper row following found at line s t after a r one place asks finds leads =
     let u = with_left s after in
-    let here : Leads around files (suc depth) (λ more m. Opened (around more) (suc depth) (sign_place line.tokens) u found.0 (Some found.1) m) t r =
-    subst (λ (z : Place). Leads around files (suc depth) (λ more m. Opened (around more) (suc depth) z u found.0 (Some found.1) m) t r) place
-    (subst (λ (z : ℕ). Leads around files z (λ more m. Opened (around more) z at u found.0 (Some found.1) m) t r) one leads) in
-    leads_on around files (suc depth) (λ more m. Opened (around more) (suc depth) (sign_place line.tokens) u found.0 (Some found.1) m)
-    (λ more m. Includes (around more) depth row behind s line m) t r (λ more m opened. Includes.included a found asks (finds more) opened) here
+    let here : Leads context files (suc depth) (λ more m. Opened (context more) (suc depth) (sign_place line.tokens) u found.0 (Some found.1) m) t r =
+    subst (λ (z : Place). Leads context files (suc depth) (λ more m. Opened (context more) (suc depth) z u found.0 (Some found.1) m) t r) place
+    (subst (λ (z : ℕ). Leads context files z (λ more m. Opened (context more) z at u found.0 (Some found.1) m) t r) one leads) in
+    leads_on context files (suc depth) (λ more m. Opened (context more) (suc depth) (sign_place line.tokens) u found.0 (Some found.1) m)
+    (λ more m. Includes (context more) depth row following s line m) t r (λ more m opened. Includes.included a found asks (finds more) opened) here
 
-pub leads_include : (around : Files → Surroundings) (files : Files) (depth row : ℕ) (next : Bool) (folder : Option ℕ) (line : LogicalLine) (s t : State)
+pub leads_include : (context : Files → Context) (files : Files) (depth row : ℕ) (next : Bool) (directory : Option ℕ) (line : LogicalLine) (s t : State)
     (r : Result (Option Entered) Fault)
-    → folder ≡ (if next then s.folder else None)
+    → directory ≡ (if next then s.directory else None)
     → class_by line.directive ≡ Some (class.Includes next)
-    → lone_quote line.tokens ≡ None
-    → Leads around files (suc depth) (λ more m. Includes (around more) depth row folder s line m) t r
-    → Leads around files (suc depth) (λ more m. Controls (around more) depth row s line m) t r
-leads_include around files depth row next folder line s t r its is alone leads =
-    leads_on around files (suc depth) (λ more m. Includes (around more) depth row folder s line m) (λ more m. Controls (around more) depth row s line m) t r
-    (λ more m here. Controls.include is alone (subst (λ (z : Option ℕ). Includes (around more) depth row z s line m) its here)) leads
+    → unmatched_quote line.tokens ≡ None
+    → Leads context files (suc depth) (λ more m. Includes (context more) depth row directory s line m) t r
+    → Leads context files (suc depth) (λ more m. Controls (context more) depth row s line m) t r
+leads_include context files depth row next directory line s t r its is alone leads =
+    leads_on context files (suc depth) (λ more m. Includes (context more) depth row directory s line m) (λ more m. Controls (context more) depth row s line m) t r
+    (λ more m here. Controls.include is alone (subst (λ (z : Option ℕ). Includes (context more) depth row z s line m) its here)) leads
 
-pub steps_line : (around : Files → Surroundings) (files : Files) (depth row : ℕ) (lines : List LogicalLine) (index : ℕ) (s t : State)
+pub steps_line : (context : Files → Context) (files : Files) (depth row : ℕ) (lines : List LogicalLine) (index : ℕ) (s t : State)
     (next : ℕ) (r : ℕ × Option Entered)
     → r ≡ (next, None)
-    → Advances around files depth row lines index s t (Ok next)
-    → Steps around files depth row lines index s t (Ok r)
-steps_line around files depth row lines index s t next r is advances =
-    subst (λ (z : ℕ × Option Entered). Steps around files depth row lines index s t (Ok z)) (sym is) advances
+    → Advances context files depth row lines index s t (Ok next)
+    → Steps context files depth row lines index s t (Ok r)
+steps_line context files depth row lines index s t next r is advances =
+    subst (λ (z : ℕ × Option Entered). Steps context files depth row lines index s t (Ok z)) (sym is) advances
 
-module _ (around : Files → Surroundings) (files : Files) (depth row : ℕ) (lines : List LogicalLine) (index : ℕ) (s t : State) (d : Directive)
+module _ (context : Files → Context) (files : Files) (depth row : ℕ) (lines : List LogicalLine) (index : ℕ) (s t : State) (d : Directive)
     (tokens : List Token) (number : ℕ) (within : index < length lines) (is : (line_at lines index).directive ≡ Some d)
     (opens : opens_section d ≡ false) (ends : ends_group d ≡ false) (same_tokens : tokens ≡ (line_at lines index).tokens)
     (same_number : number ≡ (line_at lines index).number) where
   leads_there : (r : Result (Option Entered) Fault)
-      → Leads around files (suc depth) (λ more m. Controls (around more) depth row s (directed d tokens number) m) t r
-      → Leads around files (suc depth) (λ more m. Controls (around more) depth row s (line_at lines index) m) t r
+      → Leads context files (suc depth) (λ more m. Controls (context more) depth row s (directed d tokens number) m) t r
+      → Leads context files (suc depth) (λ more m. Controls (context more) depth row s (line_at lines index) m) t r
   leads_there r leads =
-      leads_on around files (suc depth) (λ more m. Controls (around more) depth row s (directed d tokens number) m)
-      (λ more m. Controls (around more) depth row s (line_at lines index) m) t r
-      (λ more m here. controls_at (around more) depth row s m (line_at lines index) d tokens number is same_tokens same_number here) leads
+      leads_on context files (suc depth) (λ more m. Controls (context more) depth row s (directed d tokens number) m)
+      (λ more m. Controls (context more) depth row s (line_at lines index) m) t r
+      (λ more m here. controls_at (context more) depth row s m (line_at lines index) d tokens number is same_tokens same_number here) leads
 
-  steps_by : (entered : Option Entered) → Leads around files (suc depth) (λ more m. Controls (around more) depth row s (line_at lines index) m) t (Ok entered) → StepsTo around files depth row lines index s t (index + 1) entered
-  steps_by None leads = control_advances around files depth row lines index s t None d within is opens ends leads
+  steps_by : (entered : Option Entered) → Leads context files (suc depth) (λ more m. Controls (context more) depth row s (line_at lines index) m) t (Ok entered) → StepsTo context files depth row lines index s t (index + 1) entered
+  steps_by None leads = control_advances context files depth row lines index s t None d within is opens ends leads
   steps_by (Some e) leads = (passes depth row lines index s d within is opens ends, leads)
 
   pub steps_control : (entered : Option Entered)
-      → Leads around files (suc depth) (λ more m. Controls (around more) depth row s (directed d tokens number) m) t (Ok entered)
-      → StepsTo around files depth row lines index s t (index + 1) entered
+      → Leads context files (suc depth) (λ more m. Controls (context more) depth row s (directed d tokens number) m) t (Ok entered)
+      → StepsTo context files depth row lines index s t (index + 1) entered
   steps_control entered leads = steps_by entered (leads_there (Ok entered) leads)
 
   pub stops_control : (f : Fault)
-      → Leads around files (suc depth) (λ more m. Controls (around more) depth row s (directed d tokens number) m) t (Err f)
-      → Advances around files depth row lines index s t (Err f)
-  stops_control f leads = control_advances around files depth row lines index s t (Some f) d within is opens ends (leads_there (Err f) leads)
+      → Leads context files (suc depth) (λ more m. Controls (context more) depth row s (directed d tokens number) m) t (Err f)
+      → Advances context files depth row lines index s t (Err f)
+  stops_control f leads = control_advances context files depth row lines index s t (Some f) d within is opens ends (leads_there (Err f) leads)

@@ -23,7 +23,7 @@ pub mod Preprocessed
 -- The lines of a file by index, and their tokens.
 pub mod IndexedLines
 -- The length of the file that holds a unit's definitions.
-pub mod Commands
+pub mod CommandFile
 -- Which part of a group the first line of its lines belongs to, by the line's directive.
 pub mod FirstLine
 -- What is after a line follows from what is left: one step of a walk.

@@ -5,7 +5,7 @@ use Rattle.std.proofs.lemmas.Bool.Decides.{nat_tests}
 use Rattle.pptext.specs.declared.tokens.Token.{Token}
 use Rattle.pptext.specs.Tokens.{is_punct}
 use Rattle.ppmacro.specs.Substitution.{spelled_space}
-use Rattle.ppunit.specs.Lines.{spaced}
+use Rattle.ppunit.specs.DirectiveLines.{spaced}
 use Rattle.ppunit.specs.Directives.{message}
 use Rattle.ppunit.specs.Including.{ended, prefixed, angle_rest, angle_name}
 
@@ -22,21 +22,21 @@ marked false = refl
 
 -- ---- the message
 
-abbrev pub told : Bool → List Token → List ℕ
-told first [] = []
-told first (t ∷ ts) = spelled_space first t ++ (t.text ++ told false ts)
+abbrev pub probe_result : Bool → List Token → List ℕ
+probe_result first [] = []
+probe_result first (t ∷ ts) = spelled_space first t ++ (t.text ++ probe_result false ts)
 
 behind_mark : (b : Bool) (xs ys : List ℕ) → mark (b && not false) ++ (xs ++ ys) ≡ (mark b ++ xs) ++ ys
 behind_mark true xs ys = refl
 behind_mark false xs ys = refl
 
-told_behind : (ts : List Token) → told false ts ≡ flat_map spaced ts
+told_behind : (ts : List Token) → probe_result false ts ≡ flat_map spaced ts
 told_behind [] = refl
-told_behind (t ∷ ts) = behind_mark t.space t.text (told false ts) ∙ ap (λ (z : List ℕ). spaced t ++ z) (told_behind ts)
+told_behind (t ∷ ts) = behind_mark t.space t.text (probe_result false ts) ∙ ap (λ (z : List ℕ). spaced t ++ z) (told_behind ts)
 
-pub told_message : (ts : List Token) → told true ts ≡ message ts
+pub told_message : (ts : List Token) → probe_result true ts ≡ message ts
 told_message [] = refl
-told_message (t ∷ ts) = ap (λ (z : List ℕ). z ++ (t.text ++ told false ts)) (unmarked t.space) ∙ ap (λ (z : List ℕ). t.text ++ z) (told_behind ts)
+told_message (t ∷ ts) = ap (λ (z : List ℕ). z ++ (t.text ++ probe_result false ts)) (unmarked t.space) ∙ ap (λ (z : List ℕ). t.text ++ z) (told_behind ts)
 
 -- ---- the name
 

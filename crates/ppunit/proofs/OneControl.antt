@@ -8,11 +8,11 @@ use Rattle.pptext.specs.Classes.{class_by}
 use Rattle.pptext.specs.Lines.{LogicalLine}
 use Rattle.pptext.specs.Tree.{sign_place}
 use Rattle.ppshelf.specs.Names.{AreNames}
-use Rattle.ppunit.specs.Including.{Asked}
-use Rattle.ppunit.specs.States.{State, Surroundings, Reached, going, stopped, with_left}
-use Rattle.ppunit.specs.Lines.{operands, line_fault}
-use Rattle.ppunit.specs.Quotes.{lone_quote}
-use Rattle.ppunit.specs.Directives.{ControlBy, message, looks_at_quotes, Asks, Finds}
+use Rattle.ppunit.specs.Including.{IncludeName}
+use Rattle.ppunit.specs.States.{State, Context, Reached, going, stopped, with_left}
+use Rattle.ppunit.specs.DirectiveLines.{operands, line_fault}
+use Rattle.ppunit.specs.Quotes.{unmatched_quote}
+use Rattle.ppunit.specs.Directives.{ControlBy, message, looks_at_quotes, NamesHeader, FindsFile}
 use Rattle.ppunit.specs.Group.{Controls, Includes, Opened}
 use Rattle.ppunit.proofs.OneLine.{OneExpansion, OneDecision, OneRow, control_by_once, asks_once}
 use Rattle.ppunit.proofs.OneSection.{stopped_again}
@@ -25,19 +25,19 @@ error_quiet c is looks = absurd (cc)
 ignored_quiet : (c : Option Class) → c ≡ Some class.Ignored → looks_at_quotes c ≡ true → ⊥
 ignored_quiet c is looks = absurd (cc)
 
-module _ (expansions : OneExpansion) (decisions : OneDecision) (rows : OneRow) (around : Surroundings) (once : AreNames around.names) where
-  finds_once : (from : ℕ) (behind : Option ℕ) (asked : Asked) (a b : Option (ℕ × ℕ)) → Finds around from behind asked a → Finds around from behind asked b → a ≡ b
-  finds_once from behind asked a b p q = rows around.names once _ a b p q
+module _ (expansions : OneExpansion) (decisions : OneDecision) (rows : OneRow) (context : Context) (once : AreNames context.names) where
+  finds_once : (from : ℕ) (following : Option ℕ) (include_name : IncludeName) (a b : Option (ℕ × ℕ)) → FindsFile context from following include_name a → FindsFile context from following include_name b → a ≡ b
+  finds_once from following include_name a b p q = rows context.names once _ a b p q
 
   not_other : (row : ℕ) (c : Class) (s : State) (line : LogicalLine) (m : Reached)
       → class_by line.directive ≡ Some c
-      → ControlBy around.profile row line.directive s line m
+      → ControlBy context.profile row line.directive s line m
       → Some c ≡ Some class.Control
-  not_other row c s line m is does = sym is ∙ control_class around.profile row line.directive s line m does
+  not_other row c s line m is does = sym is ∙ control_class context.profile row line.directive s line m does
 
   pub at_error : {depth row : ℕ} {s : State} {line : LogicalLine} {m : Reached}
       → class_by line.directive ≡ Some class.Error
-      → Controls around depth row s line m
+      → Controls context depth row s line m
       → stopped s (line_fault 34 line.tokens (message (operands line.tokens))) ≡ m
   at_error e (Controls.error is) = refl
   at_error e (Controls.ignored is) = let differs : Some class.Error ≡ Some class.Ignored = sym e ∙ is in absurd (cc)
@@ -47,7 +47,7 @@ module _ (expansions : OneExpansion) (decisions : OneDecision) (rows : OneRow) (
 
   pub at_ignored : {depth row : ℕ} {s : State} {line : LogicalLine} {m : Reached}
       → class_by line.directive ≡ Some class.Ignored
-      → Controls around depth row s line m
+      → Controls context depth row s line m
       → going s ≡ m
   at_ignored e (Controls.error is) = let differs : Some class.Ignored ≡ Some class.Error = sym e ∙ is in absurd (cc)
   at_ignored e (Controls.ignored is) = refl
@@ -57,8 +57,8 @@ module _ (expansions : OneExpansion) (decisions : OneDecision) (rows : OneRow) (
 
   pub at_quote : {depth row : ℕ} {s : State} {line : LogicalLine} {f : Fault} {m : Reached}
       → looks_at_quotes (class_by line.directive) ≡ true
-      → lone_quote line.tokens ≡ Some f
-      → Controls around depth row s line m
+      → unmatched_quote line.tokens ≡ Some f
+      → Controls context depth row s line m
       → stopped s f ≡ m
   at_quote {line = line} looks e (Controls.error is) = absurd (error_quiet (class_by line.directive) is looks)
   at_quote {line = line} looks e (Controls.ignored is) = absurd (ignored_quiet (class_by line.directive) is looks)
@@ -67,23 +67,23 @@ module _ (expansions : OneExpansion) (decisions : OneDecision) (rows : OneRow) (
   at_quote looks e (Controls.include is q here) = absurd (cc)
 
   pub at_other : {depth row : ℕ} {s : State} {line : LogicalLine} {k m : Reached}
-      → lone_quote line.tokens ≡ None
-      → ControlBy around.profile row line.directive s line k
-      → Controls around depth row s line m
+      → unmatched_quote line.tokens ≡ None
+      → ControlBy context.profile row line.directive s line k
+      → Controls context depth row s line m
       → k ≡ m
   at_other {row = row} {s = s} {line = line} {k = k} q does (Controls.error is) = let differs = not_other row class.Error s line k is does in absurd (cc)
   at_other {row = row} {s = s} {line = line} {k = k} q does (Controls.ignored is) = let differs = not_other row class.Ignored s line k is does in absurd (cc)
   at_other q does (Controls.quote is e) = absurd (cc)
   at_other {row = row} {s = s} {line = line} {k = k} {m = m} q does (Controls.other e does') =
-      control_by_once expansions decisions around.profile row line.directive s line k m does does'
+      control_by_once expansions decisions context.profile row line.directive s line k m does does'
   at_other {row = row} {s = s} {line = line} {k = k} q does (Controls.include {next = next} is e here) =
       let differs = not_other row (class.Includes next) s line k is does in absurd (cc)
 
   pub at_include : {depth row : ℕ} {next : Bool} {s : State} {line : LogicalLine} {m : Reached}
       → class_by line.directive ≡ Some (class.Includes next)
-      → lone_quote line.tokens ≡ None
-      → Controls around depth row s line m
-      → Includes around depth row (if next then s.folder else None) s line m
+      → unmatched_quote line.tokens ≡ None
+      → Controls context depth row s line m
+      → Includes context depth row (if next then s.directory else None) s line m
   at_include {next = next} e q (Controls.error is) = let differs : Some (class.Includes next) ≡ Some class.Error = sym e ∙ is in absurd (cc)
   at_include {next = next} e q (Controls.ignored is) = let differs : Some (class.Includes next) ≡ Some class.Ignored = sym e ∙ is in absurd (cc)
   at_include e q (Controls.quote is q') = absurd (cc)
@@ -92,54 +92,54 @@ module _ (expansions : OneExpansion) (decisions : OneDecision) (rows : OneRow) (
   at_include {depth = depth} {row = row} {next = next} {s = s} {line = line} {m = m} e q (Controls.include {next = other} is q' here) =
       let both : Some (class.Includes other) ≡ Some (class.Includes next) = sym is ∙ e in
       let same : other ≡ next = cc in
-      subst (λ (b : Bool). Includes around depth row (if b then s.folder else None) s line m) same here
+      subst (λ (b : Bool). Includes context depth row (if b then s.directory else None) s line m) same here
 
   -- one line asks for one thing
-  same_asked : (s : State) (line : List Token) (after behind : Option ℕ) (a b : Asked) → Asks s line after (Ok a) → Asks s line behind (Ok b) → a ≡ b
-  same_asked s line after behind a b p q = let one : Ok a ≡ Ok b = (asks_once expansions decisions s line after behind (Ok a) (Ok b) p q).0 in cc
+  same_asked : (s : State) (line : List Token) (after following : Option ℕ) (a b : IncludeName) → NamesHeader s line after (Ok a) → NamesHeader s line following (Ok b) → a ≡ b
+  same_asked s line after following a b p q = let one : Ok a ≡ Ok b = (asks_once expansions decisions s line after following (Ok a) (Ok b) p q).0 in cc
 
   pub after_misnamed : {depth row : ℕ} {start : Option ℕ} {s : State} {line : LogicalLine} {after : Option ℕ} {f : Fault} {m : Reached}
-      → Asks s line.tokens after (Err f)
-      → Includes around depth row start s line m
+      → NamesHeader s line.tokens after (Err f)
+      → Includes context depth row start s line m
       → stopped (with_left s after) f ≡ m
-  after_misnamed {s = s} {line = line} {after = after} {f = f} asks (Includes.misnamed {after = behind} {f = g} asks') =
-      let one = asks_once expansions decisions s line.tokens after behind (Err f) (Err g) asks asks' in
-      stopped_again expansions decisions around {A = Asked} s after behind f g one.0 one.1
-  after_misnamed {s = s} {line = line} {after = after} {f = f} asks (Includes.missing {after = behind} a asks' finds) =
-      let one : Err f ≡ Ok a = (asks_once expansions decisions s line.tokens after behind (Err f) (Ok a) asks asks').0 in absurd (cc)
-  after_misnamed {s = s} {line = line} {after = after} {f = f} asks (Includes.included {after = behind} a found asks' finds opens) =
-      let one : Err f ≡ Ok a = (asks_once expansions decisions s line.tokens after behind (Err f) (Ok a) asks asks').0 in absurd (cc)
+  after_misnamed {s = s} {line = line} {after = after} {f = f} asks (Includes.misnamed {after = following} {f = g} asks') =
+      let one = asks_once expansions decisions s line.tokens after following (Err f) (Err g) asks asks' in
+      stopped_again expansions decisions context {A = IncludeName} s after following f g one.0 one.1
+  after_misnamed {s = s} {line = line} {after = after} {f = f} asks (Includes.missing {after = following} a asks' finds) =
+      let one : Err f ≡ Ok a = (asks_once expansions decisions s line.tokens after following (Err f) (Ok a) asks asks').0 in absurd (cc)
+  after_misnamed {s = s} {line = line} {after = after} {f = f} asks (Includes.included {after = following} a found asks' finds opens) =
+      let one : Err f ≡ Ok a = (asks_once expansions decisions s line.tokens after following (Err f) (Ok a) asks asks').0 in absurd (cc)
 
-  pub after_missing : {depth row : ℕ} {start : Option ℕ} {s : State} {line : LogicalLine} {after : Option ℕ} {m : Reached} (a : Asked)
-      → Asks s line.tokens after (Ok a)
-      → Finds around row start a None
-      → Includes around depth row start s line m
+  pub after_missing : {depth row : ℕ} {start : Option ℕ} {s : State} {line : LogicalLine} {after : Option ℕ} {m : Reached} (a : IncludeName)
+      → NamesHeader s line.tokens after (Ok a)
+      → FindsFile context row start a None
+      → Includes context depth row start s line m
       → stopped (with_left s after) (line_fault 31 line.tokens a.name) ≡ m
-  after_missing {s = s} {line = line} {after = after} a asks finds (Includes.misnamed {after = behind} {f = f} asks') =
-      let one : Ok a ≡ Err f = (asks_once expansions decisions s line.tokens after behind (Ok a) (Err f) asks asks').0 in absurd (cc)
-  after_missing {s = s} {line = line} {after = after} a asks finds (Includes.missing {after = behind} b asks' finds') =
-      let same = same_asked s line.tokens after behind a b asks asks' in
-      let lefts = (asks_once expansions decisions s line.tokens after behind (Ok a) (Ok b) asks asks').1 in
+  after_missing {s = s} {line = line} {after = after} a asks finds (Includes.misnamed {after = following} {f = f} asks') =
+      let one : Ok a ≡ Err f = (asks_once expansions decisions s line.tokens after following (Ok a) (Err f) asks asks').0 in absurd (cc)
+  after_missing {s = s} {line = line} {after = after} a asks finds (Includes.missing {after = following} b asks' finds') =
+      let same = same_asked s line.tokens after following a b asks asks' in
+      let lefts = (asks_once expansions decisions s line.tokens after following (Ok a) (Ok b) asks asks').1 in
       λ i. stopped (with_left s (lefts i)) (line_fault 31 line.tokens (same i).name)
-  after_missing {row = row} {start = start} {s = s} {line = line} {after = after} a asks finds (Includes.included {after = behind} b found asks' finds' opens) =
-      let same = same_asked s line.tokens after behind a b asks asks' in
-      let one : None ≡ Some found = finds_once row start b None (Some found) (subst (λ x. Finds around row start x None) same finds) finds' in absurd (cc)
+  after_missing {row = row} {start = start} {s = s} {line = line} {after = after} a asks finds (Includes.included {after = following} b found asks' finds' opens) =
+      let same = same_asked s line.tokens after following a b asks asks' in
+      let one : None ≡ Some found = finds_once row start b None (Some found) (subst (λ x. FindsFile context row start x None) same finds) finds' in absurd (cc)
 
-  pub after_included : {depth row : ℕ} {start : Option ℕ} {s : State} {line : LogicalLine} {after : Option ℕ} {m : Reached} (a : Asked) (found : ℕ × ℕ)
-      → Asks s line.tokens after (Ok a)
-      → Finds around row start a (Some found)
-      → Includes around depth row start s line m
-      → Opened around (suc depth) (sign_place line.tokens) (with_left s after) found.0 (Some found.1) m
-  after_included {s = s} {line = line} {after = after} a found asks finds (Includes.misnamed {after = behind} {f = f} asks') =
-      let one : Ok a ≡ Err f = (asks_once expansions decisions s line.tokens after behind (Ok a) (Err f) asks asks').0 in absurd (cc)
-  after_included {row = row} {start = start} {s = s} {line = line} {after = after} a found asks finds (Includes.missing {after = behind} b asks' finds') =
-      let same = same_asked s line.tokens after behind a b asks asks' in
-      let one : Some found ≡ None = finds_once row start b (Some found) None (subst (λ x. Finds around row start x (Some found)) same finds) finds' in absurd (cc)
+  pub after_included : {depth row : ℕ} {start : Option ℕ} {s : State} {line : LogicalLine} {after : Option ℕ} {m : Reached} (a : IncludeName) (found : ℕ × ℕ)
+      → NamesHeader s line.tokens after (Ok a)
+      → FindsFile context row start a (Some found)
+      → Includes context depth row start s line m
+      → Opened context (suc depth) (sign_place line.tokens) (with_left s after) found.0 (Some found.1) m
+  after_included {s = s} {line = line} {after = after} a found asks finds (Includes.misnamed {after = following} {f = f} asks') =
+      let one : Ok a ≡ Err f = (asks_once expansions decisions s line.tokens after following (Ok a) (Err f) asks asks').0 in absurd (cc)
+  after_included {row = row} {start = start} {s = s} {line = line} {after = after} a found asks finds (Includes.missing {after = following} b asks' finds') =
+      let same = same_asked s line.tokens after following a b asks asks' in
+      let one : Some found ≡ None = finds_once row start b (Some found) None (subst (λ x. FindsFile context row start x (Some found)) same finds) finds' in absurd (cc)
   after_included {depth = depth} {row = row} {start = start} {s = s} {line = line} {after = after} {m = m} a found asks finds
-      (Includes.included {after = behind} b other asks' finds' opens) =
-      let same = same_asked s line.tokens after behind a b asks asks' in
-      let one : Some found ≡ Some other = finds_once row start b (Some found) (Some other) (subst (λ x. Finds around row start x (Some found)) same finds) finds' in
+      (Includes.included {after = following} b other asks' finds' opens) =
+      let same = same_asked s line.tokens after following a b asks asks' in
+      let one : Some found ≡ Some other = finds_once row start b (Some found) (Some other) (subst (λ x. FindsFile context row start x (Some found)) same finds) finds' in
       let same_row : other ≡ found = cc in
-      let lefts = sym (asks_once expansions decisions s line.tokens after behind (Ok a) (Ok b) asks asks').1 in
-      subst (λ (x : Option ℕ). Opened around (suc depth) (sign_place line.tokens) (with_left s x) found.0 (Some found.1) m) lefts
-      (subst (λ (x : ℕ × ℕ). Opened around (suc depth) (sign_place line.tokens) (with_left s behind) x.0 (Some x.1) m) same_row opens)
+      let lefts = sym (asks_once expansions decisions s line.tokens after following (Ok a) (Ok b) asks asks').1 in
+      subst (λ (x : Option ℕ). Opened context (suc depth) (sign_place line.tokens) (with_left s x) found.0 (Some found.1) m) lefts
+      (subst (λ (x : ℕ × ℕ). Opened context (suc depth) (sign_place line.tokens) (with_left s following) x.0 (Some x.1) m) same_row opens)

@@ -2,8 +2,8 @@
 use Rattle.std.proofs.Common.{◌≡◌, ℕ, ◌+◌, List, Option, Some, None, refl, sym, ap, ◌∙◌, arith}
 use Rattle.ppexpand.specs.Laws.{plus}
 use Rattle.ppshelf.specs.Names.{AreNames}
-use Rattle.ppunit.specs.States.{State, Surroundings, Reached, given}
-use Rattle.ppunit.specs.Unit.{Translates, surroundings, count_translates}
+use Rattle.ppunit.specs.States.{State, Context, Reached, output}
+use Rattle.ppunit.specs.Unit.{Translates, context_of_unit, count_translates}
 use Rattle.ppunit.specs.Laws.{HasOneValue}
 use Rattle.ppunit.proofs.Spends.{unit_spends}
 use Rattle.ppunit.proofs.EnoughForLines.{holding}
@@ -17,30 +17,30 @@ spent_once b m n None p q = absurd (cc)
 spent_once b m n (Some k) p q = let x : b ≡ m + k = cc in let y : b ≡ n + k = cc in omega arith
 
 module _ (expansions : OneExpansion) (decisions : OneDecision) (readings : OneReading) (trees : OneTree) (rows : OneRow) where
-  module _ (around : Surroundings) (names : AreNames around.names) where
-    reached_once : {defines : List (List ℕ)} {row : ℕ} {s : State} {y z : Reached} → Translates around defines row s y → Translates around defines row s z → y ≡ z
-    reached_once {z = z} d e = translates_once expansions decisions readings trees rows around names d z e
+  module _ (context : Context) (names : AreNames context.names) where
+    reached_once : {defines : List (List ℕ)} {row : ℕ} {s : State} {y z : Reached} → Translates context defines row s y → Translates context defines row s z → y ≡ z
+    reached_once {z = z} d e = translates_once expansions decisions readings trees rows context names d z e
 
     -- without a budget both are run with one that suffices for both
     counted_once : {defines : List (List ℕ)} {row : ℕ} {s : State} {y z : Reached} (left : Option ℕ)
         → s.left ≡ left
-        → (d : Translates around defines row s y) (e : Translates around defines row s z)
+        → (d : Translates context defines row s y) (e : Translates context defines row s z)
         → count_translates d ≡ count_translates e
     counted_once {y = y} (Some b) is d e =
         let lefts = ap (λ (r : Reached). r.state.left) (reached_once d e) in
-        spent_once b (count_translates d) (count_translates e) y.state.left (sym is ∙ unit_spends around d)
-        (sym is ∙ unit_spends around e ∙ ap (plus (count_translates e)) (sym lefts))
+        spent_once b (count_translates d) (count_translates e) y.state.left (sym is ∙ unit_spends context d)
+        (sym is ∙ unit_spends context e ∙ ap (plus (count_translates e)) (sym lefts))
     counted_once {y = y} {z = z} None is d e =
         let m = count_translates d in
         let n = count_translates e in
-        let same : holding n y ≡ holding m z = reached_once (unit_enough around is d (m + n) n refl) (unit_enough around is e (m + n) m (omega arith)) in
+        let same : holding n y ≡ holding m z = reached_once (unit_enough context is d (m + n) n refl) (unit_enough context is e (m + n) m (omega arith)) in
         let lefts : Some n ≡ Some m = ap (λ (r : Reached). r.state.left) same in
         let counts : n ≡ m = cc in
         sym counts
 
   pub unit_once : HasOneValue
   unit_once names files setting unit a b once p q =
-      let around = surroundings names files setting unit in (
-        p.gives ∙ ap given (reached_once around once p.translates q.translates) ∙ sym q.gives,
-        counted_once around once setting.budget refl p.translates q.translates,
+      let context = context_of_unit names files setting unit in (
+        p.gives ∙ ap output (reached_once context once p.translates q.translates) ∙ sym q.gives,
+        counted_once context once setting.budget refl p.translates q.translates,
       )

@@ -10,16 +10,16 @@ use Rattle.ppexpand.specs.Budget.{is_exhausted}
 use Rattle.ppshelf.specs.Content.{unreadable, readable}
 use Rattle.ppshelf.specs.Files.{file_at}
 use Rattle.ppshelf.specs.Names.{name_in}
-use Rattle.ppunit.specs.Dependencies.{is_among}
-use Rattle.ppunit.specs.States.{State, Surroundings, Reached, going, stopped, depending, entering, leaving, paying}
+use Rattle.ppunit.specs.Dependencies.{has_row}
+use Rattle.ppunit.specs.States.{State, Context, Reached, going, stopped, with_dependency, entering, leaving, with_one_spent}
 use Rattle.ppunit.specs.Group.{deepest, Group, Opened}
 use Rattle.ppunit.proofs.OneLine.{OneReading, OneTree}
 
-module _ (readings : OneReading) (trees : OneTree) (around : Surroundings) where
-  pub at_deep : {depth row : ℕ} {folder : Option ℕ} {at : Place} {s : State} {m : Reached}
+module _ (readings : OneReading) (trees : OneTree) (context : Context) where
+  pub at_deep : {depth row : ℕ} {directory : Option ℕ} {at : Place} {s : State} {m : Reached}
       → deepest < depth
-      → Opened around depth at s row folder m
-      → stopped s (fault 32 at (name_in around.names row)) ≡ m
+      → Opened context depth at s row directory m
+      → stopped s (fault 32 at (name_in context.names row)) ≡ m
   at_deep deep (Opened.too_deep d) = refl
   at_deep deep (Opened.over fits spent) = absurd (omega arith)
   at_deep deep (Opened.known fits some known) = absurd (omega arith)
@@ -31,10 +31,10 @@ module _ (readings : OneReading) (trees : OneTree) (around : Surroundings) where
   one_way : (b : Bool) → b ≡ true → b ≡ false → ⊥
   one_way b e f = let differs : true ≡ false = sym e ∙ f in absurd (cc)
 
-  pub at_over : {depth row : ℕ} {folder : Option ℕ} {at : Place} {s : State} {m : Reached}
+  pub at_over : {depth row : ℕ} {directory : Option ℕ} {at : Place} {s : State} {m : Reached}
       → depth ≤ deepest
       → is_exhausted s.left ≡ true
-      → Opened around depth at s row folder m
+      → Opened context depth at s row directory m
       → stopped s (fault 35 at []) ≡ m
   at_over fits e (Opened.too_deep d) = absurd (omega arith)
   at_over fits e (Opened.over f spent) = refl
@@ -43,29 +43,29 @@ module _ (readings : OneReading) (trees : OneTree) (around : Surroundings) where
   at_over {s = s} fits e (Opened.faulty f some new is reads) = absurd (one_way (is_exhausted s.left) e some)
   at_over {s = s} fits e (Opened.read f some new is reads tree here) = absurd (one_way (is_exhausted s.left) e some)
 
-  pub at_known : {depth row : ℕ} {folder : Option ℕ} {at : Place} {s : State} {m : Reached}
+  pub at_known : {depth row : ℕ} {directory : Option ℕ} {at : Place} {s : State} {m : Reached}
       → depth ≤ deepest
       → is_exhausted s.left ≡ false
-      → is_among row s.once ≡ true
-      → Opened around depth at s row folder m
-      → going (depending (paying s) row) ≡ m
+      → has_row row s.once ≡ true
+      → Opened context depth at s row directory m
+      → going (with_dependency (with_one_spent s) row) ≡ m
   at_known fits some e (Opened.too_deep d) = absurd (omega arith)
   at_known {s = s} fits some e (Opened.over f spent) = absurd (one_way (is_exhausted s.left) spent some)
   at_known fits some e (Opened.known f more known) = refl
-  at_known {row = row} {s = s} fits some e (Opened.not_readable f more new is) = absurd (one_way (is_among row s.once) e new)
-  at_known {row = row} {s = s} fits some e (Opened.faulty f more new is reads) = absurd (one_way (is_among row s.once) e new)
-  at_known {row = row} {s = s} fits some e (Opened.read f more new is reads tree here) = absurd (one_way (is_among row s.once) e new)
+  at_known {row = row} {s = s} fits some e (Opened.not_readable f more new is) = absurd (one_way (has_row row s.once) e new)
+  at_known {row = row} {s = s} fits some e (Opened.faulty f more new is reads) = absurd (one_way (has_row row s.once) e new)
+  at_known {row = row} {s = s} fits some e (Opened.read f more new is reads tree here) = absurd (one_way (has_row row s.once) e new)
 
-  pub at_unreadable : {depth row : ℕ} {folder : Option ℕ} {at : Place} {s : State} {m : Reached}
+  pub at_unreadable : {depth row : ℕ} {directory : Option ℕ} {at : Place} {s : State} {m : Reached}
       → depth ≤ deepest
       → is_exhausted s.left ≡ false
-      → is_among row s.once ≡ false
-      → file_at around.files row ≡ Some unreadable
-      → Opened around depth at s row folder m
-      → stopped (depending (paying s) row) (fault 6 at (name_in around.names row)) ≡ m
+      → has_row row s.once ≡ false
+      → file_at context.files row ≡ Some unreadable
+      → Opened context depth at s row directory m
+      → stopped (with_dependency (with_one_spent s) row) (fault 6 at (name_in context.names row)) ≡ m
   at_unreadable fits some new e (Opened.too_deep d) = absurd (omega arith)
   at_unreadable {s = s} fits some new e (Opened.over f spent) = absurd (one_way (is_exhausted s.left) spent some)
-  at_unreadable {row = row} {s = s} fits some new e (Opened.known f more known) = absurd (one_way (is_among row s.once) known new)
+  at_unreadable {row = row} {s = s} fits some new e (Opened.known f more known) = absurd (one_way (has_row row s.once) known new)
   at_unreadable fits some new e (Opened.not_readable f more n is) = refl
   at_unreadable fits some new e (Opened.faulty {bytes = bytes} f more n is reads) =
       let differs : Some unreadable ≡ Some (readable bytes) = sym e ∙ is in absurd (cc)
@@ -73,56 +73,56 @@ module _ (readings : OneReading) (trees : OneTree) (around : Surroundings) where
       let differs : Some unreadable ≡ Some (readable bytes) = sym e ∙ is in absurd (cc)
 
   same_reading : (row : ℕ) (b c : List ℕ) (x y : Result (List LogicalLine) Fault)
-      → file_at around.files row ≡ Some (readable b)
-      → Reads around.profile row b x
-      → file_at around.files row ≡ Some (readable c)
-      → Reads around.profile row c y
+      → file_at context.files row ≡ Some (readable b)
+      → Reads context.profile row b x
+      → file_at context.files row ≡ Some (readable c)
+      → Reads context.profile row c y
       → x ≡ y
   same_reading row b c x y e p is q =
       let both : Some (readable b) ≡ Some (readable c) = sym e ∙ is in
       let same : c ≡ b = cc in
-      readings around.profile row b x y p (subst (λ z. Reads around.profile row z y) same q)
+      readings context.profile row b x y p (subst (λ z. Reads context.profile row z y) same q)
 
-  pub data AfterReading (depth : ℕ) (at : Place) (s : State) (row : ℕ) (folder : Option ℕ) : Result (List LogicalLine) Fault → Reached → Type 0 where
-    by_fault : {f : Fault} → AfterReading depth at s row folder (Err f) (stopped (depending (paying s) row) f)
+  pub data AfterReading (depth : ℕ) (at : Place) (s : State) (row : ℕ) (directory : Option ℕ) : Result (List LogicalLine) Fault → Reached → Type 0 where
+    by_fault : {f : Fault} → AfterReading depth at s row directory (Err f) (stopped (with_dependency (with_one_spent s) row) f)
     by_lines : {lines : List LogicalLine} {parts : Parts} {m : Reached}
         → Tree lines parts
-        → Group around depth row (going (entering around (paying s) row folder)) parts m
-        → AfterReading depth at s row folder (Ok lines) (leaving s m)
+        → Group context depth row (going (entering context (with_one_spent s) row directory)) parts m
+        → AfterReading depth at s row directory (Ok lines) (leaving s m)
 
-  pub at_reading : {depth row : ℕ} {folder : Option ℕ} {at : Place} {s : State} {m : Reached} (bytes : List ℕ) (x : Result (List LogicalLine) Fault)
+  pub at_reading : {depth row : ℕ} {directory : Option ℕ} {at : Place} {s : State} {m : Reached} (bytes : List ℕ) (x : Result (List LogicalLine) Fault)
       → depth ≤ deepest
       → is_exhausted s.left ≡ false
-      → is_among row s.once ≡ false
-      → file_at around.files row ≡ Some (readable bytes)
-      → Reads around.profile row bytes x
-      → Opened around depth at s row folder m
-      → AfterReading depth at s row folder x m
+      → has_row row s.once ≡ false
+      → file_at context.files row ≡ Some (readable bytes)
+      → Reads context.profile row bytes x
+      → Opened context depth at s row directory m
+      → AfterReading depth at s row directory x m
   at_reading bytes x fits some new e p (Opened.too_deep d) = absurd (omega arith)
   at_reading {s = s} bytes x fits some new e p (Opened.over f spent) = absurd (one_way (is_exhausted s.left) spent some)
-  at_reading {row = row} {s = s} bytes x fits some new e p (Opened.known f more known) = absurd (one_way (is_among row s.once) known new)
+  at_reading {row = row} {s = s} bytes x fits some new e p (Opened.known f more known) = absurd (one_way (has_row row s.once) known new)
   at_reading bytes x fits some new e p (Opened.not_readable f more n is) =
       let differs : Some unreadable ≡ Some (readable bytes) = sym is ∙ e in absurd (cc)
-  at_reading {depth = depth} {row = row} {folder = folder} {at = at} {s = s} bytes x fits some new e p (Opened.faulty {bytes = c} {f = g} f more n is reads) =
-      subst (λ z. AfterReading depth at s row folder z (stopped (depending (paying s) row) g)) (same_reading row c bytes (Err g) x is reads e p) by_fault
-  at_reading {depth = depth} {row = row} {folder = folder} {at = at} {s = s} bytes x fits some new e p
+  at_reading {depth = depth} {row = row} {directory = directory} {at = at} {s = s} bytes x fits some new e p (Opened.faulty {bytes = c} {f = g} f more n is reads) =
+      subst (λ z. AfterReading depth at s row directory z (stopped (with_dependency (with_one_spent s) row) g)) (same_reading row c bytes (Err g) x is reads e p) by_fault
+  at_reading {depth = depth} {row = row} {directory = directory} {at = at} {s = s} bytes x fits some new e p
       (Opened.read {bytes = c} {lines = lines} {m = m} f more n is reads tree here) =
-      subst (λ z. AfterReading depth at s row folder z (leaving s m)) (same_reading row c bytes (Ok lines) x is reads e p) (by_lines tree here)
+      subst (λ z. AfterReading depth at s row directory z (leaving s m)) (same_reading row c bytes (Ok lines) x is reads e p) (by_lines tree here)
 
-  pub after_fault : {depth row : ℕ} {folder : Option ℕ} {at : Place} {s : State} {f : Fault} {x : Result (List LogicalLine) Fault} {m : Reached} → Err f ≡ x → AfterReading depth at s row folder x m → stopped (depending (paying s) row) f ≡ m
-  after_fault {row = row} {s = s} {f = f} e (by_fault {f = g}) = let same : f ≡ g = cc in ap (λ x. stopped (depending (paying s) row) x) same
+  pub after_fault : {depth row : ℕ} {directory : Option ℕ} {at : Place} {s : State} {f : Fault} {x : Result (List LogicalLine) Fault} {m : Reached} → Err f ≡ x → AfterReading depth at s row directory x m → stopped (with_dependency (with_one_spent s) row) f ≡ m
+  after_fault {row = row} {s = s} {f = f} e (by_fault {f = g}) = let same : f ≡ g = cc in ap (λ x. stopped (with_dependency (with_one_spent s) row) x) same
   after_fault e (by_lines tree here) = absurd (cc)
 
   abbrev pub AfterLines : ℕ → State → ℕ → Option ℕ → Parts → Reached → Type 0
-  AfterLines depth s row folder parts m = (n : Reached) × (m ≡ leaving s n) × Group around depth row (going (entering around (paying s) row folder)) parts n
+  AfterLines depth s row directory parts m = (n : Reached) × (m ≡ leaving s n) × Group context depth row (going (entering context (with_one_spent s) row directory)) parts n
 
-  pub after_lines : {depth row : ℕ} {folder : Option ℕ} {at : Place} {s : State} {lines : List LogicalLine} {parts : Parts} {x : Result (List LogicalLine) Fault}
+  pub after_lines : {depth row : ℕ} {directory : Option ℕ} {at : Place} {s : State} {lines : List LogicalLine} {parts : Parts} {x : Result (List LogicalLine) Fault}
       {m : Reached}
       → Ok lines ≡ x
       → Tree lines parts
-      → AfterReading depth at s row folder x m
-      → AfterLines depth s row folder parts m
+      → AfterReading depth at s row directory x m
+      → AfterLines depth s row directory parts m
   after_lines e tree by_fault = absurd (cc)
-  after_lines {depth = depth} {row = row} {folder = folder} {s = s} {lines = lines} {parts = parts} e tree (by_lines {lines = lines'} {parts = parts'} {m = n} tree' here) =
+  after_lines {depth = depth} {row = row} {directory = directory} {s = s} {lines = lines} {parts = parts} e tree (by_lines {lines = lines'} {parts = parts'} {m = n} tree' here) =
       let same : lines' ≡ lines = cc in
-      (n, refl, subst (λ z. Group around depth row (going (entering around (paying s) row folder)) z n) (trees lines parts' parts (subst (λ z. Tree z parts') same tree') tree) here)
+      (n, refl, subst (λ z. Group context depth row (going (entering context (with_one_spent s) row directory)) z n) (trees lines parts' parts (subst (λ z. Tree z parts') same tree') tree) here)

@@ -4,71 +4,71 @@ use Rattle.pptext.specs.declared.tokens.Fault.{Fault}
 use Rattle.pptext.specs.declared.sources.Directive.TheVariants.{Else}
 use Rattle.pptext.specs.Lines.{LogicalLine}
 use Rattle.pptext.specs.Tree.{Parts, Done, Run, Control, Section, Branches, End, Branch}
-use Rattle.ppunit.specs.States.{State, Surroundings, Reached, going, stopped, with_left, search_of}
-use Rattle.ppunit.specs.Lines.{run_tokens}
+use Rattle.ppunit.specs.States.{State, Context, Reached, going, stopped, with_left, search_of}
+use Rattle.ppunit.specs.DirectiveLines.{run_tokens}
 use Rattle.ppunit.specs.Conditions.{Decides}
-use Rattle.ppunit.specs.Directives.{RunGives}
+use Rattle.ppunit.specs.Directives.{EmitsRun}
 use Rattle.ppunit.specs.Group.{Group, Branched, Controls}
 use Rattle.ppunit.proofs.OneLine.{OneExpansion, OneDecision, decides_once}
 
-module _ (expansions : OneExpansion) (decisions : OneDecision) (around : Surroundings) where
+module _ (expansions : OneExpansion) (decisions : OneDecision) (context : Context) where
   abbrev pub AfterRun : ℕ → ℕ → State → List LogicalLine → Parts → Reached → Type 0
-  AfterRun depth row s rs ps end = (m : Reached) × RunGives s (run_tokens rs) m × Group around depth row m ps end
+  AfterRun depth row s rs ps end = (m : Reached) × EmitsRun s (run_tokens rs) m × Group context depth row m ps end
 
-  pub at_run : {depth row : ℕ} {s : State} {rs : List LogicalLine} {ps : Parts} {end : Reached} → Group around depth row (going s) (Run rs ps) end → AfterRun depth row s rs ps end
+  pub at_run : {depth row : ℕ} {s : State} {rs : List LogicalLine} {ps : Parts} {end : Reached} → Group context depth row (going s) (Run rs ps) end → AfterRun depth row s rs ps end
   at_run (Group.run {m = m} gives rest) = (m, gives, rest)
 
   abbrev pub AfterControl : ℕ → ℕ → State → LogicalLine → Parts → Reached → Type 0
-  AfterControl depth row s line ps end = (m : Reached) × Controls around depth row s line m × Group around depth row m ps end
+  AfterControl depth row s line ps end = (m : Reached) × Controls context depth row s line m × Group context depth row m ps end
 
-  pub at_control : {depth row : ℕ} {s : State} {line : LogicalLine} {ps : Parts} {end : Reached} → Group around depth row (going s) (Control line ps) end → AfterControl depth row s line ps end
+  pub at_control : {depth row : ℕ} {s : State} {line : LogicalLine} {ps : Parts} {end : Reached} → Group context depth row (going s) (Control line ps) end → AfterControl depth row s line ps end
   at_control (Group.control {m = m} here rest) = (m, here, rest)
 
-  pub at_done : {depth row : ℕ} {s : State} {end : Reached} → Group around depth row (going s) Done end → going s ≡ end
+  pub at_done : {depth row : ℕ} {s : State} {end : Reached} → Group context depth row (going s) Done end → going s ≡ end
   at_done Group.done = refl
 
-  pub at_stop : {depth row : ℕ} {s : State} {f : Fault} {ps : Parts} {end : Reached} → Group around depth row (stopped s f) ps end → stopped s f ≡ end
+  pub at_stop : {depth row : ℕ} {s : State} {f : Fault} {ps : Parts} {end : Reached} → Group context depth row (stopped s f) ps end → stopped s f ≡ end
   at_stop Group.stays = refl
 
   pub data AfterSection (depth row : ℕ) (s : State) (line : LogicalLine) (ps : Parts) (bs : Branches) (qs : Parts) : Reached → Type 0 where
     is_taken : {after : Option ℕ} {m end : Reached}
-        → Decides (search_of around) row s line after (Ok true)
-        → Group around depth row (going (with_left s after)) ps m
-        → Group around depth row m qs end
+        → Decides (search_of context) row s line after (Ok true)
+        → Group context depth row (going (with_left s after)) ps m
+        → Group context depth row m qs end
         → AfterSection depth row s line ps bs qs end
     is_skipped : {after : Option ℕ} {m end : Reached}
-        → Decides (search_of around) row s line after (Ok false)
-        → Branched around depth row (with_left s after) bs m
-        → Group around depth row m qs end
+        → Decides (search_of context) row s line after (Ok false)
+        → Branched context depth row (with_left s after) bs m
+        → Group context depth row m qs end
         → AfterSection depth row s line ps bs qs end
-    is_refused : {after : Option ℕ} {f : Fault} → Decides (search_of around) row s line after (Err f) → AfterSection depth row s line ps bs qs (stopped (with_left s after) f)
+    is_refused : {after : Option ℕ} {f : Fault} → Decides (search_of context) row s line after (Err f) → AfterSection depth row s line ps bs qs (stopped (with_left s after) f)
 
-  pub at_section : {depth row : ℕ} {s : State} {line : LogicalLine} {ps qs : Parts} {bs : Branches} {end : Reached} → Group around depth row (going s) (Section line ps bs qs) end → AfterSection depth row s line ps bs qs end
+  pub at_section : {depth row : ℕ} {s : State} {line : LogicalLine} {ps qs : Parts} {bs : Branches} {end : Reached} → Group context depth row (going s) (Section line ps bs qs) end → AfterSection depth row s line ps bs qs end
   at_section (Group.taken decides here rest) = is_taken decides here rest
   at_section (Group.skipped decides here rest) = is_skipped decides here rest
   at_section (Group.refused decides) = is_refused decides
 
-  pub at_end : {depth row : ℕ} {s : State} {line : LogicalLine} {m : Reached} → Branched around depth row s (End line) m → going s ≡ m
+  pub at_end : {depth row : ℕ} {s : State} {line : LogicalLine} {m : Reached} → Branched context depth row s (End line) m → going s ≡ m
   at_end Branched.ended = refl
 
   pub data AfterBranch (depth row : ℕ) (s : State) (line : LogicalLine) (ps : Parts) (bs : Branches) : Reached → Type 0 where
-    is_else : {m : Reached} → line.directive ≡ Some Else → Group around depth row (going s) ps m → AfterBranch depth row s line ps bs m
+    is_else : {m : Reached} → line.directive ≡ Some Else → Group context depth row (going s) ps m → AfterBranch depth row s line ps bs m
     is_elif : {after : Option ℕ} {m : Reached}
         → line.directive ≢ Some Else
-        → Decides (search_of around) row s line after (Ok true)
-        → Group around depth row (going (with_left s after)) ps m
+        → Decides (search_of context) row s line after (Ok true)
+        → Group context depth row (going (with_left s after)) ps m
         → AfterBranch depth row s line ps bs m
     is_passed : {after : Option ℕ} {m : Reached}
         → line.directive ≢ Some Else
-        → Decides (search_of around) row s line after (Ok false)
-        → Branched around depth row (with_left s after) bs m
+        → Decides (search_of context) row s line after (Ok false)
+        → Branched context depth row (with_left s after) bs m
         → AfterBranch depth row s line ps bs m
     is_faulty : {after : Option ℕ} {f : Fault}
         → line.directive ≢ Some Else
-        → Decides (search_of around) row s line after (Err f)
+        → Decides (search_of context) row s line after (Err f)
         → AfterBranch depth row s line ps bs (stopped (with_left s after) f)
 
-  pub at_branch : {depth row : ℕ} {s : State} {line : LogicalLine} {ps : Parts} {bs : Branches} {m : Reached} → Branched around depth row s (Branch line ps bs) m → AfterBranch depth row s line ps bs m
+  pub at_branch : {depth row : ℕ} {s : State} {line : LogicalLine} {ps : Parts} {bs : Branches} {m : Reached} → Branched context depth row s (Branch line ps bs) m → AfterBranch depth row s line ps bs m
   at_branch (Branched.otherwise is here) = is_else is here
   at_branch (Branched.branch_taken is decides here) = is_elif is decides here
   at_branch (Branched.branch_skipped is decides rest) = is_passed is decides rest
@@ -77,83 +77,83 @@ module _ (expansions : OneExpansion) (decisions : OneDecision) (around : Surroun
   -- ---- if-sections, by what was found of the first derivation
 
   abbrev SameGroup : ℕ → ℕ → Reached → Parts → Reached → Type 0
-  SameGroup depth row r ps y = (z : Reached) → Group around depth row r ps z → y ≡ z
+  SameGroup depth row r ps y = (z : Reached) → Group context depth row r ps z → y ≡ z
 
   abbrev SameBranches : ℕ → ℕ → State → Branches → Reached → Type 0
-  SameBranches depth row s bs y = (z : Reached) → Branched around depth row s bs z → y ≡ z
+  SameBranches depth row s bs y = (z : Reached) → Branched context depth row s bs z → y ≡ z
 
   -- the same decision leaves the same
-  taken_again : (depth row : ℕ) (s : State) (line : LogicalLine) (ps : Parts) (after behind : Option ℕ) (answer : Result Bool Fault) (z : Reached)
-      → Decides (search_of around) row s line after answer
-      → Decides (search_of around) row s line behind answer
-      → Group around depth row (going (with_left s behind)) ps z
-      → Group around depth row (going (with_left s after)) ps z
-  taken_again depth row s line ps after behind answer z decides decides' here =
-      let lefts = sym (decides_once expansions decisions (search_of around) row s line after behind answer answer decides decides').1 in
-      subst (λ (x : Option ℕ). Group around depth row (going (with_left s x)) ps z) lefts here
+  taken_again : (depth row : ℕ) (s : State) (line : LogicalLine) (ps : Parts) (after following : Option ℕ) (into_output : Result Bool Fault) (z : Reached)
+      → Decides (search_of context) row s line after into_output
+      → Decides (search_of context) row s line following into_output
+      → Group context depth row (going (with_left s following)) ps z
+      → Group context depth row (going (with_left s after)) ps z
+  taken_again depth row s line ps after following into_output z decides decides' here =
+      let lefts = sym (decides_once expansions decisions (search_of context) row s line after following into_output into_output decides decides').1 in
+      subst (λ (x : Option ℕ). Group context depth row (going (with_left s x)) ps z) lefts here
 
-  skipped_again : (depth row : ℕ) (s : State) (line : LogicalLine) (bs : Branches) (after behind : Option ℕ) (answer : Result Bool Fault) (z : Reached)
-      → Decides (search_of around) row s line after answer
-      → Decides (search_of around) row s line behind answer
-      → Branched around depth row (with_left s behind) bs z
-      → Branched around depth row (with_left s after) bs z
-  skipped_again depth row s line bs after behind answer z decides decides' here =
-      let lefts = sym (decides_once expansions decisions (search_of around) row s line after behind answer answer decides decides').1 in
-      subst (λ (x : Option ℕ). Branched around depth row (with_left s x) bs z) lefts here
+  skipped_again : (depth row : ℕ) (s : State) (line : LogicalLine) (bs : Branches) (after following : Option ℕ) (into_output : Result Bool Fault) (z : Reached)
+      → Decides (search_of context) row s line after into_output
+      → Decides (search_of context) row s line following into_output
+      → Branched context depth row (with_left s following) bs z
+      → Branched context depth row (with_left s after) bs z
+  skipped_again depth row s line bs after following into_output z decides decides' here =
+      let lefts = sym (decides_once expansions decisions (search_of context) row s line after following into_output into_output decides decides').1 in
+      subst (λ (x : Option ℕ). Branched context depth row (with_left s x) bs z) lefts here
 
   -- the same fault, where the same is left
-  pub stopped_again : {A : Type 0} (s : State) (after behind : Option ℕ) (f g : Fault) → ◌≡◌ {A = Result A Fault} (Err f) (Err g) → after ≡ behind → stopped (with_left s after) f ≡ stopped (with_left s behind) g
-  stopped_again s after behind f g faults lefts = let same : f ≡ g = cc in λ i. stopped (with_left s (lefts i)) (same i)
+  pub stopped_again : {A : Type 0} (s : State) (after following : Option ℕ) (f g : Fault) → ◌≡◌ {A = Result A Fault} (Err f) (Err g) → after ≡ following → stopped (with_left s after) f ≡ stopped (with_left s following) g
+  stopped_again s after following f g faults lefts = let same : f ≡ g = cc in λ i. stopped (with_left s (lefts i)) (same i)
 
-  refused_again : (row : ℕ) (s : State) (line : LogicalLine) (after behind : Option ℕ) (f g : Fault)
-      → Decides (search_of around) row s line after (Err f)
-      → Decides (search_of around) row s line behind (Err g)
-      → stopped (with_left s after) f ≡ stopped (with_left s behind) g
-  refused_again row s line after behind f g decides decides' =
-      let one = decides_once expansions decisions (search_of around) row s line after behind (Err f) (Err g) decides decides' in
-      stopped_again {A = Bool} s after behind f g one.0 one.1
+  refused_again : (row : ℕ) (s : State) (line : LogicalLine) (after following : Option ℕ) (f g : Fault)
+      → Decides (search_of context) row s line after (Err f)
+      → Decides (search_of context) row s line following (Err g)
+      → stopped (with_left s after) f ≡ stopped (with_left s following) g
+  refused_again row s line after following f g decides decides' =
+      let one = decides_once expansions decisions (search_of context) row s line after following (Err f) (Err g) decides decides' in
+      stopped_again {A = Bool} s after following f g one.0 one.1
 
-  same_decision : (row : ℕ) (s : State) (line : LogicalLine) (after behind : Option ℕ) (a b : Result Bool Fault) → Decides (search_of around) row s line after a → Decides (search_of around) row s line behind b → a ≡ b
-  same_decision row s line after behind a b p q = (decides_once expansions decisions (search_of around) row s line after behind a b p q).0
+  same_decision : (row : ℕ) (s : State) (line : LogicalLine) (after following : Option ℕ) (a b : Result Bool Fault) → Decides (search_of context) row s line after a → Decides (search_of context) row s line following b → a ≡ b
+  same_decision row s line after following a b p q = (decides_once expansions decisions (search_of context) row s line after following a b p q).0
 
   pub after_taken : {depth row : ℕ} {s : State} {line : LogicalLine} {ps qs : Parts} {bs : Branches} {after : Option ℕ} {m y : Reached}
-      → Decides (search_of around) row s line after (Ok true)
+      → Decides (search_of context) row s line after (Ok true)
       → SameGroup depth row (going (with_left s after)) ps m
       → SameGroup depth row m qs y
       → (z : Reached)
       → AfterSection depth row s line ps bs qs z
       → y ≡ z
-  after_taken {depth = depth} {row = row} {s = s} {line = line} {ps = ps} {qs = qs} {after = after} decides here rest z (is_taken {after = behind} {m = n} decides' here' rest') =
-      rest z (subst (λ x. Group around depth row x qs z) (sym (here n (taken_again depth row s line ps after behind (Ok true) n decides decides' here'))) rest')
-  after_taken {row = row} {s = s} {line = line} {after = after} decides here rest z (is_skipped {after = behind} decides' here' rest') =
-      let differs : Ok true ≡ Ok false = same_decision row s line after behind (Ok true) (Ok false) decides decides' in absurd (cc)
-  after_taken {row = row} {s = s} {line = line} {after = after} decides here rest z (is_refused {after = behind} {f = f} decides') =
-      let differs : Ok true ≡ Err f = same_decision row s line after behind (Ok true) (Err f) decides decides' in absurd (cc)
+  after_taken {depth = depth} {row = row} {s = s} {line = line} {ps = ps} {qs = qs} {after = after} decides here rest z (is_taken {after = following} {m = n} decides' here' rest') =
+      rest z (subst (λ x. Group context depth row x qs z) (sym (here n (taken_again depth row s line ps after following (Ok true) n decides decides' here'))) rest')
+  after_taken {row = row} {s = s} {line = line} {after = after} decides here rest z (is_skipped {after = following} decides' here' rest') =
+      let differs : Ok true ≡ Ok false = same_decision row s line after following (Ok true) (Ok false) decides decides' in absurd (cc)
+  after_taken {row = row} {s = s} {line = line} {after = after} decides here rest z (is_refused {after = following} {f = f} decides') =
+      let differs : Ok true ≡ Err f = same_decision row s line after following (Ok true) (Err f) decides decides' in absurd (cc)
 
   pub after_skipped : {depth row : ℕ} {s : State} {line : LogicalLine} {ps qs : Parts} {bs : Branches} {after : Option ℕ} {m y : Reached}
-      → Decides (search_of around) row s line after (Ok false)
+      → Decides (search_of context) row s line after (Ok false)
       → SameBranches depth row (with_left s after) bs m
       → SameGroup depth row m qs y
       → (z : Reached)
       → AfterSection depth row s line ps bs qs z
       → y ≡ z
-  after_skipped {row = row} {s = s} {line = line} {after = after} decides here rest z (is_taken {after = behind} decides' here' rest') =
-      let differs : Ok false ≡ Ok true = same_decision row s line after behind (Ok false) (Ok true) decides decides' in absurd (cc)
-  after_skipped {depth = depth} {row = row} {s = s} {line = line} {qs = qs} {bs = bs} {after = after} decides here rest z (is_skipped {after = behind} {m = n} decides' here' rest') =
-      rest z (subst (λ x. Group around depth row x qs z) (sym (here n (skipped_again depth row s line bs after behind (Ok false) n decides decides' here'))) rest')
-  after_skipped {row = row} {s = s} {line = line} {after = after} decides here rest z (is_refused {after = behind} {f = f} decides') =
-      let differs : Ok false ≡ Err f = same_decision row s line after behind (Ok false) (Err f) decides decides' in absurd (cc)
+  after_skipped {row = row} {s = s} {line = line} {after = after} decides here rest z (is_taken {after = following} decides' here' rest') =
+      let differs : Ok false ≡ Ok true = same_decision row s line after following (Ok false) (Ok true) decides decides' in absurd (cc)
+  after_skipped {depth = depth} {row = row} {s = s} {line = line} {qs = qs} {bs = bs} {after = after} decides here rest z (is_skipped {after = following} {m = n} decides' here' rest') =
+      rest z (subst (λ x. Group context depth row x qs z) (sym (here n (skipped_again depth row s line bs after following (Ok false) n decides decides' here'))) rest')
+  after_skipped {row = row} {s = s} {line = line} {after = after} decides here rest z (is_refused {after = following} {f = f} decides') =
+      let differs : Ok false ≡ Err f = same_decision row s line after following (Ok false) (Err f) decides decides' in absurd (cc)
 
   pub after_refused : {depth row : ℕ} {s : State} {line : LogicalLine} {ps qs : Parts} {bs : Branches} {after : Option ℕ} {f : Fault}
-      → Decides (search_of around) row s line after (Err f)
+      → Decides (search_of context) row s line after (Err f)
       → (z : Reached)
       → AfterSection depth row s line ps bs qs z
       → stopped (with_left s after) f ≡ z
-  after_refused {row = row} {s = s} {line = line} {after = after} {f = f} decides z (is_taken {after = behind} decides' here' rest') =
-      let differs : Err f ≡ Ok true = same_decision row s line after behind (Err f) (Ok true) decides decides' in absurd (cc)
-  after_refused {row = row} {s = s} {line = line} {after = after} {f = f} decides z (is_skipped {after = behind} decides' here' rest') =
-      let differs : Err f ≡ Ok false = same_decision row s line after behind (Err f) (Ok false) decides decides' in absurd (cc)
-  after_refused {row = row} {s = s} {line = line} {after = after} {f = f} decides z (is_refused {after = behind} {f = g} decides') = refused_again row s line after behind f g decides decides'
+  after_refused {row = row} {s = s} {line = line} {after = after} {f = f} decides z (is_taken {after = following} decides' here' rest') =
+      let differs : Err f ≡ Ok true = same_decision row s line after following (Err f) (Ok true) decides decides' in absurd (cc)
+  after_refused {row = row} {s = s} {line = line} {after = after} {f = f} decides z (is_skipped {after = following} decides' here' rest') =
+      let differs : Err f ≡ Ok false = same_decision row s line after following (Err f) (Ok false) decides decides' in absurd (cc)
+  after_refused {row = row} {s = s} {line = line} {after = after} {f = f} decides z (is_refused {after = following} {f = g} decides') = refused_again row s line after following f g decides decides'
 
   not_both : (line : LogicalLine) → line.directive ≡ Some Else → line.directive ≢ Some Else → ⊥
   not_both line e f = f e
@@ -171,44 +171,44 @@ module _ (expansions : OneExpansion) (decisions : OneDecision) (around : Surroun
 
   pub after_elif : {depth row : ℕ} {s : State} {line : LogicalLine} {ps : Parts} {bs : Branches} {after : Option ℕ} {y : Reached}
       → line.directive ≢ Some Else
-      → Decides (search_of around) row s line after (Ok true)
+      → Decides (search_of context) row s line after (Ok true)
       → SameGroup depth row (going (with_left s after)) ps y
       → (z : Reached)
       → AfterBranch depth row s line ps bs z
       → y ≡ z
   after_elif {line = line} is decides here z (is_else is' here') = absurd (not_both line is' is)
-  after_elif {depth = depth} {row = row} {s = s} {line = line} {ps = ps} {after = after} is decides here z (is_elif {after = behind} is' decides' here') =
-      here z (taken_again depth row s line ps after behind (Ok true) z decides decides' here')
-  after_elif {row = row} {s = s} {line = line} {after = after} is decides here z (is_passed {after = behind} is' decides' rest) =
-      let differs : Ok true ≡ Ok false = same_decision row s line after behind (Ok true) (Ok false) decides decides' in absurd (cc)
-  after_elif {row = row} {s = s} {line = line} {after = after} is decides here z (is_faulty {after = behind} {f = f} is' decides') =
-      let differs : Ok true ≡ Err f = same_decision row s line after behind (Ok true) (Err f) decides decides' in absurd (cc)
+  after_elif {depth = depth} {row = row} {s = s} {line = line} {ps = ps} {after = after} is decides here z (is_elif {after = following} is' decides' here') =
+      here z (taken_again depth row s line ps after following (Ok true) z decides decides' here')
+  after_elif {row = row} {s = s} {line = line} {after = after} is decides here z (is_passed {after = following} is' decides' rest) =
+      let differs : Ok true ≡ Ok false = same_decision row s line after following (Ok true) (Ok false) decides decides' in absurd (cc)
+  after_elif {row = row} {s = s} {line = line} {after = after} is decides here z (is_faulty {after = following} {f = f} is' decides') =
+      let differs : Ok true ≡ Err f = same_decision row s line after following (Ok true) (Err f) decides decides' in absurd (cc)
 
   pub after_passed : {depth row : ℕ} {s : State} {line : LogicalLine} {ps : Parts} {bs : Branches} {after : Option ℕ} {y : Reached}
       → line.directive ≢ Some Else
-      → Decides (search_of around) row s line after (Ok false)
+      → Decides (search_of context) row s line after (Ok false)
       → SameBranches depth row (with_left s after) bs y
       → (z : Reached)
       → AfterBranch depth row s line ps bs z
       → y ≡ z
   after_passed {line = line} is decides rest z (is_else is' here') = absurd (not_both line is' is)
-  after_passed {row = row} {s = s} {line = line} {after = after} is decides rest z (is_elif {after = behind} is' decides' here') =
-      let differs : Ok false ≡ Ok true = same_decision row s line after behind (Ok false) (Ok true) decides decides' in absurd (cc)
-  after_passed {depth = depth} {row = row} {s = s} {line = line} {bs = bs} {after = after} is decides rest z (is_passed {after = behind} is' decides' rest') =
-      rest z (skipped_again depth row s line bs after behind (Ok false) z decides decides' rest')
-  after_passed {row = row} {s = s} {line = line} {after = after} is decides rest z (is_faulty {after = behind} {f = f} is' decides') =
-      let differs : Ok false ≡ Err f = same_decision row s line after behind (Ok false) (Err f) decides decides' in absurd (cc)
+  after_passed {row = row} {s = s} {line = line} {after = after} is decides rest z (is_elif {after = following} is' decides' here') =
+      let differs : Ok false ≡ Ok true = same_decision row s line after following (Ok false) (Ok true) decides decides' in absurd (cc)
+  after_passed {depth = depth} {row = row} {s = s} {line = line} {bs = bs} {after = after} is decides rest z (is_passed {after = following} is' decides' rest') =
+      rest z (skipped_again depth row s line bs after following (Ok false) z decides decides' rest')
+  after_passed {row = row} {s = s} {line = line} {after = after} is decides rest z (is_faulty {after = following} {f = f} is' decides') =
+      let differs : Ok false ≡ Err f = same_decision row s line after following (Ok false) (Err f) decides decides' in absurd (cc)
 
   pub after_faulty : {depth row : ℕ} {s : State} {line : LogicalLine} {ps : Parts} {bs : Branches} {after : Option ℕ} {f : Fault}
       → line.directive ≢ Some Else
-      → Decides (search_of around) row s line after (Err f)
+      → Decides (search_of context) row s line after (Err f)
       → (z : Reached)
       → AfterBranch depth row s line ps bs z
       → stopped (with_left s after) f ≡ z
   after_faulty {line = line} is decides z (is_else is' here') = absurd (not_both line is' is)
-  after_faulty {row = row} {s = s} {line = line} {after = after} {f = f} is decides z (is_elif {after = behind} is' decides' here') =
-      let differs : Err f ≡ Ok true = same_decision row s line after behind (Err f) (Ok true) decides decides' in absurd (cc)
-  after_faulty {row = row} {s = s} {line = line} {after = after} {f = f} is decides z (is_passed {after = behind} is' decides' rest) =
-      let differs : Err f ≡ Ok false = same_decision row s line after behind (Err f) (Ok false) decides decides' in absurd (cc)
-  after_faulty {row = row} {s = s} {line = line} {after = after} {f = f} is decides z (is_faulty {after = behind} {f = g} is' decides') =
-      refused_again row s line after behind f g decides decides'
+  after_faulty {row = row} {s = s} {line = line} {after = after} {f = f} is decides z (is_elif {after = following} is' decides' here') =
+      let differs : Err f ≡ Ok true = same_decision row s line after following (Err f) (Ok true) decides decides' in absurd (cc)
+  after_faulty {row = row} {s = s} {line = line} {after = after} {f = f} is decides z (is_passed {after = following} is' decides' rest) =
+      let differs : Err f ≡ Ok false = same_decision row s line after following (Err f) (Ok false) decides decides' in absurd (cc)
+  after_faulty {row = row} {s = s} {line = line} {after = after} {f = f} is decides z (is_faulty {after = following} {f = g} is' decides') =
+      refused_again row s line after following f g decides decides'

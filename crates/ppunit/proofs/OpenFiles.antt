@@ -4,10 +4,10 @@ use Rattle.pptext.specs.declared.tokens.Fault.{Fault}
 use Rattle.pptext.specs.Lines.{LogicalLine}
 use Rattle.pptext.specs.Tree.{Parts, Tree}
 use Rattle.ppshelf.specs.Files.{Files, Extends}
-use Rattle.ppunit.specs.Opening.{OpenFile, Entered}
+use Rattle.ppunit.specs.code.Opening.{OpenFile, Entered}
 use Rattle.ppunit.specs.Group.{Group, Controls}
-use Rattle.ppunit.specs.States.{State, in_context, Surroundings, Reached, going, stopped}
-use Rattle.ppunit.specs.Walk.{line_at, Outer, StandsAt, Ends, Advances, Passes, EntersFile, StepsTo, Waiting, Walks, back, next_file, next_waiting, brought_back}
+use Rattle.ppunit.specs.States.{State, in_file_context, Context, Reached, going, stopped}
+use Rattle.ppunit.specs.code.Walk.{line_at, Outer, StandsAt, Ends, Advances, Passes, EntersFile, StepsTo, SuspendedFile, Walks, restored, next_file, next_suspended, contexts_restored}
 use Rattle.ppunit.proofs.WholeFile.{FileSoFar, file_start, file_more, file_stop, file_done, extends_trans}
 use Rattle.ppunit.proofs.Advancing.{ends_stop}
 
@@ -16,96 +16,96 @@ abbrev pub Rest : Type 0
 Rest = Parts × Outer
 
 -- each file waits at the line after the one that included the next
-abbrev pub Waits : List Waiting → List Rest → Type 0
+abbrev pub Waits : List SuspendedFile → List Rest → Type 0
 Waits [] [] = Unit {0}
 Waits (w ∷ ws) ((ps, k) ∷ rests) = StandsAt w.file.lines w.file.index ps k × Waits ws rests
 Waits ws rests = ⊥
 
 -- What is to be reached by the file whose lines are worked off: with what belongs to the file that waits for it brought back, the rest of that
 -- one has to lead to what it is to reach.
-abbrev pub Owes : (Files → Surroundings) → (Files → Reached → Type 0) → List Waiting → List Rest → Files → Reached → Type 0
-Owes around whole (w ∷ ws) ((ps, k) ∷ rests) more m = (end : Reached) → Ends (around more) (length ws) w.file.row (back w.context m) ps k end → Owes around whole ws rests more end
-Owes around whole ws rests more m = whole more m
+abbrev pub Owes : (Files → Context) → (Files → Reached → Type 0) → List SuspendedFile → List Rest → Files → Reached → Type 0
+Owes context whole (w ∷ ws) ((ps, k) ∷ rests) more m = (end : Reached) → Ends (context more) (length ws) w.file.row (restored w.file_context m) ps k end → Owes context whole ws rests more end
+Owes context whole ws rests more m = whole more m
 
 -- as far as the lines go that have been passed, of the file and of those that wait
-pub record StackAt (around : Files → Surroundings) (files : Files) (whole : Files → Reached → Type 0) (ws : List Waiting) (file : OpenFile) (t : State) : Type 0 where
+pub record StackAt (context : Files → Context) (files : Files) (whole : Files → Reached → Type 0) (ws : List SuspendedFile) (file : OpenFile) (t : State) : Type 0 where
   pub rests : List Rest
   pub waits : Waits ws rests
-  pub file_so_far : FileSoFar around files (Owes around whole ws rests) (length ws) file.row file.lines file.index t
+  pub file_so_far : FileSoFar context files (Owes context whole ws rests) (length ws) file.row file.lines file.index t
 
 -- the same for each tree of the first file
-pub record StackSoFar (around : Files → Surroundings) (files : Files) (row : ℕ) (lines : List LogicalLine) (s : State) (ws : List Waiting) (file : OpenFile) (t : State) : Type 0 where
-  pub so_far : (parts : Parts) → Tree lines parts → StackAt around files (λ more m. Group (around more) 0 row (going s) parts m) ws file t
+pub record StackSoFar (context : Files → Context) (files : Files) (row : ℕ) (lines : List LogicalLine) (s : State) (ws : List SuspendedFile) (file : OpenFile) (t : State) : Type 0 where
+  pub so_far : (parts : Parts) → Tree lines parts → StackAt context files (λ more m. Group (context more) 0 row (going s) parts m) ws file t
 
-pub stack_start : (around : Files → Surroundings) (files : Files) (s : State) (file : OpenFile) → file.index ≡ 0 → StackSoFar around files file.row file.lines s [] file s
-stack_start around files s file begins = record {
+pub stack_start : (context : Files → Context) (files : Files) (s : State) (file : OpenFile) → file.index ≡ 0 → StackSoFar context files file.row file.lines s [] file s
+stack_start context files s file begins = record {
   so_far = λ parts tree. record {
     rests = [];
     waits = tt;
-    file_so_far = file_start around files (λ more m. Group (around more) 0 file.row (going s) parts m) 0 file.row file.lines file.index s parts begins tree (λ more grows end group. group);
+    file_so_far = file_start context files (λ more m. Group (context more) 0 file.row (going s) parts m) 0 file.row file.lines file.index s parts begins tree (λ more grows end group. group);
   };
 }
 
-enters_at : (around : Files → Surroundings) (old new : Files) (whole : Files → Reached → Type 0) (next : ℕ) (t u : State) (ws : List Waiting)
+enters_at : (context : Files → Context) (old new : Files) (whole : Files → Reached → Type 0) (next : ℕ) (t u : State) (ws : List SuspendedFile)
     (file : OpenFile) (e : Entered)
-    → StackAt around old whole ws file t
+    → StackAt context old whole ws file t
     → Extends new old
     → Passes (length ws) file.row file.lines file.index t next
-    → EntersFile around new (suc (length ws)) (λ more m. Controls (around more) (length ws) file.row t (line_at file.lines file.index) m) u e
-    → StackAt around new whole (record { file = record file { index = next }; context = e.outer } ∷ ws) e.file u
-enters_at around old new whole next t u ws file e at wider passes enters =
+    → EntersFile context new (suc (length ws)) (λ more m. Controls (context more) (length ws) file.row t (line_at file.lines file.index) m) u e
+    → StackAt context new whole (record { file = record file { index = next }; file_context = e.outer } ∷ ws) e.file u
+enters_at context old new whole next t u ws file e at wider passes enters =
     let f = at.file_so_far in
     let g = passes f.parts f.outer f.stands in
     record {
       rests = (g.0, g.1) ∷ at.rests;
       waits = (g.2, at.waits);
       file_so_far =
-          file_start around new (Owes around whole (record { file = record file { index = next }; context = e.outer } ∷ ws) ((g.0, g.1) ∷ at.rests))
+          file_start context new (Owes context whole (record { file = record file { index = next }; file_context = e.outer } ∷ ws) ((g.0, g.1) ∷ at.rests))
           (suc (length ws)) e.file.row e.file.lines e.file.index u enters.parts enters.begins enters.tree
           (λ more grows m group end rest. f.ends more (extends_trans more new old grows wider) end
-          (g.3 (around more) (back e.outer m) end (enters.group more grows m group) rest));
+          (g.3 (context more) (restored e.outer m) end (enters.group more grows m group) rest));
     }
 
-next_at : (around : Files → Surroundings) (old new : Files) (whole : Files → Reached → Type 0) (next : ℕ) (t u : State) (ws : List Waiting)
+next_at : (context : Files → Context) (old new : Files) (whole : Files → Reached → Type 0) (next : ℕ) (t u : State) (ws : List SuspendedFile)
     (file : OpenFile) (entered : Option Entered)
-    → StackAt around old whole ws file t
+    → StackAt context old whole ws file t
     → Extends new old
-    → StepsTo around new (length ws) file.row file.lines file.index t u next entered
-    → StackAt around new whole (next_waiting (record file { index = next }) entered ws) (next_file (record file { index = next }) entered) u
-next_at around old new whole next t u ws file None at wider step = record {
+    → StepsTo context new (length ws) file.row file.lines file.index t u next entered
+    → StackAt context new whole (next_suspended (record file { index = next }) entered ws) (next_file (record file { index = next }) entered) u
+next_at context old new whole next t u ws file None at wider step = record {
   rests = at.rests;
   waits = at.waits;
-  file_so_far = file_more around old new (Owes around whole ws at.rests) (length ws) file.row file.lines file.index next t u at.file_so_far wider step;
+  file_so_far = file_more context old new (Owes context whole ws at.rests) (length ws) file.row file.lines file.index next t u at.file_so_far wider step;
 }
-next_at around old new whole next t u ws file (Some e) at wider step = enters_at around old new whole next t u ws file e at wider step.0 step.1
+next_at context old new whole next t u ws file (Some e) at wider step = enters_at context old new whole next t u ws file e at wider step.0 step.1
 
-pub stack_next : (around : Files → Surroundings) (old new : Files) (row : ℕ) (lines : List LogicalLine) (s t u : State) (ws : List Waiting)
+pub stack_next : (context : Files → Context) (old new : Files) (row : ℕ) (lines : List LogicalLine) (s t u : State) (ws : List SuspendedFile)
     (file : OpenFile) (next : ℕ) (entered : Option Entered)
-    → StackSoFar around old row lines s ws file t
+    → StackSoFar context old row lines s ws file t
     → Extends new old
-    → StepsTo around new (length ws) file.row file.lines file.index t u next entered
-    → StackSoFar around new row lines s (next_waiting (record file { index = next }) entered ws) (next_file (record file { index = next }) entered) u
-stack_next around old new row lines s t u ws file next entered sofar wider step = record {
-  so_far = λ parts tree. next_at around old new (λ more m. Group (around more) 0 row (going s) parts m) next t u ws file entered (sofar.so_far parts tree) wider step;
+    → StepsTo context new (length ws) file.row file.lines file.index t u next entered
+    → StackSoFar context new row lines s (next_suspended (record file { index = next }) entered ws) (next_file (record file { index = next }) entered) u
+stack_next context old new row lines s t u ws file next entered sofar wider step = record {
+  so_far = λ parts tree. next_at context old new (λ more m. Group (context more) 0 row (going s) parts m) next t u ws file entered (sofar.so_far parts tree) wider step;
 }
 
 -- no file is deeper than 200
-pub next_depth : (around : Files → Surroundings) (files : Files) (row : ℕ) (lines : List LogicalLine) (index next : ℕ) (s t : State)
-    (ws : List Waiting) (file : OpenFile) (entered : Option Entered)
+pub next_depth : (context : Files → Context) (files : Files) (row : ℕ) (lines : List LogicalLine) (index next : ℕ) (s t : State)
+    (ws : List SuspendedFile) (file : OpenFile) (entered : Option Entered)
     → length ws ≤ 200
-    → StepsTo around files (length ws) row lines index s t next entered
-    → length (next_waiting file entered ws) ≤ 200
-next_depth around files row lines index next s t ws file None deep step = deep
-next_depth around files row lines index next s t ws file (Some e) deep step = step.1.fits
+    → StepsTo context files (length ws) row lines index s t next entered
+    → length (next_suspended file entered ws) ≤ 200
+next_depth context files row lines index next s t ws file None deep step = deep
+next_depth context files row lines index next s t ws file (Some e) deep step = step.1.fits
 
-leaves_at : (around : Files → Surroundings) (files : Files) (whole : Files → Reached → Type 0) (w : Waiting) (ws : List Waiting) (file : OpenFile)
+leaves_at : (context : Files → Context) (files : Files) (whole : Files → Reached → Type 0) (w : SuspendedFile) (ws : List SuspendedFile) (file : OpenFile)
     (t : State) (rests : List Rest)
     → Waits (w ∷ ws) rests
-    → FileSoFar around files (Owes around whole (w ∷ ws) rests) (suc (length ws)) file.row file.lines file.index t
+    → FileSoFar context files (Owes context whole (w ∷ ws) rests) (suc (length ws)) file.row file.lines file.index t
     → length file.lines ≤ file.index
-    → StackAt around files whole ws w.file (in_context w.context t)
-leaves_at around files whole w ws file t [] waits sofar over = absurd waits
-leaves_at around files whole w ws file t ((ps, k) ∷ rests) waits sofar over = record {
+    → StackAt context files whole ws w.file (in_file_context w.file_context t)
+leaves_at context files whole w ws file t [] waits sofar over = absurd waits
+leaves_at context files whole w ws file t ((ps, k) ∷ rests) waits sofar over = record {
   rests = rests;
   waits = waits.1;
   file_so_far =
@@ -113,49 +113,49 @@ leaves_at around files whole w ws file t ((ps, k) ∷ rests) waits sofar over = 
         parts = ps;
         outer = k;
         stands = waits.0;
-        ends = λ more grows end rest. file_done around files
-            (Owes around whole (w ∷ ws) ((ps, k) ∷ rests)) (suc (length ws)) file.row file.lines file.index t sofar over more grows end rest;
+        ends = λ more grows end rest. file_done context files
+            (Owes context whole (w ∷ ws) ((ps, k) ∷ rests)) (suc (length ws)) file.row file.lines file.index t sofar over more grows end rest;
       };
 }
 
-pub stack_leaves : (around : Files → Surroundings) (files : Files) (row : ℕ) (lines : List LogicalLine) (s t : State) (w : Waiting)
-    (ws : List Waiting) (file : OpenFile)
-    → StackSoFar around files row lines s (w ∷ ws) file t
+pub stack_leaves : (context : Files → Context) (files : Files) (row : ℕ) (lines : List LogicalLine) (s t : State) (w : SuspendedFile)
+    (ws : List SuspendedFile) (file : OpenFile)
+    → StackSoFar context files row lines s (w ∷ ws) file t
     → length file.lines ≤ file.index
-    → StackSoFar around files row lines s ws w.file (in_context w.context t)
-stack_leaves around files row lines s t w ws file sofar over = record {
+    → StackSoFar context files row lines s ws w.file (in_file_context w.file_context t)
+stack_leaves context files row lines s t w ws file sofar over = record {
   so_far = λ parts tree.
       let f = sofar.so_far parts tree in
-      leaves_at around files (λ more m. Group (around more) 0 row (going s) parts m) w ws file t f.rests f.waits f.file_so_far over;
+      leaves_at context files (λ more m. Group (context more) 0 row (going s) parts m) w ws file t f.rests f.waits f.file_so_far over;
 }
 
-stops_at : (around : Files → Surroundings) (whole : Files → Reached → Type 0) (more : Files) (t : State) (fault : Fault) (ws : List Waiting)
+stops_at : (context : Files → Context) (whole : Files → Reached → Type 0) (more : Files) (t : State) (fault : Fault) (ws : List SuspendedFile)
     (rests : List Rest)
     → Waits ws rests
-    → Owes around whole ws rests more (stopped t fault)
-    → whole more (stopped (brought_back ws t) fault)
-stops_at around whole more t fault [] rests waits owes = owes
-stops_at around whole more t fault (w ∷ ws) [] waits owes = absurd waits
-stops_at around whole more t fault (w ∷ ws) ((ps, k) ∷ rests) waits owes =
-    let u = in_context w.context t in
-    stops_at around whole more u fault ws rests waits.1 (owes (stopped u fault) (ends_stop (around more) (length ws) w.file.row (stopped u fault) u fault ps k Group.stays))
+    → Owes context whole ws rests more (stopped t fault)
+    → whole more (stopped (contexts_restored ws t) fault)
+stops_at context whole more t fault [] rests waits owes = owes
+stops_at context whole more t fault (w ∷ ws) [] waits owes = absurd waits
+stops_at context whole more t fault (w ∷ ws) ((ps, k) ∷ rests) waits owes =
+    let u = in_file_context w.file_context t in
+    stops_at context whole more u fault ws rests waits.1 (owes (stopped u fault) (ends_stop (context more) (length ws) w.file.row (stopped u fault) u fault ps k Group.stays))
 
-pub stack_stops : (around : Files → Surroundings) (old new : Files) (row : ℕ) (lines : List LogicalLine) (s t u : State) (fault : Fault)
-    (ws : List Waiting) (file : OpenFile)
-    → StackSoFar around old row lines s ws file t
+pub stack_stops : (context : Files → Context) (old new : Files) (row : ℕ) (lines : List LogicalLine) (s t u : State) (fault : Fault)
+    (ws : List SuspendedFile) (file : OpenFile)
+    → StackSoFar context old row lines s ws file t
     → Extends new old
-    → Advances around new (length ws) file.row file.lines file.index t u (Err fault)
-    → Walks around new 0 row lines s (stopped (brought_back ws u) fault)
-stack_stops around old new row lines s t u fault ws file sofar wider step parts tree more grows =
+    → Advances context new (length ws) file.row file.lines file.index t u (Err fault)
+    → Walks context new 0 row lines s (stopped (contexts_restored ws u) fault)
+stack_stops context old new row lines s t u fault ws file sofar wider step parts tree more grows =
     let f = sofar.so_far parts tree in
-    let whole : Files → Reached → Type 0 = λ more m. Group (around more) 0 row (going s) parts m in
-    stops_at around whole more u fault ws f.rests f.waits (file_stop around old new (Owes around whole ws f.rests) (length ws) file.row file.lines file.index t u fault f.file_so_far wider step more grows)
+    let whole : Files → Reached → Type 0 = λ more m. Group (context more) 0 row (going s) parts m in
+    stops_at context whole more u fault ws f.rests f.waits (file_stop context old new (Owes context whole ws f.rests) (length ws) file.row file.lines file.index t u fault f.file_so_far wider step more grows)
 
-pub stack_done : (around : Files → Surroundings) (files : Files) (row : ℕ) (lines : List LogicalLine) (s t : State) (file : OpenFile)
-    → StackSoFar around files row lines s [] file t
+pub stack_done : (context : Files → Context) (files : Files) (row : ℕ) (lines : List LogicalLine) (s t : State) (file : OpenFile)
+    → StackSoFar context files row lines s [] file t
     → length file.lines ≤ file.index
-    → Walks around files 0 row lines s (going t)
-stack_done around files row lines s t file sofar over parts tree more grows =
+    → Walks context files 0 row lines s (going t)
+stack_done context files row lines s t file sofar over parts tree more grows =
     let f = sofar.so_far parts tree in
-    let whole : Files → Reached → Type 0 = λ more m. Group (around more) 0 row (going s) parts m in
-    file_done around files (Owes around whole [] f.rests) 0 file.row file.lines file.index t f.file_so_far over more grows
+    let whole : Files → Reached → Type 0 = λ more m. Group (context more) 0 row (going s) parts m in
+    file_done context files (Owes context whole [] f.rests) 0 file.row file.lines file.index t f.file_so_far over more grows

@@ -9,14 +9,14 @@ use Rattle.pptext.specs.Lines.{LogicalLine}
 use Rattle.pptext.specs.Sources.{IsSource, Reads}
 use Rattle.pptext.specs.Tree.{Parts, Tree, group_fault}
 use Rattle.ppshelf.specs.Files.{Files, Extends}
-use Rattle.ppunit.specs.States.{State, in_context, Surroundings, Reached, going, stopped, given}
+use Rattle.ppunit.specs.States.{State, in_file_context, Context, Reached, going, stopped, output}
 use Rattle.ppunit.specs.declared.units.Unit.{Unit as UnitOfList}
 use Rattle.ppunit.specs.declared.units.Setting.{Setting}
 use Rattle.ppunit.specs.declared.units.UnitOut.{UnitOut}
 use Rattle.ppunit.specs.Group.{Opened}
-use Rattle.ppunit.specs.Unit.{IsUnit, beginning, command_file, command_text, unread, processed, Translates, undefined, translated, first_place}
-use Rattle.ppunit.specs.Opening.{Entered}
-use Rattle.ppunit.specs.Walk.{EntersFile, Walks, DefinesOver}
+use Rattle.ppunit.specs.Unit.{IsUnit, initial_state, command_file, command_text, unread, processed, Translates, undefined, translated, first_place}
+use Rattle.ppunit.specs.code.Opening.{Entered}
+use Rattle.ppunit.specs.code.Walk.{EntersFile, Walks, DefinesOver}
 use Rattle.ppunit.proofs.WholeFile.{extends_trans}
 
 -- the files without fault are those with a tree
@@ -29,26 +29,26 @@ pub source_tree : TreesUnlessFault → (profile : Profile) (file : ℕ) (bytes :
     → (parts : Parts) × Tree lines parts
 source_tree trees profile file bytes lines is = (trees lines).0 (ap (group_fault []) is.same ∙ is.grouped)
 
-pub defines_walked : TreesUnlessFault → (around : Files → Surroundings) (files : Files) (profile : Profile) (defines : List (List ℕ))
+pub defines_walked : TreesUnlessFault → (context : Files → Context) (files : Files) (profile : Profile) (defines : List (List ℕ))
     (x : Result (List LogicalLine) Fault) (lines : List LogicalLine) (s : State) (r : Reached)
-    → ((more : Files) → profile ≡ (around more).profile)
+    → ((more : Files) → profile ≡ (context more).profile)
     → x ≡ Ok lines
     → Reads profile command_file (command_text defines) x
-    → Walks around files 0 command_file lines s r
-    → DefinesOver around files defines s r
-defines_walked trees around files profile defines x lines s r one is reads walks =
+    → Walks context files 0 command_file lines s r
+    → DefinesOver context files defines s r
+defines_walked trees context files profile defines x lines s r one is reads walks =
     let reads' : Reads profile command_file (command_text defines) (Ok lines) = subst (Reads profile command_file (command_text defines)) is reads in
     let tree = source_tree trees profile command_file (command_text defines) lines reads' in
     λ more grows. processed (subst (λ (z : Profile). Reads z command_file (command_text defines) (Ok lines)) (one more) reads') tree.1
     (walks tree.0 tree.1 more grows)
 
-pub defines_unread : (around : Files → Surroundings) (files : Files) (profile : Profile) (defines : List (List ℕ))
+pub defines_unread : (context : Files → Context) (files : Files) (profile : Profile) (defines : List (List ℕ))
     (x : Result (List LogicalLine) Fault) (s : State) (f : Fault)
-    → ((more : Files) → profile ≡ (around more).profile)
+    → ((more : Files) → profile ≡ (context more).profile)
     → x ≡ Err f
     → Reads profile command_file (command_text defines) x
-    → DefinesOver around files defines s (stopped s f)
-defines_unread around files profile defines x s f one is reads =
+    → DefinesOver context files defines s (stopped s f)
+defines_unread context files profile defines x s f one is reads =
     let reads' : Reads profile command_file (command_text defines) (Err f) = subst (Reads profile command_file (command_text defines)) is reads in
     λ more grows. unread (subst (λ (z : Profile). Reads z command_file (command_text defines) (Err f)) (one more) reads')
 
@@ -63,28 +63,28 @@ on_settled (Err OutOfMemory) expansion_step p = tt
 extends_itself : (files : Files) → Extends files files
 extends_itself files row c e = e
 
-pub entered_file : (around : Files → Surroundings) (files new : Files) (depth : ℕ) (whole : Files → Reached → Type 0) (t u : State) (e : Entered)
+pub entered_file : (context : Files → Context) (files new : Files) (depth : ℕ) (whole : Files → Reached → Type 0) (t u : State) (e : Entered)
     (fault : Option Fault)
     → Extends new files
-    → EntersFile around files depth whole t e
-    → Walks around new depth e.file.row e.file.lines t (record { state = u; fault = fault })
+    → EntersFile context files depth whole t e
+    → Walks context new depth e.file.row e.file.lines t (record { state = u; fault = fault })
     → (more : Files)
     → Extends more new
-    → whole more (record { state = in_context e.outer u; fault = fault })
-entered_file around files new depth whole t u e fault wider enters walks more grows =
+    → whole more (record { state = in_file_context e.outer u; fault = fault })
+entered_file context files new depth whole t u e fault wider enters walks more grows =
     enters.group more (extends_trans more new files grows wider) (record { state = u; fault = fault }) (walks enters.parts enters.tree more grows)
 
-pub undefined_unit : (around : Files → Surroundings) (files : Files) (defines : List (List ℕ)) (row : ℕ) (s t : State) (f : Fault)
-    → DefinesOver around files defines s (stopped t f)
-    → Translates (around files) defines row s (stopped t f)
-undefined_unit around files defines row s t f over = undefined (over files (extends_itself files))
+pub undefined_unit : (context : Files → Context) (files : Files) (defines : List (List ℕ)) (row : ℕ) (s t : State) (f : Fault)
+    → DefinesOver context files defines s (stopped t f)
+    → Translates (context files) defines row s (stopped t f)
+undefined_unit context files defines row s t f over = undefined (over files (extends_itself files))
 
-pub translated_unit : (around : Files → Surroundings) (files more : Files) (defines : List (List ℕ)) (row : ℕ) (s t u : State) (g : Option Fault)
-    → DefinesOver around files defines s (going t)
+pub translated_unit : (context : Files → Context) (files more : Files) (defines : List (List ℕ)) (row : ℕ) (s t u : State) (g : Option Fault)
+    → DefinesOver context files defines s (going t)
     → Extends more files
-    → ((most : Files) → Extends most more → Opened (around most) 0 (first_place row) t row None (record { state = u; fault = g }))
-    → Translates (around more) defines row s (record { state = u; fault = g })
-translated_unit around files more defines row s t u g over grows opens = translated (over more grows) (opens more (extends_itself more))
+    → ((most : Files) → Extends most more → Opened (context most) 0 (first_place row) t row None (record { state = u; fault = g }))
+    → Translates (context more) defines row s (record { state = u; fault = g })
+translated_unit context files more defines row s t u g over grows opens = translated (over more grows) (opens more (extends_itself more))
 
 -- what a unit gives over the files of its own library is its value
 pub whole_unit : (names : List (List ℕ)) (profile : Profile) (files : Files) (setting : Setting) (unit : UnitOfList) (ours theirs : List (List ℕ))
@@ -92,14 +92,14 @@ pub whole_unit : (names : List (List ℕ)) (profile : Profile) (files : Files) (
     → profile ≡ setting.profile
     → ours ≡ unit.search
     → theirs ≡ setting.search
-    → Translates (record { names = names; profile = profile; files = files; unit_folders = ours; setting_folders = theirs }) unit.defines.texts
-    unit.file (beginning setting) r
-    → out ≡ given r
+    → Translates (record { names = names; profile = profile; files = files; unit_directories = ours; setting_directories = theirs }) unit.defines.texts
+    unit.file (initial_state setting) r
+    → out ≡ output r
     → IsUnit names files setting unit out
 whole_unit names profile files setting unit ours theirs r out p e f is gives =
     let Of : Profile → List (List ℕ) → List (List ℕ) → Type 0 = λ q o t.
-    Translates (record { names = names; profile = q; files = files; unit_folders = o; setting_folders = t }) unit.defines.texts unit.file
-    (beginning setting) r in
+    Translates (record { names = names; profile = q; files = files; unit_directories = o; setting_directories = t }) unit.defines.texts unit.file
+    (initial_state setting) r in
     record {
       reached = r;
       translates = subst (Of setting.profile unit.search) f

@@ -8,8 +8,8 @@ use Rattle.std.proofs.lemmas.List.Quantifiers.{position-Some}
 use Rattle.pptext.specs.declared.tokens.Token.{Token}
 use Rattle.pptext.specs.Tokens.{is_punct}
 use Rattle.ppunit.specs.States.{Search}
-use Rattle.ppunit.specs.Including.{expanded_asked, if_somewhere}
-use Rattle.ppunit.specs.Probing.{is_has_include, opens, told, before, Begun, probed}
+use Rattle.ppunit.specs.Including.{name_of_expansion, if_possible_name}
+use Rattle.ppunit.specs.Probing.{is_has_include, opens, probe_result, before, Begun, probed}
 
 abbrev is_close : Token → Bool
 is_close t = is_punct (codes ")") t
@@ -23,7 +23,7 @@ rest_behind ts i = let same : i + 1 ≡ suc i = omega arith in rw same (grind (a
 
 -- what becomes of an `__has_include`, by what stands after it up to the `)`
 abbrev told_of : Search → ℕ → Token → List Token → Option Token
-told_of search row name behind = told search row name (if_somewhere (expanded_asked (drop 1 behind)))
+told_of search row name following = probe_result search row name (if_possible_name (name_of_expansion (drop 1 following)))
 
 module _ (search : Search) (row : ℕ) where
   abbrev pub From : Option Begun → List Token → Option (List Token)
@@ -34,8 +34,8 @@ module _ (search : Search) (row : ℕ) where
       → From (Some b) (t ∷ ts) ≡ None
   unclosed_by b t ts true e far more = absurd (omega arith)
   unclosed_by b t ts false e far more =
-      ap (λ (c : Bool). if c then before (told_of search row b.name b.behind) (From None ts) else From (Some (record { name = b.name; behind = b.behind ++ t ∷ [] })) ts) e
-      ∙ more (record { name = b.name; behind = b.behind ++ t ∷ [] }) (omega arith)
+      ap (λ (c : Bool). if c then before (told_of search row b.name b.following) (From None ts) else From (Some (record { name = b.name; following = b.following ++ t ∷ [] })) ts) e
+      ∙ more (record { name = b.name; following = b.following ++ t ∷ [] }) (omega arith)
 
   -- there is no `)`
   unclosed : (b : Begun) (ts : List Token) → length ts ≤ position_or_len is_close ts → From (Some b) ts ≡ None
@@ -43,19 +43,19 @@ module _ (search : Search) (row : ℕ) where
   unclosed b (t ∷ ts) far = unclosed_by b t ts (is_close t) refl far (λ b far. unclosed b ts far)
 
   -- the first `)` is at this index
-  closed : (name : Token) (behind ts : List Token) (i : ℕ) (d : Token)
+  closed : (name : Token) (following ts : List Token) (i : ℕ) (d : Token)
       → i < length ts
       → is_close (get_or ts i d) ≡ true
       → ((k : ℕ) → k < i → is_close (get_or ts k d) ≡ false)
-      → From (Some (record { name = name; behind = behind })) ts ≡ before (told_of search row name (behind ++ take i ts)) (From None (drop (suc i) ts))
-  closed name behind [] i d within here apart = absurd (omega arith)
-  closed name behind (t ∷ ts) zero d within here apart =
-      ap (λ (c : Bool). if c then before (told_of search row name behind) (From None ts) else From (Some (record { name = name; behind = behind ++ t ∷ [] })) ts) here
-      ∙ ap (λ (z : List Token). before (told_of search row name z) (From None ts)) (sym (append-nil behind))
-  closed name behind (t ∷ ts) (suc i) d within here apart =
-      ap (λ (c : Bool). if c then before (told_of search row name behind) (From None ts) else From (Some (record { name = name; behind = behind ++ t ∷ [] })) ts) (apart 0 (omega arith))
-      ∙ closed name (behind ++ t ∷ []) ts i d (omega arith) here (λ k below. apart (suc k) (omega arith))
-      ∙ ap (λ (z : List Token). before (told_of search row name z) (From None (drop (suc i) ts))) (append_assoc behind (t ∷ []) (take i ts))
+      → From (Some (record { name = name; following = following })) ts ≡ before (told_of search row name (following ++ take i ts)) (From None (drop (suc i) ts))
+  closed name following [] i d within here apart = absurd (omega arith)
+  closed name following (t ∷ ts) zero d within here apart =
+      ap (λ (c : Bool). if c then before (told_of search row name following) (From None ts) else From (Some (record { name = name; following = following ++ t ∷ [] })) ts) here
+      ∙ ap (λ (z : List Token). before (told_of search row name z) (From None ts)) (sym (append-nil following))
+  closed name following (t ∷ ts) (suc i) d within here apart =
+      ap (λ (c : Bool). if c then before (told_of search row name following) (From None ts) else From (Some (record { name = name; following = following ++ t ∷ [] })) ts) (apart 0 (omega arith))
+      ∙ closed name (following ++ t ∷ []) ts i d (omega arith) here (λ k below. apart (suc k) (omega arith))
+      ∙ ap (λ (z : List Token). before (told_of search row name z) (From None (drop (suc i) ts))) (append_assoc following (t ∷ []) (take i ts))
 
   -- the tokens so far, and what becomes of the rest
   abbrev pub prepended : List Token → Option (List Token) → Option (List Token)
@@ -86,10 +86,10 @@ module _ (search : Search) (row : ℕ) where
       record { is = p.is ∙ ap (prepended done) becomes ∙ one_more done u (From None more) ∙ ap (λ (z : List Token). prepended z (From None more)) (sym longer) }
 
   first_other : (t : Token) (ts : List Token) → (opens ts && is_has_include t) ≡ false → From None (t ∷ ts) ≡ before (Some t) (From None ts)
-  first_other t ts e = ap (λ (c : Bool). if c then From (Some (record { name = t; behind = [] })) ts else before (Some t) (From None ts)) e
+  first_other t ts e = ap (λ (c : Bool). if c then From (Some (record { name = t; following = [] })) ts else before (Some t) (From None ts)) e
 
-  first_begun : (t : Token) (ts : List Token) → (opens ts && is_has_include t) ≡ true → From None (t ∷ ts) ≡ From (Some (record { name = t; behind = [] })) ts
-  first_begun t ts e = ap (λ (c : Bool). if c then From (Some (record { name = t; behind = [] })) ts else before (Some t) (From None ts)) e
+  first_begun : (t : Token) (ts : List Token) → (opens ts && is_has_include t) ≡ true → From None (t ∷ ts) ≡ From (Some (record { name = t; following = [] })) ts
+  first_begun t ts e = ap (λ (c : Bool). if c then From (Some (record { name = t; following = [] })) ts else before (Some t) (From None ts)) e
 
   first_number : (t : Token) (ts : List Token) (i : ℕ)
       → (opens ts && is_has_include t) ≡ true
@@ -142,7 +142,7 @@ module _ (search : Search) (row : ℕ) where
       → None ≡ From None tokens
   probes_open tokens done rest ts t e split none p =
       probes_nothing tokens done rest
-      (ap (λ (z : List Token). From None z) split ∙ first_begun t ts (sym e) ∙ unclosed (record { name = t; behind = [] }) ts (none_at ts (sym none))) p
+      (ap (λ (z : List Token). From None z) split ∙ first_begun t ts (sym e) ∙ unclosed (record { name = t; following = [] }) ts (none_at ts (sym none))) p
 
   pub probes_unasked : (tokens done rest ts : List Token) (t : Token) (i : ℕ)
       → true ≡ (opens ts && is_has_include t)

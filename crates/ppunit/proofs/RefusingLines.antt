@@ -11,7 +11,7 @@ use Rattle.pptext.specs.Classes.{question_by}
 use Rattle.pptext.specs.declared.sources.Profile.{Profile}
 use Rattle.pptext.specs.Lines.{LogicalLine, lines_of}
 use Rattle.pptext.specs.Sources.{IsFaultOf}
-use Rattle.pptext.specs.Tree.{Role, Elses, Closes, role, Open, opened, fault_at_end, fault_or, group_fault, Parts, Branches, sign_place}
+use Rattle.pptext.specs.Tree.{Role, Elses, Closes, role, Open, after_line, fault_at_end, fault_or, group_fault, Parts, Branches, sign_place}
 use Rattle.pptext.specs.Profiles.{is_gnu}
 use Rattle.pptext.specs.Tokens.{is_unmatched_quote}
 use Rattle.ppmacro.specs.Names.{Macros}
@@ -22,43 +22,43 @@ use Rattle.ppexpand.specs.declared.expansion.Expanded.{Expanded}
 use Rattle.ppexpand.specs.Expansion.{IsExpansion}
 use Rattle.ppexpand.proofs.Refusing.{expansion_never_refused}
 use Rattle.ppexpr.proofs.Capped.{IsOther as IsOtherOr, condition_never_refused}
-use Rattle.ppunit.specs.States.{State, Surroundings, Reached, with_left, Search}
-use Rattle.ppunit.specs.Lines.{operands, line_fault, one_identifier}
-use Rattle.ppunit.specs.Quotes.{quote_fault, lone_quote}
+use Rattle.ppunit.specs.States.{State, Context, Reached, with_left, Search}
+use Rattle.ppunit.specs.DirectiveLines.{operands, line_fault, one_identifier}
+use Rattle.ppunit.specs.Quotes.{quote_fault, unmatched_quote}
 use Rattle.ppunit.specs.LineControl.{Presumed, presumed}
-use Rattle.ppunit.specs.Including.{Asked, begins_with_header, header_asked, expanded_asked, if_somewhere, asked_or, asked_behind}
+use Rattle.ppunit.specs.Including.{IncludeName, begins_with_header, name_of_header, name_of_expansion, if_possible_name, name_or, name_of_expansion_or}
 use Rattle.ppunit.specs.Probing.{probed, tokens_or, condition_tokens}
 use Rattle.ppunit.specs.Conditions.{by_name, DecidesBy, DecidesUnless, Decides, DecidesOf}
-use Rattle.ppunit.specs.Directives.{RunGives, with_macros, renumbered_by, AsksBy, Asks, ControlBy}
+use Rattle.ppunit.specs.Directives.{EmitsRun, with_macros, renumbered_by, NamesHeaderBy, NamesHeader, ControlBy}
 use Rattle.ppunit.specs.Group.{Group, Branched, Controls}
 use Rattle.ppunit.specs.Unit.{count_defines, Defines}
 use Rattle.ppexpand.specs.Expansion.{count_expansion}
-use Rattle.ppunit.specs.Counts.{count_decides, count_asks, count_group, count_branched, count_control}
+use Rattle.ppunit.specs.Counts.{count_decides, count_names_header, count_group, count_branched, count_control}
 use Rattle.ppunit.proofs.Spends.{still_none, asks_spends, decides_spends, run_spends, group_spends, branches_spend, control_spends, defines_spends}
 
 -- ---- where there is no budget there is none after
 
-pub asks_none : (s : State) (line : List Token) (after : Option ℕ) (asked : Result Asked Fault) → s.left ≡ None → Asks s line after asked → after ≡ None
-asks_none s line after asked is g = still_none (count_asks s line after asked g) is (asks_spends s line after asked g)
+pub asks_none : (s : State) (line : List Token) (after : Option ℕ) (include_name : Result IncludeName Fault) → s.left ≡ None → NamesHeader s line after include_name → after ≡ None
+asks_none s line after include_name is g = still_none (count_names_header s line after include_name g) is (asks_spends s line after include_name g)
 
 pub decides_none : (search : Search) (row : ℕ) (s : State) (line : LogicalLine) (after : Option ℕ) (taken : Result Bool Fault) → s.left ≡ None → Decides search row s line after taken → after ≡ None
 decides_none search row s line after taken is g = still_none (count_decides search row s line after taken g) is (decides_spends search row s line after taken g)
 
-pub run_none : (s : State) (tokens : List Token) (m : Reached) → s.left ≡ None → RunGives s tokens m → m.state.left ≡ None
+pub run_none : (s : State) (tokens : List Token) (m : Reached) → s.left ≡ None → EmitsRun s tokens m → m.state.left ≡ None
 run_none s tokens m is g = still_none (count_expansion g.expands) is (run_spends s tokens m g)
 
-module _ (around : Surroundings) where
-  pub group_none : {depth row : ℕ} {r : Reached} {ps : Parts} {end : Reached} → r.state.left ≡ None → Group around depth row r ps end → end.state.left ≡ None
-  group_none is d = still_none (count_group d) is (group_spends around d)
+module _ (context : Context) where
+  pub group_none : {depth row : ℕ} {r : Reached} {ps : Parts} {end : Reached} → r.state.left ≡ None → Group context depth row r ps end → end.state.left ≡ None
+  group_none is d = still_none (count_group d) is (group_spends context d)
 
-  pub branches_none : {depth row : ℕ} {s : State} {bs : Branches} {m : Reached} → s.left ≡ None → Branched around depth row s bs m → m.state.left ≡ None
-  branches_none is d = still_none (count_branched d) is (branches_spend around d)
+  pub branches_none : {depth row : ℕ} {s : State} {bs : Branches} {m : Reached} → s.left ≡ None → Branched context depth row s bs m → m.state.left ≡ None
+  branches_none is d = still_none (count_branched d) is (branches_spend context d)
 
-  pub control_none : {depth row : ℕ} {s : State} {line : LogicalLine} {m : Reached} → s.left ≡ None → Controls around depth row s line m → m.state.left ≡ None
-  control_none is d = still_none (count_control d) is (control_spends around d)
+  pub control_none : {depth row : ℕ} {s : State} {line : LogicalLine} {m : Reached} → s.left ≡ None → Controls context depth row s line m → m.state.left ≡ None
+  control_none is d = still_none (count_control d) is (control_spends context d)
 
-  pub defines_none : {defines : List (List ℕ)} {s : State} {m : Reached} → s.left ≡ None → Defines around defines s m → m.state.left ≡ None
-  defines_none is d = still_none (count_defines d) is (defines_spends around d)
+  pub defines_none : {defines : List (List ℕ)} {s : State} {m : Reached} → s.left ≡ None → Defines context defines s m → m.state.left ≡ None
+  defines_none is d = still_none (count_defines d) is (defines_spends context d)
 
 -- the fault, if there is one, is another
 abbrev pub IsOther : Option Fault → Type 0
@@ -75,7 +75,7 @@ abbrev IsOtherNumber : Option ℕ → Type 0
 IsOtherNumber None = Unit {0}
 IsOtherNumber (Some n) = n ≢ 35
 
-opened_other : (a : Role) (r : LogicalLine) (os : List Open) → IsOtherNumber (opened a r os).0
+opened_other : (a : Role) (r : LogicalLine) (os : List Open) → IsOtherNumber (after_line a r os).0
 opened_other (Elses final) r [] = λ e. absurd (omega arith)
 opened_other (Elses final) r ((o, true) ∷ os) = λ e. absurd (omega arith)
 opened_other (Elses final) r ((o, false) ∷ os) = tt
@@ -93,7 +93,7 @@ or_other r (Some n) later h k = h
 
 groups_other : (os : List Open) (lines : List LogicalLine) → IsOther (group_fault os lines)
 groups_other os [] = end_other os
-groups_other os (r ∷ rs) = or_other r (opened (role r) r os).0 _ (opened_other (role r) r os) (groups_other (opened (role r) r os).1 rs)
+groups_other os (r ∷ rs) = or_other r (after_line (role r) r os).0 _ (opened_other (role r) r os) (groups_other (after_line (role r) r os).1 rs)
 
 pub reads_other : {profile : Profile} {file : ℕ} {bytes : List ℕ} {f : Fault} → IsFaultOf profile file bytes f → f.number ≢ 35
 reads_other (IsFaultOf.spliced_end e) = λ h. absurd (omega arith)
@@ -105,7 +105,7 @@ reads_other {profile} (IsFaultOf.bad_groups {lexemes = lexemes} e c g) = subst I
 expansion_other : {macros : Macros} {env : Env} {left : Option ℕ} {tokens : List Token} {e : Expanded} → left ≡ None → IsExpansion macros env left tokens e → IsOther e.fault
 expansion_other {macros} {env} {tokens = tokens} {e = e} is x = each_other e.fault (λ f faulty. expansion_never_refused macros env (subst (λ l. IsExpansion macros env l tokens e) is x) faulty)
 
-pub run_other : (s : State) (tokens : List Token) (m : Reached) → s.left ≡ None → RunGives s tokens m → IsOther m.fault
+pub run_other : (s : State) (tokens : List Token) (m : Reached) → s.left ≡ None → EmitsRun s tokens m → IsOther m.fault
 run_other s tokens m is g = subst (λ r. IsOther r.fault) (sym g.is) (expansion_other is g.expands)
 
 -- ---- `#define` and `#undef`: 9 to 16
@@ -116,11 +116,11 @@ macros_other s (Err f) h = let most : f.number ≤ 16 = h f refl in λ e. absurd
 
 -- ---- the other lines: 7, 8, 30, 33 and those of conditions
 
-pub quote_other : (ts : List Token) → IsOther (lone_quote ts)
+pub quote_other : (ts : List Token) → IsOther (unmatched_quote ts)
 quote_other [] = tt
 quote_other (t ∷ ts) = chosen (is_unmatched_quote t) (quote_other ts)
   where
-    chosen : (b : Bool) → IsOther (lone_quote ts) → IsOther (if b then Some (quote_fault t) else lone_quote ts)
+    chosen : (b : Bool) → IsOther (unmatched_quote ts) → IsOther (if b then Some (quote_fault t) else unmatched_quote ts)
     chosen true h = λ e. absurd (omega arith)
     chosen false h = h
 
@@ -156,22 +156,22 @@ decides_unless_other search row (Some q) d s line after f h is g = subst IsOther
 decides_unless_other search row None d s line after f h is g = decides_by_other search row (question_by d) s line after f is g
 
 pub decides_other : (search : Search) (row : ℕ) (s : State) (line : LogicalLine) (after : Option ℕ) (f : Fault) → s.left ≡ None → Decides search row s line after (Err f) → f.number ≢ 35
-decides_other search row s line after f is g = decides_unless_other search row (lone_quote line.tokens) line.directive s line.tokens after f (quote_other line.tokens) is g
+decides_other search row s line after f is g = decides_unless_other search row (unmatched_quote line.tokens) line.directive s line.tokens after f (quote_other line.tokens) is g
 
-asked_or_other : (f : Fault) (a : Option Asked) → f.number ≢ 35 → IsOtherOr (asked_or f a)
+asked_or_other : (f : Fault) (a : Option IncludeName) → f.number ≢ 35 → IsOtherOr (name_or f a)
 asked_or_other f None h = h
 asked_or_other f (Some a) h = tt
 
-asked_behind_other : (f : Fault) (o : Option Fault) (ts : List Token) → f.number ≢ 35 → IsOther o → IsOtherOr (asked_behind f o ts)
+asked_behind_other : (f : Fault) (o : Option Fault) (ts : List Token) → f.number ≢ 35 → IsOther o → IsOtherOr (name_of_expansion_or f o ts)
 asked_behind_other f (Some g) ts h k = k
-asked_behind_other f None ts h k = asked_or_other f (if_somewhere (expanded_asked ts)) h
+asked_behind_other f None ts h k = asked_or_other f (if_possible_name (name_of_expansion ts)) h
 
-asks_by_other : (header : Bool) (s : State) (line : List Token) (after : Option ℕ) (f : Fault) → s.left ≡ None → AsksBy header s line after (Err f) → f.number ≢ 35
-asks_by_other true s line after f is g = subst IsOtherOr (sym g.1) (asked_or_other (line_fault 30 line []) (if_somewhere (header_asked (operands line))) (λ e. absurd (omega arith)))
+asks_by_other : (header : Bool) (s : State) (line : List Token) (after : Option ℕ) (f : Fault) → s.left ≡ None → NamesHeaderBy header s line after (Err f) → f.number ≢ 35
+asks_by_other true s line after f is g = subst IsOtherOr (sym g.1) (asked_or_other (line_fault 30 line []) (if_possible_name (name_of_header (operands line))) (λ e. absurd (omega arith)))
 asks_by_other false s line after f is g =
     subst IsOtherOr (sym g.is) (asked_behind_other (line_fault 30 line []) g.expanded.fault g.expanded.tokens (λ e. absurd (omega arith)) (expansion_other is g.expands))
 
-pub asks_other : (s : State) (line : List Token) (after : Option ℕ) (f : Fault) → s.left ≡ None → Asks s line after (Err f) → f.number ≢ 35
+pub asks_other : (s : State) (line : List Token) (after : Option ℕ) (f : Fault) → s.left ≡ None → NamesHeader s line after (Err f) → f.number ≢ 35
 asks_other s line after f is g = asks_by_other (begins_with_header (operands line)) s line after f is g
 
 renumbered_other : (s : State) (r : LogicalLine) (o : Option Fault) (p : Option Presumed) → IsOther o → IsOther (renumbered_by s r o p).fault

@@ -2,7 +2,7 @@
 use Rattle.std.proofs.Common.{◌≡◌, ℕ, ◌+◌, ◌<◌, ◌≤◌, List, [], ◌∷◌, ◌++◌, length, drop, refl, sym, ◌∙◌, subst, arith, add-one}
 use Rattle.std.specs.List.{AllByRecursion}
 use Rattle.pptext.specs.Lines.{LogicalLine}
-use Rattle.ppunit.specs.Walk.{line_at, IsTextLine, IsRest}
+use Rattle.ppunit.specs.code.Walk.{line_at, IsTextLine, IsRest}
 use Rattle.ppunit.proofs.IndexedLines.{at_index, from_index}
 
 -- as far as the text lines go that have been passed
@@ -32,7 +32,7 @@ run_one lines end goal [] (r ∷ rest) within is e all ends sum =
     absurd (ends (subst IsTextLine h.here is))
 run_one lines end goal (r ∷ more) rest within is e all ends sum =
     let h = at_index lines end r (more ++ rest) e in
-    (more, rw add-one h.behind, all.1, omega arith)
+    (more, rw add-one h.following, all.1, omega arith)
 
 pub run_more : (lines : List LogicalLine) (start end : ℕ) → end < length lines → IsTextLine (line_at lines end) → RunSoFar lines start end → RunSoFar lines start (end + 1)
 run_more lines start end within is sofar = record {

@@ -7,10 +7,10 @@ use Rattle.pptext.specs.Sources.{next_branch}
 use Rattle.pptext.specs.Tree.{Parts, Done, Branches, End, Branch, part_lines, branch_lines, AreParts, AreBranches, role, role_by, branch_after}
 use Rattle.pptext.specs.Classes.{ends_group}
 use Rattle.pptext.proofs.Walks.{next_within, next_of_branch, next_of_end, next_behind}
-use Rattle.ppunit.specs.States.{State, Surroundings, going}
+use Rattle.ppunit.specs.States.{State, Context, going}
 use Rattle.ppunit.specs.Group.{Group}
 use Rattle.ppshelf.specs.Files.{Files}
-use Rattle.ppunit.specs.Walk.{line_at, Outer, lay, StandsAt, Advances}
+use Rattle.ppunit.specs.code.Walk.{line_at, Outer, lay, StandsAt, Advances}
 use Rattle.ppunit.proofs.IndexedLines.{at_index, drop_further}
 use Rattle.ppunit.proofs.FirstLine.{Differs, ending_role, First, text, control, opening, ending}
 use Rattle.ppunit.proofs.Advancing.{AdvancesFrom, first_at}
@@ -19,14 +19,14 @@ use Rattle.ppunit.proofs.Advancing.{AdvancesFrom, first_at}
 
 pub branches_next : (lines : List LogicalLine) (index : ℕ) (r : LogicalLine) (ps qs : Parts) (bs : Branches) (last : Bool) (rest : List LogicalLine)
     → drop index lines ≡ r ∷ (part_lines ps ++ (branch_lines bs ++ rest))
-    → ((n : ℕ) (behind : List LogicalLine) → next_branch n (role r) behind ≡ branch_after 0 (n + 1) (map role behind))
+    → ((n : ℕ) (following : List LogicalLine) → next_branch n (role r) following ≡ branch_after 0 (n + 1) (map role following))
     → AreParts ps
     → AreBranches last bs
     → next_branch index (role (line_at lines index)) (drop (suc index) lines) ≡ Some (index + 1 + length (part_lines ps))
 branches_next lines index r ps qs bs last rest e next parts are =
     let h = at_index lines index r (part_lines ps ++ (branch_lines bs ++ rest)) e in
     ap (λ (z : LogicalLine). next_branch index (role z) (drop (suc index) lines)) h.here ∙ next index (drop (suc index) lines)
-    ∙ ap (λ (z : List LogicalLine). branch_after 0 (index + 1) (map role z)) h.behind ∙ next_behind ps bs last (index + 1) rest parts are
+    ∙ ap (λ (z : List LogicalLine). branch_after 0 (index + 1) (map role z)) h.following ∙ next_behind ps bs last (index + 1) rest parts are
 
 pub branches_there : (lines : List LogicalLine) (index : ℕ) (r : LogicalLine) (ps : Parts) (rest : List LogicalLine) → drop index lines ≡ r ∷ (part_lines ps ++ rest) → drop (index + 1 + length (part_lines ps)) lines ≡ rest
 branches_there lines index r ps rest e =
@@ -80,7 +80,7 @@ section_over : (lines : List LogicalLine) (index : ℕ) (last : Bool) (bs : Bran
     → AreBranches last bs
     → next_branch index (role (line_at lines index)) (drop (suc index) lines) ≡ None
     → drop (index + 1) lines ≡ rest
-section_over lines index last (End r) rest e is found = rw add-one (at_index lines index r rest e).behind
+section_over lines index last (End r) rest e is found = rw add-one (at_index lines index r rest e).following
 section_over lines index last (Branch r ps bs) rest e (before, final, is, parts, more) found =
     let there = e ∙ ap (λ (z : List LogicalLine). r ∷ z) (append_assoc (part_lines ps) (branch_lines bs) rest) in
     let known = branches_next lines index r ps ps bs final rest there (next_of_branch r final is) parts more in
@@ -99,27 +99,27 @@ section_done lines branch index sofar found last bs rest e are =
 
 -- ---- the end of a group
 
-end_by : (around : Files → Surroundings) (files : Files) (depth row : ℕ) (lines : List LogicalLine) (index next : ℕ) (s : State) (ps : Parts)
+end_by : (context : Files → Context) (files : Files) (depth row : ℕ) (lines : List LogicalLine) (index next : ℕ) (s : State) (ps : Parts)
     (k : Outer)
     → Differs (line_at lines index)
     → First (line_at lines index) ps k
     → StandsAt lines index ps k
     → ((last : Bool) (bs : Branches) (rest : List LogicalLine) → drop index lines ≡ branch_lines bs ++ rest → AreBranches last bs → drop next lines
     ≡ rest)
-    → AdvancesFrom around files depth row lines s s (Ok next) ps k
-end_by around files depth row lines index next s Done ((bs, qs) ∷ k) differs (ending other) stands over =
+    → AdvancesFrom context files depth row lines s s (Ok next) ps k
+end_by context files depth row lines index next s Done ((bs, qs) ∷ k) differs (ending other) stands over =
     let outer = stands.outer in
     (qs, k, record { rest = over outer.0.0 bs (lay qs k) stands.rest outer.0.1; parts = outer.1; outer = outer.2 }, λ more grows end rest. (going s, Group.done, rest))
-end_by around files depth row lines index next s ps k differs (text same) stands over = absurd (differs.not_text same)
-end_by around files depth row lines index next s ps k differs (control same other) stands over = absurd (differs.not_control other)
-end_by around files depth row lines index next s ps k differs (opening same other) stands over = absurd (differs.not_opening other)
+end_by context files depth row lines index next s ps k differs (text same) stands over = absurd (differs.not_text same)
+end_by context files depth row lines index next s ps k differs (control same other) stands over = absurd (differs.not_control other)
+end_by context files depth row lines index next s ps k differs (opening same other) stands over = absurd (differs.not_opening other)
 
-pub end_advances : (around : Files → Surroundings) (files : Files) (depth row : ℕ) (lines : List LogicalLine) (index next : ℕ) (s : State)
+pub end_advances : (context : Files → Context) (files : Files) (depth row : ℕ) (lines : List LogicalLine) (index next : ℕ) (s : State)
     (d : Directive)
     → index < length lines
     → (line_at lines index).directive ≡ Some d
     → ends_group d ≡ true
     → ((last : Bool) (bs : Branches) (rest : List LogicalLine) → drop index lines ≡ branch_lines bs ++ rest → AreBranches last bs → drop next lines ≡ rest)
-    → Advances around files depth row lines index s s (Ok next)
-end_advances around files depth row lines index next s d within is ends over ps k stands =
-    end_by around files depth row lines index next s ps k (ending_role d (line_at lines index) ends (ap role_by is)) (first_at lines index ps k within stands) stands over
+    → Advances context files depth row lines index s s (Ok next)
+end_advances context files depth row lines index next s d within is ends over ps k stands =
+    end_by context files depth row lines index next s ps k (ending_role d (line_at lines index) ends (ap role_by is)) (first_at lines index ps k within stands) stands over

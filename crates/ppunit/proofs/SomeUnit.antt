@@ -29,19 +29,19 @@ use Rattle.ppshelf.specs.Names.{name_in}
 use Rattle.ppshelf.specs.Search.{Candidate, IsFirstRow}
 use Rattle.ppshelf.proofs.Finds.{first_within}
 use Rattle.ppunit.proofs.FirstLine.{else_directive, not_else}
-use Rattle.ppunit.specs.Dependencies.{is_among}
+use Rattle.ppunit.specs.Dependencies.{has_row}
 use Rattle.ppunit.specs.declared.units.Item.TheVariants as item
-use Rattle.ppunit.specs.States.{State, Search, Surroundings, search_of, Reached, going, stopped, given, emitted, with_left, depending, entering, leaving, paying}
-use Rattle.ppunit.specs.Lines.{operands, line_fault, named_fault, one_identifier, run_tokens}
-use Rattle.ppunit.specs.Quotes.{lone_quote}
+use Rattle.ppunit.specs.States.{State, Search, Context, search_of, Reached, going, stopped, output, emitted, with_left, with_dependency, entering, leaving, with_one_spent}
+use Rattle.ppunit.specs.DirectiveLines.{operands, line_fault, named_fault, one_identifier, run_tokens}
+use Rattle.ppunit.specs.Quotes.{unmatched_quote}
 use Rattle.ppunit.specs.LineControl.{presumed}
-use Rattle.ppunit.specs.Including.{Asked, begins_with_header, header_asked, asked_or, asked_behind, if_somewhere}
+use Rattle.ppunit.specs.Including.{IncludeName, begins_with_header, name_of_header, name_or, name_of_expansion_or, if_possible_name}
 use Rattle.ppunit.specs.Probing.{condition_tokens}
 use Rattle.ppunit.specs.Conditions.{Decides, DecidesFreely, DecidesOf, DecidesBy, DecidesUnless, by_name}
-use Rattle.ppunit.specs.Directives.{RunGives, LineGives, renumbered_by, with_macros, pragma_passed, ControlBy, Asks, AsksBy, looked_for, Finds, message, looks_at_quotes}
+use Rattle.ppunit.specs.Directives.{EmitsRun, SetsLine, renumbered_by, with_macros, pragma_emitted, ControlBy, NamesHeader, NamesHeaderBy, candidates_for, FindsFile, message, looks_at_quotes}
 use Rattle.ppunit.specs.Group.{deepest, Group, Branched, Controls, Includes, Opened}
 use Rattle.ppunit.specs.Laws.{KnowsAll, HasSomeValue}
-use Rattle.ppunit.specs.Unit.{Defines, unread, processed, Translates, undefined, translated, command_file, command_text, first_place, surroundings, beginning}
+use Rattle.ppunit.specs.Unit.{Defines, unread, processed, Translates, undefined, translated, command_file, command_text, first_place, context_of_unit, initial_state}
 
 abbrev pub SomeExpansion : Type 0
 SomeExpansion = (macros : Macros) (env : Env) (left : Option ℕ) (tokens : List Token) → (e : Expanded) × IsExpansion macros env left tokens e
@@ -84,27 +84,27 @@ elif_conditional (Some d) e = elif_asks (class_of d) e
 -- ---- lines
 
 module _ (expansions : SomeExpansion) (decisions : SomeDecision) where
-  some_run : (s : State) (tokens : List Token) → (m : Reached) × RunGives s tokens m
+  some_run : (s : State) (tokens : List Token) → (m : Reached) × EmitsRun s tokens m
   some_run s tokens =
       let e = expansions s.macros s.env s.left tokens in
       (record { state = emitted (with_left s e.0.left) (map item.Token e.0.tokens); fault = e.0.fault }, record { expanded = e.0; expands = e.1; is = refl })
 
-  some_renumbering : (s : State) (line : LogicalLine) → (m : Reached) × LineGives s line m
+  some_renumbering : (s : State) (line : LogicalLine) → (m : Reached) × SetsLine s line m
   some_renumbering s line =
       let e = expansions s.macros s.env s.left (operands line.tokens) in
       (renumbered_by (with_left s e.0.left) line e.0.fault (presumed e.0.tokens), record { expanded = e.0; expands = e.1; is = refl })
 
-  asks_by : (header : Bool) (s : State) (line : List Token) → (asked : Result Asked Fault) × (after : Option ℕ) × AsksBy header s line after asked
-  asks_by true s line = (asked_or (line_fault 30 line []) (if_somewhere (header_asked (operands line))), s.left, (refl, refl))
+  asks_by : (header : Bool) (s : State) (line : List Token) → (include_name : Result IncludeName Fault) × (after : Option ℕ) × NamesHeaderBy header s line after include_name
+  asks_by true s line = (name_or (line_fault 30 line []) (if_possible_name (name_of_header (operands line))), s.left, (refl, refl))
   asks_by false s line =
       let e = expansions s.macros s.env s.left (operands line) in
-      (asked_behind (line_fault 30 line []) e.0.fault e.0.tokens, e.0.left, record { expanded = e.0; expands = e.1; leaves = refl; is = refl })
+      (name_of_expansion_or (line_fault 30 line []) e.0.fault e.0.tokens, e.0.left, record { expanded = e.0; expands = e.1; leaves = refl; is = refl })
 
-  some_asking : (s : State) (line : List Token) → (asked : Result Asked Fault) × (after : Option ℕ) × Asks s line after asked
+  some_asking : (s : State) (line : List Token) → (include_name : Result IncludeName Fault) × (after : Option ℕ) × NamesHeader s line after include_name
   some_asking s line = asks_by (begins_with_header (operands line)) s line
 
-  decides_freely : (s : State) (answer : Result Bool Fault) → (taken : Result Bool Fault) × (after : Option ℕ) × DecidesFreely s answer after taken
-  decides_freely s answer = (answer, s.left, (refl, refl))
+  decides_freely : (s : State) (into_output : Result Bool Fault) → (taken : Result Bool Fault) × (after : Option ℕ) × DecidesFreely s into_output after taken
+  decides_freely s into_output = (into_output, s.left, (refl, refl))
 
   decides_of : (tokens : Result (List Token) Fault) (s : State) (at : Place) → (taken : Result Bool Fault) × (after : Option ℕ) × DecidesOf tokens s at after taken
   decides_of (Err f) s at = decides_freely s (Err f)
@@ -126,13 +126,13 @@ module _ (expansions : SomeExpansion) (decisions : SomeDecision) where
   some_deciding : (search : Search) (row : ℕ) (s : State) (line : LogicalLine)
       → HasCondition line.directive
       → (taken : Result Bool Fault) × (after : Option ℕ) × Decides search row s line after taken
-  some_deciding search row s line has = decides_unless search row (lone_quote line.tokens) line.directive s line.tokens has
+  some_deciding search row s line has = decides_unless search row (unmatched_quote line.tokens) line.directive s line.tokens has
 
   control_gives : (profile : Profile) (row : ℕ) (d : Directive) → class_of d ≡ class.Control → (s : State) (line : LogicalLine) → (m : Reached) × ControlBy profile row (Some d) s line m
   control_gives profile row Define e s line = (with_macros s (after_define profile s.macros (sign_place line.tokens) (operands line.tokens)), refl)
   control_gives profile row Undef e s line = (with_macros s (after_undef profile s.macros (sign_place line.tokens) (operands line.tokens)), refl)
   control_gives profile row Line e s line = some_renumbering s line
-  control_gives profile row Pragma e s line = (going (pragma_passed profile row s line.tokens), refl)
+  control_gives profile row Pragma e s line = (going (pragma_emitted profile row s line.tokens), refl)
   control_gives profile row Null e s line = (going s, refl)
   control_gives profile row Unknown e s line = (stopped s (named_fault 8 line.tokens), refl)
   control_gives profile row d e s line = absurd (cc)
@@ -154,57 +154,57 @@ module _ (expansions : SomeExpansion) (decisions : SomeDecision) where
   sort_of profile row None e = absurd (cc)
   sort_of profile row (Some d) e = sort_in profile row d (class_of d) refl e
 
-  module _ (readings : SomeReading) (trees : SomeTree) (rows : SomeRow) (around : Surroundings) (known : KnowsAll around.names around.files) where
+  module _ (readings : SomeReading) (trees : SomeTree) (rows : SomeRow) (context : Context) (known : KnowsAll context.names context.files) where
     abbrev SomeOpened : ℕ → Type 0
     SomeOpened depth =
-        (at : Place) (s : State) (row : ℕ) (folder : Option ℕ)
-        → row < length around.names
-        → (m : Reached) × Opened around depth at s row folder m
+        (at : Place) (s : State) (row : ℕ) (directory : Option ℕ)
+        → row < length context.names
+        → (m : Reached) × Opened context depth at s row directory m
 
     module _ (depth : ℕ) (deeper : SomeOpened (suc depth)) where
-      finding : (row : ℕ) (from : Option ℕ) (s : State) (line : LogicalLine) (after : Option ℕ) (a : Asked)
-          → Asks s line.tokens after (Ok a)
+      finding : (row : ℕ) (from : Option ℕ) (s : State) (line : LogicalLine) (after : Option ℕ) (a : IncludeName)
+          → NamesHeader s line.tokens after (Ok a)
           → (found : Option (ℕ × ℕ))
-          → Finds around row from a found
-          → (m : Reached) × Includes around depth row from s line m
+          → FindsFile context row from a found
+          → (m : Reached) × Includes context depth row from s line m
       finding row from s line after a asking None finds =
           (stopped (with_left s after) (line_fault 31 line.tokens a.name), Includes.missing a asking finds)
       finding row from s line after a asking (Some found) finds =
-          let within : found.0 < length around.names = first_within around.names (looked_for around row from a) (Some found) finds in
+          let within : found.0 < length context.names = first_within context.names (candidates_for context row from a) (Some found) finds in
           let o = deeper (sign_place line.tokens) (with_left s after) found.0 (Some found.1) within in
           (o.0, Includes.included a found asking finds o.1)
 
-      including : (row : ℕ) (from : Option ℕ) (s : State) (line : LogicalLine) (after : Option ℕ) (asked : Result Asked Fault)
-          → Asks s line.tokens after asked
-          → (m : Reached) × Includes around depth row from s line m
+      including : (row : ℕ) (from : Option ℕ) (s : State) (line : LogicalLine) (after : Option ℕ) (include_name : Result IncludeName Fault)
+          → NamesHeader s line.tokens after include_name
+          → (m : Reached) × Includes context depth row from s line m
       including row from s line after (Err f) asking = (stopped (with_left s after) f, Includes.misnamed asking)
       including row from s line after (Ok a) asking =
-          let r = rows around.names (looked_for around row from a) in
+          let r = rows context.names (candidates_for context row from a) in
           finding row from s line after a asking r.0 r.1
 
-      some_include : (row : ℕ) (from : Option ℕ) (s : State) (line : LogicalLine) → (m : Reached) × Includes around depth row from s line m
+      some_include : (row : ℕ) (from : Option ℕ) (s : State) (line : LogicalLine) → (m : Reached) × Includes context depth row from s line m
       some_include row from s line = let a = some_asking s line.tokens in including row from s line a.1 a.0 a.2
 
       control_by : (row : ℕ) (s : State) (line : LogicalLine) (q : Option Fault)
-          → lone_quote line.tokens ≡ q
-          → Sort around.profile row line.directive
-          → (m : Reached) × Controls around depth row s line m
+          → unmatched_quote line.tokens ≡ q
+          → Sort context.profile row line.directive
+          → (m : Reached) × Controls context depth row s line m
       control_by row s line q e (refuses is) = (stopped s (line_fault 34 line.tokens (message (operands line.tokens))), Controls.error is)
       control_by row s line q e (does_nothing is) = (going s, Controls.ignored is)
       control_by row s line (Some f) e (asks next looks is) = (stopped s f, Controls.quote looks e)
       control_by row s line (Some f) e (does looks by) = (stopped s f, Controls.quote looks e)
-      control_by row s line None e (asks next looks is) = let i = some_include row (if next then s.folder else None) s line in (i.0, Controls.include is e i.1)
+      control_by row s line None e (asks next looks is) = let i = some_include row (if next then s.directory else None) s line in (i.0, Controls.include is e i.1)
       control_by row s line None e (does looks by) = let m = by s line in (m.0, Controls.other e m.1)
 
-      some_control : (row : ℕ) (s : State) (line : LogicalLine) → role line ≡ ControlLine → (m : Reached) × Controls around depth row s line m
-      some_control row s line is = control_by row s line (lone_quote line.tokens) refl (sort_of around.profile row line.directive is)
+      some_control : (row : ℕ) (s : State) (line : LogicalLine) → role line ≡ ControlLine → (m : Reached) × Controls context depth row s line m
+      some_control row s line is = control_by row s line (unmatched_quote line.tokens) refl (sort_of context.profile row line.directive is)
 
       -- after a state or a fault
       abbrev SomeGroup : ℕ → Reached → Parts → Type 0
-      SomeGroup row r ps = (m : Reached) × Group around depth row r ps m
+      SomeGroup row r ps = (m : Reached) × Group context depth row r ps m
 
       abbrev SomeBranched : ℕ → State → Branches → Type 0
-      SomeBranched row s bs = (m : Reached) × Branched around depth row s bs m
+      SomeBranched row s bs = (m : Reached) × Branched context depth row s bs m
 
       goes_on_by : (row : ℕ) (ps : Parts) → ((s : State) → SomeGroup row (going s) ps) → (s : State) (f : Option Fault) → SomeGroup row (record { state = s; fault = f }) ps
       goes_on_by row ps all s None = all s
@@ -226,7 +226,7 @@ module _ (expansions : SomeExpansion) (decisions : SomeDecision) where
           (g.0, Group.control m.1 g.1)
 
       at_section : (row : ℕ) (s : State) (line : LogicalLine) (ps qs : Parts) (bs : Branches) (taken : Result Bool Fault) (after : Option ℕ)
-          → Decides (search_of around) row s line after taken
+          → Decides (search_of context) row s line after taken
           → ((t : State) → SomeGroup row (going t) ps)
           → ((t : State) → SomeBranched row t bs)
           → ((t : State) → SomeGroup row (going t) qs)
@@ -243,7 +243,7 @@ module _ (expansions : SomeExpansion) (decisions : SomeDecision) where
 
       at_elif : (row : ℕ) (s : State) (line : LogicalLine) (ps : Parts) (bs : Branches) (taken : Result Bool Fault) (after : Option ℕ)
           → line.directive ≢ Some Else
-          → Decides (search_of around) row s line after taken
+          → Decides (search_of context) row s line after taken
           → ((t : State) → SomeGroup row (going t) ps)
           → ((t : State) → SomeBranched row t bs)
           → SomeBranched row s (Branch line ps bs)
@@ -258,7 +258,7 @@ module _ (expansions : SomeExpansion) (decisions : SomeDecision) where
           → SomeBranched row s (Branch line ps bs)
       at_branch row s line ps bs true is here more = let m = here s in (m.0, Branched.otherwise (else_directive line.directive is) m.1)
       at_branch row s line ps bs false is here more =
-          let d = some_deciding (search_of around) row s line (elif_conditional line.directive is) in
+          let d = some_deciding (search_of context) row s line (elif_conditional line.directive is) in
           at_elif row s line ps bs d.0 d.1 (not_else line.directive is) d.2 here more
 
       opening_line : (row : ℕ) (s : State) (line : LogicalLine) (ps qs : Parts) (bs : Branches)
@@ -268,7 +268,7 @@ module _ (expansions : SomeExpansion) (decisions : SomeDecision) where
           → ((t : State) → SomeGroup row (going t) qs)
           → SomeGroup row (going s) (Section line ps bs qs)
       opening_line row s line ps qs bs is here branches rest =
-          let d = some_deciding (search_of around) row s line (opens_conditional line.directive is) in
+          let d = some_deciding (search_of context) row s line (opens_conditional line.directive is) in
           at_section row s line ps qs bs d.0 d.1 d.2 here branches rest
 
       mutual
@@ -289,83 +289,83 @@ module _ (expansions : SomeExpansion) (decisions : SomeDecision) where
       tree_of : (profile : Profile) (row : ℕ) (bytes : List ℕ) (lines : List LogicalLine) → IsSource profile row bytes lines → (parts : Parts) × Tree lines parts
       tree_of profile row bytes lines is = trees lines (ap (λ x. group_fault [] x) is.same ∙ is.grouped)
 
-      reading_file : (at : Place) (s : State) (row : ℕ) (folder : Option ℕ) (bytes : List ℕ)
+      reading_file : (at : Place) (s : State) (row : ℕ) (directory : Option ℕ) (bytes : List ℕ)
           → depth ≤ deepest
           → is_exhausted s.left ≡ false
-          → is_among row s.once ≡ false
-          → file_at around.files row ≡ Some (readable bytes)
+          → has_row row s.once ≡ false
+          → file_at context.files row ≡ Some (readable bytes)
           → (r : Result (List LogicalLine) Fault)
-          → Reads around.profile row bytes r
-          → (m : Reached) × Opened around depth at s row folder m
-      reading_file at s row folder bytes fits some new is (Err f) reads = (stopped (depending (paying s) row) f, Opened.faulty fits some new is reads)
-      reading_file at s row folder bytes fits some new is (Ok lines) reads =
-          let t = tree_of around.profile row bytes lines reads in
-          let g = some_group t.0 t.1.each row (entering around (paying s) row folder) in
+          → Reads context.profile row bytes r
+          → (m : Reached) × Opened context depth at s row directory m
+      reading_file at s row directory bytes fits some new is (Err f) reads = (stopped (with_dependency (with_one_spent s) row) f, Opened.faulty fits some new is reads)
+      reading_file at s row directory bytes fits some new is (Ok lines) reads =
+          let t = tree_of context.profile row bytes lines reads in
+          let g = some_group t.0 t.1.each row (entering context (with_one_spent s) row directory) in
           (leaving s g.0, Opened.read fits some new is reads t.1 g.1)
 
-      at_content : (at : Place) (s : State) (row : ℕ) (folder : Option ℕ)
+      at_content : (at : Place) (s : State) (row : ℕ) (directory : Option ℕ)
           → depth ≤ deepest
           → is_exhausted s.left ≡ false
-          → is_among row s.once ≡ false
+          → has_row row s.once ≡ false
           → (c : Option Content)
-          → file_at around.files row ≡ c
+          → file_at context.files row ≡ c
           → IsSome c
-          → (m : Reached) × Opened around depth at s row folder m
-      at_content at s row folder fits some new None is there = absurd (cc)
-      at_content at s row folder fits some new (Some unreadable) is there =
-          (stopped (depending (paying s) row) (fault 6 at (name_in around.names row)), Opened.not_readable fits some new is)
-      at_content at s row folder fits some new (Some (readable bytes)) is there =
-          let r = readings around.profile row bytes in
-          reading_file at s row folder bytes fits some new is r.0 r.1
+          → (m : Reached) × Opened context depth at s row directory m
+      at_content at s row directory fits some new None is there = absurd (cc)
+      at_content at s row directory fits some new (Some unreadable) is there =
+          (stopped (with_dependency (with_one_spent s) row) (fault 6 at (name_in context.names row)), Opened.not_readable fits some new is)
+      at_content at s row directory fits some new (Some (readable bytes)) is there =
+          let r = readings context.profile row bytes in
+          reading_file at s row directory bytes fits some new is r.0 r.1
 
-      at_once : (at : Place) (s : State) (row : ℕ) (folder : Option ℕ) → row < length around.names
+      at_once : (at : Place) (s : State) (row : ℕ) (directory : Option ℕ) → row < length context.names
           → depth ≤ deepest
           → is_exhausted s.left ≡ false
           → (b : Bool)
-          → is_among row s.once ≡ b
-          → (m : Reached) × Opened around depth at s row folder m
-      at_once at s row folder within fits some true e = (going (depending (paying s) row), Opened.known fits some e)
-      at_once at s row folder within fits some false e = at_content at s row folder fits some e (file_at around.files row) refl (known row within)
+          → has_row row s.once ≡ b
+          → (m : Reached) × Opened context depth at s row directory m
+      at_once at s row directory within fits some true e = (going (with_dependency (with_one_spent s) row), Opened.known fits some e)
+      at_once at s row directory within fits some false e = at_content at s row directory fits some e (file_at context.files row) refl (known row within)
 
-      at_budget : (at : Place) (s : State) (row : ℕ) (folder : Option ℕ) → row < length around.names → depth ≤ deepest → (b : Bool) → is_exhausted s.left ≡ b → (m : Reached) × Opened around depth at s row folder m
-      at_budget at s row folder within fits true e = (stopped s (fault 35 at []), Opened.over fits e)
-      at_budget at s row folder within fits false e = at_once at s row folder within fits e (is_among row s.once) refl
+      at_budget : (at : Place) (s : State) (row : ℕ) (directory : Option ℕ) → row < length context.names → depth ≤ deepest → (b : Bool) → is_exhausted s.left ≡ b → (m : Reached) × Opened context depth at s row directory m
+      at_budget at s row directory within fits true e = (stopped s (fault 35 at []), Opened.over fits e)
+      at_budget at s row directory within fits false e = at_once at s row directory within fits e (has_row row s.once) refl
 
-      at_depth : (at : Place) (s : State) (row : ℕ) (folder : Option ℕ) → row < length around.names → (deepest < depth) ⊎ (depth ≤ deepest) → (m : Reached) × Opened around depth at s row folder m
-      at_depth at s row folder within (inl deep) = (stopped s (fault 32 at (name_in around.names row)), Opened.too_deep deep)
-      at_depth at s row folder within (inr fits) = at_budget at s row folder within fits (is_exhausted s.left) refl
+      at_depth : (at : Place) (s : State) (row : ℕ) (directory : Option ℕ) → row < length context.names → (deepest < depth) ⊎ (depth ≤ deepest) → (m : Reached) × Opened context depth at s row directory m
+      at_depth at s row directory within (inl deep) = (stopped s (fault 32 at (name_in context.names row)), Opened.too_deep deep)
+      at_depth at s row directory within (inr fits) = at_budget at s row directory within fits (is_exhausted s.left) refl
 
       some_opened : SomeOpened depth
-      some_opened at s row folder within = at_depth at s row folder within (cases_lt deepest depth)
+      some_opened at s row directory within = at_depth at s row directory within (cases_lt deepest depth)
 
     -- what is left of the depth falls
     opening : (n depth : ℕ) → 201 ≤ n + depth → SomeOpened depth
-    opening zero depth h at s row folder within = (stopped s (fault 32 at (name_in around.names row)), Opened.too_deep (omega arith))
-    opening (suc n) depth h at s row folder within = some_opened depth (opening n (suc depth) (omega arith)) at s row folder within
+    opening zero depth h at s row directory within = (stopped s (fault 32 at (name_in context.names row)), Opened.too_deep (omega arith))
+    opening (suc n) depth h at s row directory within = some_opened depth (opening n (suc depth) (omega arith)) at s row directory within
 
     -- ---- a unit
 
     deeper_ones : SomeOpened 1
     deeper_ones = opening 200 1 (omega arith)
 
-    defining : (defines : List (List ℕ)) (s : State) (r : Result (List LogicalLine) Fault) → Reads around.profile command_file (command_text defines) r → (m : Reached) × Defines around defines s m
+    defining : (defines : List (List ℕ)) (s : State) (r : Result (List LogicalLine) Fault) → Reads context.profile command_file (command_text defines) r → (m : Reached) × Defines context defines s m
     defining defines s (Err f) reads = (stopped s f, unread reads)
     defining defines s (Ok lines) reads =
-        let t = tree_of 0 deeper_ones around.profile command_file (command_text defines) lines reads in
+        let t = tree_of 0 deeper_ones context.profile command_file (command_text defines) lines reads in
         let g = some_group 0 deeper_ones t.0 t.1.each command_file s in
         (g.0, processed reads t.1 g.1)
 
-    after_defines : (defines : List (List ℕ)) (row : ℕ) → row < length around.names → (s t : State) (f : Option Fault) → Defines around defines s (record { state = t; fault = f }) → (m : Reached) × Translates around defines row s m
+    after_defines : (defines : List (List ℕ)) (row : ℕ) → row < length context.names → (s t : State) (f : Option Fault) → Defines context defines s (record { state = t; fault = f }) → (m : Reached) × Translates context defines row s m
     after_defines defines row within s t (Some f) d = (stopped t f, undefined d)
     after_defines defines row within s t None d = let o = opening 201 0 (omega arith) (first_place row) t row None within in (o.0, translated d o.1)
 
-    some_translation : (defines : List (List ℕ)) (row : ℕ) → row < length around.names → (s : State) → (m : Reached) × Translates around defines row s m
+    some_translation : (defines : List (List ℕ)) (row : ℕ) → row < length context.names → (s : State) → (m : Reached) × Translates context defines row s m
     some_translation defines row within s =
-        let r = readings around.profile command_file (command_text defines) in
+        let r = readings context.profile command_file (command_text defines) in
         let d = defining defines s r.0 r.1 in
         after_defines defines row within s d.0.state d.0.fault d.1
 
   pub some_unit : SomeReading → SomeTree → SomeRow → HasSomeValue
   some_unit readings trees rows names files setting unit known within =
-      let t = some_translation readings trees rows (surroundings names files setting unit) known unit.defines.texts unit.file within (beginning setting) in
-      (given t.0, record { reached = t.0; translates = t.1; gives = refl })
+      let t = some_translation readings trees rows (context_of_unit names files setting unit) known unit.defines.texts unit.file within (initial_state setting) in
+      (output t.0, record { reached = t.0; translates = t.1; gives = refl })

@@ -5,12 +5,12 @@ use Rattle.std.specs.List.{AllByRecursion}
 use Rattle.pptext.specs.declared.tokens.Fault.{Fault}
 use Rattle.pptext.specs.Lines.{LogicalLine}
 use Rattle.pptext.specs.Tree.{Parts, Done, Run, Control, Section, End, Branch, part_lines, branch_lines, BeginsRun, AreParts, role, role_by}
-use Rattle.ppunit.specs.States.{State, Surroundings, going}
+use Rattle.ppunit.specs.States.{State, Context, going}
 use Rattle.ppunit.specs.Group.{Group}
-use Rattle.ppunit.specs.Directives.{RunGives}
-use Rattle.ppunit.specs.Lines.{run_tokens}
+use Rattle.ppunit.specs.Directives.{EmitsRun}
+use Rattle.ppunit.specs.DirectiveLines.{run_tokens}
 use Rattle.ppshelf.specs.Files.{Files}
-use Rattle.ppunit.specs.Walk.{line_at, Outer, lay, AreOuter, StandsAt, Advances, IsTextLine, IsRest}
+use Rattle.ppunit.specs.code.Walk.{line_at, Outer, lay, AreOuter, StandsAt, Advances, IsTextLine, IsRest}
 use Rattle.ppunit.proofs.FirstLine.{lay_run, text_directive, branches_differ, First, text, control, opening, ending}
 use Rattle.ppunit.proofs.Advancing.{ends_front, ends_stop, AdvancesFrom, advances, first_at, run_result}
 
@@ -41,45 +41,45 @@ run_tokens_are lines front rest index end e is =
     let count : length front ≡ end - index = omega arith in
     ap (take (end - index)) e ∙ take_at front rest (end - index) count
 
-run_by : (around : Files → Surroundings) (files : Files) (depth row : ℕ) (lines : List LogicalLine) (index end : ℕ) (s t : State) (f : Option Fault)
+run_by : (context : Files → Context) (files : Files) (depth row : ℕ) (lines : List LogicalLine) (index end : ℕ) (s t : State) (f : Option Fault)
     (ps : Parts) (k : Outer)
     → role (line_at lines index) ≡ role_by None
     → First (line_at lines index) ps k
     → StandsAt lines index ps k
     → RunOf lines index end
-    → RunGives s (run_tokens (take (end - index) (drop index lines))) (record { state = t; fault = f })
-    → (rs : List LogicalLine) × (qs : Parts) × (ps ≡ Run rs qs) × (drop end lines ≡ lay qs k) × RunGives s (run_tokens rs)
+    → EmitsRun s (run_tokens (take (end - index) (drop index lines))) (record { state = t; fault = f })
+    → (rs : List LogicalLine) × (qs : Parts) × (ps ≡ Run rs qs) × (drop end lines ≡ lay qs k) × EmitsRun s (run_tokens rs)
     (record { state = t; fault = f })
-run_by around files depth row lines index end s t f (Run rs ps) k is (text same) stands run gives =
+run_by context files depth row lines index end s t f (Run rs ps) k is (text same) stands run gives =
     let there = stands.rest ∙ lay_run rs ps k in
     let parts = stands.parts in
     let over = run rs (lay ps k) there (text_lines rs parts.1) (behind_run ps k parts.3 stands.outer parts.2) in
-    (rs, ps, refl, over.1, subst (λ (z : List LogicalLine). RunGives s (run_tokens z) (record { state = t; fault = f })) (run_tokens_are lines rs (lay ps k) index end there over.0) gives)
-run_by around files depth row lines index end s t f ps k is (control same other) stands run gives = absurd (cc)
-run_by around files depth row lines index end s t f ps k is (opening same other) stands run gives = absurd (cc)
-run_by around files depth row lines index end s t f ps k is (ending differs) stands run gives = absurd (differs.not_text is)
+    (rs, ps, refl, over.1, subst (λ (z : List LogicalLine). EmitsRun s (run_tokens z) (record { state = t; fault = f })) (run_tokens_are lines rs (lay ps k) index end there over.0) gives)
+run_by context files depth row lines index end s t f ps k is (control same other) stands run gives = absurd (cc)
+run_by context files depth row lines index end s t f ps k is (opening same other) stands run gives = absurd (cc)
+run_by context files depth row lines index end s t f ps k is (ending differs) stands run gives = absurd (differs.not_text is)
 
-run_on : (around : Files → Surroundings) (files : Files) (depth row : ℕ) (lines : List LogicalLine) (index end : ℕ) (s t : State) (f : Option Fault)
+run_on : (context : Files → Context) (files : Files) (depth row : ℕ) (lines : List LogicalLine) (index end : ℕ) (s t : State) (f : Option Fault)
     (rs : List LogicalLine) (qs : Parts) (k : Outer)
     → AreParts qs
     → AreOuter k
     → drop end lines ≡ lay qs k
-    → RunGives s (run_tokens rs) (record { state = t; fault = f })
-    → AdvancesFrom around files depth row lines s t (run_result end f) (Run rs qs) k
-run_on around files depth row lines index end s t None rs qs k are outer there gives =
-    (qs, k, record { rest = there; parts = are; outer = outer }, λ more grows last rest. ends_front (around more) depth row (going s) (going t) (Run rs qs) qs k last (λ o g. Group.run gives g) rest)
-run_on around files depth row lines index end s t (Some f) rs qs k are outer there gives =
-    λ more grows. ends_stop (around more) depth row (going s) t f (Run rs qs) k (Group.run gives Group.stays)
+    → EmitsRun s (run_tokens rs) (record { state = t; fault = f })
+    → AdvancesFrom context files depth row lines s t (run_result end f) (Run rs qs) k
+run_on context files depth row lines index end s t None rs qs k are outer there gives =
+    (qs, k, record { rest = there; parts = are; outer = outer }, λ more grows last rest. ends_front (context more) depth row (going s) (going t) (Run rs qs) qs k last (λ o g. Group.run gives g) rest)
+run_on context files depth row lines index end s t (Some f) rs qs k are outer there gives =
+    λ more grows. ends_stop (context more) depth row (going s) t f (Run rs qs) k (Group.run gives Group.stays)
 
-pub run_advances : (around : Files → Surroundings) (files : Files) (depth row : ℕ) (lines : List LogicalLine) (index end : ℕ) (s t : State)
+pub run_advances : (context : Files → Context) (files : Files) (depth row : ℕ) (lines : List LogicalLine) (index end : ℕ) (s t : State)
     (f : Option Fault)
     → index < length lines
     → (line_at lines index).directive ≡ None
     → RunOf lines index end
-    → RunGives s (run_tokens (take (end - index) (drop index lines))) (record { state = t; fault = f })
-    → Advances around files depth row lines index s t (run_result end f)
-run_advances around files depth row lines index end s t f within is run gives =
-    advances around files depth row lines index s t (run_result end f) (λ ps k stands.
-    let b = run_by around files depth row lines index end s t f ps k (ap role_by is) (first_at lines index ps k within stands) stands run gives in
+    → EmitsRun s (run_tokens (take (end - index) (drop index lines))) (record { state = t; fault = f })
+    → Advances context files depth row lines index s t (run_result end f)
+run_advances context files depth row lines index end s t f within is run gives =
+    advances context files depth row lines index s t (run_result end f) (λ ps k stands.
+    let b = run_by context files depth row lines index end s t f ps k (ap role_by is) (first_at lines index ps k within stands) stands run gives in
     let are = subst AreParts b.2 stands.parts in
-    subst (λ (z : Parts). AdvancesFrom around files depth row lines s t (run_result end f) z k) (sym b.2) (run_on around files depth row lines index end s t f b.0 b.1 k are.3 stands.outer b.3 b.4))
+    subst (λ (z : Parts). AdvancesFrom context files depth row lines s t (run_result end f) z k) (sym b.2) (run_on context files depth row lines index end s t f b.0 b.1 k are.3 stands.outer b.3 b.4))

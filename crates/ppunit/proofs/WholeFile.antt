@@ -4,67 +4,67 @@ use Rattle.std.proofs.lemmas.List.{drop_all}
 use Rattle.pptext.specs.declared.tokens.Fault.{Fault}
 use Rattle.pptext.specs.Lines.{LogicalLine}
 use Rattle.pptext.specs.Tree.{Parts, Done, Run, Control, Section, End, Branch, AreParts, Tree}
-use Rattle.ppunit.specs.States.{State, Surroundings, Reached, going, stopped}
+use Rattle.ppunit.specs.States.{State, Context, Reached, going, stopped}
 use Rattle.ppunit.specs.Group.{Group}
 use Rattle.ppshelf.specs.Files.{Files, Extends}
-use Rattle.ppunit.specs.Walk.{Outer, lay, StandsAt, Ends, Advances}
+use Rattle.ppunit.specs.code.Walk.{Outer, lay, StandsAt, Ends, Advances}
 use Rattle.ppunit.proofs.FirstLine.{lay_run, lay_control, lay_section}
 
 -- as far as the lines of a file go that have been passed: its end leads to what is to be reached
-pub record FileSoFar (around : Files → Surroundings) (files : Files) (whole : Files → Reached → Type 0) (depth row : ℕ) (lines : List LogicalLine) (index : ℕ) (t : State) : Type 0 where
+pub record FileSoFar (context : Files → Context) (files : Files) (whole : Files → Reached → Type 0) (depth row : ℕ) (lines : List LogicalLine) (index : ℕ) (t : State) : Type 0 where
   pub parts : Parts
   pub outer : Outer
   pub stands : StandsAt lines index parts outer
-  pub ends : (more : Files) → Extends more files → (end : Reached) → Ends (around more) depth row (going t) parts outer end → whole more end
+  pub ends : (more : Files) → Extends more files → (end : Reached) → Ends (context more) depth row (going t) parts outer end → whole more end
 
-pub file_start : (around : Files → Surroundings) (files : Files) (whole : Files → Reached → Type 0) (depth row : ℕ) (lines : List LogicalLine)
+pub file_start : (context : Files → Context) (files : Files) (whole : Files → Reached → Type 0) (depth row : ℕ) (lines : List LogicalLine)
     (index : ℕ) (t : State) (parts : Parts)
     → index ≡ 0
     → Tree lines parts
-    → ((more : Files) → Extends more files → (end : Reached) → Group (around more) depth row (going t) parts end → whole more end)
-    → FileSoFar around files whole depth row lines index t
-file_start around files whole depth row lines index t parts begins tree ends =
-    subst (λ (z : ℕ). FileSoFar around files whole depth row lines z t) (sym begins) (record { parts = parts; outer = []; stands = record { rest = sym tree.whole; parts = tree.each; outer = tt }; ends = ends })
+    → ((more : Files) → Extends more files → (end : Reached) → Group (context more) depth row (going t) parts end → whole more end)
+    → FileSoFar context files whole depth row lines index t
+file_start context files whole depth row lines index t parts begins tree ends =
+    subst (λ (z : ℕ). FileSoFar context files whole depth row lines z t) (sym begins) (record { parts = parts; outer = []; stands = record { rest = sym tree.whole; parts = tree.each; outer = tt }; ends = ends })
 
 pub extends_trans : (a b c : Files) → Extends a b → Extends b c → Extends a c
 extends_trans a b c ab bc row content at = ab row content (bc row content at)
 
-pub file_more : (around : Files → Surroundings) (old new : Files) (whole : Files → Reached → Type 0) (depth row : ℕ) (lines : List LogicalLine)
+pub file_more : (context : Files → Context) (old new : Files) (whole : Files → Reached → Type 0) (depth row : ℕ) (lines : List LogicalLine)
     (index next : ℕ) (t u : State)
-    → FileSoFar around old whole depth row lines index t
+    → FileSoFar context old whole depth row lines index t
     → Extends new old
-    → Advances around new depth row lines index t u (Ok next)
-    → FileSoFar around new whole depth row lines next u
-file_more around old new whole depth row lines index next t u sofar wider step =
+    → Advances context new depth row lines index t u (Ok next)
+    → FileSoFar context new whole depth row lines next u
+file_more context old new whole depth row lines index next t u sofar wider step =
     let g = step sofar.parts sofar.outer sofar.stands in
     record { parts = g.0; outer = g.1; stands = g.2; ends = λ more grows end rest. sofar.ends more (extends_trans more new old grows wider) end (g.3 more grows end rest) }
 
-pub file_stop : (around : Files → Surroundings) (old new : Files) (whole : Files → Reached → Type 0) (depth row : ℕ) (lines : List LogicalLine)
+pub file_stop : (context : Files → Context) (old new : Files) (whole : Files → Reached → Type 0) (depth row : ℕ) (lines : List LogicalLine)
     (index : ℕ) (t u : State) (fault : Fault)
-    → FileSoFar around old whole depth row lines index t
+    → FileSoFar context old whole depth row lines index t
     → Extends new old
-    → Advances around new depth row lines index t u (Err fault)
+    → Advances context new depth row lines index t u (Err fault)
     → (more : Files)
     → Extends more new
     → whole more (stopped u fault)
-file_stop around old new whole depth row lines index t u fault sofar wider step more grows =
+file_stop context old new whole depth row lines index t u fault sofar wider step more grows =
     sofar.ends more (extends_trans more new old grows wider) (stopped u fault) (step sofar.parts sofar.outer sofar.stands more grows)
 
-nothing_laid : (around : Surroundings) (depth row : ℕ) (t : State) (ps : Parts) (k : Outer) → lay ps k ≡ [] → AreParts ps → Ends around depth row (going t) ps k (going t)
-nothing_laid around depth row t Done [] e are = Group.done
-nothing_laid around depth row t Done ((End r, qs) ∷ k) e are = absurd (cc)
-nothing_laid around depth row t Done ((Branch r ps bs, qs) ∷ k) e are = absurd (cc)
-nothing_laid around depth row t (Run [] ps) k e are = absurd (are.0 refl)
-nothing_laid around depth row t (Run (r ∷ rs) ps) k e are = let whole = sym (lay_run (r ∷ rs) ps k) ∙ e in absurd (cc)
-nothing_laid around depth row t (Control r ps) k e are = let whole = sym (lay_control r ps k) ∙ e in absurd (cc)
-nothing_laid around depth row t (Section r ps bs qs) k e are = let whole = sym (lay_section r ps qs bs k) ∙ e in absurd (cc)
+nothing_laid : (context : Context) (depth row : ℕ) (t : State) (ps : Parts) (k : Outer) → lay ps k ≡ [] → AreParts ps → Ends context depth row (going t) ps k (going t)
+nothing_laid context depth row t Done [] e are = Group.done
+nothing_laid context depth row t Done ((End r, qs) ∷ k) e are = absurd (cc)
+nothing_laid context depth row t Done ((Branch r ps bs, qs) ∷ k) e are = absurd (cc)
+nothing_laid context depth row t (Run [] ps) k e are = absurd (are.0 refl)
+nothing_laid context depth row t (Run (r ∷ rs) ps) k e are = let whole = sym (lay_run (r ∷ rs) ps k) ∙ e in absurd (cc)
+nothing_laid context depth row t (Control r ps) k e are = let whole = sym (lay_control r ps k) ∙ e in absurd (cc)
+nothing_laid context depth row t (Section r ps bs qs) k e are = let whole = sym (lay_section r ps qs bs k) ∙ e in absurd (cc)
 
-pub file_done : (around : Files → Surroundings) (files : Files) (whole : Files → Reached → Type 0) (depth row : ℕ) (lines : List LogicalLine)
+pub file_done : (context : Files → Context) (files : Files) (whole : Files → Reached → Type 0) (depth row : ℕ) (lines : List LogicalLine)
     (index : ℕ) (t : State)
-    → FileSoFar around files whole depth row lines index t
+    → FileSoFar context files whole depth row lines index t
     → length lines ≤ index
     → (more : Files)
     → Extends more files
     → whole more (going t)
-file_done around files whole depth row lines index t sofar over more grows =
-    sofar.ends more grows (going t) (nothing_laid (around more) depth row t sofar.parts sofar.outer (sym sofar.stands.rest ∙ drop_all index lines over) sofar.stands.parts)
+file_done context files whole depth row lines index t sofar over more grows =
+    sofar.ends more grows (going t) (nothing_laid (context more) depth row t sofar.parts sofar.outer (sym sofar.stands.rest ∙ drop_all index lines over) sofar.stands.parts)

@@ -3,9 +3,9 @@ use Rattle.std.proofs.Common.{◌≡◌, ℕ, zero, suc, ◌+◌, ◌-◌, ◌*�
 use Rattle.std.proofs.Math.Nat.{mul-lt-mul_of_pos_right, mul-le-mul_right}
 use Rattle.pptext.specs.Lines.{LogicalLine}
 use Rattle.ppshelf.specs.Files.{Files}
-use Rattle.ppunit.specs.Opening.{OpenFile, Entered}
-use Rattle.ppunit.specs.States.{State, Surroundings}
-use Rattle.ppunit.specs.Walk.{StepsTo, Waiting, next_file, next_waiting}
+use Rattle.ppunit.specs.code.Opening.{OpenFile, Entered}
+use Rattle.ppunit.specs.States.{State, Context}
+use Rattle.ppunit.specs.code.Walk.{StepsTo, SuspendedFile, next_file, next_suspended}
 
 -- more than a file has lines, with its end
 limit : ℕ
@@ -41,18 +41,18 @@ lines_some : (f : OpenFile) → 0 < lines_left f
 unfolding lines_left
 lines_some f = omega arith
 
-pub waiting_work : List Waiting → ℕ
+pub waiting_work : List SuspendedFile → ℕ
 waiting_work [] = 0
 waiting_work (w ∷ ws) = lines_left w.file * room (200 - length ws) + waiting_work ws
 
 -- the work that is left, by the file whose lines are worked off and those that wait, the last one first
-pub work : OpenFile → List Waiting → ℕ
+pub work : OpenFile → List SuspendedFile → ℕ
 work f ws = lines_left f * room (200 - length ws) + waiting_work ws
 
 fewer : (x y r rest : ℕ) → x < y → 0 < r → x * r + rest < y * r + rest
 fewer x y r rest less some = omega (arith, mul-lt-mul_of_pos_right less some)
 
-work_on : (f : OpenFile) (next : ℕ) (ws : List Waiting) → f.index < length f.lines → f.index < next → work (record f { index = next }) ws < work f ws
+work_on : (f : OpenFile) (next : ℕ) (ws : List SuspendedFile) → f.index < length f.lines → f.index < next → work (record f { index = next }) ws < work f ws
 unfolding work
 work_on f next ws within further =
     fewer (lines_left (record f { index = next })) (lines_left f) (room (200 - length ws)) (waiting_work ws) (lines_fewer f next within further) (room_pos (200 - length ws))
@@ -63,27 +63,27 @@ deeper x y z r s rest is some few less =
     let outer : suc y * s ≤ z * s = mul-le-mul_right s less in
     omega arith
 
-work_entering : (f : OpenFile) (next : ℕ) (e : Entered) (ws : List Waiting)
+work_entering : (f : OpenFile) (next : ℕ) (e : Entered) (ws : List SuspendedFile)
     → f.index < length f.lines
     → f.index < next
     → length e.file.lines < 2 ^ 64
     → length ws < 200
-    → work e.file (record { file = record f { index = next }; context = e.outer } ∷ ws) < work f ws
+    → work e.file (record { file = record f { index = next }; file_context = e.outer } ∷ ws) < work f ws
 unfolding work waiting_work
 work_entering f next e ws within further few deep =
     deeper (lines_left e.file) (lines_left (record f { index = next })) (lines_left f) (room (200 - suc (length ws))) (room (200 - length ws))
     (waiting_work ws) (room_more (length ws) deep) (room_pos (200 - suc (length ws))) (lines_few e.file few) (lines_fewer f next within further)
 
-pub work_next : (around : Files → Surroundings) (files : Files) (row : ℕ) (lines : List LogicalLine) (index next : ℕ) (s t : State) (f : OpenFile)
-    (entered : Option Entered) (ws : List Waiting)
+pub work_next : (context : Files → Context) (files : Files) (row : ℕ) (lines : List LogicalLine) (index next : ℕ) (s t : State) (f : OpenFile)
+    (entered : Option Entered) (ws : List SuspendedFile)
     → f.index < length f.lines
     → f.index < next
-    → StepsTo around files (length ws) row lines index s t next entered
-    → work (next_file (record f { index = next }) entered) (next_waiting (record f { index = next }) entered ws) < work f ws
-work_next around files row lines index next s t f None ws within further step = work_on f next ws within further
-work_next around files row lines index next s t f (Some e) ws within further step = work_entering f next e ws within further step.1.few step.1.fits
+    → StepsTo context files (length ws) row lines index s t next entered
+    → work (next_file (record f { index = next }) entered) (next_suspended (record f { index = next }) entered ws) < work f ws
+work_next context files row lines index next s t f None ws within further step = work_on f next ws within further
+work_next context files row lines index next s t f (Some e) ws within further step = work_entering f next e ws within further step.1.few step.1.fits
 
-pub work_leaving : (f : OpenFile) (w : Waiting) (ws : List Waiting) → work w.file ws < work f (w ∷ ws)
+pub work_leaving : (f : OpenFile) (w : SuspendedFile) (ws : List SuspendedFile) → work w.file ws < work f (w ∷ ws)
 unfolding work waiting_work
 work_leaving f w ws =
     let some : 0 * room (200 - suc (length ws)) < lines_left f * room (200 - suc (length ws)) = mul-lt-mul_of_pos_right (lines_some f) (room_pos (200 - suc (length ws))) in

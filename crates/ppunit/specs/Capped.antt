@@ -32,8 +32,8 @@ AtMost None n = Unit {0}
 AtMost (Some b) n = n ≤ b
 
 -- in each way to this value, the unit's replacements and opened files total at most its budget
-abbrev pub IsWithin : List (List ℕ) → Files → Setting → UnitOfList → UnitOut → Type 0
-IsWithin names files setting unit out = (p : IsUnit names files setting unit out) → AtMost setting.budget (count p)
+abbrev pub IsInBudget : List (List ℕ) → Files → Setting → UnitOfList → UnitOut → Type 0
+IsInBudget names files setting unit out = (p : IsUnit names files setting unit out) → AtMost setting.budget (count p)
 
 -- over these files the unit has a value without a budget, and `out` is what the budget b leaves of it
 pub record HasWhole (b : ℕ) (names : List (List ℕ)) (files : Files) (setting : Setting) (unit : UnitOfList) (out : UnitOut) : Type 0 where
@@ -59,10 +59,10 @@ pub record IsCappedOver (names : List (List ℕ)) (files : Files) (setting : Set
 -- ---- theorems
 
 -- replacements and opened files total at most the budget
-abbrev pub StaysWithin : Type 0
-StaysWithin =
+abbrev pub StaysInBudget : Type 0
+StaysInBudget =
     (names : List (List ℕ)) (files : Files) (setting : Setting) (unit : UnitOfList) (out : UnitOut)
-    → IsWithin names files setting unit out
+    → IsInBudget names files setting unit out
 
 -- the value with a budget is a prefix, and the whole exactly if the budget suffices
 abbrev pub BudgetCaps : Type 0

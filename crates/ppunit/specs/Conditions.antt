@@ -15,8 +15,8 @@ use Rattle.ppmacro.specs.Names.{Macros}
 use Rattle.ppmacro.specs.Define.{same_bool}
 use Rattle.ppexpr.specs.Conditions.{IsCondition}
 use Rattle.ppunit.specs.States.{Search, State}
-use Rattle.ppunit.specs.Lines.{operands, named_fault, one_identifier}
-use Rattle.ppunit.specs.Quotes.{lone_quote}
+use Rattle.ppunit.specs.DirectiveLines.{operands, named_fault, one_identifier}
+use Rattle.ppunit.specs.Quotes.{unmatched_quote}
 use Rattle.ppunit.specs.Probing.{condition_tokens}
 
 -- whether the name is a macro name
@@ -31,7 +31,7 @@ by_name wanted macros line (Some name) = Ok (same_bool wanted (is_macro_name mac
 
 -- the decision spends nothing from the budget
 abbrev pub DecidesFreely : State → Result Bool Fault → Option ℕ → Result Bool Fault → Type 0
-DecidesFreely s answer after taken = (after ≡ s.left) × (taken ≡ answer)
+DecidesFreely s into_output after taken = (after ≡ s.left) × (taken ≡ into_output)
 
 -- the value of a condition of these tokens, or the fault of the step before it, which spends nothing
 abbrev pub DecidesOf : Result (List Token) Fault → State → Place → Option ℕ → Result Bool Fault → Type 0
@@ -50,7 +50,7 @@ DecidesUnless search row None d s line after taken = DecidesBy search row (quest
 
 -- whether the group after a line is taken, or the line's fault, and the remaining budget
 abbrev pub Decides : Search → ℕ → State → LogicalLine → Option ℕ → Result Bool Fault → Type 0
-Decides search row s line after taken = DecidesUnless search row (lone_quote line.tokens) line.directive s line.tokens after taken
+Decides search row s line after taken = DecidesUnless search row (unmatched_quote line.tokens) line.directive s line.tokens after taken
 
 -- the lines that have a condition
 abbrev pub IsConditional : Directive → Type 0

@@ -13,13 +13,13 @@ use Rattle.pptext.specs.Lines.{LogicalLine}
 use Rattle.pptext.specs.Tree.{sign_place, Parts, Branches}
 use Rattle.ppexpand.specs.Expansion.{count_expansion}
 use Rattle.ppexpr.specs.Conditions.{count_condition}
-use Rattle.ppunit.specs.States.{Search, search_of, State, Surroundings, Reached}
-use Rattle.ppunit.specs.Lines.{operands}
-use Rattle.ppunit.specs.Quotes.{lone_quote}
+use Rattle.ppunit.specs.States.{Search, search_of, State, Context, Reached}
+use Rattle.ppunit.specs.DirectiveLines.{operands}
+use Rattle.ppunit.specs.Quotes.{unmatched_quote}
 use Rattle.ppunit.specs.Probing.{condition_tokens}
-use Rattle.ppunit.specs.Including.{Asked, begins_with_header}
+use Rattle.ppunit.specs.Including.{IncludeName, begins_with_header}
 use Rattle.ppunit.specs.Conditions.{DecidesOf, DecidesBy, DecidesUnless, Decides}
-use Rattle.ppunit.specs.Directives.{AsksBy, Asks, ControlBy}
+use Rattle.ppunit.specs.Directives.{NamesHeaderBy, NamesHeader, ControlBy}
 use Rattle.ppunit.specs.Group.{Group, Branched, Controls, Includes, Opened}
 
 -- ---- lines: the replacements in their operands
@@ -48,16 +48,16 @@ abbrev pub count_decides : (search : Search) (row : ℕ) (s : State) (line : Log
     → Decides search row s line after taken
     → ℕ
 count_decides search row s line after taken h =
-    count_decides_unless search row (lone_quote line.tokens) line.directive s line.tokens after taken h
+    count_decides_unless search row (unmatched_quote line.tokens) line.directive s line.tokens after taken h
 
-abbrev pub count_asks_by : (header : Bool) (s : State) (line : List Token) (after : Option ℕ) (asked : Result Asked Fault)
-    → AsksBy header s line after asked
+abbrev pub count_names_header_by : (header : Bool) (s : State) (line : List Token) (after : Option ℕ) (include_name : Result IncludeName Fault)
+    → NamesHeaderBy header s line after include_name
     → ℕ
-count_asks_by true s line after asked h = 0
-count_asks_by false s line after asked h = count_expansion h.expands
+count_names_header_by true s line after include_name h = 0
+count_names_header_by false s line after include_name h = count_expansion h.expands
 
-abbrev pub count_asks : (s : State) (line : List Token) (after : Option ℕ) (asked : Result Asked Fault) → Asks s line after asked → ℕ
-count_asks s line after asked h = count_asks_by (begins_with_header (operands line)) s line after asked h
+abbrev pub count_names_header : (s : State) (line : List Token) (after : Option ℕ) (include_name : Result IncludeName Fault) → NamesHeader s line after include_name → ℕ
+count_names_header s line after include_name h = count_names_header_by (begins_with_header (operands line)) s line after include_name h
 
 abbrev pub count_control_by : (profile : Profile) (row : ℕ) (d : Option Directive) (s : State) (line : LogicalLine) (m : Reached)
     → ControlBy profile row d s line m
@@ -68,48 +68,48 @@ count_control_by profile row _ s line m h = 0
 -- ---- groups: their lines, and the files that they include
 
 abbrev mutual
-  pub count_group : {around : Surroundings} {depth row : ℕ} {r : Reached} {ps : Parts} {end : Reached} → Group around depth row r ps end → ℕ
+  pub count_group : {context : Context} {depth row : ℕ} {r : Reached} {ps : Parts} {end : Reached} → Group context depth row r ps end → ℕ
   count_group Group.stays = 0
   count_group Group.done = 0
   count_group (Group.run gives rest) = count_expansion gives.expands + count_group rest
   count_group (Group.control here rest) = count_control here + count_group rest
-  count_group {around} {depth} {row} (Group.taken {s = s} {line = line} {after = after} decides here rest) =
-      count_decides (search_of around) row s line after (Ok true) decides + (count_group here + count_group rest)
-  count_group {around} {depth} {row} (Group.skipped {s = s} {line = line} {after = after} decides here rest) =
-      count_decides (search_of around) row s line after (Ok false) decides + (count_branched here + count_group rest)
-  count_group {around} {depth} {row} (Group.refused {s = s} {line = line} {after = after} {f = f} decides) = count_decides (search_of around) row s line after (Err f) decides
+  count_group {context} {depth} {row} (Group.taken {s = s} {line = line} {after = after} decides here rest) =
+      count_decides (search_of context) row s line after (Ok true) decides + (count_group here + count_group rest)
+  count_group {context} {depth} {row} (Group.skipped {s = s} {line = line} {after = after} decides here rest) =
+      count_decides (search_of context) row s line after (Ok false) decides + (count_branched here + count_group rest)
+  count_group {context} {depth} {row} (Group.refused {s = s} {line = line} {after = after} {f = f} decides) = count_decides (search_of context) row s line after (Err f) decides
 
-  pub count_branched : {around : Surroundings} {depth row : ℕ} {s : State} {bs : Branches} {m : Reached}
-      → Branched around depth row s bs m
+  pub count_branched : {context : Context} {depth row : ℕ} {s : State} {bs : Branches} {m : Reached}
+      → Branched context depth row s bs m
       → ℕ
   count_branched Branched.ended = 0
   count_branched (Branched.otherwise is here) = count_group here
-  count_branched {around} {depth} {row} (Branched.branch_taken {s = s} {line = line} {after = after} is decides here) =
-      count_decides (search_of around) row s line after (Ok true) decides + count_group here
-  count_branched {around} {depth} {row} (Branched.branch_skipped {s = s} {line = line} {after = after} is decides rest) =
-      count_decides (search_of around) row s line after (Ok false) decides + count_branched rest
-  count_branched {around} {depth} {row} (Branched.branch_refused {s = s} {line = line} {after = after} {f = f} is decides) = count_decides (search_of around) row s line after (Err f) decides
+  count_branched {context} {depth} {row} (Branched.branch_taken {s = s} {line = line} {after = after} is decides here) =
+      count_decides (search_of context) row s line after (Ok true) decides + count_group here
+  count_branched {context} {depth} {row} (Branched.branch_skipped {s = s} {line = line} {after = after} is decides rest) =
+      count_decides (search_of context) row s line after (Ok false) decides + count_branched rest
+  count_branched {context} {depth} {row} (Branched.branch_refused {s = s} {line = line} {after = after} {f = f} is decides) = count_decides (search_of context) row s line after (Err f) decides
 
-  pub count_control : {around : Surroundings} {depth row : ℕ} {s : State} {line : LogicalLine} {m : Reached}
-      → Controls around depth row s line m
+  pub count_control : {context : Context} {depth row : ℕ} {s : State} {line : LogicalLine} {m : Reached}
+      → Controls context depth row s line m
       → ℕ
   count_control (Controls.error is) = 0
   count_control (Controls.ignored is) = 0
   count_control (Controls.quote is q) = 0
-  count_control {around} {depth} {row} (Controls.other {s = s} {line = line} {m = m} q does) =
-      count_control_by around.profile row line.directive s line m does
+  count_control {context} {depth} {row} (Controls.other {s = s} {line = line} {m = m} q does) =
+      count_control_by context.profile row line.directive s line m does
   count_control (Controls.include is q here) = count_includes here
 
-  pub count_includes : {around : Surroundings} {depth row : ℕ} {behind : Option ℕ} {s : State} {line : LogicalLine} {m : Reached}
-      → Includes around depth row behind s line m
+  pub count_includes : {context : Context} {depth row : ℕ} {following : Option ℕ} {s : State} {line : LogicalLine} {m : Reached}
+      → Includes context depth row following s line m
       → ℕ
-  count_includes (Includes.misnamed {s = s} {line = line} {after = after} {f = f} asks) = count_asks s line.tokens after (Err f) asks
-  count_includes (Includes.missing {s = s} {line = line} {after = after} a asks finds) = count_asks s line.tokens after (Ok a) asks
+  count_includes (Includes.misnamed {s = s} {line = line} {after = after} {f = f} asks) = count_names_header s line.tokens after (Err f) asks
+  count_includes (Includes.missing {s = s} {line = line} {after = after} a asks finds) = count_names_header s line.tokens after (Ok a) asks
   count_includes (Includes.included {s = s} {line = line} {after = after} a found asks finds opens) =
-      count_asks s line.tokens after (Ok a) asks + count_opened opens
+      count_names_header s line.tokens after (Ok a) asks + count_opened opens
 
-  pub count_opened : {around : Surroundings} {depth row : ℕ} {folder : Option ℕ} {at : Place} {s : State} {m : Reached}
-      → Opened around depth at s row folder m
+  pub count_opened : {context : Context} {depth row : ℕ} {directory : Option ℕ} {at : Place} {s : State} {m : Reached}
+      → Opened context depth at s row directory m
       → ℕ
   count_opened (Opened.too_deep deep) = 0
   count_opened (Opened.over fits spent) = 0

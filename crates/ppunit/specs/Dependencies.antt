@@ -2,9 +2,9 @@
 use Rattle.std.specs.Prelude.{ℕ, Bool, List, [], ◌∷◌, ◌++◌, nat_eq, if◌then◌else◌}
 use Rattle.std.specs.List.{list_any}
 
-abbrev pub is_among : ℕ → List ℕ → Bool
-is_among row rows = list_any (nat_eq row) rows
+abbrev pub has_row : ℕ → List ℕ → Bool
+has_row row rows = list_any (nat_eq row) rows
 
 -- the list with the index appended, unless it has it
-abbrev pub among : ℕ → List ℕ → List ℕ
-among row rows = if is_among row rows then rows else rows ++ row ∷ []
+abbrev pub with_row : ℕ → List ℕ → List ℕ
+with_row row rows = if has_row row rows then rows else rows ++ row ∷ []

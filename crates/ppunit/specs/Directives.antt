@@ -20,13 +20,13 @@ use Rattle.ppexpand.specs.Expansion.{IsExpansion}
 use Rattle.ppshelf.specs.Names.{name_in}
 use Rattle.ppshelf.specs.Search.{Candidate, candidates, candidates_after, IsFirstRow}
 use Rattle.ppunit.specs.declared.units.Item.TheVariants as item
-use Rattle.ppunit.specs.States.{State, Surroundings, Reached, going, stopped, emitted, reading_once, with_left}
-use Rattle.ppunit.specs.Lines.{operands, line_fault, named_fault, spaced}
+use Rattle.ppunit.specs.States.{State, Context, Reached, going, stopped, emitted, with_once, with_left}
+use Rattle.ppunit.specs.DirectiveLines.{operands, line_fault, named_fault, spaced}
 use Rattle.ppunit.specs.LineControl.{Presumed, presumed, renumbered}
-use Rattle.ppunit.specs.Including.{Asked, begins_with_header, header_asked, asked_or, asked_behind, if_somewhere}
+use Rattle.ppunit.specs.Including.{IncludeName, begins_with_header, name_of_header, name_or, name_of_expansion_or, if_possible_name}
 
 -- a run of text lines emits its expansion (6.10.3), up to its first fault
-pub record RunGives (s : State) (tokens : List Token) (r : Reached) : Type 0 where
+pub record EmitsRun (s : State) (tokens : List Token) (r : Reached) : Type 0 where
   pub expanded : Expanded
   pub expands : IsExpansion s.macros s.env s.left tokens expanded
   pub is : r ≡ record { state = emitted (with_left s expanded.left) (map item.Token expanded.tokens); fault = expanded.fault }
@@ -51,7 +51,7 @@ renumbered_by s line (Some f) p = stopped s f
 renumbered_by s line None None = stopped s (line_fault 33 line.tokens [])
 renumbered_by s line None (Some p) = going (renumbered s line p)
 
-pub record LineGives (s : State) (line : LogicalLine) (reached : Reached) : Type 0 where
+pub record SetsLine (s : State) (line : LogicalLine) (reached : Reached) : Type 0 where
   pub expanded : Expanded
   pub expands : IsExpansion s.macros s.env s.left (operands line.tokens) expanded
   pub is : reached ≡ renumbered_by (with_left s expanded.left) line expanded.fault (presumed expanded.tokens)
@@ -60,31 +60,31 @@ pub record LineGives (s : State) (line : LogicalLine) (reached : Reached) : Type
 
 -- if no header name is after `include`: the header that the operands name once their macros are replaced, and the
 -- remaining budget
-pub record AsksReplaced (s : State) (line : List Token) (after : Option ℕ) (asked : Result Asked Fault) : Type 0 where
+pub record NamesHeaderByExpansion (s : State) (line : List Token) (after : Option ℕ) (include_name : Result IncludeName Fault) : Type 0 where
   pub expanded : Expanded
   pub expands : IsExpansion s.macros s.env s.left (operands line) expanded
   pub leaves : after ≡ expanded.left
-  pub is : asked ≡ asked_behind (line_fault 30 line []) expanded.fault expanded.tokens
+  pub is : include_name ≡ name_of_expansion_or (line_fault 30 line []) expanded.fault expanded.tokens
 
 -- the header that an include line names, or its fault, and the remaining budget; the flag says whether a header name is
 -- after `include`
-abbrev pub AsksBy : Bool → State → List Token → Option ℕ → Result Asked Fault → Type 0
-AsksBy true s line after asked = (after ≡ s.left) × (asked ≡ asked_or (line_fault 30 line []) (if_somewhere (header_asked (operands line))))
-AsksBy false s line after asked = AsksReplaced s line after asked
+abbrev pub NamesHeaderBy : Bool → State → List Token → Option ℕ → Result IncludeName Fault → Type 0
+NamesHeaderBy true s line after include_name = (after ≡ s.left) × (include_name ≡ name_or (line_fault 30 line []) (if_possible_name (name_of_header (operands line))))
+NamesHeaderBy false s line after include_name = NamesHeaderByExpansion s line after include_name
 
-abbrev pub Asks : State → List Token → Option ℕ → Result Asked Fault → Type 0
-Asks s line after asked = AsksBy (begins_with_header (operands line)) s line after asked
+abbrev pub NamesHeader : State → List Token → Option ℕ → Result IncludeName Fault → Type 0
+NamesHeader s line after include_name = NamesHeaderBy (begins_with_header (operands line)) s line after include_name
 
 -- the candidates for a header in the file at index `from`; with the number of a directory, only those in the
 -- directories after it (gcc's manual, "Wrapper Headers")
-abbrev pub looked_for : Surroundings → ℕ → Option ℕ → Asked → List Candidate
-looked_for around from None a = candidates a.form (name_in around.names from) around.unit_folders around.setting_folders a.name
-looked_for around from (Some number) a = candidates_after number around.unit_folders around.setting_folders a.name
+abbrev pub candidates_for : Context → ℕ → Option ℕ → IncludeName → List Candidate
+candidates_for context from None a = candidates a.form (name_in context.names from) context.unit_directories context.setting_directories a.name
+candidates_for context from (Some number) a = candidates_after number context.unit_directories context.setting_directories a.name
 
 -- the index of the file that is found for the header, if there is one, and the number of the directory in which it is
 -- found
-abbrev pub Finds : Surroundings → ℕ → Option ℕ → Asked → Option (ℕ × ℕ) → Type 0
-Finds around from behind a found = IsFirstRow around.names (looked_for around from behind a) found
+abbrev pub FindsFile : Context → ℕ → Option ℕ → IncludeName → Option (ℕ × ℕ) → Type 0
+FindsFile context from following a found = IsFirstRow context.names (candidates_for context from following a) found
 
 -- ---- `#pragma` (6.10.6)
 
@@ -94,11 +94,11 @@ is_once profile (t ∷ []) = has_later profile && bytes_eq t.text (codes "once")
 is_once profile ts = false
 
 -- the file at index `row` isn't read again after such a pragma
-abbrev pub noting_once : Profile → ℕ → List Token → State → State
-noting_once profile row ts s = if is_once profile ts then reading_once s row else s
+abbrev pub noting_pragma_once : Profile → ℕ → List Token → State → State
+noting_pragma_once profile row ts s = if is_once profile ts then with_once s row else s
 
-abbrev pub pragma_passed : Profile → ℕ → State → List Token → State
-pragma_passed profile row s line = noting_once profile row (operands line) (emitted s (item.Pragma (sign_place line) (operands line) ∷ []))
+abbrev pub pragma_emitted : Profile → ℕ → State → List Token → State
+pragma_emitted profile row s line = noting_pragma_once profile row (operands line) (emitted s (item.Pragma (sign_place line) (operands line) ∷ []))
 
 -- ---- the other control lines
 
@@ -114,8 +114,8 @@ abbrev pub ControlBy : Profile → ℕ → Option Directive → State → Logica
 ControlBy profile row (Some Null) s line reached = reached ≡ going s
 ControlBy profile row (Some Define) s line reached = reached ≡ with_macros s (after_define profile s.macros (sign_place line.tokens) (operands line.tokens))
 ControlBy profile row (Some Undef) s line reached = reached ≡ with_macros s (after_undef profile s.macros (sign_place line.tokens) (operands line.tokens))
-ControlBy profile row (Some Line) s line reached = LineGives s line reached
-ControlBy profile row (Some Pragma) s line reached = reached ≡ going (pragma_passed profile row s line.tokens)
+ControlBy profile row (Some Line) s line reached = SetsLine s line reached
+ControlBy profile row (Some Pragma) s line reached = reached ≡ going (pragma_emitted profile row s line.tokens)
 ControlBy profile row (Some Unknown) s line reached = reached ≡ stopped s (named_fault 8 line.tokens)
 ControlBy _ _ _ s line reached = ⊥
 

@@ -14,13 +14,13 @@ use Rattle.ppexpand.specs.Budget.{is_exhausted}
 use Rattle.ppshelf.specs.Content.{unreadable, readable}
 use Rattle.ppshelf.specs.Files.{file_at}
 use Rattle.ppshelf.specs.Names.{name_in}
-use Rattle.ppunit.specs.Dependencies.{is_among}
-use Rattle.ppunit.specs.States.{State, Surroundings, search_of, Reached, going, stopped, depending, entering, leaving, with_left, paying}
-use Rattle.ppunit.specs.Lines.{operands, line_fault, run_tokens}
-use Rattle.ppunit.specs.Quotes.{lone_quote}
+use Rattle.ppunit.specs.Dependencies.{has_row}
+use Rattle.ppunit.specs.States.{State, Context, search_of, Reached, going, stopped, with_dependency, entering, leaving, with_left, with_one_spent}
+use Rattle.ppunit.specs.DirectiveLines.{operands, line_fault, run_tokens}
+use Rattle.ppunit.specs.Quotes.{unmatched_quote}
 use Rattle.ppunit.specs.Conditions.{Decides}
-use Rattle.ppunit.specs.Including.{Asked}
-use Rattle.ppunit.specs.Directives.{RunGives, ControlBy, Asks, Finds, message, looks_at_quotes}
+use Rattle.ppunit.specs.Including.{IncludeName}
+use Rattle.ppunit.specs.Directives.{EmitsRun, ControlBy, NamesHeader, FindsFile, message, looks_at_quotes}
 
 -- the largest depth of an included file
 abbrev pub deepest : ℕ
@@ -28,129 +28,129 @@ deepest = 200
 
 mutual
   -- A group in the file at index `row`, at an include depth. After its first fault a unit does nothing more.
-  pub data Group (around : Surroundings) : ℕ → ℕ → Reached → Parts → Reached → Type 0 where
-    stays : {depth row : ℕ} {s : State} {f : Fault} {ps : Parts} → Group around depth row (stopped s f) ps (stopped s f)
-    done : {depth row : ℕ} {s : State} → Group around depth row (going s) Done (going s)
+  pub data Group (context : Context) : ℕ → ℕ → Reached → Parts → Reached → Type 0 where
+    stays : {depth row : ℕ} {s : State} {f : Fault} {ps : Parts} → Group context depth row (stopped s f) ps (stopped s f)
+    done : {depth row : ℕ} {s : State} → Group context depth row (going s) Done (going s)
     run : {depth row : ℕ} {s : State} {lines : List LogicalLine} {ps : Parts} {m end : Reached}
-        → RunGives s (run_tokens lines) m
-        → Group around depth row m ps end
-        → Group around depth row (going s) (Run lines ps) end
+        → EmitsRun s (run_tokens lines) m
+        → Group context depth row m ps end
+        → Group context depth row (going s) (Run lines ps) end
     control : {depth row : ℕ} {s : State} {line : LogicalLine} {ps : Parts} {m end : Reached}
-        → Controls around depth row s line m
-        → Group around depth row m ps end
-        → Group around depth row (going s) (Control line ps) end
+        → Controls context depth row s line m
+        → Group context depth row m ps end
+        → Group context depth row (going s) (Control line ps) end
     taken : {depth row : ℕ} {s : State} {line : LogicalLine} {ps qs : Parts} {bs : Branches} {after : Option ℕ} {m end : Reached}
-        → Decides (search_of around) row s line after (Ok true)
-        → Group around depth row (going (with_left s after)) ps m
-        → Group around depth row m qs end
-        → Group around depth row (going s) (Section line ps bs qs) end
+        → Decides (search_of context) row s line after (Ok true)
+        → Group context depth row (going (with_left s after)) ps m
+        → Group context depth row m qs end
+        → Group context depth row (going s) (Section line ps bs qs) end
     skipped : {depth row : ℕ} {s : State} {line : LogicalLine} {ps qs : Parts} {bs : Branches} {after : Option ℕ} {m end : Reached}
-        → Decides (search_of around) row s line after (Ok false)
-        → Branched around depth row (with_left s after) bs m
-        → Group around depth row m qs end
-        → Group around depth row (going s) (Section line ps bs qs) end
+        → Decides (search_of context) row s line after (Ok false)
+        → Branched context depth row (with_left s after) bs m
+        → Group context depth row m qs end
+        → Group context depth row (going s) (Section line ps bs qs) end
     refused : {depth row : ℕ} {s : State} {line : LogicalLine} {ps qs : Parts} {bs : Branches} {after : Option ℕ} {f : Fault}
-        → Decides (search_of around) row s line after (Err f)
-        → Group around depth row (going s) (Section line ps bs qs) (stopped (with_left s after) f)
+        → Decides (search_of context) row s line after (Err f)
+        → Group context depth row (going s) (Section line ps bs qs) (stopped (with_left s after) f)
 
   -- the branches of an if-section, up to the first that is taken (6.10.1)
-  pub data Branched (around : Surroundings) : ℕ → ℕ → State → Branches → Reached → Type 0 where
-    ended : {depth row : ℕ} {s : State} {line : LogicalLine} → Branched around depth row s (End line) (going s)
+  pub data Branched (context : Context) : ℕ → ℕ → State → Branches → Reached → Type 0 where
+    ended : {depth row : ℕ} {s : State} {line : LogicalLine} → Branched context depth row s (End line) (going s)
     otherwise : {depth row : ℕ} {s : State} {line : LogicalLine} {ps : Parts} {bs : Branches} {m : Reached}
         → line.directive ≡ Some Else
-        → Group around depth row (going s) ps m
-        → Branched around depth row s (Branch line ps bs) m
+        → Group context depth row (going s) ps m
+        → Branched context depth row s (Branch line ps bs) m
     branch_taken : {depth row : ℕ} {s : State} {line : LogicalLine} {ps : Parts} {bs : Branches} {after : Option ℕ} {m : Reached}
         → line.directive ≢ Some Else
-        → Decides (search_of around) row s line after (Ok true)
-        → Group around depth row (going (with_left s after)) ps m
-        → Branched around depth row s (Branch line ps bs) m
+        → Decides (search_of context) row s line after (Ok true)
+        → Group context depth row (going (with_left s after)) ps m
+        → Branched context depth row s (Branch line ps bs) m
     branch_skipped : {depth row : ℕ} {s : State} {line : LogicalLine} {ps : Parts} {bs : Branches} {after : Option ℕ} {m : Reached}
         → line.directive ≢ Some Else
-        → Decides (search_of around) row s line after (Ok false)
-        → Branched around depth row (with_left s after) bs m
-        → Branched around depth row s (Branch line ps bs) m
+        → Decides (search_of context) row s line after (Ok false)
+        → Branched context depth row (with_left s after) bs m
+        → Branched context depth row s (Branch line ps bs) m
     branch_refused : {depth row : ℕ} {s : State} {line : LogicalLine} {ps : Parts} {bs : Branches} {after : Option ℕ} {f : Fault}
         → line.directive ≢ Some Else
-        → Decides (search_of around) row s line after (Err f)
-        → Branched around depth row s (Branch line ps bs) (stopped (with_left s after) f)
+        → Decides (search_of context) row s line after (Err f)
+        → Branched context depth row s (Branch line ps bs) (stopped (with_left s after) f)
 
   -- A control line. `#include_next` searches the directories after the one in which the file of this line was found, or
   -- all of them if that is the unit's own file.
-  pub data Controls (around : Surroundings) : ℕ → ℕ → State → LogicalLine → Reached → Type 0 where
+  pub data Controls (context : Context) : ℕ → ℕ → State → LogicalLine → Reached → Type 0 where
     error : {depth row : ℕ} {s : State} {line : LogicalLine}
         → class_by line.directive ≡ Some class.Error
-        → Controls around depth row s line (stopped s (line_fault 34 line.tokens (message (operands line.tokens))))
+        → Controls context depth row s line (stopped s (line_fault 34 line.tokens (message (operands line.tokens))))
     ignored : {depth row : ℕ} {s : State} {line : LogicalLine}
         → class_by line.directive ≡ Some class.Ignored
-        → Controls around depth row s line (going s)
+        → Controls context depth row s line (going s)
     quote : {depth row : ℕ} {s : State} {line : LogicalLine} {f : Fault}
         → looks_at_quotes (class_by line.directive) ≡ true
-        → lone_quote line.tokens ≡ Some f
-        → Controls around depth row s line (stopped s f)
+        → unmatched_quote line.tokens ≡ Some f
+        → Controls context depth row s line (stopped s f)
     other : {depth row : ℕ} {s : State} {line : LogicalLine} {m : Reached}
-        → lone_quote line.tokens ≡ None
-        → ControlBy around.profile row line.directive s line m
-        → Controls around depth row s line m
+        → unmatched_quote line.tokens ≡ None
+        → ControlBy context.profile row line.directive s line m
+        → Controls context depth row s line m
     include : {depth row : ℕ} {next : Bool} {s : State} {line : LogicalLine} {m : Reached}
         → class_by line.directive ≡ Some (class.Includes next)
-        → lone_quote line.tokens ≡ None
-        → Includes around depth row (if next then s.folder else None) s line m
-        → Controls around depth row s line m
+        → unmatched_quote line.tokens ≡ None
+        → Includes context depth row (if next then s.directory else None) s line m
+        → Controls context depth row s line m
 
   -- An include line without unmatched quotes (6.10.2): its operands have a fault, or no file is found for the header, or
-  -- the file that is found is opened one level deeper. The search begins after the directory with the number `behind`, or
+  -- the file that is found is opened one level deeper. The search begins after the directory with the number `following`, or
   -- at the first directory if there is none.
-  pub data Includes (around : Surroundings) : ℕ → ℕ → Option ℕ → State → LogicalLine → Reached → Type 0 where
-    misnamed : {depth row : ℕ} {behind : Option ℕ} {s : State} {line : LogicalLine} {after : Option ℕ} {f : Fault}
-        → Asks s line.tokens after (Err f)
-        → Includes around depth row behind s line (stopped (with_left s after) f)
-    missing : {depth row : ℕ} {behind : Option ℕ} {s : State} {line : LogicalLine} {after : Option ℕ} (a : Asked)
-        → Asks s line.tokens after (Ok a)
-        → Finds around row behind a None
-        → Includes around depth row behind s line (stopped (with_left s after) (line_fault 31 line.tokens a.name))
-    included : {depth row : ℕ} {behind : Option ℕ} {s : State} {line : LogicalLine} {after : Option ℕ} (a : Asked) (found : ℕ × ℕ) {m : Reached}
-        → Asks s line.tokens after (Ok a)
-        → Finds around row behind a (Some found)
-        → Opened around (suc depth) (sign_place line.tokens) (with_left s after) found.0 (Some found.1) m
-        → Includes around depth row behind s line m
+  pub data Includes (context : Context) : ℕ → ℕ → Option ℕ → State → LogicalLine → Reached → Type 0 where
+    misnamed : {depth row : ℕ} {following : Option ℕ} {s : State} {line : LogicalLine} {after : Option ℕ} {f : Fault}
+        → NamesHeader s line.tokens after (Err f)
+        → Includes context depth row following s line (stopped (with_left s after) f)
+    missing : {depth row : ℕ} {following : Option ℕ} {s : State} {line : LogicalLine} {after : Option ℕ} (a : IncludeName)
+        → NamesHeader s line.tokens after (Ok a)
+        → FindsFile context row following a None
+        → Includes context depth row following s line (stopped (with_left s after) (line_fault 31 line.tokens a.name))
+    included : {depth row : ℕ} {following : Option ℕ} {s : State} {line : LogicalLine} {after : Option ℕ} (a : IncludeName) (found : ℕ × ℕ) {m : Reached}
+        → NamesHeader s line.tokens after (Ok a)
+        → FindsFile context row following a (Some found)
+        → Opened context (suc depth) (sign_place line.tokens) (with_left s after) found.0 (Some found.1) m
+        → Includes context depth row following s line m
 
   -- The file at index `row` is opened for the line at location `at`, if the budget isn't exhausted. The number is that
   -- of the directory in which it was found; a unit's own file has none. If the file has `#pragma once` and was already
   -- read in this unit, its lines aren't processed again: it only becomes a dependency and costs one of the budget. If the
   -- content of the file isn't known, no case applies.
-  pub data Opened (around : Surroundings) : ℕ → Place → State → ℕ → Option ℕ → Reached → Type 0 where
-    too_deep : {depth row : ℕ} {folder : Option ℕ} {at : Place} {s : State}
+  pub data Opened (context : Context) : ℕ → Place → State → ℕ → Option ℕ → Reached → Type 0 where
+    too_deep : {depth row : ℕ} {directory : Option ℕ} {at : Place} {s : State}
         → deepest < depth
-        → Opened around depth at s row folder (stopped s (fault 32 at (name_in around.names row)))
-    over : {depth row : ℕ} {folder : Option ℕ} {at : Place} {s : State}
+        → Opened context depth at s row directory (stopped s (fault 32 at (name_in context.names row)))
+    over : {depth row : ℕ} {directory : Option ℕ} {at : Place} {s : State}
         → depth ≤ deepest
         → is_exhausted s.left ≡ true
-        → Opened around depth at s row folder (stopped s (fault 35 at []))
-    known : {depth row : ℕ} {folder : Option ℕ} {at : Place} {s : State}
+        → Opened context depth at s row directory (stopped s (fault 35 at []))
+    known : {depth row : ℕ} {directory : Option ℕ} {at : Place} {s : State}
         → depth ≤ deepest
         → is_exhausted s.left ≡ false
-        → is_among row s.once ≡ true
-        → Opened around depth at s row folder (going (depending (paying s) row))
-    not_readable : {depth row : ℕ} {folder : Option ℕ} {at : Place} {s : State}
+        → has_row row s.once ≡ true
+        → Opened context depth at s row directory (going (with_dependency (with_one_spent s) row))
+    not_readable : {depth row : ℕ} {directory : Option ℕ} {at : Place} {s : State}
         → depth ≤ deepest
         → is_exhausted s.left ≡ false
-        → is_among row s.once ≡ false
-        → file_at around.files row ≡ Some unreadable
-        → Opened around depth at s row folder (stopped (depending (paying s) row) (fault 6 at (name_in around.names row)))
-    faulty : {depth row : ℕ} {folder : Option ℕ} {at : Place} {s : State} {bytes : List ℕ} {f : Fault}
+        → has_row row s.once ≡ false
+        → file_at context.files row ≡ Some unreadable
+        → Opened context depth at s row directory (stopped (with_dependency (with_one_spent s) row) (fault 6 at (name_in context.names row)))
+    faulty : {depth row : ℕ} {directory : Option ℕ} {at : Place} {s : State} {bytes : List ℕ} {f : Fault}
         → depth ≤ deepest
         → is_exhausted s.left ≡ false
-        → is_among row s.once ≡ false
-        → file_at around.files row ≡ Some (readable bytes)
-        → Reads around.profile row bytes (Err f)
-        → Opened around depth at s row folder (stopped (depending (paying s) row) f)
-    read : {depth row : ℕ} {folder : Option ℕ} {at : Place} {s : State} {bytes : List ℕ} {lines : List LogicalLine} {parts : Parts} {m : Reached}
+        → has_row row s.once ≡ false
+        → file_at context.files row ≡ Some (readable bytes)
+        → Reads context.profile row bytes (Err f)
+        → Opened context depth at s row directory (stopped (with_dependency (with_one_spent s) row) f)
+    read : {depth row : ℕ} {directory : Option ℕ} {at : Place} {s : State} {bytes : List ℕ} {lines : List LogicalLine} {parts : Parts} {m : Reached}
         → depth ≤ deepest
         → is_exhausted s.left ≡ false
-        → is_among row s.once ≡ false
-        → file_at around.files row ≡ Some (readable bytes)
-        → Reads around.profile row bytes (Ok lines)
+        → has_row row s.once ≡ false
+        → file_at context.files row ≡ Some (readable bytes)
+        → Reads context.profile row bytes (Ok lines)
         → Tree lines parts
-        → Group around depth row (going (entering around (paying s) row folder)) parts m
-        → Opened around depth at s row folder (leaving s m)
+        → Group context depth row (going (entering context (with_one_spent s) row directory)) parts m
+        → Opened context depth at s row directory (leaving s m)

@@ -8,7 +8,7 @@ use Rattle.ppexpand.specs.Budget.{is_exhausted}
 use Rattle.ppshelf.specs.Names.{AreNames}
 use Rattle.ppshelf.specs.Content.{readable}
 use Rattle.ppshelf.specs.Files.{file_at}
-use Rattle.ppunit.specs.States.{State, Surroundings, Reached, going, depending, paying}
+use Rattle.ppunit.specs.States.{State, Context, Reached, going, with_dependency, with_one_spent}
 use Rattle.ppunit.specs.Conditions.{is_macro_name}
 use Rattle.ppunit.specs.Group.{deepest, Opened}
 use Rattle.ppunit.specs.Counts.{count_opened}
@@ -17,29 +17,29 @@ use Rattle.ppunit.specs.Counts.{count_opened}
 -- budget isn't exhausted
 abbrev pub GuardsLeaveOut : Type 0
 GuardsLeaveOut =
-    (around : Surroundings) (depth row : ℕ) (folder : Option ℕ) (at : Place) (s : State) (bytes : List ℕ) (lines : List LogicalLine) (x : List ℕ)
+    (context : Context) (depth row : ℕ) (directory : Option ℕ) (at : Place) (s : State) (bytes : List ℕ) (lines : List LogicalLine) (x : List ℕ)
     → depth ≤ deepest
-    → file_at around.files row ≡ Some (readable bytes)
-    → Reads around.profile row bytes (Ok lines)
+    → file_at context.files row ≡ Some (readable bytes)
+    → Reads context.profile row bytes (Ok lines)
     → GuardedBy lines x
     → is_macro_name s.macros x ≡ true
     → is_exhausted s.left ≡ false
-    → (d : Opened around depth at s row folder (going (depending (paying s) row))) × (count_opened d ≡ 1)
+    → (d : Opened context depth at s row directory (going (with_dependency (with_one_spent s) row))) × (count_opened d ≡ 1)
 
 -- and if file names are distinct, it has no other outcome
 abbrev pub GuardsOnlyLeaveOut : Type 0
 GuardsOnlyLeaveOut =
-    (around : Surroundings) (depth row : ℕ) (folder : Option ℕ) (at : Place) (s : State) (bytes : List ℕ) (lines : List LogicalLine) (x : List ℕ)
+    (context : Context) (depth row : ℕ) (directory : Option ℕ) (at : Place) (s : State) (bytes : List ℕ) (lines : List LogicalLine) (x : List ℕ)
     (end : Reached)
-    → AreNames around.names
+    → AreNames context.names
     → depth ≤ deepest
-    → file_at around.files row ≡ Some (readable bytes)
-    → Reads around.profile row bytes (Ok lines)
+    → file_at context.files row ≡ Some (readable bytes)
+    → Reads context.profile row bytes (Ok lines)
     → GuardedBy lines x
     → is_macro_name s.macros x ≡ true
     → is_exhausted s.left ≡ false
-    → Opened around depth at s row folder end
-    → end ≡ going (depending (paying s) row)
+    → Opened context depth at s row directory end
+    → end ≡ going (with_dependency (with_one_spent s) row)
 
 -- the lines are one if-section under a guard, and the guard is defined
 abbrev pub IsLeftOut : State → List LogicalLine → Type 0

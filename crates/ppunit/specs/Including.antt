@@ -9,11 +9,11 @@ use Rattle.pptext.specs.declared.tokens.Kind.TheVariants.{Header}
 use Rattle.pptext.specs.Tokens.{is_punct}
 use Rattle.ppshelf.specs.declared.search.Form.{Form}
 use Rattle.ppshelf.specs.declared.search.Form.TheVariants.{Quote, Angle}
-use Rattle.ppunit.specs.Lines.{space_before, spaced}
+use Rattle.ppunit.specs.DirectiveLines.{space_before, spaced}
 use Rattle.ppunit.specs.LineControl.{is_plain_string}
 
 -- the form and the name of a header
-pub record Asked : Type 0 where
+pub record IncludeName : Type 0 where
   pub form : Form
   pub name : List ℕ
 
@@ -34,9 +34,9 @@ begins_with_header [] = false
 begins_with_header (t ∷ ts) = is_header t.kind
 
 -- the header of a single header name token
-abbrev pub header_asked : List Token → Option Asked
-header_asked (t ∷ []) = Some (record { form = form_of t.text; name = inner t.text })
-header_asked ts = None
+abbrev pub name_of_header : List Token → Option IncludeName
+name_of_header (t ∷ []) = Some (record { form = form_of t.text; name = inner t.text })
+name_of_header ts = None
 
 -- the text, if no tokens follow
 abbrev pub ended : List ℕ → List Token → Option (List ℕ)
@@ -57,30 +57,30 @@ abbrev pub angle_name : List Token → Option (List ℕ)
 angle_name [] = None
 angle_name (t ∷ ts) = if is_punct (codes ">") t then ended [] ts else prefixed t.text (angle_rest ts)
 
-abbrev pub angled : Option (List ℕ) → Option Asked
-angled None = None
-angled (Some name) = Some (record { form = Angle; name = name })
+abbrev pub name_of_angle_form : Option (List ℕ) → Option IncludeName
+name_of_angle_form None = None
+name_of_angle_form (Some name) = Some (record { form = Angle; name = name })
 
 -- the header that the operands name after macro replacement
-abbrev pub expanded_asked : List Token → Option Asked
-expanded_asked (t ∷ []) = if is_plain_string t then Some (record { form = Quote; name = inner t.text }) else None
-expanded_asked (t ∷ u ∷ us) = if is_punct (codes "<") t then angled (angle_name (u ∷ us)) else None
-expanded_asked [] = None
+abbrev pub name_of_expansion : List Token → Option IncludeName
+name_of_expansion (t ∷ []) = if is_plain_string t then Some (record { form = Quote; name = inner t.text }) else None
+name_of_expansion (t ∷ u ∷ us) = if is_punct (codes "<") t then name_of_angle_form (angle_name (u ∷ us)) else None
+name_of_expansion [] = None
 
 -- no file can have the name: it is empty, or it begins with `/`
-abbrev pub is_nowhere : List ℕ → Bool
-is_nowhere name = bytes_eq name [] || bytes_eq (take 1 name) (codes "/")
+abbrev pub is_impossible_name : List ℕ → Bool
+is_impossible_name name = bytes_eq name [] || bytes_eq (take 1 name) (codes "/")
 
-abbrev pub if_somewhere : Option Asked → Option Asked
-if_somewhere None = None
-if_somewhere (Some a) = if is_nowhere a.name then None else Some a
+abbrev pub if_possible_name : Option IncludeName → Option IncludeName
+if_possible_name None = None
+if_possible_name (Some a) = if is_impossible_name a.name then None else Some a
 
 -- the header, or the fault if there is none
-abbrev pub asked_or : Fault → Option Asked → Result Asked Fault
-asked_or f None = Err f
-asked_or f (Some a) = Ok a
+abbrev pub name_or : Fault → Option IncludeName → Result IncludeName Fault
+name_or f None = Err f
+name_or f (Some a) = Ok a
 
 -- the header that the operands name after macro replacement, or the fault of the replacement, or fault 30
-abbrev pub asked_behind : Fault → Option Fault → List Token → Result Asked Fault
-asked_behind f (Some g) ts = Err g
-asked_behind f None ts = asked_or f (if_somewhere (expanded_asked ts))
+abbrev pub name_of_expansion_or : Fault → Option Fault → List Token → Result IncludeName Fault
+name_of_expansion_or f (Some g) ts = Err g
+name_of_expansion_or f None ts = name_or f (if_possible_name (name_of_expansion ts))

@@ -23,12 +23,12 @@ is_string Str = true
 is_string _ = false
 
 -- the number that decimal digits spell after digits that spell n
-abbrev pub decimal_behind : ℕ → List ℕ → ℕ
-decimal_behind n [] = n
-decimal_behind n (d ∷ ds) = decimal_behind (n * 10 + (d - 48)) ds
+abbrev pub decimal_after : ℕ → List ℕ → ℕ
+decimal_after n [] = n
+decimal_after n (d ∷ ds) = decimal_after (n * 10 + (d - 48)) ds
 
 abbrev pub decimal_value : List ℕ → ℕ
-decimal_value digits = decimal_behind 0 digits
+decimal_value digits = decimal_after 0 digits
 
 -- only decimal digits
 abbrev pub are_digits : Token → Bool

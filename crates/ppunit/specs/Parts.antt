@@ -2,8 +2,8 @@
 use Rattle.std.specs.Prelude.{List, [], ◌∷◌, map}
 use Rattle.ppunit.specs.declared.units.Item.{Item}
 use Rattle.ppunit.specs.declared.units.Item.TheVariants as item
-use Rattle.ppunit.specs.declared.lists.Part.{Part}
-use Rattle.ppunit.specs.declared.lists.Part.TheVariants as part
+use Rattle.ppunit.specs.declared.collections.Part.{Part}
+use Rattle.ppunit.specs.declared.collections.Part.TheVariants as part
 
 abbrev pub part_items : Part → List Item
 part_items (part.Run r) = map item.Token r

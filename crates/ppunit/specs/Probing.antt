@@ -10,8 +10,8 @@ use Rattle.pptext.specs.Tokens.{is_identifier_named, is_punct}
 use Rattle.ppshelf.specs.Names.{name_in}
 use Rattle.ppshelf.specs.Search.{Candidate, candidates}
 use Rattle.ppunit.specs.States.{Search}
-use Rattle.ppunit.specs.Lines.{operands, line_fault}
-use Rattle.ppunit.specs.Including.{Asked, expanded_asked, if_somewhere}
+use Rattle.ppunit.specs.DirectiveLines.{operands, line_fault}
+use Rattle.ppunit.specs.Including.{IncludeName, name_of_expansion, if_possible_name}
 
 abbrev pub is_has_include : Token → Bool
 is_has_include t = is_identifier_named (codes "__has_include") t
@@ -26,17 +26,17 @@ abbrev pub is_found : List (List ℕ) → List Candidate → Bool
 is_found names candidates = list_any (λ c. list_any (bytes_eq c.name) names) candidates
 
 -- whether an `#include` of this header in the file at index `row` finds a file; the file isn't opened
-abbrev pub has_file : Search → ℕ → Asked → Bool
-has_file search row a = is_found search.names (candidates a.form (name_in search.names row) search.unit_folders search.setting_folders a.name)
+abbrev pub has_file : Search → ℕ → IncludeName → Bool
+has_file search row a = is_found search.names (candidates a.form (name_in search.names row) search.unit_directories search.setting_directories a.name)
 
 -- the number that replaces `__has_include` and its parentheses
 abbrev pub number_for : Token → Bool → Token
 number_for name found = record name { kind = Number; text = if found then codes "1" else codes "0" }
 
 -- the number, if there is a header
-abbrev pub told : Search → ℕ → Token → Option Asked → Option Token
-told search row name None = None
-told search row name (Some a) = Some (number_for name (has_file search row a))
+abbrev pub probe_result : Search → ℕ → Token → Option IncludeName → Option Token
+probe_result search row name None = None
+probe_result search row name (Some a) = Some (number_for name (has_file search row a))
 
 -- a token before others, if there are both
 abbrev pub before : Option Token → Option (List Token) → Option (List Token)
@@ -47,7 +47,7 @@ before (Some t) (Some ts) = Some (t ∷ ts)
 -- an `__has_include` whose `)` isn't reached, and the tokens after it so far, with the `(`
 pub record Begun : Type 0 where
   pub name : Token
-  pub behind : List Token
+  pub following : List Token
 
 -- the tokens with a number for each `__has_include` before a `(`, up to the first `)`; none if one has no `)` or names
 -- no header
@@ -55,11 +55,11 @@ abbrev pub probed : Search → ℕ → Option Begun → List Token → Option (L
 probed search row None [] = Some []
 probed search row (Some b) [] = None
 probed search row None (t ∷ ts) =
-    if opens ts && is_has_include t then probed search row (Some (record { name = t; behind = [] })) ts
+    if opens ts && is_has_include t then probed search row (Some (record { name = t; following = [] })) ts
     else before (Some t) (probed search row None ts)
 probed search row (Some b) (t ∷ ts) =
-    if is_punct (codes ")") t then before (told search row b.name (if_somewhere (expanded_asked (drop 1 b.behind)))) (probed search row None ts)
-    else probed search row (Some (record { name = b.name; behind = b.behind ++ t ∷ [] })) ts
+    if is_punct (codes ")") t then before (probe_result search row b.name (if_possible_name (name_of_expansion (drop 1 b.following)))) (probed search row None ts)
+    else probed search row (Some (record { name = b.name; following = b.following ++ t ∷ [] })) ts
 
 abbrev pub tokens_or : Fault → Option (List Token) → Result (List Token) Fault
 tokens_or f None = Err f

@@ -8,6 +8,6 @@ abbrev pub quote_fault : Token → Fault
 quote_fault t = fault 7 t.at t.text
 
 -- the fault of the first unmatched quote
-abbrev pub lone_quote : List Token → Option Fault
-lone_quote [] = None
-lone_quote (t ∷ ts) = if is_unmatched_quote t then Some (quote_fault t) else lone_quote ts
+abbrev pub unmatched_quote : List Token → Option Fault
+unmatched_quote [] = None
+unmatched_quote (t ∷ ts) = if is_unmatched_quote t then Some (quote_fault t) else unmatched_quote ts

@@ -8,61 +8,61 @@ use Rattle.ppexpand.specs.declared.env.Env.{Env}
 use Rattle.ppexpand.specs.Budget.{spend_one}
 use Rattle.ppshelf.specs.Files.{Files, TableView}
 use Rattle.ppshelf.specs.Names.{name_in}
-use Rattle.ppunit.specs.Dependencies.{among}
-use Rattle.ppunit.specs.declared.states.Context.{Context}
+use Rattle.ppunit.specs.Dependencies.{with_row}
+use Rattle.ppunit.specs.declared.states.FileContext.{FileContext}
 use Rattle.ppunit.specs.declared.units.Item.{Item}
 use Rattle.ppunit.specs.declared.units.UnitOut.{UnitOut}
 
 -- a unit's file table, and the directories that are searched, the unit's before the setting's
-pub record Library : Type 0 where
+pub record UnitContext : Type 0 where
   pub shelf : TableView
-  pub unit_folders : List (List ℕ)
-  pub setting_folders : List (List ℕ)
+  pub unit_directories : List (List ℕ)
+  pub setting_directories : List (List ℕ)
 
 -- what does not change within a unit: the names of all files, their profile, their known contents, and the directories
 -- that are searched, the unit's before the setting's
-pub record Surroundings : Type 0 where
+pub record Context : Type 0 where
   pub names : List (List ℕ)
   pub profile : Profile
   pub files : Files
-  pub unit_folders : List (List ℕ)
-  pub setting_folders : List (List ℕ)
+  pub unit_directories : List (List ℕ)
+  pub setting_directories : List (List ℕ)
 
 -- what a search for a file depends on: the context of a unit without the contents of files
 pub record Search : Type 0 where
   pub names : List (List ℕ)
   pub profile : Profile
-  pub unit_folders : List (List ℕ)
-  pub setting_folders : List (List ℕ)
+  pub unit_directories : List (List ℕ)
+  pub setting_directories : List (List ℕ)
 
-abbrev pub search_of : Surroundings → Search
-search_of around =
+abbrev pub search_of : Context → Search
+search_of context =
     record {
-      names = around.names;
-      profile = around.profile;
-      unit_folders = around.unit_folders;
-      setting_folders = around.setting_folders;
+      names = context.names;
+      profile = context.profile;
+      unit_directories = context.unit_directories;
+      setting_directories = context.setting_directories;
     }
 
 -- the search of a unit
-abbrev pub search_in : Library → Search
-search_in library =
+abbrev pub search_in_unit : UnitContext → Search
+search_in_unit unit_context =
     record {
-      names = library.shelf.names;
-      profile = library.shelf.profile;
-      unit_folders = library.unit_folders;
-      setting_folders = library.setting_folders;
+      names = unit_context.shelf.names;
+      profile = unit_context.shelf.profile;
+      unit_directories = unit_context.unit_directories;
+      setting_directories = unit_context.setting_directories;
     }
 
 -- the context of a unit over these contents
-abbrev pub surroundings_of : Library → Files → Surroundings
-surroundings_of library files =
+abbrev pub context_over : UnitContext → Files → Context
+context_over unit_context files =
     record {
-      names = library.shelf.names;
-      profile = library.shelf.profile;
+      names = unit_context.shelf.names;
+      profile = unit_context.shelf.profile;
       files = files;
-      unit_folders = library.unit_folders;
-      setting_folders = library.setting_folders;
+      unit_directories = unit_context.unit_directories;
+      setting_directories = unit_context.setting_directories;
     }
 
 -- the state of phase 4
@@ -79,15 +79,15 @@ pub record State : Type 0 where
   -- the values of the predefined names
   pub env : Env
   -- the number of the directory in which the current file was found; a unit's own file has none
-  pub folder : Option ℕ
+  pub directory : Option ℕ
 
 -- the context of the current file
-abbrev pub context : State → Context
-context s = record { env = s.env; folder = s.folder }
+abbrev pub file_context : State → FileContext
+file_context s = record { env = s.env; directory = s.directory }
 
 -- the state with this context
-abbrev pub in_context : Context → State → State
-in_context c s = record s { env = c.env; folder = c.folder }
+abbrev pub in_file_context : FileContext → State → State
+in_file_context c s = record s { env = c.env; directory = c.directory }
 
 -- a unit continues, or has stopped at its first fault
 pub record Reached : Type 0 where
@@ -104,34 +104,34 @@ abbrev pub emitted : State → List Item → State
 emitted s items = record s { items = s.items ++ items }
 
 -- the file at index `row` is a dependency
-abbrev pub depending : State → ℕ → State
-depending s row = record s { deps = among row s.deps }
+abbrev pub with_dependency : State → ℕ → State
+with_dependency s row = record s { deps = with_row row s.deps }
 
 -- the file at index `row` isn't read again
-abbrev pub reading_once : State → ℕ → State
-reading_once s row = record s { once = among row s.once }
+abbrev pub with_once : State → ℕ → State
+with_once s row = record s { once = with_row row s.once }
 
 -- the state with this remaining budget
 abbrev pub with_left : State → Option ℕ → State
 with_left s left = record s { left = left }
 
 -- one opened file is spent from the budget
-abbrev pub paying : State → State
-paying s = with_left s (spend_one s.left)
+abbrev pub with_one_spent : State → State
+with_one_spent s = with_left s (spend_one s.left)
 
 -- the output of a unit
-abbrev pub given : Reached → UnitOut
-given r = record { items = r.state.items; deps = r.state.deps; fault = r.fault }
+abbrev pub output : Reached → UnitOut
+output r = record { items = r.state.items; deps = r.state.deps; fault = r.fault }
 
 -- a name as a string literal
 abbrev pub literal : List ℕ → List ℕ
 literal name = 34 ∷ (escaped name ++ 34 ∷ [])
 
 -- a file begins with its own name, line numbers and directory number
-abbrev pub entering : Surroundings → State → ℕ → Option ℕ → State
-entering around s row folder =
-    record (depending s row) { env = record s.env { name = literal (name_in around.names row); shift = pos 0 }; folder = folder }
+abbrev pub entering : Context → State → ℕ → Option ℕ → State
+entering context s row directory =
+    record (with_dependency s row) { env = record s.env { name = literal (name_in context.names row); shift = pos 0 }; directory = directory }
 
 -- after it the context of the including file is restored
 abbrev pub leaving : State → Reached → Reached
-leaving s m = record m { state = in_context (context s) m.state }
+leaving s m = record m { state = in_file_context (file_context s) m.state }

@@ -6,15 +6,15 @@ use Rattle.ppunit.specs.declared.units.Setting.{Setting}
 use Rattle.ppunit.specs.declared.units.Unit.{Unit as UnitOfList}
 use Rattle.ppunit.specs.declared.units.UnitOut.{UnitOut}
 use Rattle.ppunit.specs.Unit.{IsUnit}
-use Rattle.ppunit.specs.Capped.{IsWithin, IsCappedOver}
+use Rattle.ppunit.specs.Capped.{IsInBudget, IsCappedOver}
 
 -- these outputs are the values of the units over these files, in order
 abbrev pub AreUnits : List (List ℕ) → Files → Setting → List UnitOfList → List UnitOut → Type 0
 AreUnits names files setting units answers = AllZip (λ unit out. IsUnit names files setting unit out) units answers
 
 -- each unit's replacements and opened files total at most the budget
-abbrev pub AreWithin : List (List ℕ) → Files → Setting → List UnitOfList → List UnitOut → Type 0
-AreWithin names files setting units answers = AllZip (λ unit out. IsWithin names files setting unit out) units answers
+abbrev pub AreInBudget : List (List ℕ) → Files → Setting → List UnitOfList → List UnitOut → Type 0
+AreInBudget names files setting units answers = AllZip (λ unit out. IsInBudget names files setting unit out) units answers
 
 -- each output is what the budget leaves of the unit's value without a budget, over these files and any larger set
 abbrev pub AreCapped : List (List ℕ) → Files → Setting → List UnitOfList → List UnitOut → Type 0

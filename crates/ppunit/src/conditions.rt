@@ -5,12 +5,12 @@ ghost use Rattle.pptext.specs.Errors.{UnlessOutOfMemory};
 ghost use Rattle.pptext.specs.Tree.{sign_place};
 ghost use Rattle.ppexpr.specs.Conditions.{IsCondition};
 ghost use Rattle.ppunit.specs.Conditions as spec;
-ghost use Rattle.ppunit.specs.Lines as spec_lines;
+ghost use Rattle.ppunit.specs.DirectiveLines as spec_lines;
 ghost use Rattle.ppunit.specs.Probing.{condition_tokens};
-ghost use Rattle.ppunit.specs.States.{search_in, with_left};
+ghost use Rattle.ppunit.specs.States.{search_in_unit, with_left};
 
-use crate::lines::{line_fault, name, one_identifier, operands, refuse_lone_quote, sign};
-use crate::opening::Around;
+use crate::directive_line::{line_fault, name, one_identifier, operands, refuse_unmatched_quote, hash_place};
+use crate::open_file::UnitContext;
 use crate::probing::{is_probed, probe};
 use crate::states::State;
 use ppexpr::evaluate;
@@ -22,23 +22,23 @@ use std::alloc::Global;
 /// Decides whether the group after a line of the file at index `row` is taken. Fails with the line's fault: 7, 9, 30,
 /// or a fault of its condition. Changes nothing in `state` but the remaining budget.
 pub(crate) fn decide<D: Disk>(
-    around: &Around<'_, '_, D>,
+    context: &UnitContext<'_, '_, D>,
     state: &mut State,
     row: usize,
     directive: Directive,
     line: &[Token],
 ) -> Result<bool, Error>
-    requires rows { 0 < length around.now.shelf.names }
+    requires rows { 0 < length context.now.shelf.names }
     requires condition { spec.IsConditional directive }
     ensures rest { state.new ≡ with_left state.old state.new.left }
     ensures decides { UnlessOutOfMemory result (λ taken.
         (number : ℕ)
-        → spec.Decides (search_in around.now) row state.old (spec_lines.directed directive line.now number) state.new.left taken) }
+        → spec.Decides (search_in_unit context.now) row state.old (spec_lines.directed directive line.now number) state.new.left taken) }
 {
-    refuse_lone_quote(line)?;
+    refuse_unmatched_quote(line)?;
     match directive.question() {
-        Some(Question::Defined(wanted)) => by_name(around.alloc, wanted, &state.macros, line),
-        _ => by_condition(around, state, row, line),
+        Some(Question::Defined(wanted)) => by_name(context.alloc, wanted, &state.macros, line),
+        _ => by_condition(context, state, row, line),
     }
 }
 
@@ -46,34 +46,34 @@ pub(crate) fn decide<D: Disk>(
 fn by_name(alloc: Global, wanted: bool, macros: &Table, line: &[Token]) -> Result<bool, Error>
     ensures { UnlessOutOfMemory result (λ taken. taken ≡ spec.by_name wanted macros.now.macros line.now (spec_lines.one_identifier (spec_lines.operands line.now))) }
 {
-    let Some(asked) = one_identifier(operands(line)) else {
+    let Some(include_name) = one_identifier(operands(line)) else {
         return Err(Error::Fault(line_fault(alloc, 9, line, name(line))?));
     };
-    Ok(macros.get(asked).is_some() == wanted)
+    Ok(macros.get(include_name).is_some() == wanted)
 }
 
 /// Evaluates the line's condition.
 fn by_condition<D: Disk>(
-    around: &Around<'_, '_, D>,
+    context: &UnitContext<'_, '_, D>,
     state: &mut State,
     row: usize,
     line: &[Token],
 ) -> Result<bool, Error>
-    requires { 0 < length around.now.shelf.names }
+    requires { 0 < length context.now.shelf.names }
     ensures rest { state.new ≡ with_left state.old state.new.left }
     ensures is { UnlessOutOfMemory result (λ taken.
-        spec.DecidesOf (condition_tokens (search_in around.now) row line.now) state.old (sign_place line.now) state.new.left taken) }
+        spec.DecidesOf (condition_tokens (search_in_unit context.now) row line.now) state.old (sign_place line.now) state.new.left taken) }
 {
-    let at = sign(line);
+    let at = hash_place(line);
     let operands = operands(line);
     // Most conditions have no `__has_include`, so that their tokens are not copied.
-    if !is_probed(around.profile(), operands) {
-        return value(around.alloc, state, at, operands);
+    if !is_probed(context.profile(), operands) {
+        return value(context.alloc, state, at, operands);
     }
-    let Some(tokens) = probe(around, row, operands)? else {
+    let Some(tokens) = probe(context, row, operands)? else {
         return Err(Error::Fault(Fault::bare(30, at)));
     };
-    value(around.alloc, state, at, tokens.as_slice())
+    value(context.alloc, state, at, tokens.as_slice())
 }
 
 /// Evaluates a condition, and spends its replacements from the budget.

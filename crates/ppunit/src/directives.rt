@@ -3,13 +3,13 @@ ghost use Rattle.std.specs.Prelude.{◌≡◌, IfOk, Some, true};
 ghost use Rattle.std.specs.Result.{result_err};
 ghost use Rattle.pptext.specs.Errors.{UnlessOutOfMemory};
 ghost use Rattle.ppunit.specs.Directives as spec;
-ghost use Rattle.ppunit.specs.Lines as spec_lines;
+ghost use Rattle.ppunit.specs.DirectiveLines as spec_lines;
 ghost use Rattle.pptext.specs.Tree.{sign_place};
 ghost use Rattle.ppmacro.specs.Define.{after_define, after_undef};
 ghost use Rattle.ppunit.specs.States.{going};
 
 use crate::line_control::renumber;
-use crate::lines::{DirectiveLine, line_fault, name, operands, push_space, sign};
+use crate::directive_line::{DirectiveLine, line_fault, name, operands, push_space, hash_place};
 use crate::states::State;
 use ppexpand::expand;
 use ppmacro::{define, undef};
@@ -17,12 +17,12 @@ use pptext::{Directive, Fault, Profile, Error, Token};
 use std::alloc::{AllocError, Global};
 
 /// Emits the expansion of a run of text lines, up to its first fault (6.10.3).
-pub(crate) fn run_text<'x>(
+pub(crate) fn emit_run<'x>(
     alloc: Global,
     state: &mut State<'x>,
     tokens: &'x [Token],
 ) -> Result<(), Error>
-    ensures { UnlessOutOfMemory result (λ r. spec.RunGives state.old tokens.now (record { state = state.new; fault = result_err r })) }
+    ensures { UnlessOutOfMemory result (λ r. spec.EmitsRun state.old tokens.now (record { state = state.new; fault = result_err r })) }
 {
     // Blank lines between directives are a run as well.
     if tokens.is_empty() {
@@ -79,12 +79,12 @@ fn pragma<'x>(
     row: usize,
     line: &'x [Token],
 ) -> Result<(), Error>
-    ensures { UnlessOutOfMemory result (λ r. record { state = state.new; fault = result_err r } ≡ going (spec.pragma_passed profile row state.old line.now)) }
+    ensures { UnlessOutOfMemory result (λ r. record { state = state.new; fault = result_err r } ≡ going (spec.pragma_emitted profile row state.old line.now)) }
 {
     let tokens = operands(line);
-    state.pass_pragma(sign(line), tokens)?;
+    state.emit_pragma(hash_place(line), tokens)?;
     if is_once(profile, tokens) {
-        state.read_once(row)?;
+        state.mark_once(row)?;
     }
     Ok(())
 }
@@ -111,7 +111,7 @@ fn define_by<'x>(
         alloc,
         &mut state.macros,
         profile,
-        sign(line),
+        hash_place(line),
         operands(line),
     )? {
         Ok(()) => Ok(()),
@@ -133,7 +133,7 @@ fn undef_by<'x>(
         alloc,
         &mut state.macros,
         profile,
-        sign(line),
+        hash_place(line),
         operands(line),
     )? {
         Ok(()) => Ok(()),

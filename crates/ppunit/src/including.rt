@@ -2,14 +2,14 @@
 ghost use Rattle.std.specs.Prelude.{◌≡◌, ◌∷◌, IfOk, [], true};
 ghost use Rattle.std.specs.Option.{option_map};
 ghost use Rattle.pptext.specs.Errors.{UnlessOutOfMemory};
-ghost use Rattle.ppunit.specs.Lines.{line_fault};
+ghost use Rattle.ppunit.specs.DirectiveLines.{line_fault};
 ghost use Rattle.ppunit.specs.Including as spec;
-ghost use Rattle.ppunit.specs.Directives.{Asks, AsksReplaced};
+ghost use Rattle.ppunit.specs.Directives.{NamesHeader, NamesHeaderByExpansion};
 ghost use Rattle.ppunit.specs.States.{with_left};
 
 use crate::line_control::is_plain_string;
-use crate::lines::{line_fault, operands, push_space};
-use crate::replacing::replaced;
+use crate::directive_line::{line_fault, operands, push_space};
+use crate::operand_expansion::expand_operands;
 use crate::states::State;
 use ppshelf::Form;
 use pptext::{Kind, Spelling, Error, Token};
@@ -18,15 +18,15 @@ use std::marker::Model;
 
 /// The form and the name of a header.
 #[derive(Drop)]
-pub(crate) struct Asked {
+pub(crate) struct IncludeName {
     pub form: Form,
     pub name: Spelling,
 }
 
-impl Model for Asked {
-    ghost use Rattle.ppunit.specs.Including.{Asked};
+impl Model for IncludeName {
+    ghost use Rattle.ppunit.specs.Including.{IncludeName};
 
-    ghost Value = { Asked };
+    ghost Value = { IncludeName };
 
     ghost view = { λ a. record { form = a.form; name = a.name } };
 }
@@ -42,10 +42,10 @@ fn inner(text: &[u8]) -> &[u8]
 }
 
 /// Copies a name into a request of this form.
-fn asking_for(alloc: Global, form: Form, name: &[u8]) -> Result<Asked, AllocError>
+fn copy_include_name(alloc: Global, form: Form, name: &[u8]) -> Result<IncludeName, AllocError>
     ensures { IfOk result (λ a. a ≡ record { form = form; name = name.now }) }
 {
-    Ok(Asked {
+    Ok(IncludeName {
         form,
         name: Spelling::from_slice(alloc, name)?,
     })
@@ -63,14 +63,14 @@ fn form_of(text: &[u8]) -> Form
 }
 
 /// Returns the header that a single header name token names.
-fn header_asked(alloc: Global, tokens: &[Token]) -> Result<Option<Asked>, AllocError>
-    ensures { IfOk result (λ a. a ≡ spec.header_asked tokens.now) }
+fn name_of_header(alloc: Global, tokens: &[Token]) -> Result<Option<IncludeName>, AllocError>
+    ensures { IfOk result (λ a. a ≡ spec.name_of_header tokens.now) }
 {
     let [header] = tokens else {
         return Ok(None);
     };
     let text = header.text.as_bytes();
-    Ok(Some(asking_for(alloc, form_of(text), inner(text))?))
+    Ok(Some(copy_include_name(alloc, form_of(text), inner(text))?))
 }
 
 /// Returns the spelling of the tokens before `>`. The `>` must be the last token, and the only one.
@@ -93,109 +93,109 @@ fn angle_name(alloc: Global, tokens: &[Token]) -> Result<Option<Vec<u8>>, AllocE
 }
 
 /// Returns the header that a single string literal names after macro replacement.
-fn string_asked(alloc: Global, only: &Token) -> Result<Option<Asked>, AllocError>
-    ensures { IfOk result (λ a. a ≡ spec.expanded_asked (only.now ∷ [])) }
+fn name_of_string(alloc: Global, only: &Token) -> Result<Option<IncludeName>, AllocError>
+    ensures { IfOk result (λ a. a ≡ spec.name_of_expansion (only.now ∷ [])) }
 {
     if !is_plain_string(only) {
         return Ok(None);
     }
-    Ok(Some(asking_for(alloc, Form::Quote, inner(only.text.as_bytes()))?))
+    Ok(Some(copy_include_name(alloc, Form::Quote, inner(only.text.as_bytes()))?))
 }
 
 /// Returns the header that the tokens after `<` name.
-fn angle_asked(alloc: Global, tokens: &[Token]) -> Result<Option<Asked>, AllocError>
-    ensures { IfOk result (λ a. a ≡ spec.angled (spec.angle_name tokens.now)) }
+fn name_of_angle(alloc: Global, tokens: &[Token]) -> Result<Option<IncludeName>, AllocError>
+    ensures { IfOk result (λ a. a ≡ spec.name_of_angle_form (spec.angle_name tokens.now)) }
 {
     let Some(name) = angle_name(alloc, tokens)? else {
         return Ok(None);
     };
-    Ok(Some(Asked {
+    Ok(Some(IncludeName {
         form: Form::Angle,
         name: Spelling::new(name)?,
     }))
 }
 
 /// Returns the header that the operands name after macro replacement.
-fn expanded_asked(alloc: Global, tokens: &[Token]) -> Result<Option<Asked>, AllocError>
-    ensures { IfOk result (λ a. a ≡ spec.expanded_asked tokens.now) }
+fn name_of_expansion(alloc: Global, tokens: &[Token]) -> Result<Option<IncludeName>, AllocError>
+    ensures { IfOk result (λ a. a ≡ spec.name_of_expansion tokens.now) }
 {
     match tokens {
-        [only] => string_asked(alloc, only),
-        [first, rest @ ..] if first.is_punct(b"<") => angle_asked(alloc, rest),
+        [only] => name_of_string(alloc, only),
+        [first, rest @ ..] if first.is_punct(b"<") => name_of_angle(alloc, rest),
         _ => Ok(None),
     }
 }
 
 /// Returns the header, or fault 30 if there is none or no file can have its name.
-fn asked_or_fault(alloc: Global, line: &[Token], asked: Option<Asked>) -> Result<Asked, Error>
-    ensures { UnlessOutOfMemory result (λ r. r ≡ spec.asked_or (line_fault 30 line.now []) (spec.if_somewhere asked)) }
+fn name_or_fault(alloc: Global, line: &[Token], include_name: Option<IncludeName>) -> Result<IncludeName, Error>
+    ensures { UnlessOutOfMemory result (λ r. r ≡ spec.name_or (line_fault 30 line.now []) (spec.if_possible_name include_name)) }
 {
-    match asked {
-        Some(asked) if !is_nowhere(asked.name.as_bytes()) => Ok(asked),
+    match include_name {
+        Some(include_name) if !is_impossible_name(include_name.name.as_bytes()) => Ok(include_name),
         _ => Err(Error::Fault(line_fault(alloc, 30, line, b"")?)),
     }
 }
 
 /// Returns whether no file can have the name: it is empty or begins with `/`.
-fn is_nowhere(name: &[u8]) -> bool
-    ensures { result ≡ spec.is_nowhere name.now }
+fn is_impossible_name(name: &[u8]) -> bool
+    ensures { result ≡ spec.is_impossible_name name.now }
 {
     name.is_empty() || name[0] == b'/'
 }
 
 /// Drops a header whose name no file can have: an empty name, or one that begins with `/`.
-fn if_somewhere(asked: Option<Asked>) -> Option<Asked>
-    ensures { result ≡ spec.if_somewhere asked }
+fn if_possible_name(include_name: Option<IncludeName>) -> Option<IncludeName>
+    ensures { result ≡ spec.if_possible_name include_name }
 {
-    match asked {
-        Some(asked) if !is_nowhere(asked.name.as_bytes()) => Some(asked),
+    match include_name {
+        Some(include_name) if !is_impossible_name(include_name.name.as_bytes()) => Some(include_name),
         _ => None,
     }
 }
 
 /// Returns the header that the tokens name without macro replacement, unless no file can have its name.
-pub(crate) fn asked_as_it_stands(
+pub(crate) fn name_of_tokens(
     alloc: Global,
     tokens: &[Token],
-) -> Result<Option<Asked>, AllocError>
-    ensures { IfOk result (λ a. a ≡ spec.if_somewhere (spec.expanded_asked tokens.now)) }
+) -> Result<Option<IncludeName>, AllocError>
+    ensures { IfOk result (λ a. a ≡ spec.if_possible_name (spec.name_of_expansion tokens.now)) }
 {
-    Ok(if_somewhere(expanded_asked(alloc, tokens)?))
+    Ok(if_possible_name(name_of_expansion(alloc, tokens)?))
 }
 
 /// Returns the header that the tokens name after macro replacement, or fault 30.
-fn asked_behind(alloc: Global, line: &[Token], tokens: &[Token]) -> Result<Asked, Error>
-    ensures { UnlessOutOfMemory result (λ r. r ≡ spec.asked_or (line_fault 30 line.now []) (spec.if_somewhere (spec.expanded_asked tokens.now))) }
+fn name_of_expansion_or(alloc: Global, line: &[Token], tokens: &[Token]) -> Result<IncludeName, Error>
+    ensures { UnlessOutOfMemory result (λ r. r ≡ spec.name_or (line_fault 30 line.now []) (spec.if_possible_name (spec.name_of_expansion tokens.now))) }
 {
-    let asked = expanded_asked(alloc, tokens)?;
-    asked_or_fault(alloc, line, asked)
+    let include_name = name_of_expansion(alloc, tokens)?;
+    name_or_fault(alloc, line, include_name)
 }
 
 /// Returns the header that an include line names once its macros are replaced.
-fn ask_replaced<'x>(alloc: Global, state: &mut State<'x>, line: &'x [Token]) -> Result<Asked, Error>
+fn expand_include_name<'x>(alloc: Global, state: &mut State<'x>, line: &'x [Token]) -> Result<IncludeName, Error>
     ensures rest { state.new ≡ with_left state.old state.new.left }
-    ensures asks { UnlessOutOfMemory result (λ asked. AsksReplaced state.old line.now state.new.left asked) }
+    ensures asks { UnlessOutOfMemory result (λ include_name. NamesHeaderByExpansion state.old line.now state.new.left include_name) }
 {
-    let tokens = replaced(alloc, state, operands(line))?;
-    asked_behind(alloc, line, tokens.as_slice())
+    let tokens = expand_operands(alloc, state, operands(line))?;
+    name_of_expansion_or(alloc, line, tokens.as_slice())
 }
 
 /// Returns the header that an include line without unmatched quotes names. Fails with a fault of macro replacement, or
 /// fault 30. Changes nothing in `state` but the remaining budget.
-pub(crate) fn ask<'x>(
+pub(crate) fn read_include_name<'x>(
     alloc: Global,
     state: &mut State<'x>,
     line: &'x [Token],
-) -> Result<Asked, Error>
+) -> Result<IncludeName, Error>
     ensures rest { state.new ≡ with_left state.old state.new.left }
-    ensures asks { UnlessOutOfMemory result (λ asked. Asks state.old line.now state.new.left asked) }
+    ensures asks { UnlessOutOfMemory result (λ include_name. NamesHeader state.old line.now state.new.left include_name) }
 {
     let rest = operands(line);
     if let Some(first) = rest.first() {
         if first.kind == Kind::Header {
-            let asked = header_asked(alloc, rest)?;
-            return asked_or_fault(alloc, line, asked);
+            let include_name = name_of_header(alloc, rest)?;
+            return name_or_fault(alloc, line, include_name);
         }
     }
-    ask_replaced(alloc, state, line)
+    expand_include_name(alloc, state, line)
 }

@@ -1,9 +1,9 @@
 //! An iterator over items.
 ghost use Rattle.std.specs.Prelude.{◌≡◌, IfOk};
 ghost use Rattle.std.specs.Iterator.{YieldsFirstBy, YieldsFirstRef, item_count};
-ghost use Rattle.ppunit.specs.Yielding.{ref_item};
+ghost use Rattle.ppunit.specs.BorrowedItems.{ref_item};
 
-use crate::lists::{Items, Part};
+use crate::collections::{Items, Part};
 use crate::units::Item;
 use ppexpand::{RopeIter, TokenRef};
 use pptext::{Place, Token, Tokens};
@@ -40,7 +40,7 @@ struct PartsLeft<'r, 'a> {
 
 impl<'r, 'a> Model for PartsLeft<'r, 'a> {
     ghost use Rattle.std.specs.Prelude.{List};
-    ghost use Rattle.ppunit.specs.declared.lists.Part.{Part};
+    ghost use Rattle.ppunit.specs.declared.collections.Part.{Part};
 
     ghost Value = { List Part };
 
@@ -73,7 +73,7 @@ impl<'r, 'a> Model for ItemsIter<'r, 'a> {
     ghost Value = { List Item };
 
     ghost use Rattle.ppunit.specs.Parts.{part_items};
-    ghost use Rattle.ppunit.specs.Yielding.{run_items};
+    ghost use Rattle.ppunit.specs.BorrowedItems.{run_items};
 
     ghost view = { λ i. run_items i.run ++ flat_map part_items i.left };
 }

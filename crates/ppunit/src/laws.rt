@@ -1,7 +1,7 @@
 //! Theorems about units: functions that do nothing, whose contracts state the theorems. They call the theorems that
 //! they rest on.
 ghost use Rattle.ppunit.specs.Laws.{HasOneValue, HasSomeValue, Grows};
-ghost use Rattle.ppunit.specs.Capped.{StaysWithin, BudgetCaps, LargerBudgetsGiveNoLess, OnlyBudgetsRefuse};
+ghost use Rattle.ppunit.specs.Capped.{StaysInBudget, BudgetCaps, LargerBudgetsGiveNoLess, OnlyBudgetsRefuse};
 
 use ppexpand::one_expansion;
 use ppexpr::{one_condition, some_condition};
@@ -39,8 +39,8 @@ pub fn growth()
 {}
 
 /// Theorem: the replacements and opened files of a unit total at most its budget.
-pub fn stays_within()
-    ensures { StaysWithin }
+pub fn stays_in_budget()
+    ensures { StaysInBudget }
 {}
 
 /// Theorem: if the file names are distinct, the value of a unit with a budget is a prefix of its value without one,

@@ -2,34 +2,34 @@
 #![tactic(auto)]
 
 mod conditions;
-mod definitions;
+mod command_macros;
 mod directives;
-mod forms;
+mod well_formed;
 mod guards;
 mod including;
-mod indexed;
+mod line_access;
 mod items;
 mod laws;
 mod line_control;
-mod lines;
-mod lists;
-mod opening;
+mod directive_line;
+mod collections;
+mod open_file;
 mod preprocessing;
 mod probing;
-mod replacing;
-mod stack;
+mod operand_expansion;
+mod include_stack;
 mod states;
 mod units;
-mod walking;
+mod line_walk;
 
-pub use definitions::Definitions;
-pub use forms::{fits_command, is_date, is_one_line, is_time, setting_ok, unit_ok};
+pub use command_macros::CommandMacros;
+pub use well_formed::{fits_command, is_date, is_one_line, is_time, setting_ok, unit_ok};
 pub use guards::guard_changes_nothing;
 pub use items::{ItemRef, ItemsIter};
 pub use laws::{
     budget_caps_units, growth, larger_budgets_give_no_less, one_value, only_budgets_refuse,
-    some_value, stays_within,
+    some_value, stays_in_budget,
 };
-pub use lists::{Items, Part, Rows, Text, Texts};
+pub use collections::{Items, Part, Rows, OwnedText, OwnedTexts};
 pub use preprocessing::preprocess;
 pub use units::{Item, Setting, Unit, UnitOut};

@@ -5,12 +5,12 @@ ghost use Rattle.std.specs.Result.{result_err};
 ghost use Rattle.pptext.specs.Errors.{UnlessOutOfMemory};
 ghost use Rattle.pptext.specs.declared.sources.Directive.TheVariants.{Line};
 ghost use Rattle.ppunit.specs.LineControl as spec;
-ghost use Rattle.ppunit.specs.Lines.{directed, line_fault};
-ghost use Rattle.ppunit.specs.Directives.{LineGives};
+ghost use Rattle.ppunit.specs.DirectiveLines.{directed, line_fault};
+ghost use Rattle.ppunit.specs.Directives.{SetsLine};
 
-use crate::forms::is_digit;
-use crate::lines::{line_fault, operands};
-use crate::replacing::replaced;
+use crate::well_formed::is_digit;
+use crate::directive_line::{line_fault, operands};
+use crate::operand_expansion::expand_operands;
 use crate::states::State;
 use ppexpand::Env;
 use pptext::{Kind, Spelling, Error, Token};
@@ -115,9 +115,9 @@ pub(crate) fn renumber<'x>(
     line: &'x [Token],
     physical: u32,
 ) -> Result<(), Error>
-    ensures { UnlessOutOfMemory result (λ r. LineGives state.old (directed Line line.now physical) (record { state = state.new; fault = result_err r })) }
+    ensures { UnlessOutOfMemory result (λ r. SetsLine state.old (directed Line line.now physical) (record { state = state.new; fault = result_err r })) }
 {
-    let tokens = replaced(alloc, state, operands(line))?;
+    let tokens = expand_operands(alloc, state, operands(line))?;
     let presumed = presumed_or_fault(alloc, line, tokens.as_slice())?;
     present(&mut state.env, presumed, physical);
     Ok(())

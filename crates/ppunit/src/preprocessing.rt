@@ -4,37 +4,37 @@ ghost use Rattle.std.specs.Result.{result_err};
 ghost use Rattle.pptext.specs.Errors.{UnlessOutOfMemory};
 ghost use Rattle.pptext.specs.declared.tokens.Fault.{Fault};
 ghost use Rattle.ppshelf.specs.Files.{Files, Extends, Agree, AllPermitted};
-ghost use Rattle.ppunit.specs.States.{Reached, surroundings_of, given};
+ghost use Rattle.ppunit.specs.States.{Reached, context_over, output};
 ghost use Rattle.ppunit.specs.Group.{Opened};
-ghost use Rattle.ppunit.specs.Unit.{IsUnit, IsUnitOf, Translates, beginning, first_place};
-ghost use Rattle.ppunit.specs.Capped.{IsWithin, IsCappedOver};
-ghost use Rattle.ppunit.specs.Walk.{DefinesOver};
+ghost use Rattle.ppunit.specs.Unit.{IsUnit, IsUnitOf, Translates, initial_state, first_place};
+ghost use Rattle.ppunit.specs.Capped.{IsInBudget, IsCappedOver};
+ghost use Rattle.ppunit.specs.code.Walk.{DefinesOver};
 
-use crate::definitions::{COMMAND_FILE, Definitions};
-use crate::laws::{budget_caps_units, stays_within};
-use crate::lists::{Items, Rows};
-use crate::opening::{Around, OpenFile, Opening, open};
+use crate::command_macros::{COMMAND_FILE, CommandMacros};
+use crate::laws::{budget_caps_units, stays_in_budget};
+use crate::collections::{Items, Rows};
+use crate::open_file::{UnitContext, OpenFile, Opening, open};
 use crate::states::State;
 use crate::units::{Setting, Unit, UnitOut};
-use crate::walking::walk;
+use crate::line_walk::walk;
 use ppshelf::{Disk, Directories, Pass, Shelf};
 use pptext::{Fault, Memory, Place, Error, split_memory, tree_unless_fault};
 use std::alloc::Global;
 
 /// Executes the unit's definitions.
 fn define_all<'x, 'a: 'x, D: Disk>(
-    around: &Around<'a, '_, D>,
+    context: &UnitContext<'a, '_, D>,
     pass: &mut Pass<'a, D>,
     state: &mut State<'x>,
-    defines: &'x Definitions,
+    defines: &'x CommandMacros,
 ) -> Result<(), Error>
-    requires shelf { pass.old.shelf ≡ around.now.shelf }
-    requires rows { 0 < length around.now.shelf.names }
-    requires profile { defines.now.profile ≡ around.now.shelf.profile }
-    ensures shelf { pass.new.shelf ≡ around.now.shelf }
+    requires shelf { pass.old.shelf ≡ context.now.shelf }
+    requires rows { 0 < length context.now.shelf.names }
+    requires profile { defines.now.profile ≡ context.now.shelf.profile }
+    ensures shelf { pass.new.shelf ≡ context.now.shelf }
     ensures grows { Extends pass.new.files pass.old.files }
     ensures defined { UnlessOutOfMemory result (λ r.
-        DefinesOver (surroundings_of around.now) pass.new.files defines.now.texts state.old
+        DefinesOver (context_over context.now) pass.new.files defines.now.texts state.old
         (record { state = state.new; fault = result_err r })) }
 {
     let source = match defines.lines() {
@@ -43,85 +43,85 @@ fn define_all<'x, 'a: 'x, D: Disk>(
     };
     tree_unless_fault();
     let file = OpenFile::new(COMMAND_FILE as usize, source);
-    walk(around, pass, state, file)
+    walk(context, pass, state, file)
 }
 
 /// Processes the file at index `row`, with all that it includes.
 fn process<'x, 'a: 'x, D: Disk>(
-    around: &Around<'a, '_, D>,
+    context: &UnitContext<'a, '_, D>,
     pass: &mut Pass<'a, D>,
     state: &mut State<'x>,
     row: usize,
 ) -> Result<(), Error>
-    requires shelf { pass.old.shelf ≡ around.now.shelf }
-    requires row { row < length around.now.shelf.names }
-    ensures shelf { pass.new.shelf ≡ around.now.shelf }
+    requires shelf { pass.old.shelf ≡ context.now.shelf }
+    requires row { row < length context.now.shelf.names }
+    ensures shelf { pass.new.shelf ≡ context.now.shelf }
     ensures grows { Extends pass.new.files pass.old.files }
     ensures opened { UnlessOutOfMemory result (λ r.
         (more : Files)
         → Extends more pass.new.files
-        → Opened (surroundings_of around.now more) 0 (first_place row) state.old row None (record { state = state.new; fault = result_err r })) }
+        → Opened (context_over context.now more) 0 (first_place row) state.old row None (record { state = state.new; fault = result_err r })) }
 {
     // A file index fits into a location, since a file table has at most `MOST_ROWS` files.
-    let _count = around.shelf().len();
+    let _count = context.shelf().len();
     let at = Place {
         file: row as u32,
         line: 1,
         col: 1,
     };
-    let opening = Opening { row, folder: None };
-    let Some(entered) = open(around, pass, state, 0, at, opening)? else {
+    let opening = Opening { row, directory: None };
+    let Some(entered) = open(context, pass, state, 0, at, opening)? else {
         return Ok(());
     };
-    let walked = walk(around, pass, state, entered.file);
-    state.go_back(entered.outer);
+    let walked = walk(context, pass, state, entered.file);
+    state.restore_context(entered.outer);
     walked
 }
 
 /// Executes the definitions, and then processes the file at index `row`.
 fn translate<'x, 'a: 'x, D: Disk>(
-    around: &Around<'a, '_, D>,
+    context: &UnitContext<'a, '_, D>,
     pass: &mut Pass<'a, D>,
     state: &mut State<'x>,
-    defines: &'x Definitions,
+    defines: &'x CommandMacros,
     row: usize,
 ) -> Result<(), Error>
-    requires shelf { pass.old.shelf ≡ around.now.shelf }
-    requires row { row < length around.now.shelf.names }
-    requires profile { defines.now.profile ≡ around.now.shelf.profile }
-    ensures shelf { pass.new.shelf ≡ around.now.shelf }
+    requires shelf { pass.old.shelf ≡ context.now.shelf }
+    requires row { row < length context.now.shelf.names }
+    requires profile { defines.now.profile ≡ context.now.shelf.profile }
+    ensures shelf { pass.new.shelf ≡ context.now.shelf }
     ensures grows { Extends pass.new.files pass.old.files }
     ensures translated { UnlessOutOfMemory result (λ r.
-        Translates (surroundings_of around.now pass.new.files) defines.now.texts row state.old
+        Translates (context_over context.now pass.new.files) defines.now.texts row state.old
         (record { state = state.new; fault = result_err r })) }
 {
-    define_all(around, pass, state, defines)?;
-    process(around, pass, state, row)
+    define_all(context, pass, state, defines)?;
+    process(context, pass, state, row)
 }
 
 /// Returns the first fault of a unit, if it has one.
 fn first_fault<'x, 'a: 'x, D: Disk>(
-    around: &Around<'a, '_, D>,
+    context: &UnitContext<'a, '_, D>,
     pass: &mut Pass<'a, D>,
     state: &mut State<'x>,
     unit: &'x Unit,
 ) -> Result<Option<Fault>, Memory>
-    requires shelf { pass.old.shelf ≡ around.now.shelf }
-    requires row { unit.now.file < length around.now.shelf.names }
-    requires profile { unit.now.defines.profile ≡ around.now.shelf.profile }
-    ensures shelf { pass.new.shelf ≡ around.now.shelf }
+    requires shelf { pass.old.shelf ≡ context.now.shelf }
+    requires row { unit.now.file < length context.now.shelf.names }
+    requires profile { unit.now.defines.profile ≡ context.now.shelf.profile }
+    ensures shelf { pass.new.shelf ≡ context.now.shelf }
     ensures grows { Extends pass.new.files pass.old.files }
     ensures translated { IfOk result (λ fault.
-        Translates (surroundings_of around.now pass.new.files) unit.now.defines.texts unit.now.file state.old
+        Translates (context_over context.now pass.new.files) unit.now.defines.texts unit.now.file state.old
         (record { state = state.new; fault = fault })) }
 {
-    let translated = translate(around, pass, state, &unit.defines, unit.file);
+    let translated = translate(context, pass, state, &unit.defines, unit.file);
     Ok(split_memory(translated)?.err())
 }
 
 /// Returns the output with these items and dependencies, and the fault of the unit if it has one. Fails if an
 /// allocation failed.
-fn answer_of<'x>(
+fn unit_out<'x>(
     items: Items<'x>,
     deps: Rows,
     ended: Result<Option<Fault>, Memory>,
@@ -131,16 +131,16 @@ fn answer_of<'x>(
 {
     let fault = ended?;
     Ok(UnitOut {
-        items: items.fitted(),
+        items: items.trim(),
         deps,
         fault,
     })
 }
 
 /// Returns the output of a unit that ends in this state.
-fn answer<'x>(state: State<'x>, ended: Result<Option<Fault>, Memory>) -> Result<UnitOut<'x>, Memory>
+fn into_output<'x>(state: State<'x>, ended: Result<Option<Fault>, Memory>) -> Result<UnitOut<'x>, Memory>
     ensures { IfOk result (λ out.
-        (fault : Option Fault) × (ended ≡ Ok fault) × (out ≡ given (record { state = state.entry; fault = fault }))) }
+        (fault : Option Fault) × (ended ≡ Ok fault) × (out ≡ output (record { state = state.entry; fault = fault }))) }
 {
     let State {
         macros: _,
@@ -149,31 +149,31 @@ fn answer<'x>(state: State<'x>, ended: Result<Option<Fault>, Memory>) -> Result<
         items,
         deps,
         env: _,
-        folder: _,
+        directory: _,
     } = state;
-    answer_of(items, deps, ended)
+    unit_out(items, deps, ended)
 }
 
-/// Returns the output of a unit over the files of `around`.
-fn give<'x, 'a: 'x, D: Disk>(
-    around: &Around<'a, '_, D>,
+/// Returns the output of a unit over the files of `context`.
+fn run_unit<'x, 'a: 'x, D: Disk>(
+    context: &UnitContext<'a, '_, D>,
     pass: &mut Pass<'a, D>,
     setting: &Setting,
     unit: &'x Unit,
 ) -> Result<UnitOut<'x>, Memory>
-    requires shelf { pass.old.shelf ≡ around.now.shelf }
-    requires row { unit.now.file < length around.now.shelf.names }
-    requires profile { unit.now.defines.profile ≡ around.now.shelf.profile }
-    ensures shelf { pass.new.shelf ≡ around.now.shelf }
+    requires shelf { pass.old.shelf ≡ context.now.shelf }
+    requires row { unit.now.file < length context.now.shelf.names }
+    requires profile { unit.now.defines.profile ≡ context.now.shelf.profile }
+    ensures shelf { pass.new.shelf ≡ context.now.shelf }
     ensures grows { Extends pass.new.files pass.old.files }
     ensures gives { IfOk result (λ out.
         (reached : Reached)
-        × Translates (surroundings_of around.now pass.new.files) unit.now.defines.texts unit.now.file (beginning setting.now) reached
-        × (out ≡ given reached)) }
+        × Translates (context_over context.now pass.new.files) unit.now.defines.texts unit.now.file (initial_state setting.now) reached
+        × (out ≡ output reached)) }
 {
-    let mut state = State::new(around.alloc, setting, around.shelf().hashing())?;
-    let ended = first_fault(around, pass, &mut state, unit);
-    answer(state, ended)
+    let mut state = State::new(context.alloc, setting, context.shelf().hashing())?;
+    let ended = first_fault(context, pass, &mut state, unit);
+    into_output(state, ended)
 }
 
 /// Executes translation phases 1 to 4 of a unit: its definitions, and then its file with all that it includes (5.1.1.2,
@@ -198,21 +198,21 @@ pub fn preprocess<'x, 'a: 'x, D: Disk>(
     ensures grows { Extends pass.new.files pass.old.files }
     ensures deps { IfOk result (λ out. All (λ row. row < length shelf.now.names) out.deps) }
     ensures is { IfOk result (λ out. IsUnit shelf.now.names pass.new.files setting.now unit.now out) }
-    ensures within { IfOk result (λ out. IsWithin shelf.now.names pass.new.files setting.now unit.now out) }
+    ensures within { IfOk result (λ out. IsInBudget shelf.now.names pass.new.files setting.now unit.now out) }
     ensures capped { IfOk result (λ out. IsCappedOver shelf.now.names pass.new.files setting.now unit.now out) }
     ensures contents_permitted { AllPermitted D.may shelf.now.names pass.new.files }
     ensures filled { Agree shelf.now.base pass.new.files }
 {
-    let folders = Directories {
+    let directories = Directories {
         unit: unit.search.as_slice(),
         setting: setting.search.as_slice(),
     };
-    let around = Around::new(alloc, shelf, disk, folders);
-    let given = give(&around, pass, setting, unit);
+    let context = UnitContext::new(alloc, shelf, disk, directories);
+    let output = run_unit(&context, pass, setting, unit);
     // For proofs: file names are distinct, the contents are permitted, and the theorems about budgets hold.
     shelf.contents_permitted();
     pass.contents_permitted();
-    stays_within();
+    stays_in_budget();
     budget_caps_units();
-    given
+    output
 }

@@ -4,12 +4,12 @@ ghost use Rattle.std.specs.List.{list_any};
 ghost use Rattle.std.specs.Option.{option_map};
 ghost use Rattle.pptext.specs.Profiles.{is_gnu};
 ghost use Rattle.pptext.specs.Tokens.{is_punct};
-ghost use Rattle.ppunit.specs.Including.{expanded_asked, if_somewhere};
+ghost use Rattle.ppunit.specs.Including.{name_of_expansion, if_possible_name};
 ghost use Rattle.ppunit.specs.Probing as spec;
-ghost use Rattle.ppunit.specs.States.{search_in};
+ghost use Rattle.ppunit.specs.States.{search_in_unit};
 
-use crate::including::{Asked, asked_as_it_stands};
-use crate::opening::{Around, Opening, resolve_in};
+use crate::including::{IncludeName, name_of_tokens};
+use crate::open_file::{UnitContext, Opening, resolve_in};
 use ppshelf::Disk;
 use pptext::{Kind, Memory, Profile, Spelling, Token};
 use std::alloc::{AllocError, Global};
@@ -46,10 +46,10 @@ fn opens(tokens: &[Token]) -> bool
 }
 
 /// Returns whether the token is `__has_include` and the tokens after it begin with `(`.
-fn asks(token: &Token, behind: &[Token]) -> bool
-    ensures { result ≡ (spec.opens behind.now && spec.is_has_include token.now) }
+fn asks(token: &Token, following: &[Token]) -> bool
+    ensures { result ≡ (spec.opens following.now && spec.is_has_include token.now) }
 {
-    opens(behind) && is_has_include(token)
+    opens(following) && is_has_include(token)
 }
 
 /// Returns the index of the first `)`.
@@ -61,7 +61,7 @@ fn close(tokens: &[Token]) -> Option<usize>
 }
 
 /// Returns the tokens after the first.
-fn behind_first(tokens: &[Token]) -> &[Token]
+fn without_first(tokens: &[Token]) -> &[Token]
     ensures { result.now ≡ drop 1 tokens.now }
 {
     match tokens {
@@ -71,12 +71,12 @@ fn behind_first(tokens: &[Token]) -> &[Token]
 }
 
 /// Returns whether an `#include` of this header in the file at index `row` finds a file. The file isn't opened.
-fn has_file<D: Disk>(around: &Around<'_, '_, D>, row: usize, asked: &Asked) -> Result<bool, Memory>
-    requires { 0 < length around.now.shelf.names }
-    ensures { IfOk result (λ found. found ≡ spec.has_file (search_in around.now) row asked.now) }
+fn has_file<D: Disk>(context: &UnitContext<'_, '_, D>, row: usize, include_name: &IncludeName) -> Result<bool, Memory>
+    requires { 0 < length context.now.shelf.names }
+    ensures { IfOk result (λ found. found ≡ spec.has_file (search_in_unit context.now) row include_name.now) }
 {
-    let from = Opening { row, folder: None };
-    let found = resolve_in(around, from, asked)?;
+    let from = Opening { row, directory: None };
+    let found = resolve_in(context, from, include_name)?;
     Ok(found.is_some())
 }
 
@@ -98,49 +98,49 @@ fn number_for(alloc: Global, name: &Token, found: bool) -> Result<Token, AllocEr
     })
 }
 
-/// Returns the number, if the tokens after the `(` name a header. The first of `behind` is the `(`.
+/// Returns the number, if the tokens after the `(` name a header. The first of `following` is the `(`.
 fn number<D: Disk>(
-    around: &Around<'_, '_, D>,
+    context: &UnitContext<'_, '_, D>,
     row: usize,
     name: &Token,
-    behind: &[Token],
+    following: &[Token],
 ) -> Result<Option<Token>, Memory>
-    requires { 0 < length around.now.shelf.names }
-    ensures { IfOk result (λ t. t ≡ spec.told (search_in around.now) row name.now (if_somewhere (expanded_asked (drop 1 behind.now)))) }
+    requires { 0 < length context.now.shelf.names }
+    ensures { IfOk result (λ t. t ≡ spec.probe_result (search_in_unit context.now) row name.now (if_possible_name (name_of_expansion (drop 1 following.now)))) }
 {
-    let Some(asked) = asked_as_it_stands(around.alloc, behind_first(behind))? else {
+    let Some(include_name) = name_of_tokens(context.alloc, without_first(following))? else {
         return Ok(None);
     };
-    let found = has_file(around, row, &asked)?;
-    Ok(Some(number_for(around.alloc, name, found)?))
+    let found = has_file(context, row, &include_name)?;
+    Ok(Some(number_for(context.alloc, name, found)?))
 }
 
 /// Replaces each `__has_include` before a `(` in the operands of a line of the file at index `row`. Returns nothing if
 /// one has no `)` or names no header.
 pub(crate) fn probe<D: Disk>(
-    around: &Around<'_, '_, D>,
+    context: &UnitContext<'_, '_, D>,
     row: usize,
     operands: &[Token],
 ) -> Result<Option<Vec<Token>>, Memory>
-    requires { 0 < length around.now.shelf.names }
-    ensures { IfOk result (λ tokens. option_map (λ v. v.items) tokens ≡ spec.probed (search_in around.now) row None operands.now) }
+    requires { 0 < length context.now.shelf.names }
+    ensures { IfOk result (λ tokens. option_map (λ v. v.items) tokens ≡ spec.probed (search_in_unit context.now) row None operands.now) }
 {
-    let mut probed = Vec::new(around.alloc);
+    let mut probed = Vec::new(context.alloc);
     let mut rest = operands;
-    while let Some((first, behind)) = rest.split_first() {
-        if !asks(first, behind) {
+    while let Some((first, following)) = rest.split_first() {
+        if !asks(first, following) {
             probed.push(first.clone()?)?;
-            rest = behind;
+            rest = following;
             continue;
         }
-        let Some(end) = close(behind) else {
+        let Some(end) = close(following) else {
             return Ok(None);
         };
-        let Some(told) = number(around, row, first, &behind[..end])? else {
+        let Some(probe_result) = number(context, row, first, &following[..end])? else {
             return Ok(None);
         };
-        probed.push(told)?;
-        rest = &behind[end + 1..];
+        probed.push(probe_result)?;
+        rest = &following[end + 1..];
     }
     Ok(Some(probed))
 }

@@ -1,11 +1,11 @@
 //! The state of phase 4 in a unit.
 ghost use Rattle.std.specs.Prelude.{◌≡◌, IfOk, OnOk, [], ◌∷◌, None};
 ghost use Rattle.ppexpand.specs.Budget.{is_exhausted};
-ghost use Rattle.ppunit.specs.States.{context, in_context, emitted, depending, reading_once, paying, literal};
-ghost use Rattle.ppunit.specs.Unit.{beginning};
+ghost use Rattle.ppunit.specs.States.{file_context, in_file_context, emitted, with_dependency, with_once, with_one_spent, literal};
+ghost use Rattle.ppunit.specs.Unit.{initial_state};
 ghost use Rattle.ppunit.specs.declared.units.Item.TheVariants as item;
 
-use crate::lists::{Items, Rows};
+use crate::collections::{Items, Rows};
 use crate::units::Setting;
 use ppexpand::{Env, is_exhausted, spend_one};
 use ppmacro::{Table, push_escaped};
@@ -17,9 +17,9 @@ use std::mem::replace;
 /// The context of a file: the values of the predefined names in it, and the number of the directory in which it was
 /// found. A unit's own file has no such number.
 #[derive(Drop)]
-pub(crate) struct Context {
+pub(crate) struct FileContext {
     pub env: Env,
-    pub folder: Option<usize>,
+    pub directory: Option<usize>,
 }
 
 /// The state of phase 4: the macros, the items that were emitted, the indices of the opened files in the order of their
@@ -33,7 +33,7 @@ pub(crate) struct State<'x> {
     pub once: Rows,
     pub left: Option<u64>,
     pub env: Env,
-    pub folder: Option<usize>,
+    pub directory: Option<usize>,
 }
 
 impl<'x> Model for State<'x> {
@@ -58,7 +58,7 @@ impl<'x> Model for State<'x> {
       once = s.once;
       left = s.left;
       env = s.env;
-      folder = s.folder;
+      directory = s.directory;
     } };
 }
 
@@ -69,16 +69,16 @@ impl<'x> State<'x> {
         setting: &Setting,
         hashing: Hashing,
     ) -> Result<State<'x>, Memory>
-        ensures { IfOk result (λ s. s ≡ beginning setting.now) }
+        ensures { IfOk result (λ s. s ≡ initial_state setting.now) }
     {
         let macros = Table::with_hasher(alloc, hashing)?;
-        let env = first_env(alloc, setting)?;
-        Ok(State::untouched(alloc, macros, setting.budget, env))
+        let env = initial_env(alloc, setting)?;
+        Ok(State::initial(alloc, macros, setting.budget, env))
     }
 
     /// Creates a state with no items and no opened files.
-    fn untouched(alloc: Global, macros: Table<'x>, left: Option<u64>, env: Env) -> State<'x>
-        ensures { result ≡ record { macros = macros.entry.macros; items = []; deps = []; once = []; left = left; env = env; folder = None } }
+    fn initial(alloc: Global, macros: Table<'x>, left: Option<u64>, env: Env) -> State<'x>
+        ensures { result ≡ record { macros = macros.entry.macros; items = []; deps = []; once = []; left = left; env = env; directory = None } }
     {
         State {
             macros,
@@ -87,31 +87,31 @@ impl<'x> State<'x> {
             once: Rows::new(alloc),
             left,
             env,
-            folder: None,
+            directory: None,
         }
     }
 
     /// Enters a file with the context `inner`. Returns the context of the including file.
-    pub(crate) fn enter(&mut self, inner: Context) -> Context
-        ensures outer { result ≡ context self.old }
-        ensures inner { self.new ≡ in_context inner self.old }
+    pub(crate) fn enter(&mut self, inner: FileContext) -> FileContext
+        ensures outer { result ≡ file_context self.old }
+        ensures inner { self.new ≡ in_file_context inner self.old }
     {
-        Context {
+        FileContext {
             env: replace(&mut self.env, inner.env),
-            folder: replace(&mut self.folder, inner.folder),
+            directory: replace(&mut self.directory, inner.directory),
         }
     }
 
     /// Returns to a file with the context `outer`.
-    pub(crate) fn go_back(&mut self, outer: Context)
-        ensures { self.new ≡ in_context outer self.old }
+    pub(crate) fn restore_context(&mut self, outer: FileContext)
+        ensures { self.new ≡ in_file_context outer self.old }
     {
         self.env = outer.env;
-        self.folder = outer.folder;
+        self.directory = outer.directory;
     }
 
     /// Emits a pragma.
-    pub(crate) fn pass_pragma(&mut self, at: Place, tokens: &'x [Token]) -> Result<(), AllocError>
+    pub(crate) fn emit_pragma(&mut self, at: Place, tokens: &'x [Token]) -> Result<(), AllocError>
         ensures { OnOk result (self.new ≡ emitted self.old (item.Pragma at tokens.now ∷ [])) }
     {
         self.items.push_pragma(at, tokens)
@@ -125,33 +125,33 @@ impl<'x> State<'x> {
     }
 
     /// Spends one of the budget for an opened file.
-    pub(crate) fn pay(&mut self)
-        ensures { self.new ≡ paying self.old }
+    pub(crate) fn spend(&mut self)
+        ensures { self.new ≡ with_one_spent self.old }
     {
         self.left = spend_one(self.left);
     }
 
     /// Adds the file at index `row` to the dependencies, unless it is one.
-    pub(crate) fn depend(&mut self, row: usize) -> Result<(), AllocError>
-        ensures { OnOk result (self.new ≡ depending self.old row) }
+    pub(crate) fn add_dependency(&mut self, row: usize) -> Result<(), AllocError>
+        ensures { OnOk result (self.new ≡ with_dependency self.old row) }
     {
         self.deps.join(row)
     }
 
     /// Marks the file at index `row` as one that isn't read again.
-    pub(crate) fn read_once(&mut self, row: usize) -> Result<(), AllocError>
-        ensures { OnOk result (self.new ≡ reading_once self.old row) }
+    pub(crate) fn mark_once(&mut self, row: usize) -> Result<(), AllocError>
+        ensures { OnOk result (self.new ≡ with_once self.old row) }
     {
         self.once.join(row)
     }
 }
 
 /// Returns the predefined names before any file is entered.
-fn first_env(alloc: Global, setting: &Setting) -> Result<Env, AllocError>
-    ensures { IfOk result (λ e. e ≡ (beginning setting.now).env) }
+fn initial_env(alloc: Global, setting: &Setting) -> Result<Env, AllocError>
+    ensures { IfOk result (λ e. e ≡ (initial_state setting.now).env) }
 {
-    let date = spelled(alloc, setting.date.as_str())?;
-    let time = spelled(alloc, setting.time.as_str())?;
+    let date = to_spelling(alloc, setting.date.as_str())?;
+    let time = to_spelling(alloc, setting.time.as_str())?;
     Ok(Env {
         name: Spelling::empty(),
         shift: 0,
@@ -161,7 +161,7 @@ fn first_env(alloc: Global, setting: &Setting) -> Result<Env, AllocError>
 }
 
 /// Copies a text into a spelling.
-fn spelled(alloc: Global, text: &str) -> Result<Spelling, AllocError>
+fn to_spelling(alloc: Global, text: &str) -> Result<Spelling, AllocError>
     ensures { IfOk result (λ s. s ≡ text.now) }
 {
     Spelling::from_slice(alloc, text.as_bytes())

@@ -1,6 +1,6 @@
 //! The input and the output of preprocessing a unit.
-use crate::definitions::Definitions;
-use crate::lists::{Items, Rows, Text, Texts};
+use crate::command_macros::CommandMacros;
+use crate::collections::{Items, Rows, OwnedText, OwnedTexts};
 use pptext::{Fault, Place, Profile, Token, Tokens};
 
 /// An item of the output, for translation phase 5 (5.1.1.2): a token, or a pragma with the location of its `#` and the
@@ -25,9 +25,9 @@ pub struct UnitOut<'a> {
 #[derive(Drop, Debug)]
 pub struct Setting {
     pub profile: Profile,
-    pub date: Text,
-    pub time: Text,
-    pub search: Texts,
+    pub date: OwnedText,
+    pub time: OwnedText,
+    pub search: OwnedTexts,
     pub budget: Option<u64>,
 }
 
@@ -36,6 +36,6 @@ pub struct Setting {
 #[derive(Drop, Debug)]
 pub struct Unit {
     pub file: usize,
-    pub defines: Definitions,
-    pub search: Texts,
+    pub defines: CommandMacros,
+    pub search: OwnedTexts,
 }

@@ -7,7 +7,7 @@ ghost use Rattle.ppunit.specs.Unit.{IsUnitOf};
 use super::stage::Stage;
 use ppshelf::{MOST_ROWS, Shelf};
 use pptext::{Fault, Profile};
-use ppunit::{Definitions, Item, Setting, Text, Texts, Unit, UnitOut, fits_command};
+use ppunit::{CommandMacros, Item, Setting, OwnedText, OwnedTexts, Unit, UnitOut, fits_command};
 use std::alloc::{AllocError, Global};
 use std::test::Fail;
 
@@ -37,9 +37,9 @@ pub(crate) fn setting_of(alloc: Global) -> Result<Setting, AllocError>
     let search = strings_of(alloc, &["inc"])?;
     Ok(Setting {
         profile: Profile::C11,
-        date: Text::new(String::new(alloc)),
-        time: Text::new(String::new(alloc)),
-        search: Texts::new(search),
+        date: OwnedText::new(String::new(alloc)),
+        time: OwnedText::new(String::new(alloc)),
+        search: OwnedTexts::new(search),
         budget: None,
     })
 }
@@ -48,14 +48,14 @@ pub(crate) fn setting_of(alloc: Global) -> Result<Setting, AllocError>
 pub(crate) fn unit_of(alloc: Global, file: usize, defines: &[&str]) -> Result<Unit, Fail>
     ensures { IfOk result (λ u. (u.file ≡ file) × (u.defines.profile ≡ C11)) }
 {
-    let defines = Texts::new(strings_of(alloc, defines)?);
+    let defines = OwnedTexts::new(strings_of(alloc, defines)?);
     if !fits_command(defines.as_slice()) {
         return Err(Fail::new("too long definitions"));
     }
     Ok(Unit {
         file,
-        defines: Definitions::read(alloc, defines, Profile::C11)?,
-        search: Texts::new(Vec::new(alloc)),
+        defines: CommandMacros::read(alloc, defines, Profile::C11)?,
+        search: OwnedTexts::new(Vec::new(alloc)),
     })
 }
 

@@ -8,7 +8,7 @@ ghost use Rattle.ppserve.specs.Drafting as drafting;
 
 use crate::list::ListFault;
 use pptext::Sequence;
-use ppunit::{Text, Texts};
+use ppunit::{OwnedText, OwnedTexts};
 use serde_json::{Map, Value};
 use std::alloc::Global;
 use std::marker::Model;
@@ -16,7 +16,7 @@ use std::marker::Model;
 /// The draft of a file.
 #[derive(Drop)]
 pub(super) struct DraftFile {
-    pub(super) name: Text,
+    pub(super) name: OwnedText,
     pub(super) content: Sequence<u8>,
 }
 
@@ -31,9 +31,9 @@ impl Model for DraftFile {
 /// The draft of a unit, with the name of its file.
 #[derive(Drop)]
 pub(super) struct DraftUnit {
-    pub(super) file: Text,
-    pub(super) defines: Texts,
-    pub(super) search: Texts,
+    pub(super) file: OwnedText,
+    pub(super) defines: OwnedTexts,
+    pub(super) search: OwnedTexts,
 }
 
 impl Model for DraftUnit {
@@ -73,11 +73,11 @@ impl Model for DraftBudget {
 /// The draft of a setting, with the name of the profile.
 #[derive(Drop)]
 pub(super) struct DraftSetting {
-    pub(super) profile: Text,
+    pub(super) profile: OwnedText,
     pub(super) budget: DraftBudget,
-    pub(super) date: Text,
-    pub(super) time: Text,
-    pub(super) search: Texts,
+    pub(super) date: OwnedText,
+    pub(super) time: OwnedText,
+    pub(super) search: OwnedTexts,
 }
 
 impl Model for DraftSetting {
@@ -157,7 +157,7 @@ fn setting_of(alloc: Global, value: &Value) -> Result<DraftSetting, ListFault>
 }
 
 /// Reads the name of the profile. It is `c11` if the member is missing.
-fn profile_at(alloc: Global, value: &Value) -> Result<Text, ListFault>
+fn profile_at(alloc: Global, value: &Value) -> Result<OwnedText, ListFault>
     ensures ok { IfOk result (λ t. drafting.profile_at (view value.now) ≡ Some t) }
     ensures err { IfErr result (RefusedFor 2 (drafting.profile_at (view value.now) ≡ None)) }
 {
@@ -165,7 +165,7 @@ fn profile_at(alloc: Global, value: &Value) -> Result<Text, ListFault>
         Some(member) => text_of(member)?,
         None => "c11",
     };
-    Ok(Text::new(String::from_str(alloc, text)?))
+    Ok(OwnedText::new(String::from_str(alloc, text)?))
 }
 
 /// Reads the budget: a number, or none if the member is missing.
@@ -331,29 +331,29 @@ fn unit_from(alloc: Global, value: &Value) -> Result<DraftUnit, ListFault>
 }
 
 /// Reads a member that is a string.
-fn text_at(alloc: Global, value: &Value, name: &str) -> Result<Text, ListFault>
+fn text_at(alloc: Global, value: &Value, name: &str) -> Result<OwnedText, ListFault>
     ensures ok { IfOk result (λ t. drafting.text_at name.now (view value.now) ≡ Some t) }
     ensures err { IfErr result (RefusedFor 2 (drafting.text_at name.now (view value.now) ≡ None)) }
 {
     let Some(text) = value.get(name).and_then(Value::as_str) else {
         return Err(ListFault::Bad(2));
     };
-    Ok(Text::new(String::from_str(alloc, text)?))
+    Ok(OwnedText::new(String::from_str(alloc, text)?))
 }
 
 /// Reads a member that is an array of strings. It is empty if the member is missing.
-fn texts_at(alloc: Global, value: &Value, name: &str) -> Result<Texts, ListFault>
+fn texts_at(alloc: Global, value: &Value, name: &str) -> Result<OwnedTexts, ListFault>
     ensures ok { IfOk result (λ ts. drafting.texts_at name.now (view value.now) ≡ Some ts) }
     ensures err { IfErr result (RefusedFor 2 (drafting.texts_at name.now (view value.now) ≡ None)) }
 {
     match value.get(name) {
         Some(array) => texts_of(alloc, array),
-        None => Ok(Texts::new(Vec::new(alloc))),
+        None => Ok(OwnedTexts::new(Vec::new(alloc))),
     }
 }
 
 /// Reads an array of strings.
-fn texts_of(alloc: Global, array: &Value) -> Result<Texts, ListFault>
+fn texts_of(alloc: Global, array: &Value) -> Result<OwnedTexts, ListFault>
     ensures ok { IfOk result (λ ts. drafting.each_of as_str (view array.now) ≡ Some ts) }
     ensures err { IfErr result (RefusedFor 2 (drafting.each_of as_str (view array.now) ≡ None)) }
 {
@@ -364,7 +364,7 @@ fn texts_of(alloc: Global, array: &Value) -> Result<Texts, ListFault>
 }
 
 /// Reads strings.
-fn texts_from(alloc: Global, items: &[Value]) -> Result<Texts, ListFault>
+fn texts_from(alloc: Global, items: &[Value]) -> Result<OwnedTexts, ListFault>
     ensures ok { IfOk result (λ ts. drafting.each_item as_str (items_view items.now) ≡ Some ts) }
     ensures err { IfErr result (RefusedFor 2 (drafting.each_item as_str (items_view items.now) ≡ None)) }
 {
@@ -373,7 +373,7 @@ fn texts_from(alloc: Global, items: &[Value]) -> Result<Texts, ListFault>
         let text = text_of(item)?;
         texts.push(String::from_str(alloc, text)?)?;
     }
-    Ok(Texts::new(texts))
+    Ok(OwnedTexts::new(texts))
 }
 
 /// Returns whether the value is an object that has no members but these.

@@ -3,7 +3,7 @@ ghost use Rattle.std.specs.Prelude.{◌≡◌, ◌≤◌, ℕ, List as ListOf, B
 ghost use Rattle.std.specs.List.{list_all};
 ghost use Rattle.ppshelf.specs.Content.{longest};
 ghost use Rattle.ppshelf.specs.Names as shelf_spec;
-ghost use Rattle.ppunit.specs.Forms as form;
+ghost use Rattle.ppunit.specs.WellFormed as form;
 ghost use Rattle.ppunit.specs.Unit.{command_text};
 ghost use Rattle.ppserve.specs.Listing as spec;
 ghost use Rattle.ppserve.specs.Listing.{RefusedFor, judged, judged_texts, judged_choices, accepted, refused};
@@ -13,7 +13,7 @@ use crate::list::drafts::{Draft, DraftBudget, DraftFile, DraftSetting, DraftUnit
 use crate::list::{Contents, List, ListFault, Units};
 use ppshelf::{Index, LONGEST, MOST_ROWS, is_directory, is_file_name};
 use pptext::{Hashing, Memory, Profile, Sequence};
-use ppunit::{Definitions, Setting, Texts, Unit, fits_command, is_date, is_one_line, is_time};
+use ppunit::{CommandMacros, Setting, OwnedTexts, Unit, fits_command, is_date, is_one_line, is_time};
 use std::alloc::{AllocError, Global};
 
 /// The largest budget of a list.
@@ -171,7 +171,7 @@ fn commands_fit(units: &[DraftUnit]) -> bool
 }
 
 /// Returns whether the definitions of a unit aren't too large.
-fn command_fits(defines: &Texts) -> bool
+fn command_fits(defines: &OwnedTexts) -> bool
     ensures { result ≡ nat_le (length (command_text defines.now)) longest }
 {
     fits_command(defines.as_slice())
@@ -294,7 +294,7 @@ fn listed_unit(alloc: Global, row: usize, profile: Profile, unit: DraftUnit) -> 
     } = unit;
     Ok(Unit {
         file: row,
-        defines: Definitions::read(alloc, defines, profile)?,
+        defines: CommandMacros::read(alloc, defines, profile)?,
         search,
     })
 }
@@ -304,7 +304,7 @@ fn split_files(
     alloc: Global,
     files: Sequence<DraftFile>,
     inline: bool,
-) -> Result<(Texts, Contents), AllocError>
+) -> Result<(OwnedTexts, Contents), AllocError>
     ensures names { IfOk result (λ r. r.0 ≡ spec.names_of files) }
     ensures contents { IfOk result (λ r. r.1 ≡ (if inline then spec.contents_of files else [])) }
 {
@@ -317,7 +317,7 @@ fn split_files(
             contents.push(content.into_vec())?;
         }
     }
-    Ok((Texts::new(names), Contents::new(contents)))
+    Ok((OwnedTexts::new(names), Contents::new(contents)))
 }
 
 /// Returns whether date and time have their formats.
@@ -335,7 +335,7 @@ fn lines_hold(units: &[DraftUnit]) -> bool
 }
 
 /// Returns whether each text is one line.
-fn are_lines(texts: &Texts) -> bool
+fn are_lines(texts: &OwnedTexts) -> bool
     ensures { result ≡ list_all form.is_one_line texts.now }
 {
     texts
@@ -359,7 +359,7 @@ fn units_search_folders(units: &[DraftUnit]) -> bool
 }
 
 /// Returns whether all texts are directory names.
-fn are_folders(texts: &Texts) -> bool
+fn are_folders(texts: &OwnedTexts) -> bool
     ensures { result ≡ list_all shelf_spec.is_directory texts.now }
 {
     texts

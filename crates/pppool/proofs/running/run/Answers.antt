@@ -7,7 +7,7 @@ returns-clause-value g c = all_kept c.args.batch.now.shelf.now.names c.run_keepi
 
 pub returns-clause-within : goal.returns-clause-within
 returns-clause-within g c =
-    are_within c.stays_within.ensures c.args.batch.now.shelf.now.names c.run_keeping.new.pass.files c.args.batch.now.setting.now c.args.batch.now.units.now c.in_ok-outs.outs.items (returns-clause-value g c)
+    are_within c.stays_in_budget.ensures c.args.batch.now.shelf.now.names c.run_keeping.new.pass.files c.args.batch.now.setting.now c.args.batch.now.units.now c.in_ok-outs.outs.items (returns-clause-value g c)
 
 pub returns-clause-capped : goal.returns-clause-capped
 returns-clause-capped g c =

@@ -37,7 +37,7 @@ returns-clause-within g c =
     let names = c.args.batch.now.shelf.now.names in
     if_ok_then c.all_of.result (returns-clause-kept g c) (λ v kept. record {
       kept = kept;
-      within = are_within c.stays_within.ensures names files c.args.batch.now.setting.now c.args.batch.now.units.now kept.wholes kept.values;
+      within = are_within c.stays_in_budget.ensures names files c.args.batch.now.setting.now c.args.batch.now.units.now kept.wholes kept.values;
     })
 
 pub returns-clause-capped : goal.returns-clause-capped

@@ -1,4 +1,4 @@
-use Rattle.ppunit.specs.States.{search_in}
+use Rattle.ppunit.specs.States.{search_in_unit}
 use Rattle.ppunit.proofs.Deciding.{decides_unprobed, decides_probed}
 use Rattle.ppunit.proofs.Preprocessed.{on_settled}
 use Rattle.ppunit.proofs.conditions.by_condition.Goals as goal
@@ -6,8 +6,8 @@ use Rattle.ppunit.proofs.conditions.by_condition.Goals as goal
 pub returns-then-not-is_probed-clause-is : goal.returns-then-not-is_probed-clause-is
 returns-then-not-is_probed-clause-is g c =
     on_settled c.value.result
-    (λ taken. decides_unprobed (search_in c.args.around.now) c.args.row c.args.state.now c.args.line.now c.operands-operands.result.now
-    c.profile.result c.sign-at.result c.value.new.state.left taken c.profile.ensures c.operands-operands.ensures c.sign-at.ensures
+    (λ taken. decides_unprobed (search_in_unit c.args.context.now) c.args.row c.args.state.now c.args.line.now c.operands-operands.result.now
+    c.profile.result c.hash_place-at.result c.value.new.state.left taken c.profile.ensures c.operands-operands.ensures c.hash_place-at.ensures
     c.if-not-is_probed.ensures)
     c.value.ensures.is
 
@@ -17,7 +17,7 @@ returns-clause-rest g c = c.value-2.ensures.rest
 pub returns-clause-is : goal.returns-clause-is
 returns-clause-is g c =
     on_settled c.value-2.result
-    (λ taken. decides_probed (search_in c.args.around.now) c.args.row c.args.state.now c.args.line.now c.operands-operands.result.now
-    c.in-Some.tokens.items c.profile.result c.sign-at.result c.value-2.new.state.left taken c.profile.ensures c.operands-operands.ensures
-    c.sign-at.ensures c.if-not-is_probed.ensures (rw c.in-Some.is at c.in_ok-tokens.ensures))
+    (λ taken. decides_probed (search_in_unit c.args.context.now) c.args.row c.args.state.now c.args.line.now c.operands-operands.result.now
+    c.in-Some.tokens.items c.profile.result c.hash_place-at.result c.value-2.new.state.left taken c.profile.ensures c.operands-operands.ensures
+    c.hash_place-at.ensures c.if-not-is_probed.ensures (rw c.in-Some.is at c.in_ok-tokens.ensures))
     (rw c.as_slice.ensures.value at c.value-2.ensures.is)

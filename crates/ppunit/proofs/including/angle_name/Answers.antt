@@ -6,8 +6,8 @@ use Rattle.ppunit.proofs.including.angle_name.Goals as goal
 
 pub returns-then-is_punct : goal.returns-then-is_punct
 returns-then-is_punct c =
-    let told : option_map (λ (v : Vec ℕ Global). v.items) c.if-index-tokens.result ≡ named true c.args.tokens.now = grind (arith, common_steps) in
-    told ∙ named_angle c.args.tokens.now
+    let probe_result : option_map (λ (v : Vec ℕ Global). v.items) c.if-index-tokens.result ≡ named true c.args.tokens.now = grind (arith, common_steps) in
+    probe_result ∙ named_angle c.args.tokens.now
 
 pub loop-index-preserved : goal.loop-index-preserved
 loop-index-preserved c =
@@ -18,5 +18,5 @@ loop-index-preserved c =
 
 pub returns : goal.returns
 returns c =
-    let told : named true c.args.tokens.now ≡ None = grind (arith, common_steps) in
-    sym told ∙ named_angle c.args.tokens.now
+    let probe_result : named true c.args.tokens.now ≡ None = grind (arith, common_steps) in
+    sym probe_result ∙ named_angle c.args.tokens.now

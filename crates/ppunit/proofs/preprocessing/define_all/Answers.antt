@@ -1,6 +1,6 @@
 use Rattle.std.proofs.Common.{◌≡◌, rules}
 use Rattle.std.specs.Result.{result_err}
-use Rattle.ppunit.specs.States.{surroundings_of}
+use Rattle.ppunit.specs.States.{context_over}
 use Rattle.ppunit.proofs.Preprocessed.{defines_walked, defines_unread, on_settled}
 use Rattle.ppunit.proofs.preprocessing.define_all.Goals as goal
 
@@ -8,7 +8,7 @@ pub returns-clause-defined : goal.returns-clause-defined
 returns-clause-defined g c =
     let walked = rw c.new-file.ensures.file at c.walk.ensures.walk in
     on_settled c.walk.result
-    (λ r walks. defines_walked c.tree_unless_fault.ensures (surroundings_of c.args.around.now) c.walk.new.pass.files c.args.defines.now.profile
+    (λ r walks. defines_walked c.tree_unless_fault.ensures (context_over c.args.context.now) c.walk.new.pass.files c.args.defines.now.profile
     c.args.defines.now.texts _ _ c.args.state.now (record { state = c.walk.new.state; fault = result_err r }) (λ more. c.requires.profile) c.in-Ok.is
     c.lines.ensures
     walks)

@@ -6,9 +6,9 @@ use Rattle.ppunit.proofs.probing.has_file.Goals as goal
 
 pub returns : goal.returns
 returns g c =
-    let around = c.args.around.now in
-    let asked = c.args.asked.now in
+    let context = c.args.context.now in
+    let include_name = c.args.include_name.now in
     c.is_some.ensures
-    ∙ found_is around.shelf.names
-    (candidates asked.form (name_in around.shelf.names c.args.row) around.unit_folders around.setting_folders asked.name)
+    ∙ found_is context.shelf.names
+    (candidates include_name.form (name_in context.shelf.names c.args.row) context.unit_directories context.setting_directories include_name.name)
     c.in_ok-found.found (c.in_ok-found.ensures.finds [])

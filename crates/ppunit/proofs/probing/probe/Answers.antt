@@ -1,33 +1,33 @@
 use Rattle.std.proofs.Common.{◌∙◌, sym}
 use Rattle.ppexpr.proofs.DefinedReplaced.{same_token}
-use Rattle.ppunit.specs.States.{search_in}
+use Rattle.ppunit.specs.States.{search_in_unit}
 use Rattle.ppunit.proofs.Options.{none_of}
 use Rattle.ppunit.proofs.Probed.{rest_behind, probes_other, probes_number, probes_open, probes_unasked}
 use Rattle.ppunit.proofs.probing.probe.Goals as goal
 
 pub loop-first-preserved-then-not-asks : goal.loop-first-preserved-then-not-asks
 loop-first-preserved-then-not-asks g c =
-    probes_other (search_in c.args.around.now) c.args.row c.args.operands.now c.loop-first.probed.items c.push.new.self.items
-    c.loop-first.rest.now c.in-Some.behind.now c.in-Some.first.now c.in_ok-clone.field-0
+    probes_other (search_in_unit c.args.context.now) c.args.row c.args.operands.now c.loop-first.probed.items c.push.new.self.items
+    c.loop-first.rest.now c.in-Some.following.now c.in-Some.first.now c.in_ok-clone.field-0
     c.if-not-asks.ensures c.in-Some.ensures.cases.0
     (same_token c.in_ok-clone.field-0 c.in-Some.first.now c.in_ok-clone.ensures.cases) c.in_ok-push.ensures.items c.loop-first.invariant
 
 pub returns-in_default-close : goal.returns-in_default-close
 returns-in_default-close g c =
-    probes_open (search_in c.args.around.now) c.args.row c.args.operands.now c.loop-first.probed.items c.loop-first.rest.now
-    c.in-Some.behind.now c.in-Some.first.now c.if-not-asks.ensures c.in-Some.ensures.cases.0
+    probes_open (search_in_unit c.args.context.now) c.args.row c.args.operands.now c.loop-first.probed.items c.loop-first.rest.now
+    c.in-Some.following.now c.in-Some.first.now c.if-not-asks.ensures c.in-Some.ensures.cases.0
     (sym (none_of c.close.result c.in_default-close.not-Some) ∙ c.close.ensures.index) c.loop-first.invariant
 
 pub returns-in_default-2 : goal.returns-in_default-2
 returns-in_default-2 g c =
-    probes_unasked (search_in c.args.around.now) c.args.row c.args.operands.now c.loop-first.probed.items c.loop-first.rest.now
-    c.in-Some.behind.now c.in-Some.first.now c.in-Some-close.end c.if-not-asks.ensures c.in-Some.ensures.cases.0
-    c.in-Some-close.ensures.index (sym (none_of c.in_ok-told.field-0 c.in_default-2.not-Some) ∙ c.in_ok-told.ensures)
+    probes_unasked (search_in_unit c.args.context.now) c.args.row c.args.operands.now c.loop-first.probed.items c.loop-first.rest.now
+    c.in-Some.following.now c.in-Some.first.now c.in-Some-close.end c.if-not-asks.ensures c.in-Some.ensures.cases.0
+    c.in-Some-close.ensures.index (sym (none_of c.in_ok-probe_result.field-0 c.in_default-2.not-Some) ∙ c.in_ok-probe_result.ensures)
     c.loop-first.invariant
 
 pub loop-first-preserved : goal.loop-first-preserved
 loop-first-preserved g c =
-    probes_number (search_in c.args.around.now) c.args.row c.args.operands.now c.loop-first.probed.items c.push-in-Some.new.self.items
-    c.loop-first.rest.now c.in-Some.behind.now _ c.in-Some.first.now c.in-Some-2.told c.in-Some-close.end
-    c.if-not-asks.ensures c.in-Some.ensures.cases.0 c.in-Some-close.ensures.index (sym c.in-Some-2.is ∙ c.in_ok-told.ensures)
-    c.in_ok-push-2.ensures.items (rest_behind c.in-Some.behind.now c.in-Some-close.end) c.loop-first.invariant
+    probes_number (search_in_unit c.args.context.now) c.args.row c.args.operands.now c.loop-first.probed.items c.push-in-Some.new.self.items
+    c.loop-first.rest.now c.in-Some.following.now _ c.in-Some.first.now c.in-Some-2.probe_result c.in-Some-close.end
+    c.if-not-asks.ensures c.in-Some.ensures.cases.0 c.in-Some-close.ensures.index (sym c.in-Some-2.is ∙ c.in_ok-probe_result.ensures)
+    c.in_ok-push-2.ensures.items (rest_behind c.in-Some.following.now c.in-Some-close.end) c.loop-first.invariant

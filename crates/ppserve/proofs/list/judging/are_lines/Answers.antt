@@ -3,7 +3,7 @@ use Rattle.std.specs.List.{list_all}
 use Rattle.std.proofs.lemmas.Iterator.{YieldsList-from_slice}
 use Rattle.std.proofs.lemmas.Iterator.Search.{all_from_yields_List}
 use Rattle.std.proofs.lemmas.List.Folds.{list_all-map}
-use Rattle.ppunit.specs.Forms.{is_one_line}
+use Rattle.ppunit.specs.WellFormed.{is_one_line}
 use Rattle.ppserve.proofs.list.judging.are_lines.Goals as goal
 use borrow.Author.Tests.{tests}
 

@@ -1,6 +1,6 @@
 use Rattle.std.proofs.Common.{◌≡◌, ◌++◌, flat_map, length}
 use Rattle.ppunit.specs.Parts.{part_items}
-use Rattle.ppunit.specs.Yielding.{run_items}
+use Rattle.ppunit.specs.BorrowedItems.{run_items}
 use Rattle.ppunit.proofs.items.ItemsIterIterator.next.Given as goal
 
 -- only runs that were read whole were passed over

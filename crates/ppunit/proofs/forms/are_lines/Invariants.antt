@@ -1,7 +1,0 @@
-use Rattle.std.proofs.Common.{◌≡◌, drop, map, string_bytes}
-use Rattle.std.specs.List.{list_all}
-use Rattle.ppunit.specs.Forms as spec
-use Rattle.ppunit.proofs.forms.are_lines.Given as goal
-
-abbrev pub invariant-loop-text : goal.invariant-loop-text
-invariant-loop-text l = list_all spec.is_one_line (map string_bytes (drop l.text-index l.texts)) ≡ list_all spec.is_one_line (map string_bytes l.texts)

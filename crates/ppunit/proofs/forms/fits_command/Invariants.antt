@@ -1,7 +1,0 @@
-use Rattle.std.proofs.Common.{◌≡◌, ◌+◌, drop}
-use Rattle.ppshelf.specs.Content.{longest}
-use Rattle.ppunit.proofs.Commands.{size}
-use Rattle.ppunit.proofs.forms.fits_command.Given as goal
-
-abbrev pub invariant-loop-text : goal.invariant-loop-text
-invariant-loop-text l = l.room + size l.defines ≡ size (drop l.text-index l.defines) + longest

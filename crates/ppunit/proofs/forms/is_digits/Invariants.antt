@@ -1,7 +1,0 @@
-use Rattle.std.proofs.Common.{◌≡◌, drop}
-use Rattle.std.specs.List.{list_all}
-use Rattle.ppunit.specs.Forms as spec
-use Rattle.ppunit.proofs.forms.is_digits.Given as goal
-
-abbrev pub invariant-loop-byte : goal.invariant-loop-byte
-invariant-loop-byte l = list_all spec.is_digit (drop l.byte-index l.text) ≡ list_all spec.is_digit l.text

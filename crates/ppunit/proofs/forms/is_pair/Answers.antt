@@ -1,5 +1,0 @@
-use Rattle.std.proofs.Common.{rules}
-use Rattle.ppunit.proofs.forms.is_pair.Goals as goal
-
-pub returns-then-is_digit-2 : goal.returns-then-is_digit-2
-returns-then-is_digit-2 c = search rules

@@ -1,5 +1,0 @@
-use Rattle.std.proofs.Common.{rules}
-use Rattle.ppunit.proofs.forms.unit_ok.Goals as goal
-
-pub returns-then-are_lines : goal.returns-then-are_lines
-returns-then-are_lines g c = search rules

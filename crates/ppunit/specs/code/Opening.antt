@@ -1,0 +1,53 @@
+-- The steps of opening a file (6.10.2). Only contracts of private functions and models of private types cite this.
+use Rattle.std.specs.Prelude.{◌≡◌, ℕ, ◌<◌, ◌≤◌, ◌^◌, pos, List, [], true, false, Option, None, Some, Ok, Err, ◌⊎◌, length}
+use Rattle.pptext.specs.declared.tokens.Place.{Place}
+use Rattle.pptext.specs.declared.tokens.Fault.{Fault}
+use Rattle.pptext.specs.Lines.{LogicalLine}
+use Rattle.pptext.specs.Tokens.{fault}
+use Rattle.ppexpand.specs.Budget.{is_exhausted}
+use Rattle.ppshelf.specs.Content.{Content, unreadable, IsRead}
+use Rattle.ppshelf.specs.Files.{Files, TableView, file_at}
+use Rattle.ppshelf.specs.Names.{name_in}
+use Rattle.ppunit.specs.declared.states.FileContext.{FileContext}
+use Rattle.ppunit.specs.States.{State, file_context, with_one_spent, literal}
+use Rattle.ppunit.specs.Group.{deepest}
+use Rattle.ppunit.specs.Guarded.{IsLeftOut}
+
+-- a file that is being processed: its index in the file table, its lines, and the index of the next line
+pub record OpenFile : Type 0 where
+  pub row : ℕ
+  pub lines : List LogicalLine
+  pub index : ℕ
+
+-- a file that was just opened, and the context of the file that includes it
+pub record Entered : Type 0 where
+  pub file : OpenFile
+  pub outer : FileContext
+
+-- why a file of this name isn't opened: it is too deep, or else the budget is exhausted
+abbrev pub IsRefusedOpening : ℕ → Place → List ℕ → State → Fault → Type 0
+IsRefusedOpening depth at name s f =
+    ((deepest < depth) × (f ≡ fault 32 at name)) ⊎ ((depth ≤ deepest) × (is_exhausted s.left ≡ true) × (f ≡ fault 35 at []))
+
+-- one opening is spent from the budget, unless there is such a fault, which changes nothing
+abbrev pub SpendsOpening : ℕ → Place → List ℕ → State → State → Option Fault → Type 0
+SpendsOpening depth at name s t None = (depth ≤ deepest) × (is_exhausted s.left ≡ false) × (t ≡ with_one_spent s)
+SpendsOpening depth at name s t (Some f) = (t ≡ s) × IsRefusedOpening depth at name s f
+
+-- the file at index `row` has these lines
+abbrev pub HasLines : TableView → Files → ℕ → List LogicalLine → Type 0
+HasLines shelf files row lines = (content : Content) × (file_at files row ≡ Some content) × IsRead shelf.profile row content (Ok lines)
+
+-- the file can't be read, a fault located at `at`, or its lines have a fault
+abbrev pub HasFault : TableView → Files → ℕ → Place → Fault → Type 0
+HasFault shelf files row at f =
+    ((file_at files row ≡ Some unreadable) × (f ≡ fault 6 at (name_in shelf.names row)))
+    ⊎ ((content : Content) × (file_at files row ≡ Some content) × IsRead shelf.profile row content (Err f))
+
+-- A file of this name and these lines is skipped, which changes nothing; or it is entered, and the predefined names and
+-- the directory number are its own.
+abbrev pub Begins : List ℕ → ℕ → Option ℕ → List LogicalLine → State → State → Option Entered → Type 0
+Begins name row directory lines s t None = IsLeftOut s lines × (t ≡ s)
+Begins name row directory lines s t (Some e) =
+    (e ≡ record { file = record { row = row; lines = lines; index = 0 }; outer = file_context s }) × (length lines < 2 ^ 64)
+    × (t ≡ record s { env = record s.env { name = literal name; shift = pos 0 }; directory = directory })

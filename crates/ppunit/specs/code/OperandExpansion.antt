@@ -1,0 +1,16 @@
+-- Macro replacement in the operands of a directive (6.10.2, 6.10.4). Only contracts of private functions cite this.
+use Rattle.std.specs.Prelude.{◌≡◌, ℕ, List, Option, Result, IfOk}
+use Rattle.std.specs.Result.{result_err}
+use Rattle.pptext.specs.declared.tokens.Token.{Token}
+use Rattle.pptext.specs.declared.tokens.Fault.{Fault}
+use Rattle.ppexpand.specs.declared.expansion.Expanded.{Expanded}
+use Rattle.ppexpand.specs.Expansion.{IsExpansion}
+use Rattle.ppunit.specs.States.{State}
+
+-- the expansion of the operands, or the fault of the expansion, and the remaining budget
+pub record ExpandsOperands (s : State) (operands : List Token) (after : Option ℕ) (r : Result (List Token) Fault) : Type 0 where
+  pub expanded : Expanded
+  pub expands : IsExpansion s.macros s.env s.left operands expanded
+  pub leaves : after ≡ expanded.left
+  pub fault : expanded.fault ≡ result_err r
+  pub tokens : IfOk r (λ tokens. tokens ≡ expanded.tokens)

@@ -1,0 +1,196 @@
+-- Positions in the lines of a file, and of the files that it includes, as positions in the tree of its groups. Only
+-- contracts of private functions and models of private types cite this.
+use Rattle.std.specs.Prelude.{◌≡◌, ℕ, suc, ◌+◌, ◌<◌, ◌≤◌, ◌^◌, Bool, true, false, Option, None, Some, Result, Ok, Err}
+use Rattle.std.specs.Prelude.{List, [], ◌∷◌, ◌++◌, length, drop, map, slice_index_or}
+use Rattle.pptext.specs.declared.tokens.Fault.{Fault}
+use Rattle.pptext.specs.declared.sources.Directive.{Directive}
+use Rattle.pptext.specs.Lines.{LogicalLine}
+use Rattle.pptext.specs.Sources.{next_branch}
+use Rattle.pptext.specs.Tree.{Parts, Branches, part_lines, branch_lines, AreParts, AreBranches, Tree, role, branch_after}
+use Rattle.pptext.specs.Classes.{has_condition}
+use Rattle.ppshelf.specs.Files.{Files, Extends}
+use Rattle.ppunit.specs.declared.states.FileContext.{FileContext}
+use Rattle.ppunit.specs.States.{Search, State, in_file_context, Context, search_of, Reached, going, stopped}
+use Rattle.ppunit.specs.Conditions.{DecidesFreely, Decides}
+use Rattle.ppunit.specs.Group.{deepest, Group, Branched, Controls}
+use Rattle.ppunit.specs.code.Opening.{OpenFile, Entered}
+use Rattle.ppunit.specs.Unit.{Defines}
+
+abbrev pub no_line : LogicalLine
+no_line = record { tokens = []; number = 0; directive = None }
+
+abbrev pub line_at : List LogicalLine → ℕ → LogicalLine
+line_at lines index = slice_index_or lines index no_line
+
+-- The if-sections around a group, the innermost first: the branches after the group, and the parts after the section.
+abbrev pub Outer : Type 0
+Outer = List (Branches × Parts)
+
+-- the lines of parts in these sections, up to the end of the file
+abbrev pub lay : Parts → Outer → List LogicalLine
+lay ps [] = part_lines ps
+lay ps ((bs, qs) ∷ k) = part_lines ps ++ (branch_lines bs ++ lay qs k)
+
+abbrev pub AreOuter : Outer → Type 0
+AreOuter [] = Unit {0}
+AreOuter ((bs, qs) ∷ k) = ((last : Bool) × AreBranches last bs) × AreParts qs × AreOuter k
+
+-- the lines from this index on are those of parts in these sections
+pub record StandsAt (lines : List LogicalLine) (index : ℕ) (ps : Parts) (k : Outer) : Type 0 where
+  pub rest : drop index lines ≡ lay ps k
+  pub parts : AreParts ps
+  pub outer : AreOuter k
+
+-- phase 4 of the parts and of what is after them in these sections
+abbrev pub Ends : Context → ℕ → ℕ → Reached → Parts → Outer → Reached → Type 0
+Ends context depth row m ps [] end = Group context depth row m ps end
+Ends context depth row m ps ((bs, qs) ∷ k) end = (n : Reached) × Group context depth row m ps n × Ends context depth row n qs k end
+
+-- From the line at an index to the line at another, or to a fault: what the rest of the lines reaches from the new
+-- state, all of them reach from the old one.
+abbrev pub Advances : (Files → Context) → Files → ℕ → ℕ → List LogicalLine → ℕ → State → State → Result ℕ Fault → Type 0
+Advances context files depth row lines index s t (Ok next) =
+    (ps : Parts) (k : Outer)
+    → StandsAt lines index ps k
+    → (ps' : Parts) × (k' : Outer) × StandsAt lines next ps' k'
+    × ((more : Files)
+    → Extends more files
+    → (end : Reached)
+    → Ends (context more) depth row (going t) ps' k' end
+    → Ends (context more) depth row (going s) ps k end)
+Advances context files depth row lines index s t (Err f) =
+    (ps : Parts) (k : Outer)
+    → StandsAt lines index ps k
+    → (more : Files)
+    → Extends more files
+    → Ends (context more) depth row (going s) ps k (stopped t f)
+
+-- the context of the including file is restored
+abbrev pub restored : FileContext → Reached → Reached
+restored outer m = record m { state = in_file_context outer m.state }
+
+-- A file was entered and its first line is next: what its lines reach from this state, with the context of the
+-- including file restored, is what the include line reaches.
+pub record EntersFile (context : Files → Context) (files : Files) (depth : ℕ) (whole : Files → Reached → Type 0) (t : State) (e : Entered)
+    : Type 0 where
+  pub fits : depth ≤ deepest
+  pub begins : e.file.index ≡ 0
+  pub few : length e.file.lines < 2 ^ 64
+  pub parts : Parts
+  pub tree : Tree e.file.lines parts
+  pub group : (more : Files)
+      → Extends more files
+      → (m : Reached)
+      → Group (context more) depth e.file.row (going t) parts m
+      → whole more (restored e.outer m)
+
+-- the goal is reached, with or without a fault, or a file was entered whose lines lead to it
+abbrev pub Leads : (Files → Context) → Files → ℕ → (Files → Reached → Type 0) → State → Result (Option Entered) Fault → Type 0
+Leads context files depth whole t (Ok None) = (more : Files) → Extends more files → whole more (going t)
+Leads context files depth whole t (Ok (Some e)) = EntersFile context files depth whole t e
+Leads context files depth whole t (Err f) = (more : Files) → Extends more files → whole more (stopped t f)
+
+-- From the control line at an index to the line at another: what the line and the rest of the lines reach, one after
+-- the other, all of them reach.
+abbrev pub PassesFrom : ℕ → ℕ → List LogicalLine → ℕ → State → ℕ → Parts → Outer → Type 0
+PassesFrom depth row lines index s next ps k =
+    (ps' : Parts) × (k' : Outer) × StandsAt lines next ps' k'
+    × ((context : Context) (m end : Reached)
+    → Controls context depth row s (line_at lines index) m
+    → Ends context depth row m ps' k' end
+    → Ends context depth row (going s) ps k end)
+
+abbrev pub Passes : ℕ → ℕ → List LogicalLine → ℕ → State → ℕ → Type 0
+Passes depth row lines index s next =
+    (ps : Parts) (k : Outer)
+    → StandsAt lines index ps k
+    → PassesFrom depth row lines index s next ps k
+
+-- from the line at an index to the line at another, and into a file if one was entered
+abbrev pub StepsTo : (Files → Context) → Files → ℕ → ℕ → List LogicalLine → ℕ → State → State → ℕ → Option Entered → Type 0
+StepsTo context files depth row lines index s t next None = Advances context files depth row lines index s t (Ok next)
+StepsTo context files depth row lines index s t next (Some e) =
+    Passes depth row lines index s next
+    × EntersFile context files (suc depth) (λ more m. Controls (context more) depth row s (line_at lines index) m) t e
+
+-- from the line at an index to the line at another, and into a file if one was entered, or to a fault
+abbrev pub Steps : (Files → Context) → Files → ℕ → ℕ → List LogicalLine → ℕ → State → State → Result (ℕ × Option Entered) Fault → Type 0
+Steps context files depth row lines index s t (Ok (next, entered)) = StepsTo context files depth row lines index s t next entered
+Steps context files depth row lines index s t (Err f) = Advances context files depth row lines index s t (Err f)
+
+-- a suspended file and its context
+pub record SuspendedFile : Type 0 where
+  pub file : OpenFile
+  pub file_context : FileContext
+
+-- the file whose lines are next: the one that was entered, which suspends this one, or else this one
+abbrev pub next_file : OpenFile → Option Entered → OpenFile
+next_file file None = file
+next_file file (Some e) = e.file
+
+abbrev pub next_suspended : OpenFile → Option Entered → List SuspendedFile → List SuspendedFile
+next_suspended file None ws = ws
+next_suspended file (Some e) ws = record { file = file; file_context = e.outer } ∷ ws
+
+-- the contexts of suspended files are restored, one after the other
+abbrev pub contexts_restored : List SuspendedFile → State → State
+contexts_restored [] s = s
+contexts_restored (w ∷ ws) s = contexts_restored ws (in_file_context w.file_context s)
+
+-- phase 4 of a file's lines, over these files and any larger set
+abbrev pub Walks : (Files → Context) → Files → ℕ → ℕ → List LogicalLine → State → Reached → Type 0
+Walks context files depth row lines s end =
+    (parts : Parts)
+    → Tree lines parts
+    → (more : Files)
+    → Extends more files
+    → Group (context more) depth row (going s) parts end
+
+-- At the index is a line that opens an if-section or a branch with a condition, then the parts of its group, and then
+-- these branches.
+pub record BranchesAt (lines : List LogicalLine) (index : ℕ) (ps : Parts) (bs : Branches) (qs : Parts) (k : Outer) : Type 0 where
+  pub line : LogicalLine
+  pub rest : drop index lines ≡ line ∷ lay ps ((bs, qs) ∷ k)
+  pub next : (n : ℕ) (following : List LogicalLine) → next_branch n (role line) following ≡ branch_after 0 (n + 1) (map role following)
+  pub parts : AreParts ps
+  pub outer : AreOuter ((bs, qs) ∷ k)
+
+-- whether processing continues after a branch line or `#endif` of the file at index `row`, or the line's fault, and the
+-- remaining budget; a condition decides if the line has one
+abbrev pub EntersIf : Search → ℕ → Bool → State → LogicalLine → Option ℕ → Result Bool Fault → Type 0
+EntersIf search row true s line after taken = Decides search row s line after taken
+EntersIf search row false s line after taken = DecidesFreely s (Ok true) after taken
+
+abbrev pub EntersBy : Search → ℕ → Option Directive → State → LogicalLine → Option ℕ → Result Bool Fault → Type 0
+EntersBy search row None s line after taken = EntersIf search row false s line after taken
+EntersBy search row (Some d) s line after taken = EntersIf search row (has_condition d) s line after taken
+
+abbrev pub Enters : Search → ℕ → State → LogicalLine → Option ℕ → Result Bool Fault → Type 0
+Enters search row s line after taken = EntersBy search row line.directive s line after taken
+
+-- the line at which processing continues after a group that isn't taken, and the state then
+abbrev pub FindsBranch : Search → ℕ → List LogicalLine → State → State → Branches → Parts → Outer → Result ℕ Fault → Type 0
+FindsBranch search row lines s t bs qs k (Ok next) =
+    (ps : Parts) × (k' : Outer) × StandsAt lines next ps k'
+    × ((context : Context)
+    → search_of context ≡ search
+    → (depth : ℕ) (end : Reached)
+    → Ends context depth row (going t) ps k' end
+    → (m : Reached) × Branched context depth row s bs m × Ends context depth row m qs k end)
+FindsBranch search row lines s t bs qs k (Err f) =
+    (context : Context)
+    → search_of context ≡ search
+    → (depth : ℕ)
+    → Branched context depth row s bs (stopped t f)
+
+abbrev pub IsTextLine : LogicalLine → Type 0
+IsTextLine line = line.directive ≡ None
+
+-- the first line isn't a text line
+abbrev pub IsRest : List LogicalLine → Type 0
+IsRest [] = Unit {0}
+IsRest (line ∷ following) = ¬ IsTextLine line
+
+-- phases 1 to 4 of a unit's definitions, over these files and any larger set
+abbrev pub DefinesOver : (Files → Context) → Files → List (List ℕ) → State → Reached → Type 0
+DefinesOver context files defines s end = (more : Files) → Extends more files → Defines (context more) defines s end

@@ -1,0 +1,230 @@
+//! Texts, file indices and items. Their models are lists.
+ghost use Rattle.ppunit.specs.Parts.{part_items};
+ghost use Rattle.std.specs.Prelude.{flat_map, ◌≡◌, map, string_bytes, IfOk, OnOk, ◌++◌, ◌∷◌, []};
+ghost use Rattle.ppunit.specs.declared.units.Item.TheVariants as item;
+ghost use Rattle.ppunit.specs.Dependencies.{has_row, with_row};
+
+use crate::units::Item;
+use indexmap::IndexSet;
+use ppexpand::TokenRope;
+use pptext::{Place, Token, Tokens};
+use std::alloc::{AllocError, Global};
+use std::marker::Model;
+
+/// A text. Its model is the list of its bytes.
+#[derive(Drop, Debug)]
+pub struct OwnedText {
+    text: String,
+}
+
+impl Model for OwnedText {
+    ghost use Rattle.std.specs.Prelude.{ℕ, List, string_bytes};
+
+    ghost Value = { List ℕ };
+
+    ghost view = { λ t. string_bytes t.text };
+}
+
+impl OwnedText {
+    /// Wraps a string.
+    pub fn new(text: String) -> OwnedText
+        ensures { result ≡ string_bytes text }
+    {
+        OwnedText { text }
+    }
+
+    /// Returns the string.
+    pub fn into_string(self) -> String
+        ensures { string_bytes result ≡ self }
+    {
+        self.text
+    }
+
+    /// Borrows the string.
+    pub fn as_str(&self) -> &str
+        ensures { result.now ≡ self.now }
+    {
+        self.text.as_str()
+    }
+}
+
+/// A list of texts. Its model is the list of the texts' bytes.
+#[derive(Drop, Debug)]
+pub struct OwnedTexts {
+    texts: Vec<String>,
+}
+
+impl Model for OwnedTexts {
+    ghost use Rattle.std.specs.Prelude.{ℕ, List, map, string_bytes};
+
+    ghost Value = { List (List ℕ) };
+
+    ghost view = { λ t. map string_bytes t.texts.items };
+}
+
+impl OwnedTexts {
+    /// Wraps a vector of strings.
+    pub fn new(texts: Vec<String>) -> OwnedTexts
+        ensures { result ≡ map string_bytes texts.items }
+    {
+        OwnedTexts { texts }
+    }
+
+    /// Borrows the strings.
+    pub fn as_slice(&self) -> &[String]
+        ensures { map string_bytes result.now ≡ self.now }
+    {
+        self.texts.as_slice()
+    }
+}
+
+/// A set of file indices in insertion order. Its model is their list.
+#[derive(Drop)]
+pub struct Rows {
+    rows: IndexSet<usize>,
+}
+
+impl Model for Rows {
+    ghost use Rattle.std.specs.Prelude.{ℕ, List};
+
+    ghost Value = { List ℕ };
+
+    ghost view = { λ r. r.rows.keys };
+}
+
+impl Rows {
+    /// Creates an empty set.
+    pub fn new(alloc: Global) -> Rows
+        ensures { result ≡ [] }
+    {
+        Rows {
+            rows: IndexSet::new(alloc),
+        }
+    }
+
+    /// Returns whether the set has the index.
+    pub(crate) fn contains(&self, row: usize) -> bool
+        ensures { result ≡ has_row row self.now }
+    {
+        self.rows.contains(&row)
+    }
+
+    /// Inserts an index, unless the set has it. Fails if an allocation fails.
+    pub fn join(&mut self, row: usize) -> Result<(), AllocError>
+        ensures { OnOk result (self.new ≡ with_row row self.old) }
+    {
+        match self.rows.insert(row) {
+            Ok(_) => Ok(()),
+            Err(_) => Err(AllocError),
+        }
+    }
+
+    /// Borrows the indices, in insertion order.
+    pub fn as_slice(&self) -> &[usize]
+        ensures { result.now ≡ self.now }
+    {
+        self.rows.as_slice()
+    }
+}
+
+/// A part of the output: a run of tokens, or a pragma with its location and its tokens.
+#[derive(Drop)]
+pub enum Part<'a> {
+    Run(TokenRope<'a>),
+    Pragma(Place, &'a [Token]),
+}
+
+/// The items of a unit's output. Its model is their list.
+#[derive(Drop)]
+pub struct Items<'a> {
+    parts: Vec<Part<'a>>,
+}
+
+impl<'a> Model for Items<'a> {
+    ghost use Rattle.std.specs.Prelude.{List, flat_map};
+    ghost use Rattle.ppunit.specs.declared.units.Item.{Item};
+
+    ghost Value = { List Item };
+
+    ghost use Rattle.ppunit.specs.Parts.{part_items};
+
+    ghost view = { λ s. flat_map part_items s.parts.items };
+}
+
+impl<'a> Items<'a> {
+    /// Creates an empty list.
+    pub fn new(alloc: Global) -> Items<'a>
+        ensures { result ≡ [] }
+    {
+        Items {
+            parts: Vec::new(alloc),
+        }
+    }
+
+    /// Frees the unused capacity: items are kept until all units are done.
+    pub(crate) fn trim(self) -> Items<'a>
+        ensures { result ≡ self.entry }
+    {
+        let mut parts = self.parts;
+        parts.shrink_to_fit();
+        Items { parts }
+    }
+
+    /// Borrows the parts.
+    pub fn parts(&self) -> &[Part<'a>]
+        ensures { flat_map part_items result.now ≡ self.now }
+    {
+        self.parts.as_slice()
+    }
+
+    /// Copies the items into one vector. Fails if an allocation fails.
+    pub fn to_vec(&self, alloc: Global) -> Result<Vec<Item>, AllocError>
+        ensures { IfOk result (λ v. v.items ≡ self.now) }
+    {
+        let mut items = Vec::new(alloc);
+        for part in &self.parts {
+            copy_part(alloc, &mut items, part)?;
+        }
+        Ok(items)
+    }
+
+    /// Appends a pragma.
+    pub(crate) fn push_pragma(&mut self, at: Place, tokens: &'a [Token]) -> Result<(), AllocError>
+        ensures { OnOk result (self.new ≡ self.old ++ item.Pragma at tokens.now ∷ []) }
+    {
+        self.parts.push(Part::Pragma(at, tokens))?;
+        Ok(())
+    }
+
+    /// Appends a run of tokens.
+    pub(crate) fn extend(&mut self, run: TokenRope<'a>) -> Result<(), AllocError>
+        ensures { OnOk result (self.new ≡ self.old ++ map item.Token run.entry) }
+    {
+        self.parts.push(Part::Run(run))?;
+        Ok(())
+    }
+}
+
+/// Appends copies of a part's items.
+fn copy_part(alloc: Global, items: &mut Vec<Item>, part: &Part) -> Result<(), AllocError>
+    ensures { OnOk result (items.new.items ≡ items.old.items ++ part_items part.now) }
+{
+    match part {
+        Part::Run(run) => push_tokens(items, run.to_vec(alloc)?),
+        Part::Pragma(at, tokens) => {
+            let tokens = Tokens::new(Vec::from_clones(alloc, tokens)?);
+            items.push(Item::Pragma(*at, tokens))?;
+            Ok(())
+        }
+    }
+}
+
+/// Appends tokens.
+fn push_tokens(items: &mut Vec<Item>, tokens: Vec<Token>) -> Result<(), AllocError>
+    ensures { OnOk result (items.new.items ≡ items.old.items ++ map item.Token tokens.items) }
+{
+    for token in tokens {
+        items.push(Item::Token(token))?;
+    }
+    Ok(())
+}

@@ -1,0 +1,353 @@
+//! Walks over the lines of a file in the order of execution: the groups that are taken and no others (6.10.1). The
+//! lines of an included file come before the line after its include line.
+ghost use Rattle.std.specs.Prelude.{◌≡◌, ◌<◌, ◌≤◌, ◌+◌, ℕ, suc, Bool, true, false, if◌then◌else◌, None, Some, IfOk};
+ghost use Rattle.std.specs.Prelude.{List, ◌++◌, drop, length};
+ghost use Rattle.std.specs.List.{AllByRecursion};
+ghost use Rattle.std.specs.Result.{result_err};
+ghost use Rattle.pptext.specs.Lines.{LogicalLine};
+ghost use Rattle.pptext.specs.Errors.{UnlessOutOfMemory};
+ghost use Rattle.pptext.specs.Tree.{Parts, Branches, branch_lines, AreBranches};
+ghost use Rattle.pptext.specs.Classes.{opens_section, ends_group};
+ghost use Rattle.pptext.specs.declared.sources.Directive.{Directive};
+ghost use Rattle.ppshelf.specs.Files.{Files, Extends};
+ghost use Rattle.ppunit.specs.Group.{Controls, Includes};
+ghost use Rattle.ppunit.specs.States.{Context, Reached, context_over, search_in_unit, with_left};
+ghost use Rattle.ppunit.specs.DirectiveLines.{directed};
+ghost use Rattle.ppunit.specs.code.Walk.{line_at, IsTextLine, IsRest, Outer, BranchesAt, Enters, FindsBranch, Advances, Leads, Steps, Walks};
+
+use crate::conditions::decide;
+use crate::directives::{control, error, emit_run};
+use crate::including::read_include_name;
+use crate::line_access::{count, line, tokens_at, tokens_between};
+use crate::directive_line::{DirectiveLine, line_fault, refuse_unmatched_quote, hash_place};
+use crate::open_file::{UnitContext, Entered, OpenFile, Opening, open, resolve_in};
+use crate::include_stack::Stack;
+use crate::states::State;
+use ppshelf::{Disk, Pass};
+use pptext::{Class, Directive, Source, Error, Token};
+use std::alloc::Global;
+use std::marker::Model;
+
+/// Returns the index of the line after the run of text lines that begins at `start`.
+fn run_end(source: &Source, start: usize) -> usize
+    requires index { start < length source.now }
+    requires text { IsTextLine (line_at source.now start) }
+    ensures within { result ≤ length source.now }
+    ensures further { start < result }
+    ensures run { (run rest : List LogicalLine)
+        → drop start source.now ≡ run ++ rest
+        → AllByRecursion IsTextLine run
+        → IsRest rest
+        → (result ≡ start + length run) × (drop result source.now ≡ rest) }
+{
+    let lines = count(source);
+    let mut end = start + 1;
+    while end < lines && line(source, end).directive.is_none() {
+        end += 1;
+    }
+    end
+}
+
+/// Returns whether processing continues at the line after this `#elif`, `#else` or `#endif` of the file at index `row`: its
+/// group is taken, or the if-section ends. Changes nothing in `state` but the remaining budget.
+fn enters<D: Disk>(
+    context: &UnitContext<'_, '_, D>,
+    state: &mut State,
+    row: usize,
+    source: &Source,
+    index: usize,
+) -> Result<bool, Error>
+    requires rows { 0 < length context.now.shelf.names }
+    requires index { index < length source.now }
+    ensures rest { state.new ≡ with_left state.old state.new.left }
+    ensures enters { UnlessOutOfMemory result (λ taken. Enters (search_in_unit context.now) row state.old (line_at source.now index) state.new.left taken) }
+{
+    let Some(directive) = line(source, index).directive else {
+        return Ok(true);
+    };
+    if !directive.has_condition() {
+        return Ok(true);
+    }
+    decide(context, state, row, directive, tokens_at(source, index))
+}
+
+/// Finds the line at which processing continues if the group after line `start` isn't taken: the line after the first
+/// `#elif` or `#else` whose group is taken, or the line after `#endif`.
+fn find_branch<D: Disk>(
+    context: &UnitContext<'_, '_, D>,
+    state: &mut State,
+    row: usize,
+    source: &Source,
+    start: usize,
+) -> Result<usize, Error>
+    requires rows { 0 < length context.now.shelf.names }
+    requires start { start < length source.now }
+    ensures further { IfOk result (λ next. start < next) }
+    ensures found { UnlessOutOfMemory result (λ next.
+        (ps : Parts) (bs : Branches) (qs : Parts) (k : Outer)
+        → BranchesAt source.now start ps bs qs k
+        → FindsBranch (search_in_unit context.now) row source.now state.old state.new bs qs k next) }
+{
+    let mut index = start;
+    while let Some(next) = line(source, index).next_branch {
+        if enters(context, state, row, source, next)? {
+            return Ok(next + 1);
+        }
+        index = next;
+    }
+    Ok(index + 1)
+}
+
+/// Returns the line after the `#endif` of the if-section that has this branch line.
+fn section_end(source: &Source, branch: usize) -> usize
+    requires { branch < length source.now }
+    ensures further { branch < result }
+    ensures end { (last : Bool) (bs : Branches) (rest : List LogicalLine)
+        → drop branch source.now ≡ branch_lines bs ++ rest
+        → AreBranches last bs
+        → drop result source.now ≡ rest }
+{
+    let mut index = branch;
+    while let Some(next) = line(source, index).next_branch {
+        index = next;
+    }
+    index + 1
+}
+
+/// Executes a line that opens an if-section of the file at index `row`. Returns the line at which processing continues.
+fn enter_section<D: Disk>(
+    context: &UnitContext<'_, '_, D>,
+    state: &mut State,
+    row: usize,
+    source: &Source,
+    directive: Directive,
+    index: usize,
+) -> Result<usize, Error>
+    requires rows { 0 < length context.now.shelf.names }
+    requires index { index < length source.now }
+    requires line { (line_at source.now index).directive ≡ Some directive }
+    requires opens { opens_section directive ≡ true }
+    ensures further { IfOk result (λ next. index < next) }
+    ensures entered { (files : Files) (depth : ℕ)
+        → UnlessOutOfMemory result (λ next. Advances (context_over context.now) files depth row source.now index state.old state.new next) }
+{
+    if decide(context, state, row, directive, tokens_at(source, index))? {
+        return Ok(index + 1);
+    }
+    find_branch(context, state, row, source, index)
+}
+
+/// Emits a run of text lines. Returns the line after it.
+fn execute_run<'x>(
+    alloc: Global,
+    state: &mut State<'x>,
+    source: &'x Source,
+    index: usize,
+) -> Result<usize, Error>
+    requires index { index < length source.now }
+    requires text { IsTextLine (line_at source.now index) }
+    ensures further { IfOk result (λ next. index < next) }
+    ensures run { (context : Files → Context) (files : Files) (depth row : ℕ)
+        → UnlessOutOfMemory result (λ next. Advances context files depth row source.now index state.old state.new next) }
+{
+    let end = run_end(source, index);
+    emit_run(alloc, state, tokens_between(source, index, end))?;
+    Ok(end)
+}
+
+/// Executes an include line: opens the file that it names, one level deeper. The search begins after the directory
+/// `from.directory`, or at the first if there is none.
+fn include<'x, 'a: 'x, D: Disk>(
+    context: &UnitContext<'a, '_, D>,
+    pass: &mut Pass<'a, D>,
+    state: &mut State<'x>,
+    depth: u32,
+    from: Opening,
+    line: &'x [Token],
+) -> Result<Option<Entered<'a>>, Error>
+    requires shelf { pass.old.shelf ≡ context.now.shelf }
+    requires rows { 0 < length context.now.shelf.names }
+    requires depth { depth ≤ 200 }
+    ensures shelf { pass.new.shelf ≡ context.now.shelf }
+    ensures grows { Extends pass.new.files pass.old.files }
+    ensures includes { UnlessOutOfMemory result (λ leads.
+        (directive : Directive) (number : ℕ)
+        → Leads (context_over context.now) pass.new.files (suc depth)
+        (λ (more : Files) (m : Reached). Includes (context_over context.now more) depth from.row from.directory state.old (directed directive line.now number) m)
+        state.new leads) }
+{
+    let include_name = read_include_name(context.alloc, state, line)?;
+    let Some((row, directory)) = resolve_in(context, from, &include_name)? else {
+        let name = include_name.name.as_bytes();
+        return Err(Error::Fault(line_fault(context.alloc, 31, line, name)?));
+    };
+    let opening = Opening {
+        row,
+        directory: Some(directory),
+    };
+    open(context, pass, state, depth + 1, hash_place(line), opening)
+}
+
+/// For `#include_next`, returns the number of the directory in which the current file was found: the search begins after it.
+/// Otherwise returns `None`: the search begins at the first directory.
+fn directory_before(next: bool, state: &State) -> Option<usize>
+    ensures { result ≡ (if next then state.now.directory else None) }
+{
+    if next { state.directory } else { None }
+}
+
+/// Executes a control line. Returns the file that it opens, if it opens one.
+fn execute_line<'x, 'a: 'x, D: Disk>(
+    context: &UnitContext<'a, '_, D>,
+    pass: &mut Pass<'a, D>,
+    state: &mut State<'x>,
+    depth: u32,
+    line: DirectiveLine<'x>,
+) -> Result<Option<Entered<'a>>, Error>
+    requires shelf { pass.old.shelf ≡ context.now.shelf }
+    requires rows { 0 < length context.now.shelf.names }
+    requires depth { depth ≤ 200 }
+    requires opens { opens_section line.directive ≡ false }
+    requires ends { ends_group line.directive ≡ false }
+    ensures shelf { pass.new.shelf ≡ context.now.shelf }
+    ensures grows { Extends pass.new.files pass.old.files }
+    ensures control { UnlessOutOfMemory result (λ leads.
+        Leads (context_over context.now) pass.new.files (suc depth)
+        (λ (more : Files) (m : Reached). Controls (context_over context.now more) depth line.entry.row state.old (directed line.entry.directive line.entry.tokens.now line.entry.number) m)
+        state.new leads) }
+{
+    let DirectiveLine {
+        row,
+        directive,
+        tokens,
+        number: _,
+    } = line;
+    match directive.class() {
+        Class::Error => Err(Error::Fault(error(context.alloc, tokens)?)),
+        Class::Ignored => Ok(None),
+        Class::Includes(next) => {
+            refuse_unmatched_quote(tokens)?;
+            let directory = directory_before(next, state);
+            include(context, pass, state, depth, Opening { row, directory }, tokens)
+        }
+        _ => {
+            refuse_unmatched_quote(tokens)?;
+            control(context.alloc, state, context.profile(), line)?;
+            Ok(None)
+        }
+    }
+}
+
+/// The next line to process: the first of a file that was just opened, if there is one, and then the line at index
+/// `line`.
+#[derive(Drop)]
+struct NextLine<'a> {
+    line: usize,
+    entered: Option<Entered<'a>>,
+}
+
+impl<'a> Model for NextLine<'a> {
+    ghost use Rattle.std.specs.Prelude.{ℕ, Option};
+    ghost use Rattle.ppunit.specs.code.Opening.{Entered};
+
+    ghost Value = { ℕ × Option Entered };
+
+    ghost view = { λ n. (n.line, n.entered) };
+}
+
+/// Returns what comes next after a line that opened no file: the line at index `line`.
+fn next_line<'a>(line: usize) -> NextLine<'a>
+    ensures { result ≡ (line, None) }
+{
+    NextLine {
+        line,
+        entered: None,
+    }
+}
+
+/// Processes one run of text lines or one directive line. Returns what comes next, or the fault.
+fn step<'x, 'a: 'x, D: Disk>(
+    context: &UnitContext<'a, '_, D>,
+    pass: &mut Pass<'a, D>,
+    state: &mut State<'x>,
+    depth: u32,
+    file: &OpenFile<'x>,
+) -> Result<NextLine<'a>, Error>
+    requires shelf { pass.old.shelf ≡ context.now.shelf }
+    requires rows { 0 < length context.now.shelf.names }
+    requires depth { depth ≤ 200 }
+    requires index { file.now.index < length file.now.lines }
+    ensures shelf { pass.new.shelf ≡ context.now.shelf }
+    ensures grows { Extends pass.new.files pass.old.files }
+    ensures further { IfOk result (λ next. file.now.index < next.0) }
+    ensures step { UnlessOutOfMemory result (λ found.
+        Steps (context_over context.now) pass.new.files depth file.now.row file.now.lines file.now.index state.old state.new found) }
+{
+    let OpenFile { row, source, index } = *file;
+    let Some(directive) = line(source, index).directive else {
+        return Ok(next_line(execute_run(context.alloc, state, source, index)?));
+    };
+    if directive.opens_section() {
+        return Ok(next_line(enter_section(context, state, row, source, directive, index)?));
+    }
+    if directive.ends_group() {
+        return Ok(next_line(section_end(source, index)));
+    }
+    let tokens = tokens_at(source, index);
+    let number = line(source, index).number;
+    let at = DirectiveLine {
+        row,
+        directive,
+        tokens,
+        number,
+    };
+    let entered = execute_line(context, pass, state, depth, at)?;
+    Ok(NextLine {
+        line: index + 1,
+        entered,
+    })
+}
+
+/// Executes phase 4 on the lines of a file and of all files that they include, up to the first fault.
+pub(crate) fn walk<'s, 'a: 's, D: Disk>(
+    context: &UnitContext<'a, '_, D>,
+    pass: &mut Pass<'a, D>,
+    state: &mut State<'s>,
+    first: OpenFile<'s>,
+) -> Result<(), Error>
+    requires shelf { pass.old.shelf ≡ context.now.shelf }
+    requires rows { 0 < length context.now.shelf.names }
+    requires begins { first.index ≡ 0 }
+    ensures shelf { pass.new.shelf ≡ context.now.shelf }
+    ensures grows { Extends pass.new.files pass.old.files }
+    ensures walk { UnlessOutOfMemory result (λ r.
+        Walks (context_over context.now) pass.new.files 0 first.entry.row first.entry.lines state.old
+        (record { state = state.new; fault = result_err r })) }
+{
+    let mut suspended = Stack::new(context.alloc);
+    let mut file = first;
+    loop {
+        if file.index < count(file.source) {
+            match step(context, pass, state, suspended.depth(), &file) {
+                Ok(next) => {
+                    let NextLine { line, entered } = next;
+                    file.index = line;
+                    // Most lines open no file. Saves 3 % of the instructions of `deps` on Redis.
+                    if let Some(entered) = entered {
+                        file = suspended.enter(file, entered)?;
+                    }
+                }
+                Err(stop) => {
+                    suspended.stop(state);
+                    return Err(stop);
+                }
+            }
+        } else {
+            let Some(outer) = suspended.pop() else {
+                return Ok(());
+            };
+            state.restore_context(outer.file_context);
+            file = outer.file;
+        }
+    }
+}

@@ -1,0 +1,308 @@
+//! Opens files (6.10.2): dependencies, contents, and the predefined names in a file.
+ghost use Rattle.std.specs.Prelude.{◌≡◌, ◌<◌, ◌^◌, pos, map, length, string_bytes, IfOk, OnOk, IfErr, IfSome};
+ghost use Rattle.std.specs.Result.{result_err};
+ghost use Rattle.pptext.specs.Errors.{UnlessOutOfMemory};
+ghost use Rattle.ppshelf.specs.Files.{Files, Extends};
+ghost use Rattle.ppshelf.specs.Names.{name_in};
+ghost use Rattle.ppunit.specs.Dependencies.{has_row};
+ghost use Rattle.ppunit.specs.Directives.{FindsFile};
+ghost use Rattle.ppunit.specs.Group.{Opened};
+ghost use Rattle.ppunit.specs.code.Opening.{SpendsOpening, HasLines, HasFault, Begins};
+ghost use Rattle.ppunit.specs.States.{Reached, with_dependency, literal, context_over};
+ghost use Rattle.ppunit.specs.code.Walk.{Leads};
+
+use crate::guards::is_left_out;
+use crate::including::IncludeName;
+use crate::line_access::count;
+use crate::states::{FileContext, State, literal};
+use ppexpand::Env;
+use ppshelf::{Disk, Directories, Form, Pass, Shelf, resolve, resolve_next};
+use pptext::{Fault, Memory, Place, Profile, Source, Error};
+use std::alloc::{AllocError, Global};
+use std::marker::Model;
+
+/// The largest depth of an included file: the unit's file has depth 0, and an included file is one deeper than its
+/// include line.
+const DEEPEST: u32 = 200;
+
+/// What does not change within a unit: the file table, the disk, and the directories that are searched. Its model is
+/// the file table and the directories.
+pub(crate) struct UnitContext<'a, 'b, D: Disk> {
+    pub alloc: Global,
+    shelf: &'a Shelf<D>,
+    disk: &'b D,
+    directories: Directories<'b>,
+}
+
+impl<'a, 'b, D: Disk> Model for UnitContext<'a, 'b, D> {
+    ghost use Rattle.std.specs.Prelude.{map};
+    ghost use Rattle.std.specs.String.{string_bytes};
+    ghost use Rattle.ppunit.specs.States.{UnitContext};
+
+    ghost Value = { UnitContext };
+
+    ghost view = { λ a. record {
+      shelf = a.shelf.now;
+      unit_directories = map string_bytes a.directories.unit.now;
+      setting_directories = map string_bytes a.directories.setting.now;
+    } };
+}
+
+impl<D: Disk> Drop for UnitContext<'_, '_, D> {
+    fn drop(self) {
+        let UnitContext {
+            alloc: _,
+            shelf: _,
+            disk: _,
+            directories: _,
+        } = self;
+    }
+}
+
+impl<'a, 'b, D: Disk> UnitContext<'a, 'b, D> {
+    /// Bundles a file table, its disk, and directories.
+    pub(crate) fn new(
+        alloc: Global,
+        shelf: &'a Shelf<D>,
+        disk: &'b D,
+        directories: Directories<'b>,
+    ) -> UnitContext<'a, 'b, D>
+        ensures { result ≡ record {
+          shelf = shelf.now;
+          unit_directories = map string_bytes directories.entry.unit.now;
+          setting_directories = map string_bytes directories.entry.setting.now;
+        } }
+    {
+        UnitContext {
+            alloc,
+            shelf,
+            disk,
+            directories,
+        }
+    }
+
+    /// Returns the file table.
+    pub(crate) fn shelf(&self) -> &'a Shelf<D>
+        ensures { result.now ≡ self.now.shelf }
+    {
+        self.shelf
+    }
+
+    /// Returns the profile that the files are read with.
+    pub(crate) fn profile(&self) -> Profile
+        ensures { result ≡ self.now.shelf.profile }
+    {
+        self.shelf.profile()
+    }
+
+    /// Returns the directories that are searched.
+    fn directories(&self) -> Directories<'b>
+        ensures unit { map string_bytes result.unit.now ≡ self.now.unit_directories }
+        ensures setting { map string_bytes result.setting.now ≡ self.now.setting_directories }
+    {
+        self.directories
+    }
+}
+
+/// A file that is being processed: its index in the file table, its lines, and the index of the next line.
+#[derive(Drop)]
+pub(crate) struct OpenFile<'a> {
+    pub row: usize,
+    pub source: &'a Source,
+    pub index: usize,
+}
+
+impl<'a> Model for OpenFile<'a> {
+    ghost use Rattle.ppunit.specs.code.Opening.{OpenFile};
+
+    ghost Value = { OpenFile };
+
+    ghost view = { λ f. record { row = f.row; lines = f.source.now; index = f.index } };
+}
+
+impl<'a> OpenFile<'a> {
+    /// Creates a file that is before its first line.
+    pub(crate) fn new(row: usize, source: &'a Source) -> OpenFile<'a>
+        ensures file { result ≡ record { row = row; lines = source.now; index = 0 } }
+        ensures few { length source.now < 2 ^ 64 }
+    {
+        // For proofs: the number of lines fits.
+        let _lines = count(source);
+        OpenFile {
+            row,
+            source,
+            index: 0,
+        }
+    }
+}
+
+/// A file that was just opened, and the context of the file that includes it.
+#[derive(Drop)]
+pub(crate) struct Entered<'a> {
+    pub file: OpenFile<'a>,
+    pub outer: FileContext,
+}
+
+impl<'a> Model for Entered<'a> {
+    ghost use Rattle.ppunit.specs.code.Opening.{Entered};
+
+    ghost Value = { Entered };
+
+    ghost view = { λ e. record { file = e.file; outer = e.outer } };
+}
+
+/// A file to open, or an open file: its index in the file table, and the number of the directory in which it was found.
+/// A unit's own file has no such number.
+#[derive(Clone, Copy)]
+pub(crate) struct Opening {
+    pub row: usize,
+    pub directory: Option<usize>,
+}
+
+/// Returns the predefined names at the beginning of a file.
+fn entering(alloc: Global, outer: &Env, name: &str) -> Result<Env, AllocError>
+    ensures { IfOk result (λ e. e ≡ record outer.now { name = literal name.now; shift = pos 0 }) }
+{
+    Ok(Env {
+        name: literal(alloc, name)?,
+        shift: 0,
+        date: outer.date.clone()?,
+        time: outer.time.clone()?,
+    })
+}
+
+/// Returns the index of the file that an include line in the file `from` names, and the number of the directory in
+/// which it is found. If `from` has a directory number, only the directories after that one are searched. The file of a
+/// unit's definitions isn't in the file table, and has no files next to it.
+pub(crate) fn resolve_in<D: Disk>(
+    context: &UnitContext<'_, '_, D>,
+    from: Opening,
+    include_name: &IncludeName,
+) -> Result<Option<(usize, usize)>, Memory>
+    requires { 0 < length context.now.shelf.names }
+    ensures finds { (files : Files) → IfOk result (λ found. FindsFile (context_over context.now files) from.row from.directory include_name.now found) }
+    ensures within { IfOk result (λ found. IfSome found (λ f. f.0 < length context.now.shelf.names)) }
+{
+    let shelf = context.shelf();
+    let directories = context.directories();
+    let name = include_name.name.as_bytes();
+    if let Some(number) = from.directory {
+        return resolve_next(context.alloc, shelf, number, name, directories);
+    }
+    if from.row < shelf.len() {
+        return resolve(context.alloc, shelf, from.row, include_name.form, name, directories);
+    }
+    resolve(context.alloc, shelf, 0, Form::Angle, name, directories)
+}
+
+/// Spends one opening from the budget, if the file at index `row` may be opened at this depth. Fault 32 if it is too
+/// deep, and 35 if the budget is exhausted.
+fn spend_opening<D: Disk>(
+    context: &UnitContext<'_, '_, D>,
+    state: &mut State,
+    depth: u32,
+    at: Place,
+    row: usize,
+) -> Result<(), Error>
+    requires { row < length context.now.shelf.names }
+    ensures { UnlessOutOfMemory result (λ r. SpendsOpening depth at (name_in context.now.shelf.names row) state.old state.new (result_err r)) }
+{
+    if depth > DEEPEST {
+        let name = context.shelf().name(row);
+        return Err(Error::Fault(Fault::new(context.alloc, 32, at, name.as_bytes())?));
+    }
+    if state.is_exhausted() {
+        return Err(Error::Fault(Fault::bare(35, at)));
+    }
+    state.spend();
+    Ok(())
+}
+
+/// Adds the file at index `row` to the dependencies. Returns whether it is marked by `#pragma once`.
+fn record_dependency(state: &mut State, row: usize) -> Result<bool, AllocError>
+    ensures joins { OnOk result (state.new ≡ with_dependency state.old row) }
+    ensures known { IfOk result (λ known. known ≡ has_row row state.old.once) }
+{
+    let known = state.once.contains(row);
+    state.add_dependency(row)?;
+    Ok(known)
+}
+
+/// Returns the lines of the file at index `row`. Fault 6 if it can't be read, or the fault of its own lines.
+fn source_of<'a, D: Disk>(
+    context: &UnitContext<'a, '_, D>,
+    pass: &mut Pass<'a, D>,
+    at: Place,
+    row: usize,
+) -> Result<&'a Source, Error>
+    requires shelf { pass.old.shelf ≡ context.now.shelf }
+    requires row { row < length context.now.shelf.names }
+    ensures shelf { pass.new.shelf ≡ context.now.shelf }
+    ensures grows { Extends pass.new.files pass.old.files }
+    ensures lines { IfOk result (λ source. HasLines context.now.shelf pass.new.files row source.now) }
+    ensures fault { UnlessOutOfMemory result (λ r. IfErr r (λ f. HasFault context.now.shelf pass.new.files row at f)) }
+{
+    let shelf = context.shelf();
+    let Ok(loaded) = shelf.look(pass, row, context.disk) else {
+        return Err(Error::Memory);
+    };
+    match loaded.lines() {
+        Some(Ok(source)) => Ok(source),
+        Some(Err(fault)) => Err(Error::Fault(fault.clone()?)),
+        None => {
+            let name = shelf.name(row).as_bytes();
+            Err(Error::Fault(Fault::new(context.alloc, 6, at, name)?))
+        }
+    }
+}
+
+/// Enters a file with this name and these lines, before its first line. Returns nothing if its include guard is
+/// defined: then its lines have no effect.
+fn begin<'a>(
+    alloc: Global,
+    state: &mut State,
+    opening: Opening,
+    name: &str,
+    source: &'a Source,
+) -> Result<Option<Entered<'a>>, AllocError>
+    ensures { IfOk result (λ entered. Begins name.now opening.row opening.directory source.now state.old state.new entered) }
+{
+    if is_left_out(state, source) {
+        return Ok(None);
+    }
+    let env = entering(alloc, &state.env, name)?;
+    let directory = opening.directory;
+    let outer = state.enter(FileContext { env, directory });
+    let file = OpenFile::new(opening.row, source);
+    Ok(Some(Entered { file, outer }))
+}
+
+/// Opens a file for the line at location `at`. Returns nothing if the file is skipped: if it is marked by `#pragma
+/// once` or its include guard is defined. Each opening spends one of the budget. Fails with fault 32, 35 if the budget
+/// is exhausted, 6, or a fault of the file's own lines.
+pub(crate) fn open<'a, D: Disk>(
+    context: &UnitContext<'a, '_, D>,
+    pass: &mut Pass<'a, D>,
+    state: &mut State,
+    depth: u32,
+    at: Place,
+    opening: Opening,
+) -> Result<Option<Entered<'a>>, Error>
+    requires shelf { pass.old.shelf ≡ context.now.shelf }
+    requires row { opening.row < length context.now.shelf.names }
+    ensures shelf { pass.new.shelf ≡ context.now.shelf }
+    ensures grows { Extends pass.new.files pass.old.files }
+    ensures opened { UnlessOutOfMemory result (λ leads.
+        Leads (context_over context.now) pass.new.files depth
+        (λ (more : Files) (m : Reached). Opened (context_over context.now more) depth at state.old opening.row opening.directory m)
+        state.new leads) }
+{
+    let row = opening.row;
+    spend_opening(context, state, depth, at, row)?;
+    if record_dependency(state, row)? {
+        return Ok(None);
+    }
+    let source = source_of(context, pass, at, row)?;
+    let name = context.shelf().name(row);
+    Ok(begin(context.alloc, state, opening, name, source)?)
+}

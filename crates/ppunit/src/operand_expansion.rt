@@ -1,0 +1,32 @@
+//! Macro replacement in the operands of a directive (6.10.2, 6.10.4).
+ghost use Rattle.std.specs.Prelude.{◌≡◌};
+ghost use Rattle.pptext.specs.Errors.{UnlessOutOfMemory};
+ghost use Rattle.ppunit.specs.code.OperandExpansion.{ExpandsOperands};
+ghost use Rattle.ppunit.specs.States.{with_left};
+
+use crate::states::State;
+use ppexpand::{Expanded, expand};
+use pptext::{Error, Token, Tokens};
+use std::alloc::Global;
+
+/// Returns a copy of the expansion of the operands, or the fault of the expansion. Changes nothing in `state` but the
+/// remaining budget.
+pub(crate) fn expand_operands<'x>(
+    alloc: Global,
+    state: &mut State<'x>,
+    operands: &'x [Token],
+) -> Result<Tokens, Error>
+    ensures rest { state.new ≡ with_left state.old state.new.left }
+    ensures replaces { UnlessOutOfMemory result (λ r. ExpandsOperands state.old operands.now state.new.left r) }
+{
+    let Expanded {
+        tokens,
+        fault,
+        left,
+    } = expand(alloc, &state.macros, &state.env, state.left, operands)?;
+    state.left = left;
+    if let Some(fault) = fault {
+        return Err(Error::Fault(fault));
+    }
+    Ok(Tokens::new(tokens.to_vec(alloc)?))
+}
