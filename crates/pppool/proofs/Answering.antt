@@ -9,36 +9,36 @@ use Rattle.ppunit.specs.declared.units.Unit.{Unit as UnitOfList}
 use Rattle.ppunit.specs.declared.units.Setting.{Setting}
 use Rattle.ppunit.specs.declared.units.UnitOut.{UnitOut}
 use Rattle.ppunit.specs.Laws.{Grows}
-use Rattle.pppool.specs.declared.keeping.Keep.{Keep}
-use Rattle.pppool.specs.Kept.{IsKept}
-use Rattle.pppool.proofs.Kept.{kept_grows}
+use Rattle.pppool.specs.declared.retention.Retain.{Retain}
+use Rattle.pppool.specs.Retained.{IsRetained}
+use Rattle.pppool.proofs.Retained.{kept_grows}
 use Rattle.pppool.specs.Desk.{times}
-use Rattle.pppool.specs.Workers.{Answer, IsAnswer, AreAnswers, AllAnswered, answered}
+use Rattle.pppool.specs.code.Workers.{UnitResult, IsUnitResult, AreUnitResults, AllHaveResults, result_units}
 use Rattle.pppool.proofs.Totals.{times-append, times_at}
 
 -- what is true of an answer over some files is true over more
 pub answers_grow : Grows
-    → (keep : Keep) (stock : TableView) (old new : Files) (setting : Setting) (units : List UnitOfList) (answers : List Answer)
+    → (retain : Retain) (stock : TableView) (old new : Files) (setting : Setting) (units : List UnitOfList) (results : List UnitResult)
     → Extends new old
-    → AreAnswers keep stock old setting units answers
-    → AreAnswers keep stock new setting units answers
-answers_grow grows keep stock old new setting units answers more all k d w =
+    → AreUnitResults retain stock old setting units results
+    → AreUnitResults retain stock new setting units results
+answers_grow grows retain stock old new setting units results more all k d w =
     let a = all k d w in
-    record { within = a.within; value = λ u. kept_grows grows keep stock.names old new setting (get_or units (get_or answers k d).unit u) (get_or answers k d).out more (a.value u) }
+    record { within = a.within; value = λ u. kept_grows grows retain stock.names old new setting (get_or units (get_or results k d).unit u) (get_or results k d).out more (a.value u) }
 
 -- one answer more
-pub answers_push : Grows → (keep : Keep) (stock : TableView) (old new : Files) (setting : Setting) (units : List UnitOfList) (answers : List Answer) (number : ℕ) (unit : UnitOfList) (out : UnitOut)
-    → Extends new old → AreAnswers keep stock old setting units answers → number < length units → unit ≡ get_or units number unit → IsKept keep stock.names new setting unit out
-    → AreAnswers keep stock new setting units (answers ++ record { unit = number; out = out } ∷ [])
-answers_push grows keep stock old new setting units answers number unit out more all w read is =
-    let P : Answer → Type 0 = IsAnswer keep stock new setting units in
-    let Q : UnitOfList → Type 0 = λ u. IsKept keep stock.names new setting u out in
-    All-push P answers (record { unit = number; out = out }) (answers_grow grows keep stock old new setting units answers more all)
+pub answers_push : Grows → (retain : Retain) (stock : TableView) (old new : Files) (setting : Setting) (units : List UnitOfList) (results : List UnitResult) (number : ℕ) (unit : UnitOfList) (out : UnitOut)
+    → Extends new old → AreUnitResults retain stock old setting units results → number < length units → unit ≡ get_or units number unit → IsRetained retain stock.names new setting unit out
+    → AreUnitResults retain stock new setting units (results ++ record { unit = number; out = out } ∷ [])
+answers_push grows retain stock old new setting units results number unit out more all w read is =
+    let P : UnitResult → Type 0 = IsUnitResult retain stock new setting units in
+    let Q : UnitOfList → Type 0 = λ u. IsRetained retain stock.names new setting u out in
+    All-push P results (record { unit = number; out = out }) (answers_grow grows retain stock old new setting units results more all)
     (record { within = w; value = λ u. subst Q (get_or_read units number unit w read u) is })
 
-pub answered_push : (answers : List Answer) (a : Answer) → answered (answers ++ a ∷ []) ≡ answered answers ++ a.unit ∷ []
+pub answered_push : (results : List UnitResult) (a : UnitResult) → result_units (results ++ a ∷ []) ≡ result_units results ++ a.unit ∷ []
 answered_push [] a = refl
-answered_push (x ∷ answers) a = ap (λ l. x.unit ∷ l) (answered_push answers a)
+answered_push (x ∷ results) a = ap (λ l. x.unit ∷ l) (answered_push results a)
 
 pub times_more : (i : ℕ) (xs ys : List ℕ) → 0 < times i xs → 0 < times i (xs ++ ys)
 times_more i xs ys h = let e = times-append i xs ys in omega arith
@@ -66,8 +66,8 @@ pub times_other : (x y : ℕ) → (x ≡ y → ⊥) → times x (y ∷ []) ≡ 0
 times_other x y other = grind (arith, nat_tests)
 
 -- one block more is answered
-pub all_answered_push : (count block number : ℕ) (claims more old new : List ℕ) → more ≡ claims ++ number ∷ [] → AllAnswered count block claims old → ((i : ℕ) → 0 < times i old → 0 < times i new)
-    → ((i : ℕ) → i < count → i / block ≡ number → 0 < times i new) → AllAnswered count block more new
+pub all_answered_push : (count block number : ℕ) (claims more old new : List ℕ) → more ≡ claims ++ number ∷ [] → AllHaveResults count block claims old → ((i : ℕ) → 0 < times i old → 0 < times i new)
+    → ((i : ℕ) → i < count → i / block ≡ number → 0 < times i new) → AllHaveResults count block more new
 all_answered_push count block number claims more old new is all stay here i w h =
     elim (cases_eq (i / block) number) [
       | inl e ↦ here i w e

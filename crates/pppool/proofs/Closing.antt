@@ -49,9 +49,9 @@ empty-append (y ∷ xs) x = ap (λ b. y.found_empty || b) (empty-append xs x) �
 pub empty_popped : (all rest : List SeatView) (x : SeatView) (b : Bool) → all ≡ rest ++ x ∷ [] → b ≡ x.found_empty → (b || any_empty rest) ≡ any_empty all
 empty_popped all rest x b is e = ap (λ c. c || any_empty rest) e ∙ (sym (empty-append rest x) ∙ ap any_empty (sym is))
 
-pub marked_now : (b : Bool) (marks : ℕ) → marks ≡ (if b then 1 else 0) → b ≡ true → 0 < marks
-marked_now true marks e is = omega arith
-marked_now false marks e is = absurd (false≢true is)
+pub marked_now : (b : Bool) (empty_claims : ℕ) → empty_claims ≡ (if b then 1 else 0) → b ≡ true → 0 < empty_claims
+marked_now true empty_claims e is = omega arith
+marked_now false empty_claims e is = absurd (false≢true is)
 
 pub or_when_true : (b x y z : Bool) → b ≡ true → (b || x) ≡ z → (b || y) ≡ z
 or_when_true true x y z e is = is
@@ -85,9 +85,9 @@ all_told (s ∷ rest) some all = rw (all 0 s (omega arith)) refl
 -- all seats of a desk that were all told so close it
 pub closes : (seats : List SeatView) (count : ℕ) → length seats ≡ count → 0 < count → All (λ s. s.found_empty ≡ true) seats → (nat_eq (length seats) count && any_empty seats) ≡ true
 closes seats count same some all =
-    let told = all_told seats (omega arith) all in
+    let drained = all_told seats (omega arith) all in
     let counted : nat_eq (length seats) count ≡ true = grind (arith, nat_tests) in
-    rw (counted, told) refl
+    rw (counted, drained) refl
 
 -- one more than the greatest claim
 abbrev pub next_claim : List ℕ → ℕ

@@ -7,7 +7,7 @@ pub mod Steps
 -- Seats that are handed in one after the other, from the last.
 pub mod Closing
 -- What is kept of the units' answers.
-pub mod Kept
+pub mod Retained
 -- What workers' answers keep.
 pub mod Answering
 -- Answers that are put into their units' slots.

@@ -9,8 +9,8 @@ use Rattle.ppunit.specs.declared.units.UnitOut.{UnitOut}
 use Rattle.ppunit.specs.Unit.{IsUnit}
 use Rattle.ppunit.specs.Units.{AreUnits}
 use Rattle.ppunit.specs.Laws.{HasOneValue, HasSomeValue, Grows}
-use Rattle.pppool.specs.Kept.{AreKept, kept}
-use Rattle.pppool.specs.Laws.{IsOnlyValue, EachHasOneValue, KeepsOneList, HasSomeValues}
+use Rattle.pppool.specs.Retained.{AreRetained, retained}
+use Rattle.pppool.specs.Laws.{IsOnlyValue, EachHasOneValue, RetainsOneList, HasSomeValues}
 use Rattle.pppool.proofs.Placing.{list_grows}
 
 module _ (one : HasOneValue) (grows : Grows) where
@@ -44,15 +44,15 @@ module _ (one : HasOneValue) (grows : Grows) where
       ap (λ (o : UnitOut). o ∷ others) (one names files setting unit other out named too.0 are.0).0
       ∙ ap (λ (os : List UnitOut). out ∷ os) (same_list names files setting units outs others named are.1 too.1)
 
-  pub kept_once : KeepsOneList
-  kept_once keep names files more setting units outs others named are extends =
+  pub kept_once : RetainsOneList
+  kept_once retain names files more setting units outs others named are extends =
       let there : AreUnits names more setting units are.wholes = list_grows grows names files more setting units are.wholes extends are.values in
-      let same : AreKept keep names more setting units others → others ≡ outs =
+      let same : AreRetained retain names more setting units others → others ≡ outs =
       λ too.
       let wholes : too.wholes ≡ are.wholes = same_list names more setting units are.wholes too.wholes named there too.values in
-      too.same ∙ (ap (λ (ws : List UnitOut). map (kept keep) ws) wholes ∙ sym are.same) in
-      let is : AreKept keep names more setting units outs = record { wholes = are.wholes; values = there; same = are.same } in
-      (same, (λ s. subst (λ os. AreKept keep names more setting units os) (sym s) is))
+      too.same ∙ (ap (λ (ws : List UnitOut). map (retained retain) ws) wholes ∙ sym are.same) in
+      let is : AreRetained retain names more setting units outs = record { wholes = are.wholes; values = there; same = are.same } in
+      (same, (λ s. subst (λ os. AreRetained retain names more setting units os) (sym s) is))
 
 pub some_list : HasSomeValue → HasSomeValues
 some_list some names files setting [] knows within = ([], tt)

@@ -12,21 +12,21 @@ use Rattle.ppunit.specs.declared.units.Setting.{Setting}
 use Rattle.ppunit.specs.declared.units.UnitOut.{UnitOut}
 use Rattle.ppunit.specs.Laws.{Grows}
 use Rattle.ppunit.specs.Unit.{IsUnit}
-use Rattle.pppool.specs.declared.keeping.Keep.{Keep}
-use Rattle.pppool.specs.Kept.{IsKept, AreKept, kept}
-use Rattle.pppool.proofs.Kept.{kept_grows}
+use Rattle.pppool.specs.declared.retention.Retain.{Retain}
+use Rattle.pppool.specs.Retained.{IsRetained, AreRetained, retained}
+use Rattle.pppool.proofs.Retained.{kept_grows}
 use Rattle.ppunit.specs.Capped.{IsInBudget, IsCappedOver, StaysInBudget, BudgetCaps}
 use Rattle.ppunit.specs.Units.{AreUnits, AreInBudget, AreCapped}
 use Rattle.pppool.specs.Desk.{DeskId, SeatView, times, claims_of, once_below}
 use Rattle.pppool.specs.Laws.{ListGrows}
-use Rattle.pppool.specs.Workers.{Answer, AreAnswers, AllFilled, FitSlots, answered, placed}
+use Rattle.pppool.specs.code.Workers.{UnitResult, AreUnitResults, AllFilled, FitSlots, result_units, filled_slots}
 use Rattle.pppool.proofs.Answering.{times_other}
 use Rattle.pppool.proofs.Closing.{claims-append}
 use Rattle.pppool.proofs.Totals.{times-append, below_once_one}
 
-pub placed_push : (slots : List (Option UnitOut)) (answers : List Answer) (a : Answer) → placed slots (answers ++ a ∷ []) ≡ set (placed slots answers) a.unit (Some a.out)
+pub placed_push : (slots : List (Option UnitOut)) (results : List UnitResult) (a : UnitResult) → filled_slots slots (results ++ a ∷ []) ≡ set (filled_slots slots results) a.unit (Some a.out)
 placed_push slots [] a = refl
-placed_push slots (x ∷ answers) a = placed_push (set slots x.unit (Some x.out)) answers a
+placed_push slots (x ∷ results) a = placed_push (set slots x.unit (Some x.out)) results a
 
 -- one element of two lists side by side is set
 zip_set : {A B : Type 0} (R : A → B → Type 0) (xs : List A) (ys : List B) (k : ℕ) (y : B) → AllZip R xs ys → ((d : A) → k < length xs → R (get_or xs k d) y) → AllZip R xs (set ys k y)
@@ -48,36 +48,36 @@ if_some_map P Q (Some x) more h = more x h
 
 -- what stands in slots over some files stands there over more
 pub slots_grow : Grows
-    → (keep : Keep) (stock : TableView) (old new : Files) (setting : Setting) (units : List UnitOfList) (slots : List (Option UnitOut))
+    → (retain : Retain) (stock : TableView) (old new : Files) (setting : Setting) (units : List UnitOfList) (slots : List (Option UnitOut))
     → Extends new old
-    → FitSlots keep stock old setting units slots
-    → FitSlots keep stock new setting units slots
-slots_grow grows keep stock old new setting units slots more fit =
-    let At : Files → UnitOfList → UnitOut → Type 0 = λ files unit out. IsKept keep stock.names files setting unit out in
+    → FitSlots retain stock old setting units slots
+    → FitSlots retain stock new setting units slots
+slots_grow grows retain stock old new setting units slots more fit =
+    let At : Files → UnitOfList → UnitOut → Type 0 = λ files unit out. IsRetained retain stock.names files setting unit out in
     zip_map (λ unit slot. IfSome slot (At old unit)) (λ unit slot. IfSome slot (At new unit)) units slots
-    (λ unit slot h. if_some_map (At old unit) (At new unit) slot (λ out is. kept_grows grows keep stock.names old new setting unit out more is) h) fit
+    (λ unit slot h. if_some_map (At old unit) (At new unit) slot (λ out is. kept_grows grows retain stock.names old new setting unit out more is) h) fit
 
 -- answers that are their units' values go into slots
-pub slots_placed : (keep : Keep) (stock : TableView) (files : Files) (setting : Setting) (units : List UnitOfList) (slots : List (Option UnitOut))
-    (answers : List Answer)
-    → FitSlots keep stock files setting units slots
-    → AreAnswers keep stock files setting units answers
-    → FitSlots keep stock files setting units (placed slots answers)
-slots_placed keep stock files setting units slots [] fit all = fit
-slots_placed keep stock files setting units slots (a ∷ answers) fit all =
+pub slots_placed : (retain : Retain) (stock : TableView) (files : Files) (setting : Setting) (units : List UnitOfList) (slots : List (Option UnitOut))
+    (results : List UnitResult)
+    → FitSlots retain stock files setting units slots
+    → AreUnitResults retain stock files setting units results
+    → FitSlots retain stock files setting units (filled_slots slots results)
+slots_placed retain stock files setting units slots [] fit all = fit
+slots_placed retain stock files setting units slots (a ∷ results) fit all =
     let first = all 0 a (omega arith) in
-    let R : UnitOfList → Option UnitOut → Type 0 = λ unit slot. IfSome slot (λ out. IsKept keep stock.names files setting unit out) in
-    slots_placed keep stock files setting units (set slots a.unit (Some a.out)) answers (zip_set R units slots a.unit (Some a.out) fit (λ d w. first.value d)) (λ k d w. all (suc k) d (omega arith))
+    let R : UnitOfList → Option UnitOut → Type 0 = λ unit slot. IfSome slot (λ out. IsRetained retain stock.names files setting unit out) in
+    slots_placed retain stock files setting units (set slots a.unit (Some a.out)) results (zip_set R units slots a.unit (Some a.out) fit (λ d w. first.value d)) (λ k d w. all (suc k) d (omega arith))
 
-none_fit : (keep : Keep) (stock : TableView) (files : Files) (setting : Setting) (units : List UnitOfList) → FitSlots keep stock files setting units (replicate (length units) None)
-none_fit keep stock files setting [] = tt
-none_fit keep stock files setting (u ∷ units) = (tt, none_fit keep stock files setting units)
+none_fit : (retain : Retain) (stock : TableView) (files : Files) (setting : Setting) (units : List UnitOfList) → FitSlots retain stock files setting units (replicate (length units) None)
+none_fit retain stock files setting [] = tt
+none_fit retain stock files setting (u ∷ units) = (tt, none_fit retain stock files setting units)
 
 -- empty slots
-pub slots_empty : (keep : Keep) (stock : TableView) (files : Files) (setting : Setting) (units : List UnitOfList) (slots : List (Option UnitOut)) → slots ≡ replicate (length units) None → FitSlots keep stock files setting units slots
-slots_empty keep stock files setting units slots is =
-    let P : List (Option UnitOut) → Type 0 = FitSlots keep stock files setting units in
-    subst P (sym is) (none_fit keep stock files setting units)
+pub slots_empty : (retain : Retain) (stock : TableView) (files : Files) (setting : Setting) (units : List UnitOfList) (slots : List (Option UnitOut)) → slots ≡ replicate (length units) None → FitSlots retain stock files setting units slots
+slots_empty retain stock files setting units slots is =
+    let P : List (Option UnitOut) → Type 0 = FitSlots retain stock files setting units in
+    subst P (sym is) (none_fit retain stock files setting units)
 
 -- a slot that was full stays full, and each answer's slot is full
 full_set : (slots : List (Option UnitOut)) (j i : ℕ) (out : UnitOut) → IsSome (get_or slots i None) → IsSome (get_or (set slots j (Some out)) i None)
@@ -91,64 +91,64 @@ full_set slots j i out h =
       | inr e ↦ subst P (sym (get_or-set_other slots j i (Some out) None e)) h
     ]
 
-pub placed_stays : (slots : List (Option UnitOut)) (answers : List Answer) (i : ℕ) → IsSome (get_or slots i None) → IsSome (get_or (placed slots answers) i None)
+pub placed_stays : (slots : List (Option UnitOut)) (results : List UnitResult) (i : ℕ) → IsSome (get_or slots i None) → IsSome (get_or (filled_slots slots results) i None)
 placed_stays slots [] i h = h
-placed_stays slots (a ∷ answers) i h = placed_stays (set slots a.unit (Some a.out)) answers i (full_set slots a.unit i a.out h)
+placed_stays slots (a ∷ results) i h = placed_stays (set slots a.unit (Some a.out)) results i (full_set slots a.unit i a.out h)
 
-pub placed_fills : (slots : List (Option UnitOut)) (answers : List Answer) (i : ℕ) → i < length slots → 0 < times i (answered answers) → IsSome (get_or (placed slots answers) i None)
+pub placed_fills : (slots : List (Option UnitOut)) (results : List UnitResult) (i : ℕ) → i < length slots → 0 < times i (result_units results) → IsSome (get_or (filled_slots slots results) i None)
 placed_fills slots [] i w h = absurd (omega arith)
-placed_fills slots (a ∷ answers) i w h =
+placed_fills slots (a ∷ results) i w h =
     let P : Option UnitOut → Type 0 = IsSome in
     elim (cases_eq i a.unit) [
-      | inl e ↦ placed_stays (set slots a.unit (Some a.out)) answers i (subst P (sym (ap (λ k. get_or (set slots a.unit (Some a.out)) k None) e ∙ get_or-set_same slots a.unit (Some a.out) None (omega arith))) refl)
+      | inl e ↦ placed_stays (set slots a.unit (Some a.out)) results i (subst P (sym (ap (λ k. get_or (set slots a.unit (Some a.out)) k None) e ∙ get_or-set_same slots a.unit (Some a.out) None (omega arith))) refl)
       | inr e ↦
           let none = times_other i a.unit e in
-          let sum = times-append i (a.unit ∷ []) (answered answers) in
-          placed_fills (set slots a.unit (Some a.out)) answers i (let l = length-set slots a.unit (Some a.out) in omega arith) (omega arith)
+          let sum = times-append i (a.unit ∷ []) (result_units results) in
+          placed_fills (set slots a.unit (Some a.out)) results i (let l = length-set slots a.unit (Some a.out) in omega arith) (omega arith)
     ]
 
 -- at the end the slots have what is kept of the units' values
-pub are_kept : (keep : Keep) (stock : TableView) (files : Files) (setting : Setting) (units : List UnitOfList) (outs : List UnitOut)
-    → FitSlots keep stock files setting units (map (λ x. Some x) outs)
-    → AreKept keep stock.names files setting units outs
-are_kept keep stock files setting [] [] fit = record { wholes = []; values = tt; same = refl }
-are_kept keep stock files setting [] (out ∷ outs) fit = elim fit [ ]
-are_kept keep stock files setting (u ∷ units) [] fit = elim fit [ ]
-are_kept keep stock files setting (u ∷ units) (out ∷ outs) fit =
-    let rest = are_kept keep stock files setting units outs fit.1 in
+pub are_kept : (retain : Retain) (stock : TableView) (files : Files) (setting : Setting) (units : List UnitOfList) (outs : List UnitOut)
+    → FitSlots retain stock files setting units (map (λ x. Some x) outs)
+    → AreRetained retain stock.names files setting units outs
+are_kept retain stock files setting [] [] fit = record { wholes = []; values = tt; same = refl }
+are_kept retain stock files setting [] (out ∷ outs) fit = elim fit [ ]
+are_kept retain stock files setting (u ∷ units) [] fit = elim fit [ ]
+are_kept retain stock files setting (u ∷ units) (out ∷ outs) fit =
+    let rest = are_kept retain stock files setting units outs fit.1 in
     record {
       wholes = fit.0.whole ∷ rest.wholes;
       values = (fit.0.value, rest.values);
-      same = ap (λ (o : UnitOut). o ∷ outs) fit.0.same ∙ ap (λ (os : List UnitOut). kept keep fit.0.whole ∷ os) rest.same;
+      same = ap (λ (o : UnitOut). o ∷ outs) fit.0.same ∙ ap (λ (os : List UnitOut). retained retain fit.0.whole ∷ os) rest.same;
     }
 
 -- ---- what comes of a worker that is done
 
 -- each unit has a slot
-pub slots_long : (keep : Keep) (stock : TableView) (files : Files) (setting : Setting) (units : List UnitOfList) (slots : List (Option UnitOut))
-    → FitSlots keep stock files setting units slots
+pub slots_long : (retain : Retain) (stock : TableView) (files : Files) (setting : Setting) (units : List UnitOfList) (slots : List (Option UnitOut))
+    → FitSlots retain stock files setting units slots
     → (i : ℕ)
     → i < length units
     → i < length slots
-slots_long keep stock files setting units slots fit i w =
-    let long = AllZip-long (λ unit slot. IfSome slot (λ out. IsKept keep stock.names files setting unit out)) units slots fit in
+slots_long retain stock files setting units slots fit i w =
+    let long = AllZip-long (λ unit slot. IfSome slot (λ out. IsRetained retain stock.names files setting unit out)) units slots fit in
     omega arith
 
 -- each answer has a slot
-pub within_slots : (keep : Keep) (stock : TableView) (mine theirs : Files) (setting : Setting) (units : List UnitOfList) (slots : List (Option UnitOut))
-    (answers : List Answer)
-    → FitSlots keep stock mine setting units slots
-    → AreAnswers keep stock theirs setting units answers
-    → All (λ a. a.unit < length slots) answers
-within_slots keep stock mine theirs setting units slots answers fit all k d w = slots_long keep stock mine setting units slots fit (get_or answers k d).unit (all k d w).within
+pub within_slots : (retain : Retain) (stock : TableView) (mine theirs : Files) (setting : Setting) (units : List UnitOfList) (slots : List (Option UnitOut))
+    (results : List UnitResult)
+    → FitSlots retain stock mine setting units slots
+    → AreUnitResults retain stock theirs setting units results
+    → All (λ a. a.unit < length slots) results
+within_slots retain stock mine theirs setting units slots results fit all k d w = slots_long retain stock mine setting units slots fit (get_or results k d).unit (all k d w).within
 
 -- a seat more is handed in
 pub filled_push : (count block : ℕ) (seats more : List SeatView) (seat : SeatView) (old new : List (Option UnitOut)) → more ≡ seats ++ seat ∷ [] → AllFilled count block (claims_of seats) old
     → ((i : ℕ) → IsSome (get_or old i None) → IsSome (get_or new i None)) → ((i : ℕ) → i < count → 0 < times (i / block) seat.claims → IsSome (get_or new i None)) → AllFilled count block (claims_of more) new
-filled_push count block seats more seat old new is all stay put i w h =
+filled_push count block seats more seat old new is all stay fill_slot i w h =
     let sum = ap (λ l. times (i / block) (claims_of l)) is ∙ claims-append (i / block) seats seat in
     elim (cases_lt 0 (times (i / block) seat.claims)) [
-      | inl e ↦ put i w e
+      | inl e ↦ fill_slot i w e
       | inr e ↦ stay i (all i w (omega arith))
     ]
 
@@ -171,10 +171,10 @@ if_ok_then (Ok x) p more = more x p
 if_ok_then (Err e) p more = tt
 
 -- where each block was claimed, all slots are full
-pub all_full : (keep : Keep) (stock : TableView) (files : Files) (setting : Setting) (units : List UnitOfList) (block blocks : ℕ) (claims : List ℕ) (slots : List (Option UnitOut)) → FitSlots keep stock files setting units slots
+pub all_full : (retain : Retain) (stock : TableView) (files : Files) (setting : Setting) (units : List UnitOfList) (block blocks : ℕ) (claims : List ℕ) (slots : List (Option UnitOut)) → FitSlots retain stock files setting units slots
     → AllFilled (length units) block claims slots → ((x : ℕ) → times x claims ≡ once_below x blocks) → ((i : ℕ) → i < length units → i / block < blocks) → All (λ s. IsSome s) slots
-all_full keep stock files setting units block blocks claims slots fit full whole below k d w =
-    let long = AllZip-long (λ unit slot. IfSome slot (λ out. IsKept keep stock.names files setting unit out)) units slots fit in
+all_full retain stock files setting units block blocks claims slots fit full whole below k d w =
+    let long = AllZip-long (λ unit slot. IfSome slot (λ out. IsRetained retain stock.names files setting unit out)) units slots fit in
     let u : k < length units = omega arith in
     let P : Option UnitOut → Type 0 = IsSome in
     let once = below_once_one (k / block) blocks (below k u) in
@@ -182,21 +182,21 @@ all_full keep stock files setting units block blocks claims slots fit full whole
     subst P (get_or_default slots k None d w) (full k u (omega arith))
 
 pub list_grows : Grows → ListGrows
-list_grows grows names files more setting units answers extends are =
-    zip_map (λ unit out. IsUnit names files setting unit out) (λ unit out. IsUnit names more setting unit out) units answers (λ unit out is. (grows names files more setting unit out extends is).0) are
+list_grows grows names files more setting units results extends are =
+    zip_map (λ unit out. IsUnit names files setting unit out) (λ unit out. IsUnit names more setting unit out) units results (λ unit out is. (grows names files more setting unit out extends is).0) are
 
 -- units replace and open no more than their budget allows
-pub are_within : StaysInBudget → (names : List (List ℕ)) (files : Files) (setting : Setting) (units : List UnitOfList) (answers : List UnitOut)
-    → AreUnits names files setting units answers → AreInBudget names files setting units answers
-are_within stays names files setting units answers are =
+pub are_within : StaysInBudget → (names : List (List ℕ)) (files : Files) (setting : Setting) (units : List UnitOfList) (results : List UnitOut)
+    → AreUnits names files setting units results → AreInBudget names files setting units results
+are_within stays names files setting units results are =
     let Is : UnitOfList → UnitOut → Type 0 = λ unit out. IsUnit names files setting unit out in
     let Within : UnitOfList → UnitOut → Type 0 = λ unit out. IsInBudget names files setting unit out in
-    zip_map Is Within units answers (λ unit out is. stays names files setting unit out) are
+    zip_map Is Within units results (λ unit out is. stays names files setting unit out) are
 
 -- what units give over some files is capped by their budget over any more
-pub are_capped : BudgetCaps → (names : List (List ℕ)) (files : Files) (setting : Setting) (units : List UnitOfList) (answers : List UnitOut) → AreNames names
-    → AreUnits names files setting units answers → AreCapped names files setting units answers
-are_capped caps names files setting units answers named are =
+pub are_capped : BudgetCaps → (names : List (List ℕ)) (files : Files) (setting : Setting) (units : List UnitOfList) (results : List UnitOut) → AreNames names
+    → AreUnits names files setting units results → AreCapped names files setting units results
+are_capped caps names files setting units results named are =
     let Is : UnitOfList → UnitOut → Type 0 = λ unit out. IsUnit names files setting unit out in
     let IsCapped : UnitOfList → UnitOut → Type 0 = λ unit out. IsCappedOver names files setting unit out in
-    zip_map Is IsCapped units answers (λ unit out is. caps names files setting unit out named is) are
+    zip_map Is IsCapped units results (λ unit out is. caps names files setting unit out named is) are

@@ -3,23 +3,23 @@ use Rattle.std.proofs.Common.{◌≡◌, ℕ, zero, suc, ◌+◌, ◌<◌, ◌�
 use mathlib.Core.Option.{some, some-injective, some-ne-none}
 use lib.ListN.{get_elem?}
 use Rattle.std.proofs.lemmas.Bool.Decides.{nat_tests}
-use Rattle.pppool.specs.declared.hand.Hand.{Hand}
+use Rattle.pppool.specs.declared.seat_state.SeatState.{SeatState}
 use Rattle.pppool.specs.Desk.{times, total, once_below}
 
-pub total_set : (f : Hand → ℕ) (views : List Hand) (id : ℕ) (v w : Hand) → get_elem? views id ≡ some v → total f (set views id w) + f v ≡ total f views + f w
+pub total_set : (f : SeatState → ℕ) (views : List SeatState) (id : ℕ) (v w : SeatState) → get_elem? views id ≡ some v → total f (set views id w) + f v ≡ total f views + f w
 total_set f [] id v w at = absurd (some-ne-none v (sym at))
 total_set f (x ∷ xs) zero v w at = let e = ap f (some-injective x v at) in omega arith
 total_set f (x ∷ xs) (suc id) v w at = let e = total_set f xs id v w at in omega arith
 
-pub total_snoc : (f : Hand → ℕ) (views : List Hand) (w : Hand) → total f (views ++ w ∷ []) ≡ total f views + f w
+pub total_snoc : (f : SeatState → ℕ) (views : List SeatState) (w : SeatState) → total f (views ++ w ∷ []) ≡ total f views + f w
 total_snoc f [] w = omega arith
 total_snoc f (x ∷ xs) w = let e = total_snoc f xs w in omega arith
 
-pub total_le : (f h : Hand → ℕ) (views : List Hand) → ((id : ℕ) (v : Hand) → get_elem? views id ≡ some v → f v ≤ h v) → total f views ≤ total h views
+pub total_le : (f h : SeatState → ℕ) (views : List SeatState) → ((id : ℕ) (v : SeatState) → get_elem? views id ≡ some v → f v ≤ h v) → total f views ≤ total h views
 total_le f h [] all = omega arith
 total_le f h (x ∷ xs) all = let e = total_le f h xs (λ id v at. all (suc id) v at) in let d = all 0 x refl in omega arith
 
-pub total_at : (f : Hand → ℕ) (views : List Hand) (id : ℕ) (v : Hand) → get_elem? views id ≡ some v → f v ≤ total f views
+pub total_at : (f : SeatState → ℕ) (views : List SeatState) (id : ℕ) (v : SeatState) → get_elem? views id ≡ some v → f v ≤ total f views
 total_at f [] id v at = absurd (some-ne-none v (sym at))
 total_at f (x ∷ xs) zero v at = let e = ap f (some-injective x v at) in omega arith
 total_at f (x ∷ xs) (suc id) v at = let e = total_at f xs id v at in omega arith

@@ -6,16 +6,16 @@ use lib.ListN.{get_elem?}
 use Rattle.atomic_table.specs.Table.{State, Me, Step}
 use Rattle.atomic_table.specs.Seated.{TableId}
 use Rattle.ppshelf.specs.Files.{most_rows}
-use Rattle.pppool.specs.declared.hand.Hand.{Hand}
-use Rattle.pppool.specs.declared.hand.Plan.{Plan}
+use Rattle.pppool.specs.declared.seat_state.SeatState.{SeatState}
+use Rattle.pppool.specs.declared.seat_state.Plan.{Plan}
 
 -- the largest number of blocks of a desk: one for each unit of the longest list
 abbrev pub most_blocks : ℕ
 most_blocks = most_rows
 
 -- the state of a seat
-abbrev pub hand : List ℕ → ℕ → ℕ → Plan → Hand
-hand claims marks seats plan = record { claims = claims; marks = marks; seats = seats; plan = plan }
+abbrev pub seat_state : List ℕ → ℕ → ℕ → Plan → SeatState
+seat_state claims empty_claims seats plan = record { claims = claims; empty_claims = empty_claims; seats = seats; plan = plan }
 
 -- how often a number occurs in a list
 abbrev pub times : ℕ → List ℕ → ℕ
@@ -23,7 +23,7 @@ times x [] = 0
 times x (y ∷ ys) = (if y == x then 1 else 0) + times x ys
 
 -- the sum of f over seats
-abbrev pub total : (Hand → ℕ) → List Hand → ℕ
+abbrev pub total : (SeatState → ℕ) → List SeatState → ℕ
 total f [] = 0
 total f (v ∷ vs) = f v + total f vs
 
@@ -33,29 +33,29 @@ once_below x n = if nat_lt x n then 1 else 0
 
 -- A seat has found no block left at most once for each seat that is joined in it; and only if the word has passed the
 -- last block.
-pub record FitsHand (p : Plan) (n : ℕ) (v : Hand) : Type 0 where
-  pub marks : v.marks ≤ v.seats
+pub record FitsSeat (p : Plan) (n : ℕ) (v : SeatState) : Type 0 where
+  pub empty_claims : v.empty_claims ≤ v.seats
   pub idle : v.seats ≡ 0 → v.claims ≡ []
   pub plan : 0 < v.seats → v.plan ≡ p
-  pub marked : 0 < v.marks → p.blocks < n
+  pub passed_last : 0 < v.empty_claims → p.blocks < n
 
 -- The claims of all seats together are the blocks below the word, each once. The word has passed the last block once
 -- for each time that a seat found none left.
-pub record Dealt (p : Plan) (s : State ℕ Hand) : Type 0 where
+pub record ClaimInvariant (p : Plan) (s : State ℕ SeatState) : Type 0 where
   pub small : (p.blocks ≤ most_blocks) × (p.seats ≤ 64)
   pub word : length s.words ≡ 1
   pub claims : (x : ℕ) → total (λ v. times x v.claims) s.views ≡ once_below x (min (slice_index s.words 0) p.blocks)
   pub seats : total (λ v. v.seats) s.views ≡ p.seats
-  pub each : (id : ℕ) (v : Hand) → get_elem? s.views id ≡ some v → FitsHand p (slice_index s.words 0) v
-  pub room : slice_index s.words 0 ≤ p.blocks + total (λ v. v.marks) s.views
+  pub each : (id : ℕ) (v : SeatState) → get_elem? s.views id ≡ some v → FitsSeat p (slice_index s.words 0) v
+  pub room : slice_index s.words 0 ≤ p.blocks + total (λ v. v.empty_claims) s.views
 
 -- What one claim does: it takes a block above all that the seat has, or finds no block left and counts that
-abbrev pub Claims : Step ℕ → Me ℕ Hand → ℕ → Me ℕ Hand → Type 0
+abbrev pub Claims : Step ℕ → Me ℕ SeatState → ℕ → Me ℕ SeatState → Type 0
 Claims s me found after =
     (after.1 ≡ [])
     × MatchBool (nat_lt found me.0.plan.blocks)
-    ((after.0 ≡ hand (me.0.claims ++ found ∷ []) me.0.marks me.0.seats me.0.plan) × All (λ c. c < found) me.0.claims)
-    (after.0 ≡ hand me.0.claims (me.0.marks + 1) me.0.seats me.0.plan)
+    ((after.0 ≡ seat_state (me.0.claims ++ found ∷ []) me.0.empty_claims me.0.seats me.0.plan) × All (λ c. c < found) me.0.claims)
+    (after.0 ≡ seat_state me.0.claims (me.0.empty_claims + 1) me.0.seats me.0.plan)
 
 -- The identity of a desk: the table that has its word, and its plan
 pub record DeskId : Type 0 where

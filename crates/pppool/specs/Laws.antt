@@ -9,15 +9,15 @@ use Rattle.ppunit.specs.declared.units.UnitOut.{UnitOut}
 use Rattle.ppunit.specs.Unit.{IsUnit}
 use Rattle.ppunit.specs.Units.{AreUnits}
 use Rattle.ppunit.specs.Laws.{KnowsAll}
-use Rattle.pppool.specs.declared.keeping.Keep.{Keep}
-use Rattle.pppool.specs.Kept.{AreKept}
+use Rattle.pppool.specs.declared.retention.Retain.{Retain}
+use Rattle.pppool.specs.Retained.{AreRetained}
 
 -- the values of units over some files, such as those that one worker knows, are their values over any larger set, such
 -- as those that all workers know
 abbrev pub ListGrows : Type 0
 ListGrows =
-    (names : List (List ℕ)) (files more : Files) (setting : Setting) (units : List UnitOfList) (answers : List UnitOut)
-    → Extends more files → AreUnits names files setting units answers → AreUnits names more setting units answers
+    (names : List (List ℕ)) (files more : Files) (setting : Setting) (units : List UnitOfList) (results : List UnitOut)
+    → Extends more files → AreUnits names files setting units results → AreUnits names more setting units results
 
 -- two maps of files that were merged with others into one agree, however often that one was merged further
 abbrev pub JoinedAgree : Type 0
@@ -30,20 +30,20 @@ IsOnlyValue names files setting unit out = (other : UnitOut) → IsUnit names fi
 -- The value of each unit over one set of files is its only value over any larger set.
 abbrev pub EachHasOneValue : Type 0
 EachHasOneValue =
-    (names : List (List ℕ)) (files more : Files) (setting : Setting) (units : List UnitOfList) (answers : List UnitOut)
+    (names : List (List ℕ)) (files more : Files) (setting : Setting) (units : List UnitOfList) (results : List UnitOut)
     → AreNames names
-    → AreUnits names files setting units answers
+    → AreUnits names files setting units results
     → Extends more files
-    → AllZip (λ unit out. IsOnlyValue names more setting unit out) units answers
+    → AllZip (λ unit out. IsOnlyValue names more setting unit out) units results
 
 -- and so is what is kept of a list's values
-abbrev pub KeepsOneList : Type 0
-KeepsOneList =
-    (keep : Keep) (names : List (List ℕ)) (files more : Files) (setting : Setting) (units : List UnitOfList) (outs others : List UnitOut)
+abbrev pub RetainsOneList : Type 0
+RetainsOneList =
+    (retain : Retain) (names : List (List ℕ)) (files more : Files) (setting : Setting) (units : List UnitOfList) (outs others : List UnitOut)
     → AreNames names
-    → AreKept keep names files setting units outs
+    → AreRetained retain names files setting units outs
     → Extends more files
-    → AreKept keep names more setting units others ↔ (others ≡ outs)
+    → AreRetained retain names more setting units others ↔ (others ≡ outs)
 
 -- if each file's content is known, units whose files are among them have values, with any budget and without one
 abbrev pub HasSomeValues : Type 0
@@ -51,4 +51,4 @@ HasSomeValues =
     (names : List (List ℕ)) (files : Files) (setting : Setting) (units : List UnitOfList)
     → KnowsAll names files
     → All (λ unit. unit.file < length names) units
-    → (answers : List UnitOut) × AreUnits names files setting units answers
+    → (results : List UnitOut) × AreUnits names files setting units results

@@ -1,4 +1,4 @@
-pub mod Kept
+pub mod Retained
 pub mod Desk
-pub mod Workers
 pub mod Laws
+pub mod code

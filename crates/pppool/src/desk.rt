@@ -3,8 +3,8 @@ ghost use Rattle.std.specs.Prelude.{◌≡◌, ℕ, ◌<◌, ◌≤◌, ◌==◌
 ghost use Rattle.std.specs.Prelude.{IfOk, IfSome, IfNone, IsTrue, if◌then◌else◌};
 ghost use Rattle.pppool.specs.Desk.{most_blocks, times, once_below, claims_of, any_empty, plan_of, new_seat};
 
-use crate::dealing::{Claimed, Dealing, OneSeat, Together};
-use crate::hand::{Hand, Plan};
+use crate::claim_protocol::{ClaimBlock, ClaimProtocol, SplitSeat, JoinSeats};
+use crate::seat_state::{SeatState, Plan};
 use atomic_table::{Seat, Table};
 use pptext::Memory;
 use std::alloc::Global;
@@ -14,7 +14,7 @@ use std::marker::Model;
 /// one atomic addition.
 #[derive(Drop)]
 pub struct Desk {
-    table: Table<u8, Hand, Plan, Dealing, Global>,
+    table: Table<u8, SeatState, Plan, ClaimProtocol, Global>,
     plan: Plan,
 }
 
@@ -32,7 +32,7 @@ impl Model for Desk {
 /// A seat: the right of one thread to claim blocks of one desk.
 #[derive(Drop)]
 pub struct DeskSeat {
-    seat: Seat<u8, Hand>,
+    seat: Seat<u8, SeatState>,
     found_empty: bool,
 }
 
@@ -48,7 +48,7 @@ impl Model for DeskSeat {
       found_empty = s.found_empty;
     } };
 
-    ghost invariant = { λ s. (s.seat.me.1 ≡ []) × (s.seat.me.0.seats ≡ 1) × (s.seat.me.0.marks ≡ (if s.found_empty then 1 else 0)) };
+    ghost invariant = { λ s. (s.seat.me.1 ≡ []) × (s.seat.me.0.seats ≡ 1) × (s.seat.me.0.empty_claims ≡ (if s.found_empty then 1 else 0)) };
 }
 
 impl Desk {
@@ -68,7 +68,7 @@ impl Desk {
         let (table, mut first) = Table::of_words(alloc, &[0], &plan)?;
         let mut all = Vec::with_capacity(alloc, seats)?;
         for _ in 0..seats {
-            let seat = table.shared.split_seat::<OneSeat>(&mut first);
+            let seat = table.shared.split_seat::<SplitSeat>(&mut first);
             all.push(DeskSeat {
                 seat,
                 found_empty: false,
@@ -90,7 +90,7 @@ impl Desk {
         if seat.found_empty {
             return None;
         }
-        let found = self.table.shared.fetch_add::<Claimed>(&mut seat.seat, 0, 1);
+        let found = self.table.shared.fetch_add::<ClaimBlock>(&mut seat.seat, 0, 1);
         if found < self.plan.blocks {
             Some(found)
         } else {
@@ -116,7 +116,7 @@ impl Desk {
         let (mut all, mut found_empty) = one.into_parts();
         while let Some(other) = seats.pop() {
             let (seat, empty) = other.into_parts();
-            self.table.shared.join_seat::<Together>(&mut all, seat);
+            self.table.shared.join_seat::<JoinSeats>(&mut all, seat);
             found_empty = found_empty || empty;
         }
         let whole = found_empty && count as u64 == self.plan.seats;
@@ -128,10 +128,10 @@ impl Desk {
 
 impl DeskSeat {
     /// Returns the seat of the table, and whether it found no block left.
-    fn into_parts(self) -> (Seat<u8, Hand>, bool)
+    fn into_parts(self) -> (Seat<u8, SeatState>, bool)
         ensures desk { (result.0.table_id ≡ self.desk.table) × (result.0.me.0.plan ≡ self.desk.plan) }
         ensures seat { (result.0.me.1 ≡ []) × (result.0.me.0.seats ≡ 1) × (result.0.me.0.claims ≡ self.claims) }
-        ensures mark { (result.1 ≡ self.found_empty) × (result.0.me.0.marks ≡ (if result.1 then 1 else 0)) }
+        ensures mark { (result.1 ≡ self.found_empty) × (result.0.me.0.empty_claims ≡ (if result.1 then 1 else 0)) }
     {
         let DeskSeat { seat, found_empty } = self;
         (seat, found_empty)

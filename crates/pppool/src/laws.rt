@@ -1,5 +1,5 @@
 //! Theorems: functions that do nothing, whose contracts state the theorems. They call the theorems that they rest on.
-ghost use Rattle.pppool.specs.Laws.{EachHasOneValue, HasSomeValues, JoinedAgree, KeepsOneList, ListGrows};
+ghost use Rattle.pppool.specs.Laws.{EachHasOneValue, HasSomeValues, JoinedAgree, RetainsOneList, ListGrows};
 
 use ppunit::{growth, one_value, some_value};
 
@@ -14,7 +14,7 @@ pub fn list_growth()
 /// after `run`, are their only values over any larger set; and so is what is kept of them.
 pub fn each_unit_has_one_value()
     ensures values { EachHasOneValue }
-    ensures kept { KeepsOneList }
+    ensures retained { RetainsOneList }
 {
     one_value();
     growth();

@@ -2,19 +2,19 @@
 #![tactic(auto)]
 
 mod batch;
-mod dealing;
+mod claim_protocol;
 mod desk;
 mod gate;
-mod hand;
-mod keeping;
+mod seat_state;
+mod retention;
 mod laws;
-mod running;
+mod run_units;
 mod slots;
 mod workers;
 
 pub use batch::Batch;
 pub use desk::{Desk, DeskSeat};
 pub use gate::Gate;
-pub use keeping::Keep;
+pub use retention::Retain;
 pub use laws::{each_unit_has_one_value, joined_passes_agree, list_growth, some_values};
-pub use running::{run, run_keeping};
+pub use run_units::{run, run_retaining};

@@ -1,8 +1,8 @@
 //! Slots: one for each unit of the list, for the unit's output.
 ghost use Rattle.std.specs.Prelude.{◌≡◌, ◌<◌, length, All, IfOk, IsSome, Some, None, map, replicate, slice_set};
-ghost use Rattle.pppool.specs.Workers.{placed};
+ghost use Rattle.pppool.specs.code.Workers.{filled_slots};
 
-use crate::workers::Answer;
+use crate::workers::UnitResult;
 use pptext::Memory;
 use ppunit::UnitOut;
 use std::alloc::Global;
@@ -22,26 +22,26 @@ pub(crate) fn empty_slots<'a>(
 }
 
 /// Moves each output into its unit's slot.
-pub(crate) fn place<'a>(answers: Vec<Answer<'a>>, slots: &mut Vec<Option<UnitOut<'a>>>)
-    requires { All (λ a. a.unit < length slots.old.items) answers.items }
-    ensures { slots.new.items ≡ placed slots.old.items answers.entry.items }
+pub(crate) fn fill_slots<'a>(results: Vec<UnitResult<'a>>, slots: &mut Vec<Option<UnitOut<'a>>>)
+    requires { All (λ a. a.unit < length slots.old.items) results.items }
+    ensures { slots.new.items ≡ filled_slots slots.old.items results.entry.items }
 {
-    for answer in answers {
-        put(slots, answer);
+    for unit_result in results {
+        fill_slot(slots, unit_result);
     }
 }
 
 /// Moves an output into its unit's slot.
-fn put<'a>(slots: &mut Vec<Option<UnitOut<'a>>>, answer: Answer<'a>)
-    requires { answer.unit < length slots.old.items }
-    ensures { slots.new.items ≡ slice_set slots.old.items answer.entry.unit (Some answer.entry.out) }
+fn fill_slot<'a>(slots: &mut Vec<Option<UnitOut<'a>>>, unit_result: UnitResult<'a>)
+    requires { unit_result.unit < length slots.old.items }
+    ensures { slots.new.items ≡ slice_set slots.old.items unit_result.entry.unit (Some unit_result.entry.out) }
 {
-    let Answer { unit, out } = answer;
+    let UnitResult { unit, out } = unit_result;
     slots[unit] = Some(out);
 }
 
 /// Takes the outputs out of full slots.
-pub(crate) fn all_of<'a>(
+pub(crate) fn take_all<'a>(
     alloc: Global,
     slots: Vec<Option<UnitOut<'a>>>,
 ) -> Result<Vec<UnitOut<'a>>, Memory>

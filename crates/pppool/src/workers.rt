@@ -2,11 +2,11 @@
 ghost use Rattle.std.specs.Prelude.{◌≡◌, ℕ, ◌<◌, ◌≤◌, ◌/◌, [], ◌∷◌, ◌++◌, length, All, IfOk, OnOk};
 ghost use Rattle.ppunit.specs.Unit.{IsUnitOf};
 ghost use Rattle.pppool.specs.Desk.{most_blocks, new_seat, times};
-ghost use Rattle.pppool.specs.Workers.{AreAnswers, IsDone, answered};
+ghost use Rattle.pppool.specs.code.Workers.{AreUnitResults, IsDone, result_units};
 
 use crate::desk::{Desk, DeskSeat};
 use crate::gate::Gate;
-use crate::keeping::{Keep, kept};
+use crate::retention::{Retain, retained};
 use ppshelf::{Disk, Pass, Shelf};
 use pptext::Memory;
 use ppunit::{Setting, Unit, UnitOut, growth, preprocess};
@@ -22,7 +22,7 @@ pub(crate) struct Job<'a, 'j, D: Disk, G: Gate> {
     pub setting: &'j Setting,
     pub units: &'a [Unit],
     pub block: usize,
-    pub keep: Keep,
+    pub retain: Retain,
     pub desk: &'j Desk,
 }
 
@@ -36,7 +36,7 @@ impl<D: Disk, G: Gate> Drop for Job<'_, '_, D, G> {
             setting: _,
             units: _,
             block: _,
-            keep: _,
+            retain: _,
             desk: _,
         } = self;
     }
@@ -44,15 +44,15 @@ impl<D: Disk, G: Gate> Drop for Job<'_, '_, D, G> {
 
 /// What is kept of a unit's output, with the unit's number in the list.
 #[derive(Drop)]
-pub(crate) struct Answer<'a> {
+pub(crate) struct UnitResult<'a> {
     pub unit: usize,
     pub out: UnitOut<'a>,
 }
 
-impl<'a> Model for Answer<'a> {
-    ghost use Rattle.pppool.specs.Workers.{Answer};
+impl<'a> Model for UnitResult<'a> {
+    ghost use Rattle.pppool.specs.code.Workers.{UnitResult};
 
-    ghost Value = { Answer };
+    ghost Value = { UnitResult };
 
     ghost view = { λ a. record { unit = a.unit; out = a.out } };
 }
@@ -61,7 +61,7 @@ impl<'a> Model for Answer<'a> {
 pub(crate) struct Worker<'a, D: Disk> {
     pub seat: DeskSeat,
     pub pass: Pass<'a, D>,
-    pub answers: Vec<Answer<'a>>,
+    pub results: Vec<UnitResult<'a>>,
 }
 
 impl<D: Disk> Drop for Worker<'_, D> {
@@ -69,7 +69,7 @@ impl<D: Disk> Drop for Worker<'_, D> {
         let Worker {
             seat: _,
             pass: _,
-            answers: _,
+            results: _,
         } = self;
     }
 }
@@ -81,13 +81,13 @@ impl<'a, D: Disk> Worker<'a, D> {
         requires unit { unit < length job.now.units.now }
         requires profile { job.now.shelf.now.profile ≡ job.now.setting.now.profile }
         requires rows { All (IsUnitOf (length job.now.shelf.now.names) job.now.setting.now.profile) job.now.units.now }
-        requires answers { AreAnswers job.now.keep job.now.shelf.now self.old.pass.files
-            job.now.setting.now job.now.units.now self.old.answers.items }
+        requires results { AreUnitResults job.now.retain job.now.shelf.now self.old.pass.files
+            job.now.setting.now job.now.units.now self.old.results.items }
         ensures seat { self.new.seat ≡ self.old.seat }
         ensures shelf { self.new.pass.shelf ≡ job.now.shelf.now }
-        ensures answers { OnOk result (AreAnswers job.now.keep job.now.shelf.now self.new.pass.files
-            job.now.setting.now job.now.units.now self.new.answers.items) }
-        ensures answered { OnOk result (answered self.new.answers.items ≡ answered self.old.answers.items ++ unit ∷ []) }
+        ensures results { OnOk result (AreUnitResults job.now.retain job.now.shelf.now self.new.pass.files
+            job.now.setting.now job.now.units.now self.new.results.items) }
+        ensures result_units { OnOk result (result_units self.new.results.items ≡ result_units self.old.results.items ++ unit ∷ []) }
     {
         job.gate.enter(unit);
         let given = preprocess(
@@ -99,8 +99,8 @@ impl<'a, D: Disk> Worker<'a, D> {
             &job.units[unit],
         );
         growth();
-        let out = kept(job.alloc, job.keep, given?);
-        self.answers.push(Answer { unit, out })?;
+        let out = retained(job.alloc, job.retain, given?);
+        self.results.push(UnitResult { unit, out })?;
         Ok(())
     }
 
@@ -111,15 +111,15 @@ impl<'a, D: Disk> Worker<'a, D> {
         requires number { number < most_blocks }
         requires profile { job.now.shelf.now.profile ≡ job.now.setting.now.profile }
         requires rows { All (IsUnitOf (length job.now.shelf.now.names) job.now.setting.now.profile) job.now.units.now }
-        requires answers { AreAnswers job.now.keep job.now.shelf.now self.old.pass.files
-            job.now.setting.now job.now.units.now self.old.answers.items }
+        requires results { AreUnitResults job.now.retain job.now.shelf.now self.old.pass.files
+            job.now.setting.now job.now.units.now self.old.results.items }
         ensures seat { self.new.seat ≡ self.old.seat }
         ensures shelf { self.new.pass.shelf ≡ job.now.shelf.now }
-        ensures answers { OnOk result (AreAnswers job.now.keep job.now.shelf.now self.new.pass.files
-            job.now.setting.now job.now.units.now self.new.answers.items) }
-        ensures stay { OnOk result ((i : ℕ) → 0 < times i (answered self.old.answers.items) → 0 < times i (answered self.new.answers.items)) }
+        ensures results { OnOk result (AreUnitResults job.now.retain job.now.shelf.now self.new.pass.files
+            job.now.setting.now job.now.units.now self.new.results.items) }
+        ensures stay { OnOk result ((i : ℕ) → 0 < times i (result_units self.old.results.items) → 0 < times i (result_units self.new.results.items)) }
         ensures block { OnOk result ((i : ℕ) → i < length job.now.units.now → i / job.now.block ≡ number
-            → 0 < times i (answered self.new.answers.items)) }
+            → 0 < times i (result_units self.new.results.items)) }
     {
         let first = number * job.block;
         let end = (first + job.block).min(job.units.len());
@@ -137,9 +137,9 @@ impl<'a, D: Disk> Worker<'a, D> {
         requires blocks { job.now.desk.now.plan.blocks ≤ most_blocks }
         requires profile { job.now.shelf.now.profile ≡ job.now.setting.now.profile }
         requires rows { All (IsUnitOf (length job.now.shelf.now.names) job.now.setting.now.profile) job.now.units.now }
-        requires answers { self.old.answers.items ≡ [] }
-        ensures { OnOk result (IsDone job.now.keep job.now.desk.now job.now.shelf.now job.now.setting.now
-            job.now.units.now job.now.block self.new.seat self.new.pass self.new.answers.items) }
+        requires results { self.old.results.items ≡ [] }
+        ensures { OnOk result (IsDone job.now.retain job.now.desk.now job.now.shelf.now job.now.setting.now
+            job.now.units.now job.now.block self.new.seat self.new.pass self.new.results.items) }
     {
         while let Some(number) = job.desk.claim(&mut self.seat) {
             self.work_block(job, number as usize)?;
@@ -154,27 +154,27 @@ impl<'a, D: Disk> Worker<'a, D> {
         requires blocks { job.now.desk.now.plan.blocks ≤ most_blocks }
         requires profile { job.now.shelf.now.profile ≡ job.now.setting.now.profile }
         requires rows { All (IsUnitOf (length job.now.shelf.now.names) job.now.setting.now.profile) job.now.units.now }
-        ensures { IfOk result (λ w. IsDone job.now.keep job.now.desk.now job.now.shelf.now job.now.setting.now
-            job.now.units.now job.now.block w.seat w.pass w.answers.items) }
+        ensures { IfOk result (λ w. IsDone job.now.retain job.now.desk.now job.now.shelf.now job.now.setting.now
+            job.now.units.now job.now.block w.seat w.pass w.results.items) }
     {
         let mut worker = Worker {
             seat,
             pass: job.shelf.pass()?,
-            answers: Vec::new(job.alloc),
+            results: Vec::new(job.alloc),
         };
         worker.work(job)?;
         Ok(worker)
     }
 
     /// Returns the seat, the pass and the outputs.
-    pub(crate) fn into_parts(self) -> (DeskSeat, Pass<'a, D>, Vec<Answer<'a>>)
-        ensures { (result.0 ≡ self.entry.seat) × (result.1 ≡ self.entry.pass) × (result.2 ≡ self.entry.answers) }
+    pub(crate) fn into_parts(self) -> (DeskSeat, Pass<'a, D>, Vec<UnitResult<'a>>)
+        ensures { (result.0 ≡ self.entry.seat) × (result.1 ≡ self.entry.pass) × (result.2 ≡ self.entry.results) }
     {
         let Worker {
             seat,
             pass,
-            answers,
+            results,
         } = self;
-        (seat, pass, answers)
+        (seat, pass, results)
     }
 }

@@ -16,8 +16,8 @@ use Rattle.ppunit.specs.declared.units.Unit.{Unit as UnitOfList}
 use Rattle.ppunit.specs.declared.units.UnitOut.{UnitOut}
 use Rattle.ppunit.specs.Unit.{IsUnit, IsUnitOf}
 use Rattle.ppunit.proofs.Tested.{unit_of}
-use Rattle.pppool.specs.declared.keeping.Keep.{Keep}
-use Rattle.pppool.specs.Kept.{AreKept, kept}
+use Rattle.pppool.specs.declared.retention.Retain.{Retain}
+use Rattle.pppool.specs.Retained.{AreRetained, retained}
 use Rattle.ppserve.specs.declared.list.List.{List as CompilationList}
 use Rattle.ppserve.specs.Contents.{files_of, GiveOverSome}
 use Rattle.ppserve.specs.Listing.{IsRunnable}
@@ -44,18 +44,18 @@ knows_files shelf files full agree len row c e =
     ]
 
 -- what is kept of what units give over a shelf of the list's files is kept of what they give over the list's
-pub gives_all : (keep : Keep) (list : CompilationList) (shelf : TableView) (units : List UnitOfList) (outs : List UnitOut) → shelf.names ≡ list.names → shelf.base ≡ files_of list.contents → units ≡ list.units
-    → AreKept keep shelf.names shelf.base list.setting units outs → AreKept keep list.names (files_of list.contents) list.setting list.units outs
-gives_all keep list shelf units outs named is same gives =
-    let P : List (List ℕ) → Type 0 = λ ns. AreKept keep ns shelf.base list.setting units outs in
-    let Q : Files → Type 0 = λ fs. AreKept keep list.names fs list.setting units outs in
-    let R : List UnitOfList → Type 0 = λ us. AreKept keep list.names (files_of list.contents) list.setting us outs in
+pub gives_all : (retain : Retain) (list : CompilationList) (shelf : TableView) (units : List UnitOfList) (outs : List UnitOut) → shelf.names ≡ list.names → shelf.base ≡ files_of list.contents → units ≡ list.units
+    → AreRetained retain shelf.names shelf.base list.setting units outs → AreRetained retain list.names (files_of list.contents) list.setting list.units outs
+gives_all retain list shelf units outs named is same gives =
+    let P : List (List ℕ) → Type 0 = λ ns. AreRetained retain ns shelf.base list.setting units outs in
+    let Q : Files → Type 0 = λ fs. AreRetained retain list.names fs list.setting units outs in
+    let R : List UnitOfList → Type 0 = λ us. AreRetained retain list.names (files_of list.contents) list.setting us outs in
     subst R same (subst Q is (subst P named gives))
 
 -- one outcome a unit
-pub one_each : (keep : Keep) (names : List (List ℕ)) (files : Files) (setting : Setting) (units : List UnitOfList) (outs : List UnitOut) → AreKept keep names files setting units outs → length outs ≡ length units
-one_each keep names files setting units outs gives =
-    ap length gives.same ∙ (length-map gives.wholes (kept keep) ∙ AllZip-long (λ unit out. IsUnit names files setting unit out) units gives.wholes gives.values)
+pub one_each : (retain : Retain) (names : List (List ℕ)) (files : Files) (setting : Setting) (units : List UnitOfList) (outs : List UnitOut) → AreRetained retain names files setting units outs → length outs ≡ length units
+one_each retain names files setting units outs gives =
+    ap length gives.same ∙ (length-map gives.wholes (retained retain) ∙ AllZip-long (λ unit out. IsUnit names files setting unit out) units gives.wholes gives.values)
 
 -- copies of texts are the same texts
 pub same_texts : (xs ys : List (String Global)) → AllZip (λ s t. string_bytes t ≡ string_bytes s) xs ys → map string_bytes ys ≡ map string_bytes xs
@@ -84,11 +84,11 @@ filled_files contents old new empty len named long rows full =
     now.1 ∙ (ap Some content ∙ sym (get_or-map file texts row [] None in_texts)))
 
 -- what units give over some files of a shelf, they give for the list whose names the shelf has
-pub gives_from : (may : List ℕ → Content → Type 0) (keep : Keep) (list : CompilationList) (shelf : TableView) (units : List UnitOfList) (outs : List UnitOut) → shelf.names ≡ list.names → units ≡ list.units
-    → GiveOverSome may keep shelf.names list.setting units outs → GiveOverSome may keep list.names list.setting list.units outs
-gives_from may keep list shelf units outs named same gives =
-    let P : List (List ℕ) → Type 0 = λ ns. GiveOverSome may keep ns list.setting units outs in
-    let R : List UnitOfList → Type 0 = λ us. GiveOverSome may keep list.names list.setting us outs in
+pub gives_from : (may : List ℕ → Content → Type 0) (retain : Retain) (list : CompilationList) (shelf : TableView) (units : List UnitOfList) (outs : List UnitOut) → shelf.names ≡ list.names → units ≡ list.units
+    → GiveOverSome may retain shelf.names list.setting units outs → GiveOverSome may retain list.names list.setting list.units outs
+gives_from may retain list shelf units outs named same gives =
+    let P : List (List ℕ) → Type 0 = λ ns. GiveOverSome may retain ns list.setting units outs in
+    let R : List UnitOfList → Type 0 = λ us. GiveOverSome may retain list.names list.setting us outs in
     subst R same (subst P named gives)
 
 -- the units of a list that can be run are units of its shelf
@@ -104,7 +104,7 @@ pub few_units : (list : CompilationList) (units : List UnitOfList) → IsRunnabl
 few_units list units runs same = let P : List UnitOfList → Type 0 = λ us. length us ≤ most_rows in subst P (sym same) runs.many
 
 -- the output of what is needed of a list's units is the list's output
-text_of : (mode : Mode) (list : CompilationList) (units : List UnitOfList) (shown outs : List UnitOut) → units ≡ list.units → shown ≡ map (kept (needed mode)) outs
+text_of : (mode : Mode) (list : CompilationList) (units : List UnitOfList) (shown outs : List UnitOut) → units ≡ list.units → shown ≡ map (retained (needed mode)) outs
     → numbered (unit_lines mode list.names) 0 units shown ≡ output_text mode list outs
 text_of mode list units shown outs same is =
     ap (λ (us : List UnitOfList). numbered (unit_lines mode list.names) 0 us shown) same
@@ -120,7 +120,7 @@ pub record Came (inline : Bool) (Such : CompilationList → Files → Type 0) (m
 
 pub came_of : {inline : Bool} {Such : CompilationList → Files → Type 0} {before after : Option (List ℕ)} (mode : Mode) (list : CompilationList)
     (units : List UnitOfList) (shown outs : List UnitOut)
-    → units ≡ list.units → shown ≡ outs → Comes inline before after list → (files : Files) → Such list files → AreKept (needed mode) list.names files list.setting list.units outs
+    → units ≡ list.units → shown ≡ outs → Comes inline before after list → (files : Files) → Such list files → AreRetained (needed mode) list.names files list.setting list.units outs
     → Came inline Such mode before after list units shown
 came_of mode list units shown outs same is came files such gives = record {
   outs = gives.wholes;

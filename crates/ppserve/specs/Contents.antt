@@ -2,8 +2,8 @@
 use Rattle.std.specs.Prelude.{◌≡◌, ℕ, List, map, Some}
 use Rattle.ppshelf.specs.Content.{Content, readable}
 use Rattle.ppshelf.specs.Files.{Files, AllPermitted}
-use Rattle.pppool.specs.declared.keeping.Keep.{Keep}
-use Rattle.pppool.specs.Kept.{AreKept}
+use Rattle.pppool.specs.declared.retention.Retain.{Retain}
+use Rattle.pppool.specs.Retained.{AreRetained}
 use Rattle.ppunit.specs.declared.units.Setting.{Setting}
 use Rattle.ppunit.specs.declared.units.Unit.{Unit as UnitOfList}
 use Rattle.ppunit.specs.declared.units.UnitOut.{UnitOut}
@@ -22,8 +22,8 @@ abbrev pub MayBe : (List ℕ → Content → Type 0) → CompilationList → Fil
 MayBe may list files = AllPermitted may list.names files
 
 -- what is kept of the units' values over some such files
-pub record GiveOverSome (may : List ℕ → Content → Type 0) (keep : Keep) (names : List (List ℕ)) (setting : Setting)
+pub record GiveOverSome (may : List ℕ → Content → Type 0) (retain : Retain) (names : List (List ℕ)) (setting : Setting)
     (units : List UnitOfList) (outs : List UnitOut) : Type 0 where
   pub files : Files
   pub contents_permitted : AllPermitted may names files
-  pub gives : AreKept keep names files setting units outs
+  pub gives : AreRetained retain names files setting units outs

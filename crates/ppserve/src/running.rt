@@ -4,13 +4,13 @@ ghost use Rattle.ppshelf.specs.Content.{longest};
 ghost use Rattle.ppshelf.specs.Files.{most_rows, IsFull};
 ghost use Rattle.ppshelf.specs.Names.{AreNames};
 ghost use Rattle.ppunit.specs.Unit.{IsUnitOf};
-ghost use Rattle.pppool.specs.Kept.{AreKept};
+ghost use Rattle.pppool.specs.Retained.{AreRetained};
 ghost use Rattle.ppserve.specs.Contents.{files_of, GiveOverSome};
 ghost use Rattle.ppserve.specs.Needed.{needed};
 
 use crate::list::Contents;
 use crate::output::Mode;
-use pppool::{Batch, Gate, Keep, list_growth, run_keeping};
+use pppool::{Batch, Gate, Retain, list_growth, run_retaining};
 use ppshelf::{Disk, MemoryDisk, Shelf, ShelfFault};
 use pptext::{Hashing, Memory, Profile};
 use ppunit::{Setting, OwnedTexts, Unit, UnitOut};
@@ -68,12 +68,12 @@ impl RunOptions {
 }
 
 /// Returns what must be kept of outputs to print them.
-fn needed(mode: Mode) -> Keep
+fn needed(mode: Mode) -> Retain
     ensures { result ≡ needed mode }
 {
     match mode {
-        Mode::Dump => Keep::Whole,
-        Mode::Deps => Keep::Bare,
+        Mode::Dump => Retain::Everything,
+        Mode::Deps => Retain::WithoutItems,
     }
 }
 
@@ -156,7 +156,7 @@ pub(crate) fn over_contents<'a, R: Threads + Sync>(
     requires units { All (IsUnitOf (length shelf.now.names) setting.now.profile) units.now }
     requires workers { (1 ≤ options.workers) × (options.workers ≤ 64) }
     requires block { (1 ≤ options.block) × (options.block ≤ 1024) }
-    ensures { IfOk result (λ outs. AreKept (needed options.mode) shelf.now.names shelf.now.base setting.now units.now outs.items) }
+    ensures { IfOk result (λ outs. AreRetained (needed options.mode) shelf.now.names shelf.now.base setting.now units.now outs.items) }
 {
     let disk = no_disk(alloc);
     let mut pass = shelf.pass()?;
@@ -169,7 +169,7 @@ pub(crate) fn over_contents<'a, R: Threads + Sync>(
         workers: options.workers,
         block: options.share(units.len()),
     };
-    let outs = run_keeping(threads, alloc, &mut pass, &batch, needed(options.mode))?;
+    let outs = run_retaining(threads, alloc, &mut pass, &batch, needed(options.mode))?;
     pass.contents_permitted();
     list_growth();
     Ok(outs)
@@ -191,5 +191,5 @@ pub(crate) fn over_disk<'a, R: Threads + Sync, D: Disk + Send + Sync>(
     ensures { IfOk result (λ outs. GiveOverSome D.may (needed mode) batch.now.shelf.now.names batch.now.setting.now batch.now.units.now outs.items) }
 {
     let mut pass = batch.shelf.pass()?;
-    run_keeping(threads, alloc, &mut pass, batch, needed(mode))
+    run_retaining(threads, alloc, &mut pass, batch, needed(mode))
 }

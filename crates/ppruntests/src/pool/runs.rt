@@ -7,7 +7,7 @@ ghost use Rattle.ppunit.specs.Unit.{IsUnitOf};
 
 use super::lists::{setting_of, shelf_of, told, units_of};
 use super::stage::{Change, Meeting, Scene, Stage};
-use pppool::{Batch, Keep, run, run_keeping};
+use pppool::{Batch, Retain, run, run_retaining};
 use ppshelf::{Pass, ReadFault, Shelf};
 use pptext::Memory;
 use ppunit::{Setting, Unit, UnitOut};
@@ -22,7 +22,7 @@ use std::thread::Threads;
 struct Crew {
     workers: usize,
     block: usize,
-    keep: Keep,
+    retain: Retain,
 }
 
 /// A case: names, the scene that has files of these names, units with the indices of their files and their definitions,
@@ -35,7 +35,7 @@ pub(crate) struct Case {
     pub told: &'static str,
 }
 
-/// Runs units, by `run` if everything is kept, and otherwise by `run_keeping`.
+/// Runs units, by `run` if everything is kept, and otherwise by `run_retaining`.
 fn run_once<'a, R: Threads + Sync>(
     rt: &R,
     alloc: Global,
@@ -62,9 +62,9 @@ fn run_once<'a, R: Threads + Sync>(
         workers,
         block,
     };
-    match crew.keep {
-        Keep::Whole => run(rt, alloc, pass, &batch),
-        Keep::Bare => run_keeping(rt, alloc, pass, &batch, Keep::Bare),
+    match crew.retain {
+        Retain::Everything => run(rt, alloc, pass, &batch),
+        Retain::WithoutItems => run_retaining(rt, alloc, pass, &batch, Retain::WithoutItems),
     }
 }
 
@@ -180,26 +180,26 @@ const BARE: Case = Case {
 };
 
 /// Numbers of workers, block sizes, and what is kept.
-const CREWS: &[(usize, usize, Keep, Case)] = &[
-    (1, 1, Keep::Whole, SEVEN),
-    (1, 3, Keep::Whole, SEVEN),
-    (1, 1024, Keep::Whole, SEVEN),
-    (2, 1, Keep::Whole, SEVEN),
-    (2, 3, Keep::Whole, SEVEN),
-    (2, 1024, Keep::Whole, SEVEN),
-    (7, 1, Keep::Whole, SEVEN),
-    (7, 3, Keep::Whole, SEVEN),
-    (7, 1024, Keep::Whole, SEVEN),
-    (2, 3, Keep::Bare, BARE),
+const CREWS: &[(usize, usize, Retain, Case)] = &[
+    (1, 1, Retain::Everything, SEVEN),
+    (1, 3, Retain::Everything, SEVEN),
+    (1, 1024, Retain::Everything, SEVEN),
+    (2, 1, Retain::Everything, SEVEN),
+    (2, 3, Retain::Everything, SEVEN),
+    (2, 1024, Retain::Everything, SEVEN),
+    (7, 1, Retain::Everything, SEVEN),
+    (7, 3, Retain::Everything, SEVEN),
+    (7, 1024, Retain::Everything, SEVEN),
+    (2, 3, Retain::WithoutItems, BARE),
 ];
 
 #[test]
 fn answers_come_in_the_lists_order(rt: HostRuntime) -> Result<(), Fail> {
-    for &(workers, block, keep, case) in CREWS {
+    for &(workers, block, retain, case) in CREWS {
         let crew = Crew {
             workers,
             block,
-            keep,
+            retain,
         };
         assert_gives(&rt, rt.alloc(), &case, &Stage::new(case.scene), crew)?;
     }
@@ -210,7 +210,7 @@ fn answers_come_in_the_lists_order(rt: HostRuntime) -> Result<(), Fail> {
 const TWO: Crew = Crew {
     workers: 2,
     block: 1,
-    keep: Keep::Whole,
+    retain: Retain::Everything,
 };
 
 /// Returns whether two workers meet at a place.

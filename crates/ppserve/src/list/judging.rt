@@ -195,7 +195,7 @@ fn is_budget(budget: &DraftBudget) -> bool
 {
     match budget.written {
         WrittenBudget::Missing => true,
-        WrittenBudget::Whole(number) => number <= MOST_BUDGET,
+        WrittenBudget::Everything(number) => number <= MOST_BUDGET,
         WrittenBudget::Other => false,
     }
 }
@@ -205,7 +205,7 @@ fn budget_of(budget: DraftBudget) -> Option<u64>
     ensures { result ≡ spec.budget_of budget }
 {
     match budget.written {
-        WrittenBudget::Whole(number) => Some(number),
+        WrittenBudget::Everything(number) => Some(number),
         WrittenBudget::Missing | WrittenBudget::Other => None,
     }
 }

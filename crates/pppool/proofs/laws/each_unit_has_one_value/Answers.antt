@@ -4,5 +4,5 @@ use Rattle.pppool.proofs.laws.each_unit_has_one_value.Goals as goal
 pub returns-clause-values : goal.returns-clause-values
 returns-clause-values c = each_once c.one_value.ensures c.growth.ensures
 
-pub returns-clause-kept : goal.returns-clause-kept
-returns-clause-kept c = kept_once c.one_value.ensures c.growth.ensures
+pub returns-clause-retained : goal.returns-clause-retained
+returns-clause-retained c = kept_once c.one_value.ensures c.growth.ensures

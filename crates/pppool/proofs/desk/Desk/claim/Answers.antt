@@ -1,8 +1,8 @@
 use Rattle.std.proofs.Common.{◌≡◌, ℕ, ◌+◌, ◌%◌, ◌^◌, ap, sym, ◌∙◌, arith, List, [], subst, if◌then◌else◌, Bool, rules}
 use mathlib.Core.Option.{none}
 use Rattle.atomic_table.specs.Table.{Me, Allows, step}
-use Rattle.pppool.specs.declared.hand.Hand.{Hand}
-use Rattle.pppool.specs.Desk.{DeskId, SeatView, Dealt, Claims}
+use Rattle.pppool.specs.declared.seat_state.SeatState.{SeatState}
+use Rattle.pppool.specs.Desk.{DeskId, SeatView, ClaimInvariant, Claims}
 use Rattle.pppool.proofs.Steps.{claims}
 use Rattle.pppool.proofs.desk.Desk.claim.Goals as goal
 
@@ -12,8 +12,8 @@ fetch_add-found-requires c =
     let s = c.seat.inside.seat in
     let inv = c.seat.invariant in
     let desk : s.table_id ≡ t.table_id = ap (λ (v : SeatView). v.desk.table) c.seat.view_is ∙ (ap (λ (d : DeskId). d.table) c.requires ∙ ap (λ (d : DeskId). d.table) (sym c.self.view_is)) in
-    let unmarked : s.me.0.marks ≡ 0 = inv.2 ∙ ap (λ (b : Bool). if b then 1 else 0) c.if-seat.false in
-    let P : Me ℕ Hand → Type 0 = λ m. Allows (Dealt t.key) t.table_id.slots s.id m 0 (λ n. (n + 1) % 2 ^ 64) (Claims (step t.table_id.slots 0 1 0 none) m) in
+    let unmarked : s.me.0.empty_claims ≡ 0 = inv.2 ∙ ap (λ (b : Bool). if b then 1 else 0) c.if-seat.false in
+    let P : Me ℕ SeatState → Type 0 = λ m. Allows (ClaimInvariant t.key) t.table_id.slots s.id m 0 (λ n. (n + 1) % 2 ^ 64) (Claims (step t.table_id.slots 0 1 0 none) m) in
     let me : (s.me.0, []) ≡ s.me = ap (λ (l : List _). (s.me.0, l)) (sym inv.0) in
     (desk, omega (arith, c.self.invariant.1), subst P me (claims t.key t.table_id.slots s.id s.me.0 inv.1 unmarked))
 

@@ -1,7 +1,7 @@
 use Rattle.std.proofs.Common.{ℕ, ◌≡◌, ◌+◌, ◌<◌, ap, sym, ◌∙◌, arith, get_or}
 use Rattle.atomic_table.specs.Table.{Me}
-use Rattle.pppool.specs.declared.hand.Hand.{Hand}
-use Rattle.pppool.specs.declared.hand.Plan.{Plan}
+use Rattle.pppool.specs.declared.seat_state.SeatState.{SeatState}
+use Rattle.pppool.specs.declared.seat_state.Plan.{Plan}
 use Rattle.std.proofs.lemmas.Bool.{eqb-true, false≢true}
 use Rattle.pppool.specs.Desk.{DeskId, once_below, any_empty, claims_of, times}
 use Rattle.pppool.proofs.Steps.{joins, whole, at_most_once, claims_blocks}
@@ -22,7 +22,7 @@ loop-other-init c =
       omega arith,
       (λ x. times_popped x c.args.seats.items c.pop.new.self.items c.in-Some.one c.into_parts-all.result.0.me.0.claims p.items e.seat.2),
       empty_popped c.args.seats.items c.pop.new.self.items c.in-Some.one c.into_parts-all.result.1 p.items e.mark.0,
-      marked_now c.into_parts-all.result.1 c.into_parts-all.result.0.me.0.marks e.mark.1,
+      marked_now c.into_parts-all.result.1 c.into_parts-all.result.0.me.0.empty_claims e.mark.1,
       front_all c.args.self c.args.seats.items c.pop.new.self.items c.in-Some.one p.items c.requires,
     )
 
@@ -46,15 +46,15 @@ loop-other-preserved-then-found_empty c =
     let e = c.into_parts-seat.ensures in
     let p = c.in-Some-pop.ensures in
     let j = c.join_seat.ensures in
-    let seats : c.join_seat.new.seat.me.0.seats ≡ c.loop-other.all.me.0.seats + c.into_parts-seat.result.0.me.0.seats = ap (λ (m : Me ℕ Hand). m.0.seats) j.2 in
-    let marks : c.join_seat.new.seat.me.0.marks ≡ c.loop-other.all.me.0.marks + c.into_parts-seat.result.0.me.0.marks = ap (λ (m : Me ℕ Hand). m.0.marks) j.2 in (
+    let seats : c.join_seat.new.seat.me.0.seats ≡ c.loop-other.all.me.0.seats + c.into_parts-seat.result.0.me.0.seats = ap (λ (m : Me ℕ SeatState). m.0.seats) j.2 in
+    let empty_claims : c.join_seat.new.seat.me.0.empty_claims ≡ c.loop-other.all.me.0.empty_claims + c.into_parts-seat.result.0.me.0.empty_claims = ap (λ (m : Me ℕ SeatState). m.0.empty_claims) j.2 in (
       j.0 ∙ k.0,
-      ap (λ (m : Me ℕ Hand). m.1) j.2 ∙ k.1,
-      ap (λ (m : Me ℕ Hand). m.0.plan) j.2 ∙ k.2,
+      ap (λ (m : Me ℕ SeatState). m.1) j.2 ∙ k.1,
+      ap (λ (m : Me ℕ SeatState). m.0.plan) j.2 ∙ k.2,
       omega arith,
       omega arith,
       (λ x. joined_times x c.loop-other.seats.items c.pop-in-loop-other.new.self.items c.in-Some-pop.other c.loop-other.all.me.0.claims
-          c.into_parts-seat.result.0.me.0.claims c.join_seat.new.seat.me.0.claims _ (ap (λ (m : Me ℕ Hand). m.0.claims) j.2) p.items e.seat.2 (k.5 x)),
+          c.into_parts-seat.result.0.me.0.claims c.join_seat.new.seat.me.0.claims _ (ap (λ (m : Me ℕ SeatState). m.0.claims) j.2) p.items e.seat.2 (k.5 x)),
       or_when_true c.loop-other.found_empty (any_empty c.loop-other.seats.items) (any_empty c.pop-in-loop-other.new.self.items) (any_empty c.args.seats.items) c.if-found_empty.true k.6,
       (λ is. let m = k.7 is in omega arith),
       front_all c.args.self c.loop-other.seats.items c.pop-in-loop-other.new.self.items c.in-Some-pop.other p.items k.8,
@@ -66,18 +66,18 @@ loop-other-preserved c =
     let e = c.into_parts-seat.ensures in
     let p = c.in-Some-pop.ensures in
     let j = c.join_seat.ensures in
-    let seats : c.join_seat.new.seat.me.0.seats ≡ c.loop-other.all.me.0.seats + c.into_parts-seat.result.0.me.0.seats = ap (λ (m : Me ℕ Hand). m.0.seats) j.2 in
-    let marks : c.join_seat.new.seat.me.0.marks ≡ c.loop-other.all.me.0.marks + c.into_parts-seat.result.0.me.0.marks = ap (λ (m : Me ℕ Hand). m.0.marks) j.2 in (
+    let seats : c.join_seat.new.seat.me.0.seats ≡ c.loop-other.all.me.0.seats + c.into_parts-seat.result.0.me.0.seats = ap (λ (m : Me ℕ SeatState). m.0.seats) j.2 in
+    let empty_claims : c.join_seat.new.seat.me.0.empty_claims ≡ c.loop-other.all.me.0.empty_claims + c.into_parts-seat.result.0.me.0.empty_claims = ap (λ (m : Me ℕ SeatState). m.0.empty_claims) j.2 in (
       j.0 ∙ k.0,
-      ap (λ (m : Me ℕ Hand). m.1) j.2 ∙ k.1,
-      ap (λ (m : Me ℕ Hand). m.0.plan) j.2 ∙ k.2,
+      ap (λ (m : Me ℕ SeatState). m.1) j.2 ∙ k.1,
+      ap (λ (m : Me ℕ SeatState). m.0.plan) j.2 ∙ k.2,
       omega arith,
       omega arith,
       (λ x. joined_times x c.loop-other.seats.items c.pop-in-loop-other.new.self.items c.in-Some-pop.other c.loop-other.all.me.0.claims
-          c.into_parts-seat.result.0.me.0.claims c.join_seat.new.seat.me.0.claims _ (ap (λ (m : Me ℕ Hand). m.0.claims) j.2) p.items e.seat.2 (k.5 x)),
+          c.into_parts-seat.result.0.me.0.claims c.join_seat.new.seat.me.0.claims _ (ap (λ (m : Me ℕ SeatState). m.0.claims) j.2) p.items e.seat.2 (k.5 x)),
       empty_popped c.loop-other.seats.items c.pop-in-loop-other.new.self.items c.in-Some-pop.other c.into_parts-seat.result.1 p.items e.mark.0
           ∙ or_when_false c.loop-other.found_empty (any_empty c.loop-other.seats.items) (any_empty c.args.seats.items) c.if-found_empty.false k.6,
-      (λ is. let m = marked_now c.into_parts-seat.result.1 c.into_parts-seat.result.0.me.0.marks e.mark.1 is in omega arith),
+      (λ is. let m = marked_now c.into_parts-seat.result.1 c.into_parts-seat.result.0.me.0.empty_claims e.mark.1 is in omega arith),
       front_all c.args.self c.loop-other.seats.items c.pop-in-loop-other.new.self.items c.in-Some-pop.other p.items k.8,
     )
 

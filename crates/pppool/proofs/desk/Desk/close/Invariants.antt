@@ -11,7 +11,7 @@ invariant-loop-other l =
     × (0 < l.all.me.0.seats)
     × ((x : ℕ) → times x l.all.me.0.claims + times x (claims_of l.seats.items) ≡ times x (claims_of l.fn.seats.items))
     × ((l.found_empty || any_empty l.seats.items) ≡ any_empty l.fn.seats.items)
-    × ((l.found_empty ≡ true) → 0 < l.all.me.0.marks)
+    × ((l.found_empty ≡ true) → 0 < l.all.me.0.empty_claims)
     × All (λ s. s.desk ≡ l.fn.self) l.seats.items
 
 abbrev pub decreases-loop-other : goal.decreases-loop-other

@@ -1,6 +1,6 @@
 use Rattle.std.proofs.Common.{◌≡◌, ap, length, ◌∙◌, ◌++◌, ◌∷◌, []}
 use Rattle.pppool.specs.Desk.{SeatView}
-use Rattle.pppool.specs.Workers.{answered}
+use Rattle.pppool.specs.code.Workers.{result_units}
 use Rattle.pppool.proofs.Answering.{all_answered_push}
 use Rattle.pppool.proofs.Closing.{nearer}
 use Rattle.pppool.proofs.workers.Worker.work.Goals as goal
@@ -20,8 +20,8 @@ loop-number-preserved g c =
     let claims : c.work_block.new.self.seat.claims ≡ c.loop-number.self.seat.claims ++ c.in-Some.number ∷ [] = ap (λ (v : SeatView). v.claims) e.seat ∙ s.some.3 in (
       ap (λ (v : SeatView). v.desk) e.seat ∙ s.desk,
       e.shelf,
-      e.answers,
+      e.results,
       all_answered_push (length c.args.job.now.units.now) c.args.job.now.block c.in-Some.number c.loop-number.self.seat.claims c.work_block.new.self.seat.claims
-          (answered c.loop-number.self.answers.items) (answered c.work_block.new.self.answers.items)
+          (result_units c.loop-number.self.results.items) (result_units c.work_block.new.self.results.items)
           claims k.3 e.stay e.block,
     )

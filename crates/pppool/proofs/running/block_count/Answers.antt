@@ -1,5 +1,0 @@
-use Rattle.std.proofs.Common.{rules}
-use Rattle.pppool.proofs.running.block_count.Goals as goal
-
-pub returns-clause-all : goal.returns-clause-all
-returns-clause-all c = search rules

@@ -1,0 +1,44 @@
+-- What is kept of the units' outputs.
+use Rattle.std.specs.Prelude.{◌≡◌, ℕ, List, [], map}
+use Rattle.ppshelf.specs.Files.{Files}
+use Rattle.ppunit.specs.declared.units.Unit.{Unit as UnitOfList}
+use Rattle.ppunit.specs.declared.units.Setting.{Setting}
+use Rattle.ppunit.specs.declared.units.UnitOut.{UnitOut}
+use Rattle.ppunit.specs.Unit.{IsUnit}
+use Rattle.ppunit.specs.Units.{AreUnits, AreInBudget, AreCapped}
+use Rattle.pppool.specs.declared.retention.Retain.{Retain}
+use Rattle.pppool.specs.declared.retention.Retain.TheVariants.{Everything, WithoutItems}
+
+-- an output without its items
+abbrev pub without_items : UnitOut → UnitOut
+without_items out = record { items = []; deps = out.deps; fault = out.fault }
+
+-- what is kept of an output
+abbrev pub retained : Retain → UnitOut → UnitOut
+retained Everything out = out
+retained WithoutItems out = without_items out
+
+-- this is what is kept of the unit's value
+pub record IsRetained (retain : Retain) (names : List (List ℕ)) (files : Files) (setting : Setting) (unit : UnitOfList) (out : UnitOut) : Type 0 where
+  pub whole : UnitOut
+  pub value : IsUnit names files setting unit whole
+  pub same : out ≡ retained retain whole
+
+-- these are what is kept of the units' values over these files, in order
+pub record AreRetained (retain : Retain) (names : List (List ℕ)) (files : Files) (setting : Setting)
+    (units : List UnitOfList) (outs : List UnitOut) : Type 0 where
+  pub wholes : List UnitOut
+  pub values : AreUnits names files setting units wholes
+  pub same : outs ≡ map (retained retain) wholes
+
+-- these are what is kept of the units' values, each of which takes at most the budget's replacements and opened files
+pub record AreRetainedInBudget (retain : Retain) (names : List (List ℕ)) (files : Files) (setting : Setting)
+    (units : List UnitOfList) (outs : List UnitOut) : Type 0 where
+  pub retained : AreRetained retain names files setting units outs
+  pub within : AreInBudget names files setting units retained.wholes
+
+-- these are what is kept of the units' values, each of which is what the budget leaves of the unit's value without one
+pub record AreRetainedCapped (retain : Retain) (names : List (List ℕ)) (files : Files) (setting : Setting)
+    (units : List UnitOfList) (outs : List UnitOut) : Type 0 where
+  pub retained : AreRetained retain names files setting units outs
+  pub capped : AreCapped names files setting units retained.wholes
