@@ -167,16 +167,16 @@ unit_from d u e =
     let m = when (is_object_of unit_members d) _ u e in
     option_and_then_some _ (text_at (codes "file") d) u m.1 (λ file is_file e.
     option_and_then_some _ (texts_at (codes "define") d) u e (λ defines are_defines e.
-    option_and_then_some _ (texts_at (codes "search") d) u e (λ folders are_folders e.
+    option_and_then_some _ (texts_at (codes "search") d) u e (λ directories are_directories e.
     subst (IsUnitDraft d) (same_Some _ u e) (record {
       object = m.0;
       file = text_from (codes "file") d file is_file;
       defines = texts_from (codes "define") d defines are_defines;
-      folders = texts_from (codes "search") d folders are_folders;
+      directories = texts_from (codes "search") d directories are_directories;
     }))))
 
 unit_back : (d : Data) (u : DraftUnit) → IsUnitDraft d u → draft_unit d ≡ Some u
-unit_back d u m = rw (m.object, text_back (codes "file") d u.file m.file, texts_back m.defines, texts_back m.folders) refl
+unit_back d u m = rw (m.object, text_back (codes "file") d u.file m.file, texts_back m.defines, texts_back m.directories) refl
 
 reads_units : Reads draft_unit IsUnitDraft
 reads_units d u = (unit_from d u, unit_back d u)
@@ -187,13 +187,13 @@ setting_from d s e =
     option_and_then_some _ (budget_at d) s e (λ allowed is_budget e.
     option_and_then_some _ (text_at (codes "date") d) s e (λ date is_date e.
     option_and_then_some _ (text_at (codes "time") d) s e (λ time is_time e.
-    option_and_then_some _ (texts_at (codes "search") d) s e (λ folders are_folders e.
+    option_and_then_some _ (texts_at (codes "search") d) s e (λ directories are_directories e.
     subst (IsSettingDraft d) (same_Some _ s e) (record {
       profile = profile_from d profile is_profile;
       budget = budget_from_member d allowed is_budget;
       date = text_from (codes "date") d date is_date;
       time = text_from (codes "time") d time is_time;
-      folders = texts_from (codes "search") d folders are_folders;
+      directories = texts_from (codes "search") d directories are_directories;
     }))))))
 
 setting_back : (d : Data) (s : DraftSetting) → IsSettingDraft d s → draft_setting d ≡ Some s
@@ -203,7 +203,7 @@ setting_back d s m =
       budget_back m.budget,
       text_back (codes "date") d s.date m.date,
       text_back (codes "time") d s.time m.time,
-      texts_back m.folders,
+      texts_back m.directories,
     ) refl
 
 draft_from : (inline : Bool) (d : Data) (x : Draft) → draft inline d ≡ Some x → IsDraft inline d x

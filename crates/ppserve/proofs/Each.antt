@@ -10,4 +10,4 @@ abbrev pub read_from : {A : Type 0} → (Data → Option A) → List Value → O
 read_from read vs = each_item read (items_view vs)
 
 abbrev pub behind : {A : Type 0} → List A → Option (List A) → Option (List A)
-behind front o = option_map (λ more. front ++ more) o
+behind prefix o = option_map (λ more. prefix ++ more) o

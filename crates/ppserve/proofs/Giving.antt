@@ -19,12 +19,12 @@ use Rattle.ppunit.proofs.Tested.{unit_of}
 use Rattle.pppool.specs.declared.retention.Retain.{Retain}
 use Rattle.pppool.specs.Retained.{AreRetained, retained}
 use Rattle.ppserve.specs.declared.list.List.{List as CompilationList}
-use Rattle.ppserve.specs.Contents.{files_of, GiveOverSome}
+use Rattle.ppserve.specs.Contents.{files_of, AreRetainedOverSome}
 use Rattle.ppserve.specs.Listing.{IsRunnable}
 use Rattle.ppserve.specs.Output.{numbered, unit_lines, output_text}
-use Rattle.ppserve.specs.Serving.{some_fault, Comes, Brings, HandsOut, HandsOutFront, Serves, BreaksOff}
+use Rattle.ppserve.specs.Serving.{some_fault, ReadsList, Produces, WritesAll, WritesPrefix, Serves, ServesPrefix}
 use Rattle.ppserve.specs.declared.output.Mode.{Mode}
-use Rattle.ppserve.specs.Needed.{needed}
+use Rattle.ppserve.specs.code.NeededRetention.{needed_retention}
 use Rattle.ppserve.proofs.Known.{appends_as}
 use Rattle.ppserve.proofs.Shown.{text_kept, some_fault_kept}
 
@@ -85,10 +85,10 @@ filled_files contents old new empty len named long rows full =
 
 -- what units give over some files of a shelf, they give for the list whose names the shelf has
 pub gives_from : (may : List ℕ → Content → Type 0) (retain : Retain) (list : CompilationList) (shelf : TableView) (units : List UnitOfList) (outs : List UnitOut) → shelf.names ≡ list.names → units ≡ list.units
-    → GiveOverSome may retain shelf.names list.setting units outs → GiveOverSome may retain list.names list.setting list.units outs
+    → AreRetainedOverSome may retain shelf.names list.setting units outs → AreRetainedOverSome may retain list.names list.setting list.units outs
 gives_from may retain list shelf units outs named same gives =
-    let P : List (List ℕ) → Type 0 = λ ns. GiveOverSome may retain ns list.setting units outs in
-    let R : List UnitOfList → Type 0 = λ us. GiveOverSome may retain list.names list.setting us outs in
+    let P : List (List ℕ) → Type 0 = λ ns. AreRetainedOverSome may retain ns list.setting units outs in
+    let R : List UnitOfList → Type 0 = λ us. AreRetainedOverSome may retain list.names list.setting us outs in
     subst R same (subst P named gives)
 
 -- the units of a list that can be run are units of its shelf
@@ -104,7 +104,7 @@ pub few_units : (list : CompilationList) (units : List UnitOfList) → IsRunnabl
 few_units list units runs same = let P : List UnitOfList → Type 0 = λ us. length us ≤ most_rows in subst P (sym same) runs.many
 
 -- the output of what is needed of a list's units is the list's output
-text_of : (mode : Mode) (list : CompilationList) (units : List UnitOfList) (shown outs : List UnitOut) → units ≡ list.units → shown ≡ map (retained (needed mode)) outs
+text_of : (mode : Mode) (list : CompilationList) (units : List UnitOfList) (shown outs : List UnitOut) → units ≡ list.units → shown ≡ map (retained (needed_retention mode)) outs
     → numbered (unit_lines mode list.names) 0 units shown ≡ output_text mode list outs
 text_of mode list units shown outs same is =
     ap (λ (us : List UnitOfList). numbered (unit_lines mode list.names) 0 us shown) same
@@ -114,13 +114,13 @@ text_of mode list units shown outs same is =
 pub record Came (inline : Bool) (Such : CompilationList → Files → Type 0) (mode : Mode) (before after : Option (List ℕ)) (list : CompilationList)
     (units : List UnitOfList) (shown : List UnitOut) : Type 0 where
   pub outs : List UnitOut
-  pub brings : Brings inline Such before after list outs
+  pub brings : Produces inline Such before after list outs
   pub text : numbered (unit_lines mode list.names) 0 units shown ≡ output_text mode list outs
   pub fault : some_fault shown ≡ some_fault outs
 
 pub came_of : {inline : Bool} {Such : CompilationList → Files → Type 0} {before after : Option (List ℕ)} (mode : Mode) (list : CompilationList)
     (units : List UnitOfList) (shown outs : List UnitOut)
-    → units ≡ list.units → shown ≡ outs → Comes inline before after list → (files : Files) → Such list files → AreRetained (needed mode) list.names files list.setting list.units outs
+    → units ≡ list.units → shown ≡ outs → ReadsList inline before after list → (files : Files) → Such list files → AreRetained (needed_retention mode) list.names files list.setting list.units outs
     → Came inline Such mode before after list units shown
 came_of mode list units shown outs same is came files such gives = record {
   outs = gives.wholes;
@@ -132,25 +132,25 @@ came_of mode list units shown outs same is came files such gives = record {
 -- where its output went out, it was served
 pub served : {inline : Bool} {Such : CompilationList → Files → Type 0} {before after : Option (List ℕ)} (mode : Mode) (list : CompilationList)
     (units : List UnitOfList) (shown : List UnitOut) (out_before out_after : Option (List ℕ)) (any : Bool)
-    → Came inline Such mode before after list units shown → HandsOut mode list.names units shown out_before out_after any
+    → Came inline Such mode before after list units shown → WritesAll mode list.names units shown out_before out_after any
     → Serves inline Such mode before after out_before out_after any
-served mode list units shown out_before out_after any came given = record {
+served mode list units shown out_before out_after any came with_part = record {
   list = list;
   outs = came.outs;
   came = came.brings;
-  went = appends_as out_before out_after _ _ came.text given.went;
-  fault = given.fault ∙ came.fault;
+  went = appends_as out_before out_after _ _ came.text with_part.went;
+  fault = with_part.fault ∙ came.fault;
 }
 
 -- and where a beginning of it went out, broken off
-pub broken_off : {inline : Bool} {Such : CompilationList → Files → Type 0} {before after : Option (List ℕ)} (mode : Mode) (list : CompilationList)
+pub prefix_served : {inline : Bool} {Such : CompilationList → Files → Type 0} {before after : Option (List ℕ)} (mode : Mode) (list : CompilationList)
     (units : List UnitOfList) (shown : List UnitOut) (out_before out_after : Option (List ℕ))
-    → Came inline Such mode before after list units shown → HandsOutFront mode list.names units shown out_before out_after
-    → BreaksOff inline Such mode before after out_before out_after
-broken_off mode list units shown out_before out_after came given = record {
+    → Came inline Such mode before after list units shown → WritesPrefix mode list.names units shown out_before out_after
+    → ServesPrefix inline Such mode before after out_before out_after
+prefix_served mode list units shown out_before out_after came with_part = record {
   list = list;
   outs = came.outs;
   came = came.brings;
-  count = given.count;
-  went = appends_as out_before out_after _ _ (ap (take given.count) came.text) given.went;
+  count = with_part.count;
+  went = appends_as out_before out_after _ _ (ap (take with_part.count) came.text) with_part.went;
 }

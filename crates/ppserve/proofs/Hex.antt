@@ -6,19 +6,19 @@ take-all : (xs : List ℕ) → take (length xs) xs ≡ xs
 take-all [] = refl
 take-all (x ∷ xs) = ap (λ ys. x ∷ ys) (take-all xs)
 
-behind_front : (front : List ℕ) (x : ℕ) (o : Option (List ℕ)) → option_map (λ more. (front ++ x ∷ []) ++ more) o ≡ option_map (λ more. front ++ more) (option_map (λ xs. x ∷ xs) o)
-behind_front front x None = refl
-behind_front front x (Some xs) = ap Some (append_assoc front (x ∷ []) xs)
+behind_front : (prefix : List ℕ) (x : ℕ) (o : Option (List ℕ)) → option_map (λ more. (prefix ++ x ∷ []) ++ more) o ≡ option_map (λ more. prefix ++ more) (option_map (λ xs. x ∷ xs) o)
+behind_front prefix x None = refl
+behind_front prefix x (Some xs) = ap Some (append_assoc prefix (x ∷ []) xs)
 
 rest_of : (a b : ℕ) (more : List ℕ) → take (length (a ∷ b ∷ more) - 2) (drop 2 (a ∷ b ∷ more)) ≡ more
 rest_of a b more = let e : length (a ∷ b ∷ more) - 2 ≡ length more = omega arith in rw e (take-all more)
 
 -- a loop's turn: one more pair is read after the bytes in front
-pub hex_bytes-more : (front pushed rest : List ℕ) (x : ℕ) (whole : Option (List ℕ)) → 2 ≤ length rest → hex_byte (get_or rest 0 0) (get_or rest 1 0) ≡ Some x
-    → pushed ≡ front ++ x ∷ [] → option_map (λ more. front ++ more) (hex_bytes rest) ≡ whole
+pub hex_bytes-more : (prefix pushed rest : List ℕ) (x : ℕ) (whole : Option (List ℕ)) → 2 ≤ length rest → hex_byte (get_or rest 0 0) (get_or rest 1 0) ≡ Some x
+    → pushed ≡ prefix ++ x ∷ [] → option_map (λ more. prefix ++ more) (hex_bytes rest) ≡ whole
     → option_map (λ more. pushed ++ more) (hex_bytes (take (length rest - 2) (drop 2 rest))) ≡ whole
-hex_bytes-more front pushed [] x whole two read is e = absurd (omega arith)
-hex_bytes-more front pushed (a ∷ []) x whole two read is e = absurd (omega arith)
-hex_bytes-more front pushed (a ∷ b ∷ more) x whole two read is e =
-    let now : option_map (λ ys. front ++ ys) (option_map (λ xs. x ∷ xs) (hex_bytes more)) ≡ whole = rw read at e in
-    rw (rest_of a b more, is) (behind_front front x (hex_bytes more) ∙ now)
+hex_bytes-more prefix pushed [] x whole two read is e = absurd (omega arith)
+hex_bytes-more prefix pushed (a ∷ []) x whole two read is e = absurd (omega arith)
+hex_bytes-more prefix pushed (a ∷ b ∷ more) x whole two read is e =
+    let now : option_map (λ ys. prefix ++ ys) (option_map (λ xs. x ∷ xs) (hex_bytes more)) ≡ whole = rw read at e in
+    rw (rest_of a b more, is) (behind_front prefix x (hex_bytes more) ∙ now)

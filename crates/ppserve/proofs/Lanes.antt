@@ -7,8 +7,8 @@ use Rattle.std.proofs.lemmas.List.{length-map}
 use Rattle.std.proofs.lemmas.List.Sums.{prefix_len-le-length, prefix_len_passes}
 use Rattle.std.specs.List.{prefix_len}
 use lib.Lanes.{chunk, zip2, mask_l, top}
-use Rattle.ppserve.specs.Lines.{PlainBetween, first_set}
-use Rattle.ppserve.specs.Output.{is_plain}
+use Rattle.ppserve.specs.code.LinePrefix.{PrintsAsIsBetween, first_set}
+use Rattle.ppserve.specs.Output.{prints_as_is}
 
 zip2-map : (h : ℕ → ℕ → ℕ) (f g : ℕ → ℕ) (xs : List ℕ) → zip2 h (map f xs) (map g xs) ≡ map (λ x. h (f x) (g x)) xs
 zip2-map h f g [] = refl
@@ -60,6 +60,6 @@ module _ (d : List ℕ) (i r : ℕ) (z : List ℕ) (room : i + 8 ≤ length d)
   run_within = omega (arith, counted, long, prefix_len-le-length (λ x. not (stops x)) (chunk i 8 d))
 
   -- each byte at which no lane stops is plain
-  pub run_plain : agree_below (λ x. stops x || is_plain x) (λ _. true) 256 ≡ true → PlainBetween d i (i + r)
+  pub run_plain : agree_below (λ x. stops x || prints_as_is x) (λ _. true) 256 ≡ true → PrintsAsIsBetween d i (i + r)
   run_plain all k from to =
-      sym (ap (λ b. b || is_plain (get_or d k 0)) (goes_on k from to)) ∙ agree_below_at (λ x. stops x || is_plain x) (λ _. true) 256 (get_or d k 0) all (fits k).fits
+      sym (ap (λ b. b || prints_as_is (get_or d k 0)) (goes_on k from to)) ∙ agree_below_at (λ x. stops x || prints_as_is x) (λ _. true) 256 (get_or d k 0) all (fits k).fits

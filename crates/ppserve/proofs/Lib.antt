@@ -15,7 +15,7 @@ pub mod Hex
 -- The JSON value of bytes, from what a read says.
 pub mod JsonValue
 -- The steps to a list's outcome, and what an accepted list keeps to.
-pub mod Judged
+pub mod Validated
 -- The refusal with the least number that applies.
 pub mod Refusing
 -- What a run's output depends on.
@@ -31,6 +31,6 @@ pub mod Printing
 -- Bytes that came from a reader whose bytes are known.
 pub mod Received
 -- Text after the first bytes of a list.
-pub mod Behind
+pub mod AfterPrefix
 -- From the mask of eight lanes to the bytes that stand for themselves.
 pub mod Lanes

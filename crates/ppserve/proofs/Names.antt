@@ -12,9 +12,9 @@ pub record Turn (files : List DraftFile) (row : ℕ) (index : List (List ℕ)) (
   pub name_is : name_in (names_of files) row ≡ name
   pub names : Indexed (names_of files) row index
 
-pub turn : (files : List DraftFile) (row : ℕ) (index : List (List ℕ)) (file : DraftFile) (name : List ℕ) → row < length files → file ≡ get_or files row file
+pub switch_to : (files : List DraftFile) (row : ℕ) (index : List (List ℕ)) (file : DraftFile) (name : List ℕ) → row < length files → file ≡ get_or files row file
     → name ≡ file.name → Indexed (names_of files) row index → Turn files row index name
-turn files row index file name within is named indexed =
+switch_to files row index file name within is named indexed =
     let name_of : DraftFile → List ℕ = λ f. f.name in
     let count : length (names_of files) ≡ length files = length-map files name_of in
     record {

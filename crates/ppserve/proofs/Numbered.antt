@@ -15,11 +15,11 @@ numbered-more f n (x ∷ xs) (y ∷ ys) (suc i) a b h k =
     rw (e, append_assoc, same) refl
 
 -- a loop's turn, after what it has written before
-pub numbered-turn : {A B : Type 0} (f : ℕ → A → B → List ℕ) (xs : List A) (ys : List B) (i : ℕ) (x : A) (y : B) (before out new : List ℕ)
+pub numbered-switch_to : {A B : Type 0} (f : ℕ → A → B → List ℕ) (xs : List A) (ys : List B) (i : ℕ) (x : A) (y : B) (before out new : List ℕ)
     → i < length xs → i < length ys → x ≡ get_or xs i x → y ≡ get_or ys i y
     → out ≡ before ++ numbered f 0 (take i xs) (take i ys) → new ≡ out ++ f i x y
     → new ≡ before ++ numbered f 0 (take (i + 1) xs) (take (i + 1) ys)
-numbered-turn f xs ys i x y before out new h k ex ey eo en =
+numbered-switch_to f xs ys i x y before out new h k ex ey eo en =
     let more = numbered-more f 0 xs ys i x y h k in
     let first : 0 + i ≡ i = omega arith in
     let last : f (0 + i) (get_or xs i x) (get_or ys i y) ≡ f i x y = rw (first, ← ex, ← ey) refl in

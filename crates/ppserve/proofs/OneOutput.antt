@@ -11,11 +11,11 @@ use Rattle.ppunit.specs.declared.units.Setting.{Setting}
 use Rattle.ppunit.specs.declared.units.Unit.{Unit as UnitOfList}
 use Rattle.ppunit.specs.declared.units.UnitOut.{UnitOut}
 use Rattle.pppool.specs.Laws.{ListGrows}
-use Rattle.ppserve.specs.Contents.{StandIn, files_of}
+use Rattle.ppserve.specs.Contents.{AreInList, files_of}
 use Rattle.ppserve.specs.Laws.{wrong_names, OneOutput, OneOutputOfContents}
 use Rattle.ppserve.specs.Listing.{outcome_of, accepted, names_hold, names_of}
 use Rattle.ppserve.specs.Output.{output_text}
-use Rattle.ppserve.specs.Serving.{some_fault, Comes}
+use Rattle.ppserve.specs.Serving.{some_fault, ReadsList}
 use Rattle.ppserve.specs.declared.list.List.{List as CompilationList}
 use Rattle.ppserve.proofs.Received.{decided}
 use Rattle.ppserve.proofs.Refusing.{takes_the_rest}
@@ -85,7 +85,7 @@ named inline bytes list is =
     subst P (sym taken.is_list) (names_from_test (names_of taken.draft.files) hold)
 
 -- the same bytes hold one list
-one_list : (inline : Bool) (known : List ℕ) (left right : Option (List ℕ)) (a b : CompilationList) → Comes inline (Some known) left a → Comes inline (Some known) right b → a ≡ b
+one_list : (inline : Bool) (known : List ℕ) (left right : Option (List ℕ)) (a b : CompilationList) → ReadsList inline (Some known) left a → ReadsList inline (Some known) right b → a ≡ b
 one_list inline known left right a b p q =
     let one = decided inline known p.bytes left p.received in
     let two = decided inline known q.bytes right q.received in
@@ -95,7 +95,7 @@ one_list inline known left right a b p q =
 -- ---- the laws
 
 pub one_output : HasOneValue → ListGrows → (Such : CompilationList → Files → Type 0) → OneOutput Such
-one_output once grows Such inline mode known given left right one two any other a b agree =
+one_output once grows Such inline mode known with_part left right one two any other a b agree =
     let same : a.list ≡ b.list = one_list inline known left right a.list b.list a.came.came b.came.came in
     let P : CompilationList → Type 0 = λ l. AreUnits l.names b.came.files l.setting l.units b.outs in
     let theirs = subst P (sym same) b.came.gives in
@@ -103,7 +103,7 @@ one_output once grows Such inline mode known given left right one two any other 
     let outs : a.outs ≡ b.outs = same_answers once grows list.names a.came.files b.came.files list.setting list.units a.outs b.outs
     (named inline a.came.came.bytes list a.came.came.is_list) agree a.came.gives theirs in
     let text : output_text mode a.list a.outs ≡ output_text mode b.list b.outs = ap (λ (l : CompilationList). output_text mode l a.outs) same ∙ ap (output_text mode b.list) outs in (
-      a.went ∙ (ap (λ bytes. given ++ bytes) text ∙ sym b.went),
+      a.went ∙ (ap (λ bytes. with_part ++ bytes) text ∙ sym b.went),
       a.fault ∙ (ap some_fault outs ∙ sym b.fault),
     )
 
@@ -111,7 +111,7 @@ same_agree : (one two : Files) → one ≡ two → Agree one two
 same_agree one two e row c d p q = same_Some c d (sym p ∙ (ap (λ (f : Files). file_at f row) e ∙ q))
 
 pub one_output_of_contents : HasOneValue → ListGrows → OneOutputOfContents
-one_output_of_contents once grows mode known given left right one two any other a b =
+one_output_of_contents once grows mode known with_part left right one two any other a b =
     let same : a.list ≡ b.list = one_list true known left right a.list b.list a.came.came b.came.came in
     let files : a.came.files ≡ b.came.files = a.came.such ∙ (ap (λ (l : CompilationList). files_of l.contents) same ∙ sym b.came.such) in
-    one_output once grows StandIn true mode known given left right one two any other a b (same_agree a.came.files b.came.files files)
+    one_output once grows AreInList true mode known with_part left right one two any other a b (same_agree a.came.files b.came.files files)

@@ -7,14 +7,14 @@ use lib.Seq.{take-append_seam}
 use Rattle.std.proofs.KnownBytes.{Appends-nil, Appends-trans}
 use Rattle.std.specs.Io.KnownBytes.{Appends}
 use Rattle.ppserve.specs.Output.{numbered}
-use Rattle.ppserve.specs.Printing.{Puts}
+use Rattle.ppserve.specs.code.Printing.{Puts}
 use Rattle.ppserve.proofs.Known.{appends_as}
-use Rattle.ppserve.proofs.Numbered.{numbered-turn}
+use Rattle.ppserve.proofs.Numbered.{numbered-switch_to}
 
 -- bytes that find room on the page
 pub puts_here : {V : Type 0} {written : V → Option (List ℕ)} {has_failed : V → Bool} {w : V} {p q text : List ℕ} → q ≡ p ++ text → Puts written has_failed w w p q text
 puts_here {written = written} {w = w} {p = p} {q = q} {text = text} e = record {
-  front = [];
+  prefix = [];
   rest = p ++ text;
   parts = refl;
   went = Appends-nil (written w);
@@ -33,16 +33,16 @@ pub puts_then : {V : Type 0} {written : V → Option (List ℕ)} {has_failed : V
     → Puts written has_failed w v p q s → Puts written has_failed v u q r t → Puts written has_failed w u p r (s ++ t)
 puts_then {written = written} {has_failed = has_failed} {w = w} {v = v} {u = u} {p = p} {q = q} {r = r} {s = s} {t = t} a b = by_case (has_failed v) refl
   where
-    first : p ++ (s ++ t) ≡ a.front ++ (a.rest ++ t)
-    first = sym (append_assoc p s t) ∙ (ap (λ l. l ++ t) a.parts ∙ append_assoc a.front a.rest t)
+    first : p ++ (s ++ t) ≡ a.prefix ++ (a.rest ++ t)
+    first = sym (append_assoc p s t) ∙ (ap (λ l. l ++ t) a.parts ∙ append_assoc a.prefix a.rest t)
 
     by_case : (f : Bool) → has_failed v ≡ f → Puts written has_failed w u p r (s ++ t)
     by_case false e =
         let waits = a.waits e in
         record {
-          front = a.front ++ b.front;
+          prefix = a.prefix ++ b.prefix;
           rest = b.rest;
-          parts = first ∙ (ap (λ l. a.front ++ l) (ap (λ l. l ++ t) waits ∙ b.parts) ∙ sym (append_assoc a.front b.front b.rest));
+          parts = first ∙ (ap (λ l. a.prefix ++ l) (ap (λ l. l ++ t) waits ∙ b.parts) ∙ sym (append_assoc a.prefix b.prefix b.rest));
           went = Appends-trans _ _ _ _ _ a.went b.went;
           waits = b.waits;
           stays = λ f. absurd (false≢true (sym e ∙ (a.stays f).1));
@@ -50,9 +50,9 @@ puts_then {written = written} {has_failed = has_failed} {w = w} {v = v} {u = u} 
     by_case true e =
         let none = (b.stays e).0 in
         record {
-          front = a.front ++ b.front;
+          prefix = a.prefix ++ b.prefix;
           rest = a.rest ++ t;
-          parts = first ∙ ap (λ l. l ++ (a.rest ++ t)) (sym (ap (λ l. a.front ++ l) none ∙ append-nil a.front));
+          parts = first ∙ ap (λ l. l ++ (a.rest ++ t)) (sym (ap (λ l. a.prefix ++ l) none ∙ append-nil a.prefix));
           went = Appends-trans _ _ _ _ _ a.went b.went;
           waits = λ f. absurd (false≢true (sym f ∙ (b.stays e).1));
           stays = λ f. (rw ((a.stays f).0, none) refl, (b.stays e).1);
@@ -69,8 +69,8 @@ pub puts_turn : {V A : Type 0} {written : V → Option (List ℕ)} {has_failed :
     → Puts written has_failed w v p q (whole (take i xs)) → Puts written has_failed v u q r t
     → Puts written has_failed w u p r (whole (take (i + 1) xs))
 puts_turn {t = t} whole xs i d x h is more a b =
-    let front : take (i + 1) xs ≡ take i xs ++ x ∷ [] = take_more xs i d h ∙ ap (λ y. take i xs ++ y ∷ []) (sym is) in
-    puts_as (sym (ap whole front ∙ more (take i xs))) (puts_then a b)
+    let prefix : take (i + 1) xs ≡ take i xs ++ x ∷ [] = take_more xs i d h ∙ ap (λ y. take i xs ++ y ∷ []) (sym is) in
+    puts_as (sym (ap whole prefix ∙ more (take i xs))) (puts_then a b)
 
 -- a loop's end, after its last turn
 pub puts_all : {V A : Type 0} {written : V → Option (List ℕ)} {has_failed : V → Bool} {w v : V} {p q : List ℕ}
@@ -83,17 +83,17 @@ puts_all whole xs i h a = puts_as (ap whole (take_all i xs h)) a
 pub printed_all : {V : Type 0} {written : V → Option (List ℕ)} {has_failed : V → Bool} {w v : V} {p q text : List ℕ}
     → p ≡ [] → q ≡ [] → has_failed v ≡ false → Puts written has_failed w v p q text → Appends (written w) (written v) text
 printed_all {written = written} {w = w} {v = v} {p = p} {q = q} {text = text} none empty e a =
-    let whole : text ≡ a.front ++ a.rest = ap (λ bs. bs ++ text) (sym none) ∙ a.parts in
-    let all : a.front ≡ text = sym (whole ∙ ap (λ bs. a.front ++ bs) (a.waits e ∙ empty) ∙ append-nil a.front) in
+    let whole : text ≡ a.prefix ++ a.rest = ap (λ bs. bs ++ text) (sym none) ∙ a.parts in
+    let all : a.prefix ≡ text = sym (whole ∙ ap (λ bs. a.prefix ++ bs) (a.waits e ∙ empty) ∙ append-nil a.prefix) in
     appends_as _ _ _ _ all a.went
 
 -- a front of the text went out
 pub printed_front : {V : Type 0} {written : V → Option (List ℕ)} {has_failed : V → Bool} {w v : V} {p q text : List ℕ}
     → p ≡ [] → Puts written has_failed w v p q text → (n : ℕ) × Appends (written w) (written v) (take n text)
 printed_front {written = written} {w = w} {v = v} {p = p} {q = q} {text = text} none a =
-    let whole : text ≡ a.front ++ a.rest = ap (λ bs. bs ++ text) (sym none) ∙ a.parts in
-    let front : a.front ≡ take (length a.front) text = sym (ap (take (length a.front)) whole ∙ take-append_seam a.front a.rest) in
-    (length a.front, appends_as _ _ _ _ front a.went)
+    let whole : text ≡ a.prefix ++ a.rest = ap (λ bs. bs ++ text) (sym none) ∙ a.parts in
+    let prefix : a.prefix ≡ take (length a.prefix) text = sym (ap (take (length a.prefix)) whole ∙ take-append_seam a.prefix a.rest) in
+    (length a.prefix, appends_as _ _ _ _ prefix a.went)
 
 -- one more unit of those that are printed
 pub puts_numbered : {V A B : Type 0} {written : V → Option (List ℕ)} {has_failed : V → Bool} {w v u : V} {p q r : List ℕ}
@@ -102,7 +102,7 @@ pub puts_numbered : {V A B : Type 0} {written : V → Option (List ℕ)} {has_fa
     → Puts written has_failed w v p q (numbered f 0 (take i xs) (take i ys)) → Puts written has_failed v u q r (f i x y)
     → Puts written has_failed w u p r (numbered f 0 (take (i + 1) xs) (take (i + 1) ys))
 puts_numbered f xs ys i x y h k ex ey a b =
-    puts_as (numbered-turn f xs ys i x y [] _ _ h k ex ey refl refl) (puts_then a b)
+    puts_as (numbered-switch_to f xs ys i x y [] _ _ h k ex ey refl refl) (puts_then a b)
 
 -- over a page that is empty
 pub puts_onto : {V : Type 0} {written : V → Option (List ℕ)} {has_failed : V → Bool} {w v : V} {p text : List ℕ}
@@ -113,7 +113,7 @@ puts_onto {written = written} {has_failed = has_failed} {w = w} {v = v} {text = 
 pub puts_broken : {V : Type 0} {written : V → Option (List ℕ)} {has_failed : V → Bool} {w v : V} {bytes : List ℕ} (n : ℕ)
     → has_failed w ≡ false → has_failed v ≡ true → Appends (written w) (written v) (take n bytes) → Puts written has_failed w v [] [] bytes
 puts_broken {bytes = bytes} n was now went = record {
-  front = take n bytes;
+  prefix = take n bytes;
   rest = drop n bytes;
   parts = sym (take-append-drop n bytes);
   went = went;
@@ -122,10 +122,10 @@ puts_broken {bytes = bytes} n was now went = record {
 }
 
 -- a line of four parts that finds room on the page
-pub puts_joined : {V : Type 0} {written : V → Option (List ℕ)} {has_failed : V → Bool} {w : V} {q : List ℕ} (p word front spelling end : List ℕ)
-    → q ≡ p ++ word ++ front ++ spelling ++ end → Puts written has_failed w w p q (word ++ front ++ spelling ++ end)
-puts_joined p word front spelling end e =
-    let front_too = append_assoc p word front in
-    let spelling_too = append_assoc p (word ++ front) spelling in
-    let end_too = append_assoc p (word ++ front ++ spelling) end in
+pub puts_joined : {V : Type 0} {written : V → Option (List ℕ)} {has_failed : V → Bool} {w : V} {q : List ℕ} (p word prefix spelling end : List ℕ)
+    → q ≡ p ++ word ++ prefix ++ spelling ++ end → Puts written has_failed w w p q (word ++ prefix ++ spelling ++ end)
+puts_joined p word prefix spelling end e =
+    let front_too = append_assoc p word prefix in
+    let spelling_too = append_assoc p (word ++ prefix) spelling in
+    let end_too = append_assoc p (word ++ prefix ++ spelling) end in
     puts_here (e ∙ (ap (λ l. l ++ spelling ++ end) front_too ∙ (ap (λ l. l ++ end) spelling_too ∙ end_too)))

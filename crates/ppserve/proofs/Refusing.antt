@@ -7,12 +7,12 @@ use Rattle.ppserve.specs.Drafting.{draft}
 use Rattle.ppserve.specs.Drafts.{Draft}
 use Rattle.ppserve.specs.Laws.{HoldsDraft, Applies, too_long, no_json, no_shape, wrong_names, wrong_sizes, unknown_file, wrong_times, wrong_lines, wrong_folders, wrong_profile, wrong_budget}
 use Rattle.ppserve.specs.Laws.{IsLeast, IsTaken, RefusesByTheLeast, TakesTheRest}
-use Rattle.ppserve.specs.Listing.{Outcome, accepted, refused, json_value, outcome_of, judged, listed, names_of, names_hold, sizes_hold, are_known, times_hold, lines_hold}
-use Rattle.ppserve.specs.Listing.{folders_hold, profile_holds, budget_holds, most_input}
+use Rattle.ppserve.specs.Listing.{Outcome, accepted, refused, json_value, outcome_of, validated, listed, names_of, names_hold, sizes_hold, are_known, times_hold, lines_hold}
+use Rattle.ppserve.specs.Listing.{directories_hold, profile_holds, budget_holds, most_input}
 use Rattle.ppserve.specs.Shape.{IsDraft}
 use Rattle.ppserve.specs.declared.list.List.{List as CompilationList}
 use Rattle.ppserve.proofs.Drafted.{decides}
-use Rattle.ppserve.proofs.Judged.{fits_test, outcome_of-draft}
+use Rattle.ppserve.proofs.Validated.{fits_test, outcome_of-draft}
 use Rattle.ppserve.proofs.Received.{too_many}
 
 -- ---- tests one after another
@@ -57,9 +57,9 @@ first_taken (true ∷ bs) n list taken e =
 abbrev tests : Draft → List Bool
 tests d =
     names_hold d.files ∷ (sizes_hold d ∷ (are_known (names_of d.files) d.units ∷ (times_hold d.setting ∷ (lines_hold d.units
-    ∷ (folders_hold d ∷ (profile_holds d.setting ∷ (budget_holds d.setting ∷ [])))))))
+    ∷ (directories_hold d ∷ (profile_holds d.setting ∷ (budget_holds d.setting ∷ [])))))))
 
-judged_first : (inline : Bool) (d : Draft) → judged inline d ≡ first (tests d) 3 (accepted (listed inline d))
+judged_first : (inline : Bool) (d : Draft) → validated inline d ≡ first (tests d) 3 (accepted (listed inline d))
 judged_first inline d = refl
 
 applies_of : (inline : Bool) (bytes : List ℕ) (d : Draft) (m : ℕ) → HoldsDraft inline bytes d → Fails (tests d) 3 m → Applies inline bytes m
@@ -92,7 +92,7 @@ fails_of inline bytes d m fits h (wrong_sizes {x = x} k e) = there (here (ap (λ
 fails_of inline bytes d m fits h (unknown_file {x = x} k e) = there (there (here (ap (λ (y : Draft). are_known (names_of y.files) y.units) (one_draft inline bytes d x h k) ∙ e)))
 fails_of inline bytes d m fits h (wrong_times {x = x} k e) = there (there (there (here (ap (λ (y : Draft). times_hold y.setting) (one_draft inline bytes d x h k) ∙ e))))
 fails_of inline bytes d m fits h (wrong_lines {x = x} k e) = there (there (there (there (here (ap (λ (y : Draft). lines_hold y.units) (one_draft inline bytes d x h k) ∙ e)))))
-fails_of inline bytes d m fits h (wrong_folders {x = x} k e) = there (there (there (there (there (here (ap (λ (y : Draft). folders_hold y) (one_draft inline bytes d x h k) ∙ e))))))
+fails_of inline bytes d m fits h (wrong_folders {x = x} k e) = there (there (there (there (there (here (ap (λ (y : Draft). directories_hold y) (one_draft inline bytes d x h k) ∙ e))))))
 fails_of inline bytes d m fits h (wrong_profile {x = x} k e) =
     there (there (there (there (there (there (here (ap (λ (y : Draft). profile_holds y.setting) (one_draft inline bytes d x h k) ∙ e)))))))
 fails_of inline bytes d m fits h (wrong_budget {x = x} k e) =
@@ -105,7 +105,7 @@ abbrev Told : Bool → List ℕ → Outcome → Type 0
 Told inline bytes (accepted list) = IsTaken inline bytes list
 Told inline bytes (refused number) = IsLeast (Applies inline bytes) number
 
-told_judged : (inline : Bool) (bytes : List ℕ) (d : Draft) (o : Outcome) → length bytes ≤ most_input → HoldsDraft inline bytes d → judged inline d ≡ o → Told inline bytes o
+told_judged : (inline : Bool) (bytes : List ℕ) (d : Draft) (o : Outcome) → length bytes ≤ most_input → HoldsDraft inline bytes d → validated inline d ≡ o → Told inline bytes o
 told_judged inline bytes d (accepted list) fits h e =
     let all = first_taken (tests d) 3 (listed inline d) list e in
     record { draft = d; holds = h; none = λ m a. all.1 m (fails_of inline bytes d m fits h a); is_list = all.0 }
@@ -150,7 +150,7 @@ told_value inline bytes value None fits is e =
     subst (Told inline bytes) (sym two) (record { is_so = no_shape is shapeless; least = λ m a. from_two inline bytes value m fits is a })
 told_value inline bytes value (Some d) fits is e =
     let holds : HoldsDraft inline bytes d = record { value = value; is_json = is; is_shaped = (decides inline value d).0 e } in
-    subst (Told inline bytes) (sym (outcome_of-draft inline bytes value d fits is e)) (told_judged inline bytes d (judged inline d) fits holds refl)
+    subst (Told inline bytes) (sym (outcome_of-draft inline bytes value d fits is e)) (told_judged inline bytes d (validated inline d) fits holds refl)
 
 told_json : (inline : Bool) (bytes : List ℕ) (value : Option Data) → length bytes ≤ most_input → json_value bytes ≡ value → Told inline bytes (outcome_of inline bytes)
 told_json inline bytes None fits is =

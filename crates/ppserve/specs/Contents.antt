@@ -14,15 +14,15 @@ abbrev pub files_of : List (List ℕ) → Files
 files_of contents = map (λ bytes. Some (readable bytes)) contents
 
 -- the files are those whose contents are in the list
-abbrev pub StandIn : CompilationList → Files → Type 0
-StandIn list files = files ≡ files_of list.contents
+abbrev pub AreInList : CompilationList → Files → Type 0
+AreInList list files = files ≡ files_of list.contents
 
 -- each content is one that a disk may return for its name
-abbrev pub MayBe : (List ℕ → Content → Type 0) → CompilationList → Files → Type 0
-MayBe may list files = AllPermitted may list.names files
+abbrev pub ArePermitted : (List ℕ → Content → Type 0) → CompilationList → Files → Type 0
+ArePermitted may list files = AllPermitted may list.names files
 
 -- what is kept of the units' values over some such files
-pub record GiveOverSome (may : List ℕ → Content → Type 0) (retain : Retain) (names : List (List ℕ)) (setting : Setting)
+pub record AreRetainedOverSome (may : List ℕ → Content → Type 0) (retain : Retain) (names : List (List ℕ)) (setting : Setting)
     (units : List UnitOfList) (outs : List UnitOut) : Type 0 where
   pub files : Files
   pub contents_permitted : AllPermitted may names files

@@ -7,8 +7,8 @@ use Rattle.ppserve.specs.Shape.{is_object_of, file_members, unit_members, list_m
 use Rattle.ppserve.specs.Drafts.{DraftFile, DraftUnit, DraftBudget, Missing, Everything, Other, DraftSetting, Draft}
 
 -- the result of a part, if there is one
-abbrev pub given : {A B : Type 0} → Option A → (A → Option B) → Option B
-given part make = option_and_then make part
+abbrev pub with_part : {A B : Type 0} → Option A → (A → Option B) → Option B
+with_part part make = option_and_then make part
 
 abbrev pub text_at : List ℕ → Data → Option (List ℕ)
 text_at name d = option_and_then as_str (get name d)
@@ -52,18 +52,18 @@ content_of false d = Some []
 abbrev pub draft_file : Bool → Data → Option DraftFile
 draft_file inline d =
     if is_object_of (file_members inline) d then
-    given (text_at (codes "name") d) (λ name.
-    given (content_of inline d) (λ content.
+    with_part (text_at (codes "name") d) (λ name.
+    with_part (content_of inline d) (λ content.
     Some (record { name = name; content = content })))
     else None
 
 abbrev pub draft_unit : Data → Option DraftUnit
 draft_unit d =
     if is_object_of unit_members d then
-    given (text_at (codes "file") d) (λ file.
-    given (texts_at (codes "define") d) (λ defines.
-    given (texts_at (codes "search") d) (λ folders.
-    Some (record { file = file; defines = defines; search = folders }))))
+    with_part (text_at (codes "file") d) (λ file.
+    with_part (texts_at (codes "define") d) (λ defines.
+    with_part (texts_at (codes "search") d) (λ directories.
+    Some (record { file = file; defines = defines; search = directories }))))
     else None
 
 -- the name of the profile: `c11` if the member is missing
@@ -85,20 +85,20 @@ budget_at d = budget_from (get (codes "budget") d)
 
 abbrev pub draft_setting : Data → Option DraftSetting
 draft_setting d =
-    given (profile_at d) (λ profile.
-    given (budget_at d) (λ allowed.
-    given (text_at (codes "date") d) (λ date.
-    given (text_at (codes "time") d) (λ time.
-    given (texts_at (codes "search") d) (λ folders.
-    Some (record { profile = profile; budget = allowed; date = date; time = time; search = folders }))))))
+    with_part (profile_at d) (λ profile.
+    with_part (budget_at d) (λ allowed.
+    with_part (text_at (codes "date") d) (λ date.
+    with_part (text_at (codes "time") d) (λ time.
+    with_part (texts_at (codes "search") d) (λ directories.
+    Some (record { profile = profile; budget = allowed; date = date; time = time; search = directories }))))))
 
 -- the draft, if the value has the members of a list and no others
 abbrev pub draft : Bool → Data → Option Draft
 draft inline d =
     if is_object_of list_members d then
-    given (draft_setting d) (λ setting.
-    given (array_at (draft_file inline) (codes "files") d) (λ files.
-    given (array_at draft_unit (codes "units") d) (λ units.
+    with_part (draft_setting d) (λ setting.
+    with_part (array_at (draft_file inline) (codes "files") d) (λ files.
+    with_part (array_at draft_unit (codes "units") d) (λ units.
     Some (record { setting = setting; files = files; units = units }))))
     else None
 

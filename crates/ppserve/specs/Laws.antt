@@ -2,9 +2,9 @@
 use Rattle.std.specs.Prelude.{◌≡◌, ◌↔◌, ℕ, ◌<◌, ◌≤◌, Bool, true, false, List, length, Option, Some, None}
 use Rattle.serde_json.specs.Data.{Data}
 use Rattle.ppshelf.specs.Files.{Files, Agree}
-use Rattle.ppserve.specs.Contents.{StandIn}
+use Rattle.ppserve.specs.Contents.{AreInList}
 use Rattle.ppserve.specs.Drafts.{Draft}
-use Rattle.ppserve.specs.Listing.{json_value, most_input, names_of, names_hold, sizes_hold, are_known, times_hold, lines_hold, folders_hold}
+use Rattle.ppserve.specs.Listing.{json_value, most_input, names_of, names_hold, sizes_hold, are_known, times_hold, lines_hold, directories_hold}
 use Rattle.ppserve.specs.Listing.{profile_holds, budget_holds, listed, outcome_of, accepted, refused}
 use Rattle.ppserve.specs.Serving.{Serves}
 use Rattle.ppserve.specs.Shape.{IsDraft}
@@ -32,7 +32,7 @@ pub data Applies (inline : Bool) (bytes : List ℕ) : ℕ → Type 0 where
   unknown_file : {x : Draft} → HoldsDraft inline bytes x → are_known (names_of x.files) x.units ≡ false → Applies inline bytes 5
   wrong_times : {x : Draft} → HoldsDraft inline bytes x → times_hold x.setting ≡ false → Applies inline bytes 6
   wrong_lines : {x : Draft} → HoldsDraft inline bytes x → lines_hold x.units ≡ false → Applies inline bytes 7
-  wrong_folders : {x : Draft} → HoldsDraft inline bytes x → folders_hold x ≡ false → Applies inline bytes 8
+  wrong_folders : {x : Draft} → HoldsDraft inline bytes x → directories_hold x ≡ false → Applies inline bytes 8
   wrong_profile : {x : Draft} → HoldsDraft inline bytes x → profile_holds x.setting ≡ false → Applies inline bytes 9
   wrong_budget : {x : Draft} → HoldsDraft inline bytes x → budget_holds x.setting ≡ false → Applies inline bytes 10
 
@@ -66,9 +66,9 @@ TakesTheRest =
 -- result.
 abbrev pub OneOutput : (CompilationList → Files → Type 0) → Type 0
 OneOutput Such =
-    (inline : Bool) (mode : Mode) (known given : List ℕ) (left right : Option (List ℕ)) (one two : List ℕ) (any other : Bool)
-    → (a : Serves inline Such mode (Some known) left (Some given) (Some one) any)
-    → (b : Serves inline Such mode (Some known) right (Some given) (Some two) other)
+    (inline : Bool) (mode : Mode) (known with_part : List ℕ) (left right : Option (List ℕ)) (one two : List ℕ) (any other : Bool)
+    → (a : Serves inline Such mode (Some known) left (Some with_part) (Some one) any)
+    → (b : Serves inline Such mode (Some known) right (Some with_part) (Some two) other)
     → Agree a.came.files b.came.files
     → (one ≡ two) × (any ≡ other)
 
@@ -76,7 +76,7 @@ OneOutput Such =
 -- result.
 abbrev pub OneOutputOfContents : Type 0
 OneOutputOfContents =
-    (mode : Mode) (known given : List ℕ) (left right : Option (List ℕ)) (one two : List ℕ) (any other : Bool)
-    → Serves true StandIn mode (Some known) left (Some given) (Some one) any
-    → Serves true StandIn mode (Some known) right (Some given) (Some two) other
+    (mode : Mode) (known with_part : List ℕ) (left right : Option (List ℕ)) (one two : List ℕ) (any other : Bool)
+    → Serves true AreInList mode (Some known) left (Some with_part) (Some one) any
+    → Serves true AreInList mode (Some known) right (Some with_part) (Some two) other
     → (one ≡ two) × (any ≡ other)

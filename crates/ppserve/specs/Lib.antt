@@ -2,11 +2,9 @@ pub mod Drafts
 pub mod Shape
 pub mod Drafting
 pub mod Listing
-pub mod Needed
 pub mod Contents
-pub mod Ending
+pub mod ExitStatus
 pub mod Output
 pub mod Serving
-pub mod Lines
-pub mod Printing
 pub mod Laws
+pub mod code

@@ -69,8 +69,8 @@ abbrev pub lines_hold : List DraftUnit → Bool
 lines_hold = list_all (λ (u : DraftUnit). list_all is_one_line u.defines)
 
 -- each search path is a directory name
-abbrev pub folders_hold : Draft → Bool
-folders_hold d = list_all is_directory d.setting.search && list_all (λ (u : DraftUnit). list_all is_directory u.search) d.units
+abbrev pub directories_hold : Draft → Bool
+directories_hold d = list_all is_directory d.setting.search && list_all (λ (u : DraftUnit). list_all is_directory u.search) d.units
 
 -- the profile with this name
 abbrev pub profile_named : List ℕ → Option Profile
@@ -139,28 +139,28 @@ listed inline d = record {
 }
 
 -- the list of a draft with valid texts, or its refusal
-abbrev pub judged_choices : Bool → Draft → Outcome
-judged_choices inline d =
+abbrev pub validated_choices : Bool → Draft → Outcome
+validated_choices inline d =
     if not (profile_holds d.setting) then refused 9 else (
     if not (budget_holds d.setting) then refused 10 else accepted (listed inline d))
 
 -- the list of a draft whose units have their files, or its refusal
-abbrev pub judged_texts : Bool → Draft → Outcome
-judged_texts inline d =
+abbrev pub validated_texts : Bool → Draft → Outcome
+validated_texts inline d =
     if not (times_hold d.setting) then refused 6 else (
     if not (lines_hold d.units) then refused 7 else (
-    if not (folders_hold d) then refused 8 else judged_choices inline d))
+    if not (directories_hold d) then refused 8 else validated_choices inline d))
 
 -- the list of a draft, or the least number of a refusal that applies
-abbrev pub judged : Bool → Draft → Outcome
-judged inline d =
+abbrev pub validated : Bool → Draft → Outcome
+validated inline d =
     if not (names_hold d.files) then refused 3 else (
     if not (sizes_hold d) then refused 4 else (
-    if not (are_known (names_of d.files) d.units) then refused 5 else judged_texts inline d))
+    if not (are_known (names_of d.files) d.units) then refused 5 else validated_texts inline d))
 
 abbrev shaped : Bool → Option Draft → Outcome
 shaped inline None = refused 2
-shaped inline (Some d) = judged inline d
+shaped inline (Some d) = validated inline d
 
 abbrev parsed : Bool → Option Data → Outcome
 parsed inline None = refused 1

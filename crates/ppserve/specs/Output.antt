@@ -20,11 +20,11 @@ abbrev pub hex_digit : ℕ → ℕ
 hex_digit n = if nat_lt n 10 then 48 + n else 55 + n
 
 -- the bytes 32 to 126 except `%` are printed as they are
-abbrev pub is_plain : ℕ → Bool
-is_plain b = nat_le 32 b && nat_le b 126 && not (b == 37)
+abbrev pub prints_as_is : ℕ → Bool
+prints_as_is b = nat_le 32 b && nat_le b 126 && not (b == 37)
 
 abbrev pub escaped_byte : ℕ → List ℕ
-escaped_byte b = if is_plain b then b ∷ [] else (37 ∷ (hex_digit (b / 16) ∷ (hex_digit (b % 16) ∷ [])))
+escaped_byte b = if prints_as_is b then b ∷ [] else (37 ∷ (hex_digit (b / 16) ∷ (hex_digit (b % 16) ∷ [])))
 
 abbrev pub escaped : List ℕ → List ℕ
 escaped = flat_map escaped_byte
@@ -42,15 +42,15 @@ kind_letter kind.Header = 104
 kind_letter kind.Other = 111
 
 -- `+` if white space or the beginning of the line precedes the token, otherwise `-`
-abbrev pub mark : Bool → ℕ
-mark true = 43
-mark false = 45
+abbrev pub space_sign : Bool → ℕ
+space_sign true = 43
+space_sign false = 45
 
 -- ` AT USED KM SPELLING`, and the line's end
 abbrev pub token_text : Token → List ℕ
 token_text t =
     codes " " ++ place_text t.at ++ codes " " ++ place_text t.used
-    ++ (32 ∷ (kind_letter t.kind ∷ (mark t.space ∷ (32 ∷ [])))) ++ escaped t.text ++ (10 ∷ [])
+    ++ (32 ∷ (kind_letter t.kind ∷ (space_sign t.space ∷ (32 ∷ [])))) ++ escaped t.text ++ (10 ∷ [])
 
 abbrev pub pragma_token_line : Token → List ℕ
 pragma_token_line t = codes "ptok" ++ token_text t

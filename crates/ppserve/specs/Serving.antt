@@ -26,27 +26,27 @@ pub record Received (before after : Option (List ℕ)) (bytes : List ℕ) : Type
   pub whole : length bytes ≤ most_input → IsAtEnd after
 
 -- a list was read, with its contents if `inline`
-pub record Comes (inline : Bool) (before after : Option (List ℕ)) (list : CompilationList) : Type 0 where
+pub record ReadsList (inline : Bool) (before after : Option (List ℕ)) (list : CompilationList) : Type 0 where
   pub bytes : List ℕ
   pub received : Received before after bytes
   pub is_list : outcome_of inline bytes ≡ accepted list
 
 -- a list was read, and these are the values of its units over some such files
-pub record Brings (inline : Bool) (Such : CompilationList → Files → Type 0)
+pub record Produces (inline : Bool) (Such : CompilationList → Files → Type 0)
     (before after : Option (List ℕ)) (list : CompilationList) (outs : List UnitOut) : Type 0 where
-  pub came : Comes inline before after list
+  pub came : ReadsList inline before after list
   pub files : Files
   pub such : Such list files
   pub gives : AreUnits list.names files list.setting list.units outs
 
 -- the whole output of units was written
-pub record HandsOut (mode : Mode) (names : List (List ℕ)) (units : List UnitOfList) (outs : List UnitOut)
+pub record WritesAll (mode : Mode) (names : List (List ℕ)) (units : List UnitOfList) (outs : List UnitOut)
     (before after : Option (List ℕ)) (any : Bool) : Type 0 where
   pub went : Appends before after (numbered (unit_lines mode names) 0 units outs)
   pub fault : any ≡ some_fault outs
 
 -- a prefix of the output of units was written
-pub record HandsOutFront (mode : Mode) (names : List (List ℕ)) (units : List UnitOfList) (outs : List UnitOut)
+pub record WritesPrefix (mode : Mode) (names : List (List ℕ)) (units : List UnitOfList) (outs : List UnitOut)
     (before after : Option (List ℕ)) : Type 0 where
   pub count : ℕ
   pub went : Appends before after (take count (numbered (unit_lines mode names) 0 units outs))
@@ -56,16 +56,16 @@ pub record Serves (inline : Bool) (Such : CompilationList → Files → Type 0) 
     (before after out_before out_after : Option (List ℕ)) (any : Bool) : Type 0 where
   pub list : CompilationList
   pub outs : List UnitOut
-  pub came : Brings inline Such before after list outs
+  pub came : Produces inline Such before after list outs
   pub went : Appends out_before out_after (output_text mode list outs)
   pub fault : any ≡ some_fault outs
 
 -- a list was read, and a prefix of its output over some such files was written
-pub record BreaksOff (inline : Bool) (Such : CompilationList → Files → Type 0) (mode : Mode)
+pub record ServesPrefix (inline : Bool) (Such : CompilationList → Files → Type 0) (mode : Mode)
     (before after out_before out_after : Option (List ℕ)) : Type 0 where
   pub list : CompilationList
   pub outs : List UnitOut
-  pub came : Brings inline Such before after list outs
+  pub came : Produces inline Such before after list outs
   pub count : ℕ
   pub went : Appends out_before out_after (take count (output_text mode list outs))
 

@@ -117,7 +117,7 @@ pub record IsUnitDraft (d : Data) (u : DraftUnit) : Type 0 where
   pub object : is_object_of unit_members d ≡ true
   pub file : HasText d (codes "file") u.file
   pub defines : HasTexts d (codes "define") u.defines
-  pub folders : HasTexts d (codes "search") u.search
+  pub directories : HasTexts d (codes "search") u.search
 
 -- what all units share
 pub record IsSettingDraft (d : Data) (s : DraftSetting) : Type 0 where
@@ -125,7 +125,7 @@ pub record IsSettingDraft (d : Data) (s : DraftSetting) : Type 0 where
   pub budget : HasBudget d s.budget
   pub date : HasText d (codes "date") s.date
   pub time : HasText d (codes "time") s.time
-  pub folders : HasTexts d (codes "search") s.search
+  pub directories : HasTexts d (codes "search") s.search
 
 -- the list, with its contents if `inline`
 pub record IsDraft (inline : Bool) (d : Data) (x : Draft) : Type 0 where

@@ -1,6 +1,6 @@
 //! Theorems about runs: functions that do nothing, whose contracts state the theorems. They call the theorems that they
 //! rest on.
-ghost use Rattle.ppserve.specs.Contents.{MayBe};
+ghost use Rattle.ppserve.specs.Contents.{ArePermitted};
 ghost use Rattle.ppserve.specs.Drafting.{ShapeDecides};
 ghost use Rattle.ppserve.specs.Laws.{OneOutput, OneOutputOfContents, RefusesByTheLeast, TakesTheRest};
 ghost use Rattle.ppserve.specs.Serving.{KnownBytesDecide};
@@ -30,7 +30,7 @@ pub fn known_bytes_decide()
 /// Theorem: two runs of one list over files that agree have the same output and the same result, whatever the workers,
 /// the blocks and the hash key. Runs of a list that holds its files need no such condition.
 pub fn one_output<D: Disk>()
-    ensures files { OneOutput (MayBe D.may) }
+    ensures files { OneOutput (ArePermitted D.may) }
     ensures contents { OneOutputOfContents }
 {
     one_value();

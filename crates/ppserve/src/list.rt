@@ -1,14 +1,14 @@
 //! Reads the list of translation units from JSON.
 ghost use Rattle.std.specs.Prelude.{◌≡◌, ◌≤◌, ℕ, Some, None, IfOk, IfErr, IsErrOf, true, length};
 ghost use Rattle.serde_json.specs.View.{view};
-ghost use Rattle.ppserve.specs.Listing.{RefusedFor, IsRunnable, json_value, outcome_of, judged, accepted, refused, most_input};
+ghost use Rattle.ppserve.specs.Listing.{RefusedFor, IsRunnable, json_value, outcome_of, validated, accepted, refused, most_input};
 ghost use Rattle.ppserve.specs.declared.list.ListFault.TheVariants.{Bad, Memory as OutOfMemory};
 
 mod drafts;
-mod judging;
+mod validation;
 
 use crate::list::drafts::{Draft, draft_of};
-use crate::list::judging::judge;
+use crate::list::validation::validate;
 use pptext::{Hashing, Memory, Sequence};
 use ppunit::{Setting, OwnedTexts, Unit};
 use serde_json::{Category, Value};
@@ -131,13 +131,13 @@ pub fn read_list(
         return Err(ListFault::Bad(1));
     }
     let draft = draft_from(alloc, bytes, inline)?;
-    judge(alloc, draft, inline, hashing)
+    validate(alloc, draft, inline, hashing)
 }
 
 /// Reads a draft of the list. The JSON value is freed before the list is validated.
 fn draft_from(alloc: Global, bytes: &[u8], inline: bool) -> Result<Draft, ListFault>
     requires { length bytes.now ≤ most_input }
-    ensures ok { IfOk result (λ d. outcome_of inline bytes.now ≡ judged inline d) }
+    ensures ok { IfOk result (λ d. outcome_of inline bytes.now ≡ validated inline d) }
     ensures bad { (n : ℕ) → IsErrOf result (Bad n) → outcome_of inline bytes.now ≡ refused n }
 {
     let value = json_of(alloc, bytes)?;

@@ -1,15 +1,15 @@
 //! Runs cppunits: reads the bytes of a list and writes the bytes of its output.
 ghost use Rattle.std.specs.Prelude.{◌≡◌, ◌⊎◌, ◌≤◌, ◌≢◌, ℕ, List as ListOf, Option, IfOk, IfErr, IsErrOf, length, true, false};
-ghost use Rattle.ppserve.specs.Contents.{StandIn, MayBe};
+ghost use Rattle.ppserve.specs.Contents.{AreInList, ArePermitted};
 ghost use Rattle.ppserve.specs.Listing.{IsRunnable};
 ghost use Rattle.ppserve.specs.declared.serving.RunFault.TheVariants.{List as ListRefused, Memory as OutOfMemory};
 ghost use Rattle.ppserve.specs.declared.serving.RunFault.TheVariants.{Read as ReadFailed, Write as WriteFailed};
-ghost use Rattle.ppserve.specs.Serving.{some_fault, Received, Comes, HandsOut, HandsOutFront, Serves, BreaksOff, Refuses};
+ghost use Rattle.ppserve.specs.Serving.{some_fault, Received, ReadsList, WritesAll, WritesPrefix, Serves, ServesPrefix, Refuses};
 
 use crate::list::{Contents, List, ListFault, MOST_INPUT, read_list};
 use crate::output::{Mode, print};
-use crate::page::Page;
-use crate::running::{OpenGate, RunOptions, empty_shelf, filled_shelf, over_contents, over_disk};
+use crate::out_buffer::OutBuffer;
+use crate::run_list::{OpenGate, RunOptions, empty_shelf, filled_shelf, over_contents, over_disk};
 use crate::streams::{Feed, Sink};
 use pppool::Batch;
 use ppshelf::Disk;
@@ -90,21 +90,21 @@ pub fn serve<T: Threads + Sync, R: Feed, W: Sink>(
     requires workers { (1 ≤ options.workers) × (options.workers ≤ 64) }
     requires block { (1 ≤ options.block) × (options.block ≤ 1024) }
     ensures ok { IfOk result (λ any.
-        Serves true StandIn options.mode (R.rest reader.old) (R.rest reader.new) (W.written writer.old) (W.written writer.new) any) }
+        Serves true AreInList options.mode (R.rest reader.old) (R.rest reader.new) (W.written writer.old) (W.written writer.new) any) }
     ensures refused { (n : ℕ) → IsErrOf result (ListRefused n) → Refuses true (R.rest reader.old) (R.rest reader.new) n }
     ensures read { IsErrOf result ReadFailed → R.has_failed reader.new ≡ true }
     ensures write { IsErrOf result WriteFailed → W.has_failed writer.new ≡ true }
-    ensures broken_off { IsErrOf result WriteFailed →
-        BreaksOff true StandIn options.mode (R.rest reader.old) (R.rest reader.new) (W.written writer.old) (W.written writer.new) }
+    ensures prefix_served { IsErrOf result WriteFailed →
+        ServesPrefix true AreInList options.mode (R.rest reader.old) (R.rest reader.new) (W.written writer.old) (W.written writer.new) }
     ensures untouched { IfErr result (λ fault. fault ≢ WriteFailed → writer.new ≡ writer.old) }
 {
     let mut list = receive(alloc, reader, true, options.hashing)?;
-    hand_out_held(threads, alloc, writer, &mut list, options)
+    run_with_contents(threads, alloc, writer, &mut list, options)
 }
 
 /// Preprocesses the units of a list that holds its files, and writes their output once all are done. Returns whether a
 /// unit has a fault. Moves the contents out of the list.
-fn hand_out_held<T: Threads + Sync, W: Sink>(
+fn run_with_contents<T: Threads + Sync, W: Sink>(
     threads: &T,
     alloc: Global,
     writer: &mut W,
@@ -116,12 +116,12 @@ fn hand_out_held<T: Threads + Sync, W: Sink>(
     requires contents { length list.old.contents ≡ length list.old.names }
     requires workers { (1 ≤ options.workers) × (options.workers ≤ 64) }
     requires block { (1 ≤ options.block) × (options.block ≤ 1024) }
-    ensures ok { IfOk result (λ any. (before after : Option (ListOf ℕ)) → Comes true before after list.old
-        → Serves true StandIn options.mode before after (W.written writer.old) (W.written writer.new) any) }
+    ensures ok { IfOk result (λ any. (before after : Option (ListOf ℕ)) → ReadsList true before after list.old
+        → Serves true AreInList options.mode before after (W.written writer.old) (W.written writer.new) any) }
     ensures kinds { IfErr result (λ fault. (fault ≡ OutOfMemory) ⊎ (fault ≡ WriteFailed)) }
     ensures write { IsErrOf result WriteFailed → W.has_failed writer.new ≡ true }
-    ensures broken_off { IsErrOf result WriteFailed → (before after : Option (ListOf ℕ)) → Comes true before after list.old
-        → BreaksOff true StandIn options.mode before after (W.written writer.old) (W.written writer.new) }
+    ensures prefix_served { IsErrOf result WriteFailed → (before after : Option (ListOf ℕ)) → ReadsList true before after list.old
+        → ServesPrefix true AreInList options.mode before after (W.written writer.old) (W.written writer.new) }
     ensures untouched { IfErr result (λ fault. fault ≢ WriteFailed → writer.new ≡ writer.old) }
 {
     let contents = mem::replace(&mut list.contents, Contents::new(Vec::new(alloc)));
@@ -134,7 +134,7 @@ fn hand_out_held<T: Threads + Sync, W: Sink>(
     )?;
     let units = list.units.as_slice();
     let outs = over_contents(threads, alloc, &shelf, &list.setting, units, options)?;
-    let answer = hand_out(
+    let answer = write_output(
         alloc,
         writer,
         options.mode,
@@ -163,21 +163,21 @@ pub fn serve_from<T: Threads + Sync, R: Feed, W: Sink, D: Disk + Send + Sync>(
     requires workers { (1 ≤ options.workers) × (options.workers ≤ 64) }
     requires block { (1 ≤ options.block) × (options.block ≤ 1024) }
     ensures ok { IfOk result (λ any.
-        Serves false (MayBe D.may) options.mode (R.rest reader.old) (R.rest reader.new) (W.written writer.old) (W.written writer.new) any) }
+        Serves false (ArePermitted D.may) options.mode (R.rest reader.old) (R.rest reader.new) (W.written writer.old) (W.written writer.new) any) }
     ensures refused { (n : ℕ) → IsErrOf result (ListRefused n) → Refuses false (R.rest reader.old) (R.rest reader.new) n }
     ensures read { IsErrOf result ReadFailed → R.has_failed reader.new ≡ true }
     ensures write { IsErrOf result WriteFailed → W.has_failed writer.new ≡ true }
-    ensures broken_off { IsErrOf result WriteFailed →
-        BreaksOff false (MayBe D.may) options.mode (R.rest reader.old) (R.rest reader.new) (W.written writer.old) (W.written writer.new) }
+    ensures prefix_served { IsErrOf result WriteFailed →
+        ServesPrefix false (ArePermitted D.may) options.mode (R.rest reader.old) (R.rest reader.new) (W.written writer.old) (W.written writer.new) }
     ensures untouched { IfErr result (λ fault. fault ≢ WriteFailed → writer.new ≡ writer.old) }
 {
     let list = receive(alloc, reader, false, options.hashing)?;
-    hand_out_from(threads, alloc, writer, disk, &list, options)
+    run_with_disk(threads, alloc, writer, disk, &list, options)
 }
 
 /// Preprocesses the units of a list of names, and writes their output once all are done. Returns whether a unit has a
 /// fault.
-fn hand_out_from<T: Threads + Sync, W: Sink, D: Disk + Send + Sync>(
+fn run_with_disk<T: Threads + Sync, W: Sink, D: Disk + Send + Sync>(
     threads: &T,
     alloc: Global,
     writer: &mut W,
@@ -189,17 +189,17 @@ fn hand_out_from<T: Threads + Sync, W: Sink, D: Disk + Send + Sync>(
     requires runnable { IsRunnable list.now }
     requires workers { (1 ≤ options.workers) × (options.workers ≤ 64) }
     requires block { (1 ≤ options.block) × (options.block ≤ 1024) }
-    ensures ok { IfOk result (λ any. (before after : Option (ListOf ℕ)) → Comes false before after list.now
-        → Serves false (MayBe D.may) options.mode before after (W.written writer.old) (W.written writer.new) any) }
+    ensures ok { IfOk result (λ any. (before after : Option (ListOf ℕ)) → ReadsList false before after list.now
+        → Serves false (ArePermitted D.may) options.mode before after (W.written writer.old) (W.written writer.new) any) }
     ensures kinds { IfErr result (λ fault. (fault ≡ OutOfMemory) ⊎ (fault ≡ WriteFailed)) }
     ensures write { IsErrOf result WriteFailed → W.has_failed writer.new ≡ true }
-    ensures broken_off { IsErrOf result WriteFailed → (before after : Option (ListOf ℕ)) → Comes false before after list.now
-        → BreaksOff false (MayBe D.may) options.mode before after (W.written writer.old) (W.written writer.new) }
+    ensures prefix_served { IsErrOf result WriteFailed → (before after : Option (ListOf ℕ)) → ReadsList false before after list.now
+        → ServesPrefix false (ArePermitted D.may) options.mode before after (W.written writer.old) (W.written writer.new) }
     ensures untouched { IfErr result (λ fault. fault ≢ WriteFailed → writer.new ≡ writer.old) }
 {
     let shelf = empty_shelf(alloc, &list.names, list.setting.profile, options.hashing)?;
     let units = list.units.as_slice();
-    let block = options.share(units.len());
+    let block = options.block_size(units.len());
     let outs = over_disk(
         threads,
         alloc,
@@ -214,7 +214,7 @@ fn hand_out_from<T: Threads + Sync, W: Sink, D: Disk + Send + Sync>(
         },
         options.mode,
     )?;
-    let answer = hand_out(
+    let answer = write_output(
         alloc,
         writer,
         options.mode,
@@ -234,7 +234,7 @@ fn receive<R: Feed>(
     inline: bool,
     hashing: Hashing,
 ) -> Result<List, RunFault>
-    ensures ok { IfOk result (λ l. Comes inline (R.rest reader.old) (R.rest reader.new) l) }
+    ensures ok { IfOk result (λ l. ReadsList inline (R.rest reader.old) (R.rest reader.new) l) }
     ensures runnable { IfOk result (λ l. IsRunnable l) }
     ensures contents { inline ≡ true → IfOk result (λ l. length l.contents ≡ length l.names) }
     ensures refused { (n : ℕ) → IsErrOf result (ListRefused n) → Refuses inline (R.rest reader.old) (R.rest reader.new) n }
@@ -265,7 +265,7 @@ fn read_all<R: Feed>(alloc: Global, reader: &mut R) -> Result<Vec<u8>, RunFault>
 }
 
 /// Writes the output of units. Returns whether a unit has a fault.
-fn hand_out<W: Sink>(
+fn write_output<W: Sink>(
     alloc: Global,
     writer: &mut W,
     mode: Mode,
@@ -275,14 +275,14 @@ fn hand_out<W: Sink>(
 ) -> Result<bool, RunFault>
     requires writer { W.has_failed writer.old ≡ false }
     requires counts { length outs.now ≡ length units.now }
-    ensures ok { IfOk result (λ any. HandsOut mode names.now units.now outs.now (W.written writer.old) (W.written writer.new) any) }
+    ensures ok { IfOk result (λ any. WritesAll mode names.now units.now outs.now (W.written writer.old) (W.written writer.new) any) }
     ensures kinds { IfErr result (λ fault. (fault ≡ OutOfMemory) ⊎ (fault ≡ WriteFailed)) }
     ensures write { IsErrOf result WriteFailed → W.has_failed writer.new ≡ true }
-    ensures front { IsErrOf result WriteFailed → HandsOutFront mode names.now units.now outs.now (W.written writer.old) (W.written writer.new) }
+    ensures prefix { IsErrOf result WriteFailed → WritesPrefix mode names.now units.now outs.now (W.written writer.old) (W.written writer.new) }
     ensures untouched { IfErr result (λ fault. fault ≢ WriteFailed → writer.new ≡ writer.old) }
 {
-    let mut page = Page::new(alloc)?;
-    let Ok(()) = print(&mut page, writer, mode, names, units, outs) else {
+    let mut buf = OutBuffer::new(alloc)?;
+    let Ok(()) = print(&mut buf, writer, mode, names, units, outs) else {
         return Err(RunFault::Write);
     };
     Ok(any_fault(outs))

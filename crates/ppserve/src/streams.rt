@@ -72,8 +72,8 @@ impl Feed for SliceFeed<'_> {
 
     fn read(&mut self, buf: &mut [u8]) -> Result<usize, Failed> {
         let count = self.bytes.len().min(buf.len());
-        let (front, back) = self.bytes.split_at(count);
-        buf[..count].copy_from_slice(front);
+        let (prefix, back) = self.bytes.split_at(count);
+        buf[..count].copy_from_slice(prefix);
         self.bytes = back;
         Ok(count)
     }

@@ -5,9 +5,9 @@ use Rattle.ppserve.proofs.Printing.{puts_as, puts_none, puts_then}
 use Rattle.ppserve.proofs.output.put_escaped.Goals as goal
 
 -- a front of plain bytes stands for itself
-plain_front : (rest run others : List ℕ) (n : ℕ) → run ≡ take n rest → others ≡ drop n rest → escaped (take n rest) ≡ take n rest → escaped rest ≡ run ++ escaped others
-plain_front rest run others n front back plain =
-    ap escaped (sym (take-append-drop n rest)) ∙ (flat_map-append escaped_byte (take n rest) (drop n rest) ∙ rw (front, back, plain) refl)
+as_is_prefix : (rest run others : List ℕ) (n : ℕ) → run ≡ take n rest → others ≡ drop n rest → escaped (take n rest) ≡ take n rest → escaped rest ≡ run ++ escaped others
+as_is_prefix rest run others n prefix back plain =
+    ap escaped (sym (take-append-drop n rest)) ∙ (flat_map-append escaped_byte (take n rest) (drop n rest) ∙ rw (prefix, back, plain) refl)
 
 none_left : (bytes : List ℕ) → length bytes ≡ 0 → bytes ≡ []
 none_left [] e = refl
@@ -18,13 +18,13 @@ loop-rest-init g c = record { done = []; whole = refl; out = puts_none }
 
 pub returns-in_default : goal.returns-in_default
 returns-in_default g c =
-    let rest = plain_front c.loop-rest.rest.now c.split_at.result.0.now c.split_at.result.1.now c.plain_len.result c.split_at.ensures.front c.split_at.ensures.back c.plain_len.ensures.plain in
+    let rest = as_is_prefix c.loop-rest.rest.now c.split_at.result.0.now c.split_at.result.1.now c.as_is_len.result c.split_at.ensures.front c.split_at.ensures.back c.as_is_len.ensures.plain in
     let none : c.split_at.result.1.now ≡ [] = none_left c.split_at.result.1.now c.in_default.ensures.cases in
     puts_as (rw (← c.loop-rest.invariant.whole, rest, none, append-nil) refl) (puts_then c.loop-rest.invariant.out c.put.ensures)
 
 pub loop-rest-preserved : goal.loop-rest-preserved
 loop-rest-preserved g c =
-    let rest = plain_front c.loop-rest.rest.now c.split_at.result.0.now c.split_at.result.1.now c.plain_len.result c.split_at.ensures.front c.split_at.ensures.back c.plain_len.ensures.plain in
+    let rest = as_is_prefix c.loop-rest.rest.now c.split_at.result.0.now c.split_at.result.1.now c.as_is_len.result c.split_at.ensures.front c.split_at.ensures.back c.as_is_len.ensures.plain in
     let first : c.split_at.result.1.now ≡ c.in-Some.field-0-0.now ∷ c.in-Some.more.now = search rules in
     let done = c.loop-rest.invariant.done in
     let run = c.split_at.result.0.now in

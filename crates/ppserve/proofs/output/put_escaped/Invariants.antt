@@ -1,6 +1,6 @@
 use Rattle.std.proofs.Common.{◌≡◌, ℕ, List, ◌++◌, length}
 use Rattle.ppserve.specs.Output.{escaped}
-use Rattle.ppserve.specs.Printing.{Puts}
+use Rattle.ppserve.specs.code.Printing.{Puts}
 use Rattle.ppserve.proofs.output.put_escaped.Given as goal
 
 abbrev pub invariant-loop-rest : goal.invariant-loop-rest
@@ -8,7 +8,7 @@ invariant-loop-rest g l =
     record {
       done : List ℕ;
       whole : done ++ escaped l.rest ≡ escaped l.bytes;
-      out : Puts g.W.Sink.written g.W.Sink.has_failed l.initial.writer l.writer l.initial.page l.page done;
+      out : Puts g.W.Sink.written g.W.Sink.has_failed l.initial.writer l.writer l.initial.buf l.buf done;
     }
 
 abbrev pub decreases-loop-rest : goal.decreases-loop-rest

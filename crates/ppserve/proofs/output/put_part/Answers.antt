@@ -2,7 +2,7 @@ use Rattle.std.proofs.Common.{◌≡◌, List, [], ◌∷◌, ◌++◌, map, fla
 use Rattle.pptext.specs.declared.tokens.Token.{Token as PreToken}
 use Rattle.ppunit.specs.declared.units.Item.TheVariants as item
 use Rattle.ppserve.specs.Output.{item_lines}
-use Rattle.ppserve.specs.Lines.{token_line}
+use Rattle.ppserve.specs.code.LinePrefix.{token_line}
 use Rattle.ppserve.proofs.output.put_part.Goals as goal
 
 lines_of_tokens : (ts : List PreToken) → flat_map item_lines (map item.Token ts) ≡ flat_map token_line ts

@@ -1,7 +1,7 @@
 use Rattle.std.proofs.Common.{flat_map, refl}
 use Rattle.std.proofs.lemmas.List.{map-append}
 use Rattle.std.proofs.lemmas.Grind.{flat_map-append}
-use Rattle.ppserve.specs.Lines.{token_line}
+use Rattle.ppserve.specs.code.LinePrefix.{token_line}
 use Rattle.ppmacro.specs.Substituting.{tokens_of}
 use Rattle.ppexpand.specs.Pieces.{piece_list}
 use Rattle.ppserve.proofs.Printing.{more_of, puts_all, puts_none, puts_turn}

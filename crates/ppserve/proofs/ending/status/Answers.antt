@@ -1,5 +1,0 @@
-use Rattle.std.proofs.Common.{rules}
-use Rattle.ppserve.proofs.ending.status.Goals as goal
-
-pub returns-in-Ok-true : goal.returns-in-Ok-true
-returns-in-Ok-true c = search rules

@@ -1,6 +1,0 @@
-use Rattle.ppshelf.proofs.Naming.{Indexed}
-use Rattle.ppserve.specs.Listing.{names_of}
-use Rattle.ppserve.proofs.list.judging.index_files.Given as goal
-
-abbrev pub invariant-loop-file : goal.invariant-loop-file
-invariant-loop-file l = Indexed (names_of l.files) l.file-index l.index.names

@@ -1,7 +1,0 @@
-use Rattle.std.proofs.Common.{take, flat_map}
-use Rattle.ppserve.specs.Printing.{Puts}
-use Rattle.ppserve.specs.Lines.{token_line}
-use Rattle.ppserve.proofs.output.put_shared.Given as goal
-
-abbrev pub invariant-loop-token : goal.invariant-loop-token
-invariant-loop-token g l = Puts g.W.Sink.written g.W.Sink.has_failed l.initial.writer l.writer l.initial.page l.page (flat_map token_line (take l.token-index l.tokens))

@@ -1,4 +1,0 @@
-use Rattle.ppserve.proofs.writing.+put_large.Given as goal
-
-abbrev pub decreases-put_large : goal.decreases-put_large
-decreases-put_large l = l.number

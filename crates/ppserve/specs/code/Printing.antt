@@ -1,0 +1,13 @@
+-- What printing does to the bytes of a buffer and to the bytes that were written.
+use Rattle.std.specs.Prelude.{◌≡◌, ℕ, Bool, true, false, List, [], ◌++◌, Option}
+use Rattle.std.specs.Io.KnownBytes.{Appends}
+
+-- The text is appended to the bytes of the buffer p: a prefix of both is written, which takes the writer from w to v,
+-- and the rest is in the buffer q. After a failed write nothing more is written.
+pub record Puts {V : Type 0} (written : V → Option (List ℕ)) (has_failed : V → Bool) (w v : V) (p q text : List ℕ) : Type 0 where
+  pub prefix : List ℕ
+  pub rest : List ℕ
+  pub parts : p ++ text ≡ prefix ++ rest
+  pub went : Appends (written w) (written v) prefix
+  pub waits : has_failed v ≡ false → rest ≡ q
+  pub stays : has_failed w ≡ true → (prefix ≡ []) × (has_failed v ≡ true)

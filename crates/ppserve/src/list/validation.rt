@@ -1,0 +1,369 @@
+//! Validates the names, sizes and texts of a list.
+ghost use Rattle.std.specs.Prelude.{◌≡◌, ◌≤◌, ℕ, List as ListOf, Bool, IfOk, IfErr, OnOk, IsErrOf, true, false, [], map, length, nat_le, if◌then◌else◌};
+ghost use Rattle.std.specs.List.{list_all};
+ghost use Rattle.ppshelf.specs.Content.{longest};
+ghost use Rattle.ppshelf.specs.Names as shelf_spec;
+ghost use Rattle.ppunit.specs.WellFormed as form;
+ghost use Rattle.ppunit.specs.Unit.{command_text};
+ghost use Rattle.ppserve.specs.Listing as spec;
+ghost use Rattle.ppserve.specs.Listing.{RefusedFor, validated, validated_texts, validated_choices, accepted, refused};
+ghost use Rattle.ppserve.specs.declared.list.ListFault.TheVariants.{Bad, Memory as OutOfMemory};
+
+use crate::list::drafts::{Draft, DraftBudget, DraftFile, DraftSetting, DraftUnit, WrittenBudget};
+use crate::list::{Contents, List, ListFault, Units};
+use ppshelf::{Index, LONGEST, MOST_ROWS, is_directory, is_file_name};
+use pptext::{Hashing, Memory, Profile, Sequence};
+use ppunit::{CommandMacros, Setting, OwnedTexts, Unit, fits_command, is_date, is_one_line, is_time};
+use std::alloc::{AllocError, Global};
+
+/// The largest budget of a list.
+const MOST_BUDGET: u64 = 4_294_967_295;
+
+/// Validates a draft. File names are hashed by `hashing`.
+///
+/// # Errors
+///
+/// `Bad` with the least number that applies: 3 for a file name, 4 for a number or a size, 5 for the file of a unit, 6
+/// for the date or the time, 7 for a definition, 8 for a directory, 9 for the profile and 10 for the budget; and
+/// `Memory`.
+pub(super) fn validate(
+    alloc: Global,
+    draft: Draft,
+    inline: bool,
+    hashing: Hashing,
+) -> Result<List, ListFault>
+    ensures ok { IfOk result (λ l. validated inline draft ≡ accepted l) }
+    ensures bad { (n : ℕ) → IsErrOf result (Bad n) → validated inline draft ≡ refused n }
+{
+    match index_and_profile(alloc, &draft, hashing) {
+        Ok((rows, profile)) => listed(alloc, draft, rows.as_slice(), profile, inline),
+        Err(fault) => Err(fault),
+    }
+}
+
+/// Returns the rows of the units' files and the profile, unless the draft is refused.
+fn index_and_profile(
+    alloc: Global,
+    draft: &Draft,
+    hashing: Hashing,
+) -> Result<(Vec<usize>, Profile), ListFault>
+    ensures rows { IfOk result (λ r. r.0.items ≡ map (spec.file_row (spec.names_of draft.now.files)) draft.now.units) }
+    ensures profile { IfOk result (λ r. r.1 ≡ spec.profile_of draft.now.setting) }
+    ensures fits { OnOk result (spec.commands_fit draft.now.units ≡ true) }
+    ensures ok { OnOk result ((inline : Bool) → validated inline draft.now ≡ accepted (spec.listed inline draft.now)) }
+    ensures bad { (n : ℕ) → IsErrOf result (Bad n) → (inline : Bool) → validated inline draft.now ≡ refused n }
+{
+    let index = index_files(alloc, draft.files.as_slice(), hashing)?;
+    if !sizes_hold(draft) {
+        return Err(ListFault::Bad(4));
+    }
+    let rows = file_rows(alloc, &index, draft.units.as_slice())?;
+    match profile_if_texts_valid(draft) {
+        Ok(profile) => Ok((rows, profile)),
+        Err(number) => Err(ListFault::Bad(number)),
+    }
+}
+
+/// Returns the profile of a draft with valid file names, sizes and unit files, or the number of its refusal. Checks the
+/// date and the time, definitions and directories first.
+fn profile_if_texts_valid(draft: &Draft) -> Result<Profile, u8>
+    ensures profile { IfOk result (λ p. p ≡ spec.profile_of draft.now.setting) }
+    ensures ok { OnOk result ((inline : Bool) → validated_texts inline draft.now ≡ accepted (spec.listed inline draft.now)) }
+    ensures bad { IfErr result (λ n. (inline : Bool) → validated_texts inline draft.now ≡ refused n) }
+{
+    if !times_hold(&draft.setting) {
+        return Err(6);
+    }
+    if !lines_hold(draft.units.as_slice()) {
+        return Err(7);
+    }
+    if !directories_hold(draft) {
+        return Err(8);
+    }
+    profile_if_choices_valid(draft)
+}
+
+/// Returns the profile of a draft with valid texts, or the number of its refusal. Checks the profile and the budget.
+fn profile_if_choices_valid(draft: &Draft) -> Result<Profile, u8>
+    ensures profile { IfOk result (λ p. p ≡ spec.profile_of draft.now.setting) }
+    ensures ok { OnOk result ((inline : Bool) → validated_choices inline draft.now ≡ accepted (spec.listed inline draft.now)) }
+    ensures bad { IfErr result (λ n. (inline : Bool) → validated_choices inline draft.now ≡ refused n) }
+{
+    let Some(profile) = profile_named(draft.setting.profile.as_str()) else {
+        return Err(9);
+    };
+    if !is_budget(&draft.setting.budget) {
+        return Err(10);
+    }
+    Ok(profile)
+}
+
+/// Returns the indices of the file names.
+///
+/// # Errors
+///
+/// `Bad(3)` if a name isn't in normal form or occurs twice, and `Memory`.
+fn index_files(alloc: Global, files: &[DraftFile], hashing: Hashing) -> Result<Index, ListFault>
+    ensures all { IfOk result (λ i. i.names ≡ spec.names_of files.now) }
+    ensures ok { OnOk result (spec.names_hold files.now ≡ true) }
+    ensures err { IfErr result (RefusedFor 3 (spec.names_hold files.now ≡ false)) }
+{
+    let mut index = Index::new(alloc, hashing);
+    for file in files {
+        let name = file.name.as_str().as_bytes();
+        if !is_file_name(name) {
+            return Err(ListFault::Bad(3));
+        }
+        let new = index.push(name)?;
+        if !new {
+            return Err(ListFault::Bad(3));
+        }
+    }
+    Ok(index)
+}
+
+/// Returns the row of each unit's file.
+///
+/// # Errors
+///
+/// `Bad(5)` if a unit's file isn't among the names, and `Memory`.
+fn file_rows(alloc: Global, index: &Index, units: &[DraftUnit]) -> Result<Vec<usize>, ListFault>
+    ensures rows { IfOk result (λ rows. rows.items ≡ map (spec.file_row index.now.names) units.now) }
+    ensures known { OnOk result (spec.are_known index.now.names units.now ≡ true) }
+    ensures err { IfErr result (RefusedFor 5 (spec.are_known index.now.names units.now ≡ false)) }
+{
+    let mut rows = Vec::new(alloc);
+    for unit in units {
+        let Some(row) = index.row_of(unit.file.as_str().as_bytes()) else {
+            return Err(ListFault::Bad(5));
+        };
+        rows.push(row)?;
+    }
+    Ok(rows)
+}
+
+/// Returns whether there are at most 65,535 files and units, and no content or definitions are too large.
+fn sizes_hold(draft: &Draft) -> bool
+    ensures { result ≡ spec.sizes_hold draft.now }
+{
+    let files = draft.files.as_slice();
+    let units = draft.units.as_slice();
+    files.len() <= MOST_ROWS
+        && units.len() <= MOST_ROWS
+        && contents_fit(files)
+        && commands_fit(units)
+}
+
+/// Returns whether no content is too large.
+fn contents_fit(files: &[DraftFile]) -> bool
+    ensures { result ≡ spec.contents_fit files.now }
+{
+    files
+        .iter()
+        .all(|file| file.content.as_slice().len() <= LONGEST)
+}
+
+/// Returns whether the definitions of no unit are too large.
+fn commands_fit(units: &[DraftUnit]) -> bool
+    ensures { result ≡ spec.commands_fit units.now }
+{
+    units.iter().all(|unit| command_fits(&unit.defines))
+}
+
+/// Returns whether the definitions of a unit aren't too large.
+fn command_fits(defines: &OwnedTexts) -> bool
+    ensures { result ≡ nat_le (length (command_text defines.now)) longest }
+{
+    fits_command(defines.as_slice())
+}
+
+/// Returns the profile with this name.
+fn profile_named(text: &str) -> Option<Profile>
+    ensures { result ≡ spec.profile_named text.now }
+{
+    match text {
+        "c11" => Some(Profile::C11),
+        "later" => Some(Profile::Later),
+        "gnu" => Some(Profile::Gnu),
+        _ => None,
+    }
+}
+
+/// Returns whether a list may have this budget: none, or an integer of at most 32 bits.
+fn is_budget(budget: &DraftBudget) -> bool
+    ensures { result ≡ spec.is_budget budget.now }
+{
+    match budget.written {
+        WrittenBudget::Missing => true,
+        WrittenBudget::Everything(number) => number <= MOST_BUDGET,
+        WrittenBudget::Other => false,
+    }
+}
+
+/// Returns the budget of each unit, if there is one.
+fn budget_of(budget: DraftBudget) -> Option<u64>
+    ensures { result ≡ spec.budget_of budget }
+{
+    match budget.written {
+        WrittenBudget::Everything(number) => Some(number),
+        WrittenBudget::Missing | WrittenBudget::Other => None,
+    }
+}
+
+/// Builds the list of a valid draft whose units' files have these rows. The definitions of its units are read with the profile.
+fn listed(
+    alloc: Global,
+    draft: Draft,
+    rows: &[usize],
+    profile: Profile,
+    inline: bool,
+) -> Result<List, ListFault>
+    requires rows { rows.now ≡ map (spec.file_row (spec.names_of draft.files)) draft.units }
+    requires profile { profile ≡ spec.profile_of draft.setting }
+    requires fits { spec.commands_fit draft.units ≡ true }
+    ensures ok { IfOk result (λ l. l ≡ spec.listed inline draft) }
+    ensures err { IfErr result (λ fault. fault ≡ OutOfMemory) }
+{
+    let Draft {
+        setting,
+        files,
+        units,
+    } = draft;
+    let units = listed_units(alloc, rows, profile, units)?;
+    let (names, contents) = split_files(alloc, files, inline)?;
+    Ok(List {
+        setting: listed_setting(setting, profile),
+        names,
+        contents,
+        units,
+    })
+}
+
+/// Builds the setting of a valid draft.
+fn listed_setting(draft: DraftSetting, profile: Profile) -> Setting
+    requires { profile ≡ spec.profile_of draft }
+    ensures { result ≡ spec.listed_setting draft }
+{
+    let DraftSetting {
+        profile: _,
+        budget,
+        date,
+        time,
+        search,
+    } = draft;
+    Setting {
+        profile,
+        date,
+        time,
+        search,
+        budget: budget_of(budget),
+    }
+}
+
+/// Builds the units of a valid draft, whose files have these rows.
+fn listed_units(
+    alloc: Global,
+    rows: &[usize],
+    profile: Profile,
+    units: Sequence<DraftUnit>,
+) -> Result<Units, Memory>
+    requires rows { length rows.now ≡ length units }
+    requires fits { spec.commands_fit units ≡ true }
+    ensures { (names : ListOf (ListOf ℕ)) → rows.now ≡ map (spec.file_row names) units → IfOk result (λ us. us ≡ map (spec.listed_unit profile names) units) }
+{
+    let mut listed = Vec::new(alloc);
+    for unit in units.into_vec() {
+        let row = rows[listed.len()];
+        let unit = listed_unit(alloc, row, profile, unit)?;
+        let Ok(()) = listed.push(unit) else {
+            return Err(Memory);
+        };
+    }
+    Ok(Units::new(listed))
+}
+
+/// Builds a unit of a valid draft.
+fn listed_unit(alloc: Global, row: usize, profile: Profile, unit: DraftUnit) -> Result<Unit, Memory>
+    requires { length (command_text unit.defines) ≤ longest }
+    ensures { IfOk result (λ u. u ≡ spec.unit_in profile row unit) }
+{
+    let DraftUnit {
+        file: _,
+        defines,
+        search,
+    } = unit;
+    Ok(Unit {
+        file: row,
+        defines: CommandMacros::read(alloc, defines, profile)?,
+        search,
+    })
+}
+
+/// Returns the names of the files, and their contents if the list holds them.
+fn split_files(
+    alloc: Global,
+    files: Sequence<DraftFile>,
+    inline: bool,
+) -> Result<(OwnedTexts, Contents), AllocError>
+    ensures names { IfOk result (λ r. r.0 ≡ spec.names_of files) }
+    ensures contents { IfOk result (λ r. r.1 ≡ (if inline then spec.contents_of files else [])) }
+{
+    let mut names = Vec::new(alloc);
+    let mut contents = Vec::new(alloc);
+    for file in files.into_vec() {
+        let DraftFile { name, content } = file;
+        names.push(name.into_string())?;
+        if inline {
+            contents.push(content.into_vec())?;
+        }
+    }
+    Ok((OwnedTexts::new(names), Contents::new(contents)))
+}
+
+/// Returns whether date and time have their formats.
+fn times_hold(setting: &DraftSetting) -> bool
+    ensures { result ≡ spec.times_hold setting.now }
+{
+    is_date(setting.date.as_str().as_bytes()) && is_time(setting.time.as_str().as_bytes())
+}
+
+/// Returns whether each definition of each unit is one line.
+fn lines_hold(units: &[DraftUnit]) -> bool
+    ensures { result ≡ spec.lines_hold units.now }
+{
+    units.iter().all(|unit| are_lines(&unit.defines))
+}
+
+/// Returns whether each text is one line.
+fn are_lines(texts: &OwnedTexts) -> bool
+    ensures { result ≡ list_all form.is_one_line texts.now }
+{
+    texts
+        .as_slice()
+        .iter()
+        .all(|text| is_one_line(text.as_bytes()))
+}
+
+/// Returns whether all search paths are directory names.
+fn directories_hold(draft: &Draft) -> bool
+    ensures { result ≡ spec.directories_hold draft.now }
+{
+    are_directories(&draft.setting.search) && units_search_directories(draft.units.as_slice())
+}
+
+/// Returns whether the search paths of all units are directory names.
+fn units_search_directories(units: &[DraftUnit]) -> bool
+    ensures { result ≡ list_all (λ u. list_all shelf_spec.is_directory u.search) units.now }
+{
+    units.iter().all(|unit| are_directories(&unit.search))
+}
+
+/// Returns whether all texts are directory names.
+fn are_directories(texts: &OwnedTexts) -> bool
+    ensures { result ≡ list_all shelf_spec.is_directory texts.now }
+{
+    texts
+        .as_slice()
+        .iter()
+        .all(|text| is_directory(text.as_bytes()))
+}

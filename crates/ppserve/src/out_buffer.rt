@@ -1,0 +1,142 @@
+//! A 64 KiB output buffer.
+ghost use Rattle.std.specs.Prelude.{◌≡◌, ◌+◌, ◌≤◌, ◌++◌, ◌∷◌, [], codes, length, take, true, false, IfOk};
+ghost use Rattle.ppserve.specs.code.LinePrefix.{before_spelling};
+ghost use Rattle.ppserve.specs.Output.{escaped};
+ghost use Rattle.ppserve.specs.code.Printing.{Puts};
+
+use crate::line_prefix::{LastPrefixes, LineFields, MOST_PREFIX};
+use crate::streams::Sink;
+use crate::formatting::{as_is_prefix, put_byte, put_prefix};
+use std::alloc::{AllocError, Global};
+use std::marker::Model;
+
+const SIZE: usize = 65_536;
+
+/// The capacity for a short spelling.
+const SHORT: usize = 14;
+
+/// A buffer of 64 KiB with the bytes that aren't written yet. It is allocated once, so that later calls can't run out
+/// of memory.
+#[derive(Drop)]
+pub(crate) struct OutBuffer {
+    bytes: Vec<u8>,
+    used: usize,
+    line: LastPrefixes,
+}
+
+impl Model for OutBuffer {
+    ghost use Rattle.std.specs.Prelude.{◌≡◌, ◌≤◌, ℕ, List, take, vec_len};
+
+    ghost Value = { List ℕ };
+
+    ghost view = { λ p. take p.used p.bytes.items };
+
+    ghost invariant = { λ p. (vec_len p.bytes ≡ 65_536) × (p.used ≤ 65_536) };
+}
+
+impl OutBuffer {
+    /// Allocates an empty buffer.
+    pub(crate) fn new(alloc: Global) -> Result<OutBuffer, AllocError>
+        ensures { IfOk result (λ buf. buf ≡ []) }
+    {
+        let bytes = vec![in alloc; 0u8; SIZE]?;
+        Ok(OutBuffer {
+            bytes,
+            used: 0,
+            line: LastPrefixes::new(),
+        })
+    }
+
+    /// Appends bytes. If they don't fit, the buffer is written first; bytes that are longer than the buffer are written
+    /// directly.
+    pub(crate) fn put<W: Sink>(&mut self, writer: &mut W, bytes: &[u8])
+        ensures { Puts W.written W.has_failed writer.old writer.new self.old self.new bytes.now }
+    {
+        if bytes.len() <= SIZE - self.used {
+            return self.add(bytes);
+        }
+        self.flush(writer);
+        if bytes.len() <= SIZE {
+            return self.add(bytes);
+        }
+        write_out(writer, bytes);
+    }
+
+    /// Writes the buffer unless it has capacity for what is before a token's spelling, a short spelling and the line's
+    /// end.
+    #[inline(always)]
+    pub(crate) fn ensure_capacity<W: Sink>(&mut self, writer: &mut W)
+        ensures out { Puts W.written W.has_failed writer.old writer.new self.old self.new [] }
+        ensures room { length self.new + 88 ≤ 65_536 }
+    {
+        if SIZE - self.used < MOST_PREFIX + SHORT + 1 {
+            self.flush(writer);
+        }
+    }
+
+    /// Appends what is before the spelling of a token.
+    #[inline(always)]
+    pub(crate) fn add_line_prefix(&mut self, fields: LineFields)
+        requires { length self.old + 73 ≤ 65_536 }
+        ensures text { self.new ≡ self.old ++ codes "tok" ++ before_spelling fields.at fields.used fields.kind fields.space }
+        ensures within { length self.new ≤ length self.old + 73 }
+    {
+        let bytes = self.bytes.as_mut_slice();
+        self.used = self.line.put(bytes, self.used, fields);
+    }
+
+    /// Appends the spelling in the first `len` bytes of `room` and the end of its line. Returns false, without effect,
+    /// if a byte of the spelling can't be printed as it is. All bytes of `room` are copied, so that no branch depends
+    /// on the spelling's length, which is hard to predict.
+    #[inline(always)]
+    pub(crate) fn add_short_spelling(&mut self, room: &[u8; 14], len: usize) -> bool
+        requires room { length self.old + 15 ≤ 65_536 }
+        requires len { len ≤ 14 }
+        ensures added { result ≡ true → self.new ≡ self.old ++ escaped (take len room.now) ++ (10 ∷ []) }
+        ensures refused { result ≡ false → self.new ≡ self.old }
+    {
+        if as_is_prefix(room) < len {
+            return false;
+        }
+        let bytes = self.bytes.as_mut_slice();
+        let end = put_prefix(bytes, self.used, room, len);
+        self.used = put_byte(bytes, end, b'\n');
+        true
+    }
+
+    /// Appends bytes that fit.
+    fn add(&mut self, bytes: &[u8])
+        requires { length self.old + length bytes.now ≤ 65_536 }
+        ensures { self.new ≡ self.old ++ bytes.now }
+    {
+        let end = self.used + bytes.len();
+        self.bytes.as_mut_slice()[self.used..end].copy_from_slice(bytes);
+        self.used = end;
+    }
+
+    /// Writes the buffer and empties it.
+    #[inline(never)]
+    pub(crate) fn flush<W: Sink>(&mut self, writer: &mut W)
+        ensures out { Puts W.written W.has_failed writer.old writer.new self.old self.new [] }
+        ensures empty { self.new ≡ [] }
+    {
+        write_out(writer, &self.bytes.as_slice()[..self.used]);
+        self.used = 0;
+    }
+}
+
+/// Writes all bytes, or a prefix of them if a write fails. After a failed write nothing more is written.
+fn write_out<W: Sink>(writer: &mut W, bytes: &[u8])
+    ensures { Puts W.written W.has_failed writer.old writer.new [] [] bytes.now }
+{
+    if writer.failed() {
+        return;
+    }
+    let mut done = 0;
+    while done < bytes.len() {
+        let Ok(count) = writer.write(&bytes[done..]) else {
+            return;
+        };
+        done += count;
+    }
+}
