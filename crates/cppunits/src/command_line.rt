@@ -1,6 +1,6 @@
 //! Parses the command line, before any input is read.
 ghost use Rattle.std.specs.Prelude.{◌≤◌, IfOk};
-ghost use Rattle.cppunits.specs.Asking.{InRange, IfRun};
+ghost use Rattle.cppunits.specs.code.Requests.{InRange, IfRun};
 
 use clap::error::ErrorKind;
 use clap::{Arg, ArgMatches, Command, Error};
@@ -24,11 +24,11 @@ pub struct Options {
 
 /// The result of parsing the command line.
 #[derive(Drop)]
-pub enum Asked {
+pub enum Request {
     /// Run with these options.
     Run(Options),
     /// Exit with this status: the help, the version or a usage error was printed.
-    Stop(u8),
+    Exit(u8),
 }
 
 /// The largest number of workers.
@@ -58,12 +58,12 @@ Status: 0 no unit has a fault, 1 some unit has one, 2 usage, 3 the list is refus
 
 /// Parses the command line, and prints the help, the version or a usage error if there is one. Fails if an allocation
 /// fails, or if the help or the version can't be written.
-pub fn ask<R: Env + AllocGlobal + Print + Eprint>(rt: &R) -> Result<Asked, RunFault>
-    ensures { IfOk result (λ asked. IfRun asked InRange) }
+pub fn parse_request<R: Env + AllocGlobal + Print + Eprint>(rt: &R) -> Result<Request, RunFault>
+    ensures { IfOk result (λ request. IfRun request InRange) }
 {
     match parse(rt) {
-        Ok(options) => Ok(Asked::Run(options)),
-        Err(error) => Ok(Asked::Stop(stop_status(rt, &error)?)),
+        Ok(options) => Ok(Request::Run(options)),
+        Err(error) => Ok(Request::Exit(stop_status(rt, &error)?)),
     }
 }
 
@@ -87,13 +87,13 @@ fn parse<R: Env + AllocGlobal>(rt: &R) -> Result<Options, Error>
     ensures { IfOk result InRange }
 {
     let mut command = command(rt.alloc())?;
-    let words = given_words(rt, &mut command)?;
+    let words = arguments(rt, &mut command)?;
     let matches = command.try_get_matches_from(words.as_slice())?;
     Ok(read_options(rt.alloc(), &matches)?)
 }
 
 /// Returns the command-line arguments.
-fn given_words<R: Env + AllocGlobal>(
+fn arguments<R: Env + AllocGlobal>(
     rt: &R,
     command: &mut Command<'_>,
 ) -> Result<Vec<String>, Error> {

@@ -2,15 +2,15 @@
 #![tactic(auto)]
 
 mod command_line;
-mod room;
+mod stack_reserve;
 
-use command_line::Asked;
+use command_line::Request;
 use ppserve::{
     AtEnd, ReaderFeed, RunFault, RunOptions, WriterSink, serve, serve_from, status, words,
 };
 use ppshelf::DirDisk;
 use pptext::Hashing;
-use room::reserve;
+use stack_reserve::reserve;
 use std::hash::RandomState;
 use std::process::ExitCode;
 use std::random::RandomSource;
@@ -24,7 +24,7 @@ fn hashing(rt: &impl RandomSource) -> Result<Hashing, RunFault> {
 }
 
 /// Prints the error message of a run that failed. Returns the exit status.
-fn ended(rt: &impl Eprint, outcome: &Result<bool, RunFault>) -> ExitCode {
+fn exit_with(rt: &impl Eprint, outcome: &Result<bool, RunFault>) -> ExitCode {
     if let Err(fault) = outcome {
         let _ = eprintln!(rt; "{}", words(fault));
     }
@@ -33,18 +33,18 @@ fn ended(rt: &impl Eprint, outcome: &Result<bool, RunFault>) -> ExitCode {
 
 fn main(rt: HostRuntime) -> ExitCode {
     if reserve(rt.alloc()).is_err() {
-        return ended(&rt, &Err(RunFault::Memory));
+        return exit_with(&rt, &Err(RunFault::Memory));
     }
-    let options = match command_line::ask(&rt) {
-        Ok(Asked::Run(options)) => options,
-        Ok(Asked::Stop(status)) => return ExitCode::from(status),
-        Err(fault) => return ended(&rt, &Err(fault)),
+    let options = match command_line::parse_request(&rt) {
+        Ok(Request::Run(options)) => options,
+        Ok(Request::Exit(status)) => return ExitCode::from(status),
+        Err(fault) => return exit_with(&rt, &Err(fault)),
     };
     let mut reader = ReaderFeed::new(rt.stdin());
     let mut writer = WriterSink::new(rt.stdout());
     let hashing = match hashing(&rt) {
         Ok(hashing) => hashing,
-        Err(fault) => return ended(&rt, &Err(fault)),
+        Err(fault) => return exit_with(&rt, &Err(fault)),
     };
     let run = RunOptions {
         mode: options.mode,
@@ -62,5 +62,5 @@ fn main(rt: HostRuntime) -> ExitCode {
             serve_from(&rt, rt.alloc(), &mut reader, &mut writer, &disk, run)
         }
     };
-    ended(&rt, &outcome)
+    exit_with(&rt, &outcome)
 }

@@ -10,7 +10,7 @@ const PAGES: usize = 48;
 
 /// The number of bytes in all pages, and some more. An allocation of this size has pages of its own, which the stack
 /// can use after it is freed.
-const ROOM: usize = 256 * 1_024;
+const RESERVED: usize = 256 * 1_024;
 
 /// Touches a page of the stack in each of its frames. Each page is filled from the frame above it, so that no compiler
 /// optimizes it away.
@@ -26,8 +26,8 @@ fn touch(pages: usize, above: &[u8; PAGE]) -> u8 {
 /// Reserves the stack pages that the deepest run needs. Fails if there is no memory for them. The system allocates
 /// stack pages on first use, and kills a program by a signal if it then has none left.
 pub fn reserve(alloc: Global) -> Result<(), Memory> {
-    let room = Vec::<u8>::with_capacity(alloc, ROOM)?;
-    drop(room);
+    let reserved = Vec::<u8>::with_capacity(alloc, RESERVED)?;
+    drop(reserved);
     let _ = touch(PAGES, &[0; PAGE]);
     Ok(())
 }

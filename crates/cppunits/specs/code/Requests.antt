@@ -1,7 +1,7 @@
 -- The result of parsing the command line.
 use Rattle.std.specs.Prelude.{◌≤◌}
-use Rattle.cppunits.specs.declared.command_line.Asked.{Asked}
-use Rattle.cppunits.specs.declared.command_line.Asked.TheVariants.{Run, Stop}
+use Rattle.cppunits.specs.declared.command_line.Request.{Request}
+use Rattle.cppunits.specs.declared.command_line.Request.TheVariants.{Run, Exit}
 use Rattle.cppunits.specs.declared.command_line.Options.{Options}
 
 -- options within their ranges
@@ -10,6 +10,6 @@ pub record InRange (options : Options) : Type 0 where
   pub block : (1 ≤ options.block) × (options.block ≤ 1024)
 
 -- P holds of the options, if there is a run
-abbrev pub IfRun : Asked → (Options → Type 0) → Type 0
+abbrev pub IfRun : Request → (Options → Type 0) → Type 0
 IfRun (Run options) P = P options
-IfRun (Stop status) P = Unit {0}
+IfRun (Exit status) P = Unit {0}

@@ -1,4 +1,4 @@
-use Rattle.cppunits.proofs.room.+touch.Given as goal
+use Rattle.cppunits.proofs.stack_reserve.+touch.Given as goal
 
 abbrev pub decreases-touch : goal.decreases-touch
 decreases-touch l = l.pages
