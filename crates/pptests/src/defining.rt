@@ -53,15 +53,15 @@ pub(crate) fn directed<'a>(
     table: &mut Table<'a>,
     source: &'a Source,
 ) -> Result<&'a [Token], Memory> {
-    let mut behind = 0;
+    let mut after_name = 0;
     for line in source.lines() {
         if matches!(line.directive, Some(Directive::Define | Directive::Undef)) {
             let tokens = tokens_at(source, line.start, line.end);
             assert!(rt; direct(alloc, table, Profile::C11, tokens)?.is_ok());
-            behind = line.end;
+            after_name = line.end;
         }
     }
-    Ok(tokens_at(source, behind, source.tokens().len()))
+    Ok(tokens_at(source, after_name, source.tokens().len()))
 }
 
 /// Returns a hash function with a random key.

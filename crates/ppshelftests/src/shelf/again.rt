@@ -78,7 +78,7 @@ fn assert_looks_again(
 }
 
 #[test]
-fn a_look_is_made_again_after_want_of_memory(rt: HostRuntime) -> Result<(), Fail> {
+fn a_look_is_repeated_after_a_failed_allocation(rt: HostRuntime) -> Result<(), Fail> {
     let disk = disk_of(rt.alloc())?;
     let shelf = named(rt.alloc(), NAMES)?;
     Ok(assert_looks_again(&rt, &shelf, &disk, ROWS)?)

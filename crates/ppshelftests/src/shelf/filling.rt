@@ -12,7 +12,7 @@ use std::sync::atomic::Ordering::SeqCst;
 use std::test::Fail;
 
 #[test]
-fn a_fill_goes_on_after_want_of_memory(rt: HostRuntime) -> Result<(), Fail> {
+fn a_fill_continues_after_a_failed_allocation(rt: HostRuntime) -> Result<(), Fail> {
     let mut shelf = named(rt.alloc(), &["a", "b", "c"])?;
     let disk = refusing(1);
     assert!(rt; shelf.fill(&disk) == Err(Memory));
@@ -24,7 +24,7 @@ fn a_fill_goes_on_after_want_of_memory(rt: HostRuntime) -> Result<(), Fail> {
 }
 
 #[test]
-fn a_fill_reads_what_a_look_has_kept(rt: HostRuntime) -> Result<(), Fail> {
+fn a_fill_reads_a_cached_row(rt: HostRuntime) -> Result<(), Fail> {
     let mut shelf = named(rt.alloc(), &["a"])?;
     let disk = refusing(99);
     assert_new(&rt, &shelf, &disk, &[(0, Some("0\n"))])?;

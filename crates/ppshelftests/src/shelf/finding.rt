@@ -18,7 +18,7 @@ const INCLUDED: &[(Form, &str, Option<(usize, usize)>)] = &[
 ];
 
 /// Numbers of directories, with the file that a search for `h.h` after that directory finds.
-const BEHIND: &[(usize, Option<(usize, usize)>)] = &[
+const AFTER: &[(usize, Option<(usize, usize)>)] = &[
     (0, Some((2, 1))),
     (1, Some((3, 2))),
     (2, Some((4, 3))),
@@ -30,28 +30,28 @@ fn assert_finds(
     rt: &impl Abort,
     alloc: Global,
     shelf: &Shelf<MemoryDisk>,
-    folders: Directories<'_>,
+    directories: Directories<'_>,
 ) -> Result<(), Memory> {
     assert!(rt; shelf.len() == 5);
     for &(form, name, row) in INCLUDED {
-        let found = resolve(alloc, shelf, 0, form, name.as_bytes(), folders)?;
+        let found = resolve(alloc, shelf, 0, form, name.as_bytes(), directories)?;
         assert!(rt; found == row, "{name}");
     }
-    for &(number, row) in BEHIND {
-        let found = resolve_next(alloc, shelf, number, b"h.h", folders)?;
+    for &(number, row) in AFTER {
+        let found = resolve_next(alloc, shelf, number, b"h.h", directories)?;
         assert!(rt; found == row, "{number}");
     }
     Ok(())
 }
 
 #[test]
-fn searches_number_their_folders(rt: HostRuntime) -> Result<(), Fail> {
+fn searches_number_their_directories(rt: HostRuntime) -> Result<(), Fail> {
     let alloc = rt.alloc();
     let shelf = named(alloc, NAMES)?;
     let (unit, setting) = (texts(alloc, &["one"])?, texts(alloc, &["two", "three"])?);
-    let folders = Directories {
+    let directories = Directories {
         unit: unit.as_slice(),
         setting: setting.as_slice(),
     };
-    Ok(assert_finds(&rt, alloc, &shelf, folders)?)
+    Ok(assert_finds(&rt, alloc, &shelf, directories)?)
 }

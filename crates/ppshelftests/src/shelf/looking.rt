@@ -190,7 +190,7 @@ fn assert_read_once(rt: &impl Abort, shelf: &Shelf<Counting>) -> Result<(), Memo
 }
 
 #[test]
-fn a_kept_row_is_not_read_again(rt: HostRuntime) -> Result<(), Fail> {
+fn a_cached_row_is_not_read_again(rt: HostRuntime) -> Result<(), Fail> {
     let shelf = named(rt.alloc(), &["h.h"])?;
     assert_read_once(&rt, &shelf)?;
     Ok(())

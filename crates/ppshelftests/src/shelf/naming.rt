@@ -87,8 +87,8 @@ fn assert_finds(
     }
     assert!(rt; shelf.len() == 2);
     assert!(rt; shelf.name(1) == "inc/b.h");
-    let folders = Directories { unit: &[], setting };
-    let found = resolve(alloc, shelf, 0, Form::Angle, b"b.h", folders)?;
+    let directories = Directories { unit: &[], setting };
+    let found = resolve(alloc, shelf, 0, Form::Angle, b"b.h", directories)?;
     assert!(rt; found == Some((1, 1)));
     Ok(shelf.hashing())
 }

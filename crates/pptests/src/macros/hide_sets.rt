@@ -87,7 +87,7 @@ fn assert_all_joined(rt: &impl Abort, sets: &mut HideSets) -> Result<(), Memory>
         assert_joined(rt, sets, (one, two), Join::Union, union)?;
         assert_joined(rt, sets, (one, two), Join::Meet, meet)?;
     }
-    sets.lawful();
+    sets.sets_are_unique();
     Ok(())
 }
 

@@ -28,7 +28,7 @@ fn made_and_turned<'a>(
 ) -> Result<Hidden<'a>, Memory> {
     let hide = set_of(rt, sets, b"a")?;
     let mut hidden = Hidden::synthesized(alloc, name_at_hash(alloc)?, sets.empty())?;
-    hidden.mark(true);
+    hidden.flag(true);
     hidden.set_use(USED, hide);
     Ok(hidden)
 }
@@ -50,7 +50,7 @@ fn push_words(
     body: &ReplacementList,
 ) -> Result<(), AllocError> {
     for token in body.as_slice() {
-        push_token(alloc, text, Hidden::new(token, sets.empty()).word())?;
+        push_token(alloc, text, Hidden::new(token, sets.empty()).token())?;
     }
     Ok(())
 }

@@ -44,7 +44,7 @@ fn asked_of(
     assert!(rt; sets.hides(&hidden) == is_hidden);
     match asked {
         Asked::Settled => sets.split_memory(&hidden),
-        Asked::WithOwn => sets.with_own(&hidden),
+        Asked::WithOwn => sets.with_own_name(&hidden),
         Asked::Common => sets.common_hide_set(&hidden, &Hidden::new(token, b)),
     }
 }
@@ -56,10 +56,10 @@ fn hides_by_either_of_two_sets(rt: HostRuntime) -> Result<(), Fail> {
     assert!(rt; source.tokens().len() == 3);
     for token in source.tokens() {
         let is_hidden = !token.is_identifier_named(b"c");
-        let with_own: &[u8] = if is_hidden { b"ab" } else { b"abc" };
+        let with_own_name: &[u8] = if is_hidden { b"ab" } else { b"abc" };
         for (asked, names) in [
             (Asked::Settled, b"ab".as_slice()),
-            (Asked::WithOwn, with_own),
+            (Asked::WithOwn, with_own_name),
             (Asked::Common, b"b".as_slice()),
         ] {
             let set = asked_of(&rt, &mut sets, token, is_hidden, asked)?;
