@@ -12,7 +12,7 @@ use Rattle.ppmacro.specs.Hiding.{Hiding}
 use Rattle.ppmacro.specs.HideSets.{set_at, IsKnown, hiding, hidings, AllKnown}
 use Rattle.ppmacro.specs.Substitution.{plain}
 use Rattle.ppmacro.specs.Substituting.{tokens_of}
-use Rattle.ppmacro.proofs.KeepLemmas.{known-prefix, known-rest, known-append}
+use Rattle.ppmacro.proofs.KeepLemmas.{known-front, known-rest, known-append}
 use Rattle.ppmacro.specs.declared.hidden_token.Hidden.{Hidden}
 use Rattle.ppexpand.specs.declared.env.Env.{Env}
 use Rattle.ppexpand.specs.ExpansionStep.{Emits, macro_of, expansion_step}
@@ -110,7 +110,7 @@ pub next-known : {macros : Macros} (s : HideSetPool) (list emitted next more : L
 next-known s list emitted next more k h = known-rest k.skipped next (subst (AllKnown s) k.laid_out h)
 
 pub more-known : {macros : Macros} (s : HideSetPool) (list emitted next more : List Hidden) → HasSkipped macros list emitted next more → AllKnown s list → AllKnown s emitted → AllKnown s more
-more-known s list emitted next more k h p = subst (AllKnown s) (sym k.emits) (known-append emitted k.skipped p (known-prefix k.skipped next (subst (AllKnown s) k.laid_out h)))
+more-known s list emitted next more k h p = subst (AllKnown s) (sym k.emits) (known-append emitted k.skipped p (known-front k.skipped next (subst (AllKnown s) k.laid_out h)))
 
 -- tokens of a file with one set
 pub known-with_set : (s : HideSetPool) (n : ℕ) (ts : List Token) → IsKnown s n → AllKnown s (map (with_set n) ts)

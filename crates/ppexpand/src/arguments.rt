@@ -6,9 +6,9 @@ ghost use Rattle.ppmacro.specs.Substituting.{ListsKnown};
 ghost use Rattle.ppexpand.specs.Arguments.{Closed, UnmatchedQuote, Unclosed, separates, fewer, separators, needed, gather, fit_arguments};
 ghost use Rattle.ppexpand.specs.code.ProgramValues.{given_in, fitting_in, FittingKnown, is_bare};
 
-use crate::token_stack::TokenStack;
 use crate::lists::put;
 use crate::token_roles::{ArgumentRole, argument_role};
+use crate::token_stack::TokenStack;
 use crate::vec_pool::VecPool;
 use ppmacro::{Hidden, Variadic};
 use pptext::Spelling;
@@ -79,7 +79,11 @@ fn end_argument<'a>(
     ensures ended { OnOk result (arguments.new.items ≡ arguments.old.items ++ argument.old ∷ []) }
     ensures begun { OnOk result (argument.new.items ≡ []) }
 {
-    let capacity = if arguments.len() < RESERVED_ARGUMENTS { ARGUMENT_CAPACITY } else { 0 };
+    let capacity = if arguments.len() < RESERVED_ARGUMENTS {
+        ARGUMENT_CAPACITY
+    } else {
+        0
+    };
     let begun = pool.list(capacity)?;
     put(arguments, mem::replace(argument, begun))
 }

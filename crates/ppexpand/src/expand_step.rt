@@ -23,16 +23,16 @@ ghost use Rattle.ppexpand.specs.code.Action as next;
 ghost use Rattle.pptext.specs.Tokens.{fault as fault_at};
 
 use crate::arguments::{Gathered, fit_arguments, gather, separators};
+use crate::budget::is_exhausted;
 use crate::context::Context;
-use crate::token_stack::TokenStack;
 use crate::env::Env;
 use crate::predefined::predefined_value;
-use crate::token_roles::{fault_at_expansion, is_open, is_quote, unmatched_quote, over_budget};
-use crate::budget::is_exhausted;
+use crate::token_roles::{fault_at_expansion, is_open, is_quote, over_budget, unmatched_quote};
+use crate::token_stack::TokenStack;
 use crate::vec_pool::VecPool;
 use ppmacro::{
-    Arguments, PredefinedMacro, Macro, Expansion, Hidden, HideSets, MacroName, Pattern, Set, MacroKind,
-    Table, Variadic, substitute_pattern,
+    Arguments, Expansion, Hidden, HideSets, Macro, MacroKind, MacroName, Pattern, PredefinedMacro,
+    Set, Table, Variadic, substitute_pattern,
 };
 use pptext::{Fault, Memory, Place, Spelling, Token};
 use std::alloc::AllocError;
@@ -482,7 +482,9 @@ impl<'x> Replacer<'x> {
         ensures keeps { KeepsSets self.old.sets self.new.sets }
     {
         let Some(head) = list.next() else {
-            return Ok(Action { step: ActionKind::Done });
+            return Ok(Action {
+                step: ActionKind::Done,
+            });
         };
         if is_quote(&head) {
             return refused_quote(&head);

@@ -16,18 +16,18 @@ ghost use Rattle.ppexpand.specs.code.Skipping.{HasSkipped};
 ghost use Rattle.ppexpand.specs.code.ProgramValues.{expanded_in, ExpansionsKnown, call_in, CallKnown, finished_in, Raises, owned_tokens, ExpandsArgument, HasExpanded};
 ghost use Rattle.ppexpand.specs.code.ProgramValues.{ExpandsWanted, CallStepsTo, HasTaken, HasCalled};
 
-use crate::pre_expansion::{parameter_count, pre_expanded_parameters};
-use crate::context::Context;
-use crate::token_stack::{Lookahead, TokenStack};
-use crate::env::Env;
-use crate::lists::put;
-use crate::emitted::{Emitted, TokenRope};
-use crate::token_roles::fault_at_expansion;
 use crate::budget::spend_one;
+use crate::context::Context;
+use crate::emitted::{Emitted, TokenRope};
+use crate::env::Env;
+use crate::expand_step::{ActionKind, Invocation, Replacer};
+use crate::lists::put;
+use crate::pre_expansion::{parameter_count, pre_expanded_parameters};
+use crate::token_roles::fault_at_expansion;
 use crate::token_span::{never_expands, split_unexpanded};
+use crate::token_stack::{Lookahead, TokenStack};
 use crate::vec_pool::VecPool;
-use crate::expand_step::{Invocation, Replacer, ActionKind};
-use ppmacro::{Macro, Expansion, Hidden, HideSets, Pattern, Table};
+use ppmacro::{Expansion, Hidden, HideSets, Macro, Pattern, Table};
 use pptext::{Fault, Memory, Token};
 use std::alloc::{AllocError, Global};
 

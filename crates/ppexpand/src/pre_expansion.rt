@@ -4,7 +4,7 @@ ghost use Rattle.ppmacro.specs.Chains.{parameter_names};
 ghost use Rattle.ppmacro.specs.Patterns.{entry_chain, listed};
 ghost use Rattle.ppexpand.specs.ExpansionStep.{is_lone_parameter, pre_expands};
 
-use ppmacro::{Chain, Macro, Entry, Operand, Pattern, MacroKind};
+use ppmacro::{Chain, Entry, Macro, MacroKind, Operand, Pattern};
 use std::alloc::{AllocError, Global};
 
 /// Returns the number of parameters of a macro.
@@ -18,7 +18,7 @@ pub(crate) fn parameter_count(replaced: &Macro) -> usize
 }
 
 /// Sets the entry of a parameter if the chain consists of that parameter alone.
-fn flag(used: &mut Vec<bool>, operands: &[Operand])
+fn set_used(used: &mut Vec<bool>, operands: &[Operand])
     ensures len { length used.new.items ≡ length used.old.items }
     ensures marks { (i : ℕ) → i < length used.old.items → get_or used.new.items i false ≡ get_or used.old.items i false || is_lone_parameter i operands.now }
 {
@@ -79,13 +79,17 @@ pub(crate) fn pre_expanded_parameters(
 }
 
 /// Returns, for each parameter, whether the chains use it without `#` and `##`.
-fn parameters_in_chains(alloc: Global, parameters: usize, chains: &[Chain]) -> Result<Vec<bool>, AllocError>
+fn parameters_in_chains(
+    alloc: Global,
+    parameters: usize,
+    chains: &[Chain],
+) -> Result<Vec<bool>, AllocError>
     ensures len { IfOk result (λ v. length v.items ≡ parameters) }
     ensures used { IfOk result (λ v. (i : ℕ) → i < parameters → get_or v.items i false ≡ pre_expands i chains.now) }
 {
     let mut used = vec![in alloc; false; parameters]?;
     for chain in chains {
-        flag(&mut used, chain.operands.as_slice());
+        set_used(&mut used, chain.operands.as_slice());
     }
     Ok(used)
 }

@@ -7,7 +7,7 @@ ghost use Rattle.ppexpand.specs.ExpansionStep.{presumed_line, string_literal, pr
 use crate::env::Env;
 use crate::lists::put;
 use itoa::Buffer;
-use ppmacro::{PredefinedMacro, Hidden, Set};
+use ppmacro::{Hidden, PredefinedMacro, Set};
 use pptext::{Kind, Place, Spelling, Token};
 use std::alloc::{AllocError, Global};
 
@@ -17,7 +17,10 @@ fn predefined_kind(builtin: PredefinedMacro) -> Kind
 {
     match builtin {
         PredefinedMacro::File | PredefinedMacro::Date | PredefinedMacro::Time => Kind::Str,
-        PredefinedMacro::Line | PredefinedMacro::Stdc | PredefinedMacro::StdcHosted | PredefinedMacro::StdcVersion => Kind::Number,
+        PredefinedMacro::Line
+        | PredefinedMacro::Stdc
+        | PredefinedMacro::StdcHosted
+        | PredefinedMacro::StdcVersion => Kind::Number,
     }
 }
 

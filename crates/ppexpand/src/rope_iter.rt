@@ -4,8 +4,8 @@ ghost use Rattle.std.specs.Iterator.{YieldsFirstBy, item_count};
 ghost use Rattle.ppmacro.specs.Substituting.{tokens_of};
 ghost use Rattle.ppexpand.specs.Pieces.{piece_list, ref_token};
 
-use crate::lists::put;
 use crate::emitted::{Piece, TokenRope};
+use crate::lists::put;
 use ppmacro::Hidden;
 use pptext::{Kind, Place, Token};
 use std::alloc::{AllocError, Global};

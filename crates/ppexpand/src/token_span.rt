@@ -6,7 +6,7 @@ ghost use Rattle.ppmacro.specs.Substituting.{tokens_of};
 ghost use Rattle.ppexpand.specs.code.Lists.{with_set, never_expands, next_macro, NeverExpand};
 
 use crate::expand_step::macro_at;
-use ppmacro::{Macro, Hidden, Set, Table};
+use ppmacro::{Hidden, Macro, Set, Table};
 use pptext::Token;
 use std::marker::Model;
 

@@ -4,10 +4,10 @@ ghost use Rattle.std.specs.Option.{option_copied};
 ghost use Rattle.ppmacro.specs.Substituting.{tokens_of};
 ghost use Rattle.ppexpand.specs.code.Lists.{marked, with_set, never_expands, next_macro, NeverExpand};
 
+use crate::expand_step::macro_at;
 use crate::lists::put;
 use crate::token_span::TokenSpan;
-use crate::expand_step::macro_at;
-use ppmacro::{Macro, Hidden, Set, Table};
+use ppmacro::{Hidden, Macro, Set, Table};
 use pptext::Token;
 use std::alloc::{AllocError, Global};
 use std::marker::Model;

@@ -7,7 +7,7 @@ use Rattle.ppexpr.specs.Symbols.{Symbol, Operator, Open, Close, Question, Colon,
 use Rattle.ppexpr.specs.Operations.{Unary, Binary, Multiply, Divide, Remainder, Add, Subtract, ShiftLeft, ShiftRight, Less, Greater, LessOrEqual, GreaterOrEqual, Equal, NotEqual, BitAnd, BitXor, BitOr, And, Or}
 use Rattle.ppexpr.specs.Trees.{Tree, Leaf, Applied, Joined, Chosen}
 use Rattle.ppexpr.specs.Grammar.{level_of, Derives, constant, parentheses, unary, binary, conditional, tighter}
-use Rattle.ppexpr.specs.code.Pending.{Meaning, Frame, Group, Sign, Left, Test, Arms, frame_level, completed, unreduced, split_memory, signed, operated, between, closed, ended}
+use Rattle.ppexpr.specs.code.Pending.{Meaning, Frame, Group, Sign, Left, Test, Arms, frame_level, completed, unreduced, reduced, signed, operated, between, closed, ended}
 use Rattle.ppexpr.proofs.Machine.{run}
 
 -- what a tree means
@@ -76,22 +76,22 @@ unreduced-tight p [] gs w = refl
 unreduced-tight p (f ∷ fs) gs w =
     ap (λ b. if b then unreduced p (fs ++ gs) else (f ∷ (fs ++ gs))) (le-leb p (frame_level f) w.0) ∙ unreduced-tight p fs gs w.1
 
-split_memory-tight : {A : Type 0} (m : Meaning A) (p : ℕ) (fs gs : List (Frame A)) (z : A) → Tight p fs →
-    split_memory m p (fs ++ gs) z ≡ split_memory m p gs (all_completed m fs z)
-split_memory-tight m p [] gs z w = refl
-split_memory-tight m p (f ∷ fs) gs z w =
-    ap (λ b. if b then split_memory m p (fs ++ gs) (completed m f z) else z) (le-leb p (frame_level f) w.0)
-    ∙ split_memory-tight m p fs gs (completed m f z) w.1
+reduced-tight : {A : Type 0} (m : Meaning A) (p : ℕ) (fs gs : List (Frame A)) (z : A) → Tight p fs →
+    reduced m p (fs ++ gs) z ≡ reduced m p gs (all_completed m fs z)
+reduced-tight m p [] gs z w = refl
+reduced-tight m p (f ∷ fs) gs z w =
+    ap (λ b. if b then reduced m p (fs ++ gs) (completed m f z) else z) (le-leb p (frame_level f) w.0)
+    ∙ reduced-tight m p fs gs (completed m f z) w.1
 
 unreduced-awaits : {A : Type 0} (p : ℕ) (fs : List (Frame A)) → 2 ≤ p → p ≤ 11 → Awaits p fs → unreduced p fs ≡ fs
 unreduced-awaits p [] low high w = refl
 unreduced-awaits p (f ∷ fs) low high w =
     ap (λ b. if b then unreduced p fs else (f ∷ fs)) (lt-leb p (frame_level f) (w p low (omega arith) high))
 
-split_memory-awaits : {A : Type 0} (m : Meaning A) (p : ℕ) (fs : List (Frame A)) (z : A) → 2 ≤ p → p ≤ 11 → Awaits p fs → split_memory m p fs z ≡ z
-split_memory-awaits m p [] z low high w = refl
-split_memory-awaits m p (f ∷ fs) z low high w =
-    ap (λ b. if b then split_memory m p fs (completed m f z) else z) (lt-leb p (frame_level f) (w p low (omega arith) high))
+reduced-awaits : {A : Type 0} (m : Meaning A) (p : ℕ) (fs : List (Frame A)) (z : A) → 2 ≤ p → p ≤ 11 → Awaits p fs → reduced m p fs z ≡ z
+reduced-awaits m p [] z low high w = refl
+reduced-awaits m p (f ∷ fs) z low high w =
+    ap (λ b. if b then reduced m p fs (completed m f z) else z) (lt-leb p (frame_level f) (w p low (omega arith) high))
 
 -- ---- what an expression does to the machine
 
@@ -115,7 +115,7 @@ reach_parentheses m fs s t r = record {
   runs = λ rest.
       ap (λ xs. run m (Group ∷ fs, None) xs) (append_assoc s (Close ∷ []) rest)
       ∙ r.runs (Close ∷ rest)
-      ∙ (λ i. option_and_then (λ n. run m n rest) (closed (unreduced-tight 1 r.above (Group ∷ fs) r.open_none i) ((split_memory-tight m 1 r.above (Group ∷ fs) r.last r.open_none ∙ r.value) i)));
+      ∙ (λ i. option_and_then (λ n. run m n rest) (closed (unreduced-tight 1 r.above (Group ∷ fs) r.open_none i) ((reduced-tight m 1 r.above (Group ∷ fs) r.last r.open_none ∙ r.value) i)));
 }
 
 reach_unary : {A : Type 0} (m : Meaning A) (fs : List (Frame A)) (s : List Symbol) (t : Tree) (sign : OperatorSign) (o : Unary) →
@@ -153,8 +153,8 @@ reach_binary m fs s q t u sign o e w a b = record {
     below : unreduced (level_of o) (a.above ++ fs) ≡ fs
     below = unreduced-tight (level_of o) a.above fs a.tight ∙ unreduced-awaits (level_of o) fs ((level_bounds o).0) ((level_bounds o).1) w
 
-    left : split_memory m (level_of o) (a.above ++ fs) a.last ≡ meaning m t
-    left = split_memory-tight m (level_of o) a.above fs a.last a.tight ∙ split_memory-awaits m (level_of o) fs (all_completed m a.above a.last) ((level_bounds o).0) ((level_bounds o).1) w ∙ a.value
+    left : reduced m (level_of o) (a.above ++ fs) a.last ≡ meaning m t
+    left = reduced-tight m (level_of o) a.above fs a.last a.tight ∙ reduced-awaits m (level_of o) fs (all_completed m a.above a.last) ((level_bounds o).0) ((level_bounds o).1) w ∙ a.value
 
 reach_conditional : {A : Type 0} (m : Meaning A) (fs : List (Frame A)) (s q n : List Symbol) (t u v : Tree) →
     Awaits 2 fs → Reaches m 2 fs s t → Reaches m 0 (Test (meaning m t) ∷ fs) q u → Reaches m 1 (Arms (meaning m t) (meaning m u) ∷ fs) n v →
@@ -171,7 +171,7 @@ reach_conditional m fs s q n t u v w a b c = record {
       ∙ (λ i. run m (Test (test i) ∷ below i, None) ((q ++ (Colon ∷ n)) ++ rest))
       ∙ ap (λ xs. run m (Test (meaning m t) ∷ fs, None) xs) (append_assoc q (Colon ∷ n) rest)
       ∙ b.runs (Colon ∷ (n ++ rest))
-      ∙ (λ i. option_and_then (λ r. run m r (n ++ rest)) (between (unreduced-tight 1 b.above (Test (meaning m t) ∷ fs) b.open_none i) ((split_memory-tight m 1 b.above (Test (meaning m t) ∷ fs) b.last b.open_none ∙ b.value) i)))
+      ∙ (λ i. option_and_then (λ r. run m r (n ++ rest)) (between (unreduced-tight 1 b.above (Test (meaning m t) ∷ fs) b.open_none i) ((reduced-tight m 1 b.above (Test (meaning m t) ∷ fs) b.last b.open_none ∙ b.value) i)))
       ∙ c.runs rest
       ∙ ap (λ gs. run m (gs, Some c.last) rest) (sym (append_assoc c.above (Arms (meaning m t) (meaning m u) ∷ []) fs));
 }
@@ -179,8 +179,8 @@ reach_conditional m fs s q n t u v w a b c = record {
     below : unreduced 2 (a.above ++ fs) ≡ fs
     below = unreduced-tight 2 a.above fs a.tight ∙ unreduced-awaits 2 fs (omega arith) (omega arith) w
 
-    test : split_memory m 2 (a.above ++ fs) a.last ≡ meaning m t
-    test = split_memory-tight m 2 a.above fs a.last a.tight ∙ split_memory-awaits m 2 fs (all_completed m a.above a.last) (omega arith) (omega arith) w ∙ a.value
+    test : reduced m 2 (a.above ++ fs) a.last ≡ meaning m t
+    test = reduced-tight m 2 a.above fs a.last a.tight ∙ reduced-awaits m 2 fs (all_completed m a.above a.last) (omega arith) (omega arith) w ∙ a.value
 
 reach_tighter : {A : Type 0} (m : Meaning A) (k : ℕ) (fs : List (Frame A)) (s : List Symbol) (t : Tree) → Reaches m (suc k) fs s t → Reaches m k fs s t
 reach_tighter m k fs s t r = record {
@@ -212,4 +212,4 @@ complete m s t d = at_end (reaches m d [] tt)
     at_end r =
         ap (λ xs. run m ([], None) xs) (sym (append-nil s))
         ∙ r.runs []
-        ∙ (λ i. ended (unreduced-tight 1 r.above [] r.open_none i) ((split_memory-tight m 1 r.above [] r.last r.open_none ∙ r.value) i))
+        ∙ (λ i. ended (unreduced-tight 1 r.above [] r.open_none i) ((reduced-tight m 1 r.above [] r.last r.open_none ∙ r.value) i))

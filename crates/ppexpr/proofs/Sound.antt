@@ -7,7 +7,7 @@ use Rattle.ppexpr.specs.Symbols.{Symbol, Constant, Operator, Open, Close, Questi
 use Rattle.ppexpr.specs.Operations.{Unary, Binary}
 use Rattle.ppexpr.specs.Trees.{Tree, Leaf, Applied, Joined, Chosen}
 use Rattle.ppexpr.specs.Grammar.{level_of, Derives, constant, parentheses, unary, binary, conditional, tighter}
-use Rattle.ppexpr.specs.code.Pending.{Meaning, Frame, Group, Sign, Left, Test, Arms, frame_level, completed, unreduced, split_memory, State, signed, operated, between, closed, ended, step}
+use Rattle.ppexpr.specs.code.Pending.{Meaning, Frame, Group, Sign, Left, Test, Arms, frame_level, completed, unreduced, reduced, State, signed, operated, between, closed, ended, step}
 use Rattle.ppexpr.proofs.Complete.{meaning, level_bounds}
 use Rattle.ppexpr.proofs.Machine.{run}
 
@@ -62,12 +62,12 @@ record Reads {A : Type 0} (m : Meaning A) (k : ℕ) (fs : List (Frame A)) (z : A
 
 -- a frame takes the operand or stays, by its level
 taken_or_kept : {A : Type 0} (m : Meaning A) (p : ℕ) (f : Frame A) (fs : List (Frame A)) (z : A) (all : List Symbol) →
-    (p ≤ frame_level f → Reads m p (unreduced p fs) (split_memory m p fs (completed m f z)) all) →
+    (p ≤ frame_level f → Reads m p (unreduced p fs) (reduced m p fs (completed m f z)) all) →
     (frame_level f < p → Reads m p (f ∷ fs) z all) →
-    Reads m p (unreduced p (f ∷ fs)) (split_memory m p (f ∷ fs) z) all
+    Reads m p (unreduced p (f ∷ fs)) (reduced m p (f ∷ fs) z) all
 taken_or_kept m p f fs z all taken stays = elim (leb_tells p (frame_level f)) [
-  | inl w ↦ subst (λ b. Reads m p (if b then unreduced p fs else (f ∷ fs)) (if b then split_memory m p fs (completed m f z) else z) all) (sym w.0) (taken w.1)
-  | inr w ↦ subst (λ b. Reads m p (if b then unreduced p fs else (f ∷ fs)) (if b then split_memory m p fs (completed m f z) else z) all) (sym w.0) (stays w.1)
+  | inl w ↦ subst (λ b. Reads m p (if b then unreduced p fs else (f ∷ fs)) (if b then reduced m p fs (completed m f z) else z) all) (sym w.0) (taken w.1)
+  | inr w ↦ subst (λ b. Reads m p (if b then unreduced p fs else (f ∷ fs)) (if b then reduced m p fs (completed m f z) else z) all) (sym w.0) (stays w.1)
 ]
 
 stays : {A : Type 0} (m : Meaning A) (k p : ℕ) (fs : List (Frame A)) (xs ns all : List Symbol) (t : Tree) (z : A) → Opens m fs xs →
@@ -107,7 +107,7 @@ pushed xs ys all c w = ap (λ l. l ++ c ∷ []) (sym w) ∙ append_assoc xs ys (
 
 settles : {A : Type 0} (m : Meaning A) (p : ℕ) → 1 ≤ p → {fs : List (Frame A)} {xs : List Symbol} → Opens m fs xs →
     (k : ℕ) (ns all : List Symbol) (t : Tree) (z : A) → Derives k ns t → wanted fs ≤ k → p ≤ k → z ≡ meaning m t → xs ++ ns ≡ all →
-    Reads m p (unreduced p fs) (split_memory m p fs z) all
+    Reads m p (unreduced p fs) (reduced m p fs z) all
 settles m p low (nothing) k ns all t z operand fit deep means whole = stays m k p [] [] ns all t z nothing operand deep (omega arith) means whole
 settles m p low (group {fs = fs} {zs = zs} outer read) k ns all t z operand fit deep means whole = taken_or_kept m p Group fs z all
     (λ tight. absurd (omega arith))
@@ -137,7 +137,7 @@ settles m p low (arms {fs = fs} {xs = xs} {ys = ys} {ns = qs} {zs = zs} {t = a} 
     (λ loose. stays m k p (Arms x y ∷ fs) zs ns all t z (arms outer fits first same second like read) operand deep (omega arith) means whole)
 
 reduce : {A : Type 0} (m : Meaning A) (p k : ℕ) (fs : List (Frame A)) (z : A) (all : List Symbol) → 1 ≤ p → p ≤ k →
-    Reads m k fs z all → Reads m p (unreduced p fs) (split_memory m p fs z) all
+    Reads m k fs z all → Reads m p (unreduced p fs) (reduced m p fs z) all
 reduce m p k fs z all low deep r = settles m p low r.opens k r.inside all r.tree z r.derives r.fits deep r.value r.whole
 
 -- ---- the machine's steps
@@ -157,8 +157,8 @@ operated-stands : {A : Type 0} (m : Meaning A) (fs : List (Frame A)) (z : A) (xs
 operated-stands m fs z xs s None e h = tt
 operated-stands m fs z xs s (Some o) e h = opened (reduce m (level_of o) 13 fs z xs (omega (arith, level_bounds o)) (omega (arith, level_bounds o)) h)
   where
-    opened : Reads m (level_of o) (unreduced (level_of o) fs) (split_memory m (level_of o) fs z) xs →
-        Opens m (Left o (split_memory m (level_of o) fs z) ∷ unreduced (level_of o) fs) (xs ++ Operator s ∷ [])
+    opened : Reads m (level_of o) (unreduced (level_of o) fs) (reduced m (level_of o) fs z) xs →
+        Opens m (Left o (reduced m (level_of o) fs z) ∷ unreduced (level_of o) fs) (xs ++ Operator s ∷ [])
     opened r = left s o e r.opens r.fits r.derives r.value (pushed r.before r.inside xs (Operator s) r.whole)
 
 tested-stands : {A : Type 0} (m : Meaning A) (fs : List (Frame A)) (z : A) (xs : List Symbol) → wanted fs ≤ 1 → Reads m 2 fs z xs →
@@ -237,14 +237,14 @@ step-stands m (fs, Some z) xs (Constant v) h = tt
 step-stands m (fs, Some z) xs (Operator o) h = operated-stands m fs z xs o (binary_of o) refl h
 step-stands m (fs, Some z) xs Open h = tt
 step-stands m (fs, Some z) xs Close h =
-    let r : Reads m 1 (unreduced 1 fs) (split_memory m 1 fs z) xs = reduce m 1 13 fs z xs (omega arith) (omega arith) h in
-    closed-stands m r.opens (split_memory m 1 fs z) r.inside xs r.tree r.derives r.value r.whole
+    let r : Reads m 1 (unreduced 1 fs) (reduced m 1 fs z) xs = reduce m 1 13 fs z xs (omega arith) (omega arith) h in
+    closed-stands m r.opens (reduced m 1 fs z) r.inside xs r.tree r.derives r.value r.whole
 step-stands m (fs, Some z) xs Question h =
-    let r : Reads m 2 (unreduced 2 fs) (split_memory m 2 fs z) xs = reduce m 2 13 fs z xs (omega arith) (omega arith) h in
-    tested-stands m (unreduced 2 fs) (split_memory m 2 fs z) xs (wanted_low (unreduced 2 fs) r.fits) r
+    let r : Reads m 2 (unreduced 2 fs) (reduced m 2 fs z) xs = reduce m 2 13 fs z xs (omega arith) (omega arith) h in
+    tested-stands m (unreduced 2 fs) (reduced m 2 fs z) xs (wanted_low (unreduced 2 fs) r.fits) r
 step-stands m (fs, Some z) xs Colon h =
-    let r : Reads m 1 (unreduced 1 fs) (split_memory m 1 fs z) xs = reduce m 1 13 fs z xs (omega arith) (omega arith) h in
-    between-stands m r.opens (split_memory m 1 fs z) r.inside xs r.tree r.derives r.value r.whole
+    let r : Reads m 1 (unreduced 1 fs) (reduced m 1 fs z) xs = reduce m 1 13 fs z xs (omega arith) (omega arith) h in
+    between-stands m r.opens (reduced m 1 fs z) r.inside xs r.tree r.derives r.value r.whole
 step-stands m (fs, Some z) xs Other h = tt
 
 next-means : {A : Type 0} (m : Meaning A) (q : Option (State A)) (P : State A → Type 0) (xs all : List Symbol) → IfSome q P →
@@ -255,8 +255,8 @@ next-means m (Some r) P xs all h k = k r h
 run-means : {A : Type 0} (m : Meaning A) (xs : List Symbol) (s : State A) (ys : List Symbol) → Stands m s ys → IfSome (run m s xs) (Means m (ys ++ xs))
 run-means m [] (fs, None) ys h = tt
 run-means m [] (fs, Some z) ys h =
-    let r : Reads m 1 (unreduced 1 fs) (split_memory m 1 fs z) ys = reduce m 1 13 fs z ys (omega arith) (omega arith) h in
-    ended-means m r.opens (split_memory m 1 fs z) r.inside (ys ++ []) r.tree r.derives r.value (r.whole ∙ sym (append-nil ys))
+    let r : Reads m 1 (unreduced 1 fs) (reduced m 1 fs z) ys = reduce m 1 13 fs z ys (omega arith) (omega arith) h in
+    ended-means m r.opens (reduced m 1 fs z) r.inside (ys ++ []) r.tree r.derives r.value (r.whole ∙ sym (append-nil ys))
 run-means m (x ∷ xs) s ys h = next-means m (step m s x) (λ r. Stands m r (ys ++ x ∷ [])) xs (ys ++ x ∷ xs) (step-stands m s ys x h)
     (λ r k. subst (λ l. IfSome (run m r xs) (Means m l)) (append_assoc ys (x ∷ []) xs) (run-means m xs r (ys ++ x ∷ []) k))
 

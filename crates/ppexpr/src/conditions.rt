@@ -5,15 +5,15 @@ ghost use Rattle.pptext.specs.Errors.{UnlessOutOfMemory, split_memory};
 ghost use Rattle.ppexpr.specs.DefinedOperator.{is_defined};
 ghost use Rattle.ppexpr.specs.Conditions.{failure_fault, taken, EvaluatesShallow, EvaluatesSymbols, EvaluatesTokens, IsCondition};
 
-use crate::defined_operator::{without_defined, is_defined};
 use crate::defined_only::evaluate_defined_only;
+use crate::defined_operator::{is_defined, without_defined};
 use crate::nesting::is_too_nested;
 use crate::parsing::parse;
 use crate::symbols::{Failure, FailureKind, Symbol, Value};
 use crate::tokens::symbols_of;
 use ppexpand::{Env, Expanded, TokenRope, expand};
 use ppmacro::Table;
-use pptext::{Fault, Memory, Place, Error, Token, split_memory};
+use pptext::{Error, Fault, Memory, Place, Token, split_memory};
 use std::alloc::{AllocError, Global};
 
 /// Returns the fault of an expression without a value.

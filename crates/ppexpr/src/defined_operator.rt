@@ -52,7 +52,12 @@ pub(crate) fn is_macro_name(table: &Table, name: &Token) -> bool
 }
 
 /// Returns the number that replaces `defined` and its operand: 1 if the name is defined, and otherwise 0.
-fn defined_value(alloc: Global, table: &Table, defined: &Token, name: &Token) -> Result<Token, AllocError>
+fn defined_value(
+    alloc: Global,
+    table: &Table,
+    defined: &Token,
+    name: &Token,
+) -> Result<Token, AllocError>
     ensures { IfOk result (λ t. t ≡ defined_value table.now.macros defined.now name.now) }
 {
     let digit = if is_macro_name(table, name) {

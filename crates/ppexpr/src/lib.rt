@@ -1,10 +1,10 @@
 //! Conditional inclusion of C11 (6.10.1): evaluates the controlling expressions of `#if` and `#elif`.
 #![tactic(auto)]
 
-mod defined_operator;
 mod characters;
 mod conditions;
 mod defined_only;
+mod defined_operator;
 mod integers;
 mod laws;
 mod nesting;

@@ -2,7 +2,7 @@
 ghost use Rattle.std.specs.Prelude.{◌≡◌, Some, None, IfOk, MatchOption, ◌∷◌, MatchBool, reverse};
 ghost use Rattle.ppexpr.specs.Grammar.{IsExpression, level_of};
 ghost use Rattle.ppexpr.specs.Outcomes.{Outcome};
-ghost use Rattle.ppexpr.specs.code.Pending.{Group, Test, frame_level, outcomes, completed, unreduced, split_memory, between, closed, ParserTakes, finish};
+ghost use Rattle.ppexpr.specs.code.Pending.{Group, Test, frame_level, outcomes, completed, unreduced, reduced, between, closed, ParserTakes, finish};
 ghost use Rattle.ppexpr.specs.Reading.{Denotes};
 
 use crate::operators::{Binary, BinaryKind, Unary};
@@ -134,7 +134,7 @@ impl Pending {
 /// Applies the entries at this level or a tighter one to the operand, and removes them.
 fn reduce(pending: &mut Vec<Pending>, level: u8, mut operand: Outcome) -> Outcome
     ensures stay { reverse pending.new.items ≡ unreduced level (reverse pending.old.items) }
-    ensures value { result ≡ split_memory outcomes level (reverse pending.old.items) operand }
+    ensures value { result ≡ reduced outcomes level (reverse pending.old.items) operand }
 {
     while let Some(last) = pending.pop_if(|last| last.level() >= level) {
         operand = last.complete(operand);

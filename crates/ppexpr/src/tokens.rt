@@ -7,7 +7,7 @@ use crate::characters::character_of;
 use crate::integers::integer_of;
 use crate::operators::{Operator, OperatorKind};
 use crate::symbols::{Symbol, SymbolKind, Value};
-use pptext::{Fault, Kind, Place, Error, Token};
+use pptext::{Error, Fault, Kind, Place, Token};
 use std::alloc::{AllocError, Global};
 
 /// Returns the symbol of a punctuator.

@@ -34,8 +34,8 @@ unknown Union ps a b h = let c = none-chosen (nat_eq a 0) (nat_eq b 0) (nat_eq a
 unknown Meet ps a b h = let c = none-chosen (nat_eq a 0) (nat_eq b 0) (nat_eq a b) a b a (cached_result ps a b) h in record { left = c.0; right = c.1; apart = c.2; none = c.3 }
 
 -- A result is known if it is trivial or cached.
-pub split_memory-known : (o : Operation) (ps : CachedPairs) (a b n : ℕ) → known o [] a b ≡ Some n → known o ps a b ≡ Some n
-split_memory-known o ps a b n = at o
+pub trivial_result-known : (o : Operation) (ps : CachedPairs) (a b n : ℕ) → known o [] a b ≡ Some n → known o ps a b ≡ Some n
+trivial_result-known o ps a b n = at o
   where
     from : (x y z : Bool) (p q r : ℕ) → (if x then Some p else (if y then Some q else (if z then Some r else None))) ≡ Some n → (if x then Some p else (if y then Some q else (if z then Some r else cached_result ps a b))) ≡ Some n
     from true y z p q r e = e
@@ -151,13 +151,13 @@ pub record IsSettled (o : Operation) (ns : List Node) (a b n : ℕ) : Type 0 whe
 no-word : (ns : List Node) (a w : ℕ) → IsPool ns → a ≡ 0 → word ns a w ≡ 0
 no-word ns a w pool e = (λ i. word ns (e i) w) ∙ word-none ns w pool.empty
 
-pub split_memory-is : (o : Operation) (ns : List Node) (a b n : ℕ) → IsPool ns → a < length ns → b < length ns → known o [] a b ≡ Some n → IsSettled o ns a b n
-split_memory-is Union ns a b n pool la lb = by-case (IsSettled Union ns a b) a b b a a n None
+pub trivial_result-is : (o : Operation) (ns : List Node) (a b n : ℕ) → IsPool ns → a < length ns → b < length ns → known o [] a b ≡ Some n → IsSettled o ns a b n
+trivial_result-is Union ns a b n pool la lb = by-case (IsSettled Union ns a b) a b b a a n None
     (λ e. record { within = lb; is = λ w. sym (none_or (word ns b w)) ∙ (λ i. bit_or (sym (no-word ns a w pool e) i) (word ns b w)) })
     (λ e. record { within = la; is = λ w. sym (or_none (word ns a w)) ∙ (λ i. bit_or (word ns a w) (sym (no-word ns b w pool e) i)) })
     (λ e. record { within = la; is = λ w. sym (or_self (word ns a w)) ∙ (λ i. bit_or (word ns a w) (word ns (e i) w)) })
     (λ e. absurd (cc e))
-split_memory-is Meet ns a b n pool la lb = by-case (IsSettled Meet ns a b) a b a b a n None
+trivial_result-is Meet ns a b n pool la lb = by-case (IsSettled Meet ns a b) a b a b a n None
     (λ e. record { within = la; is = λ w. no-word ns a w pool e ∙ sym (none_and (word ns b w)) ∙ (λ i. bit_and (sym (no-word ns a w pool e) i) (word ns b w)) })
     (λ e. record { within = lb; is = λ w. no-word ns b w pool e ∙ sym (and_none (word ns a w)) ∙ (λ i. bit_and (word ns a w) (sym (no-word ns b w pool e) i)) })
     (λ e. record { within = la; is = λ w. sym (and_self (word ns a w)) ∙ (λ i. bit_and (word ns a w) (word ns (e i) w)) })

@@ -7,11 +7,11 @@ ghost use Rattle.ppmacro.specs.Chains.{parameter_names, parameter_named, paramet
 ghost use Rattle.ppmacro.specs.code.ChainParts.{led_by, resumed};
 ghost use Rattle.pptext.specs.declared.tokens.Token.{Token};
 
-use crate::replacement_list::BodyToken;
-use crate::name_key::NameKey;
-use crate::macros::{Chain, Chains, Macro, Operand, Operands, MacroKind, Variadic};
-use crate::parameter_index::{MAX_SCANNED, index_names};
 use crate::hash_operators::{is_hash, is_paste};
+use crate::macros::{Chain, Chains, Macro, MacroKind, Operand, Operands, Variadic};
+use crate::name_key::NameKey;
+use crate::parameter_index::{MAX_SCANNED, index_names};
+use crate::replacement_list::BodyToken;
 use indexmap::IndexSet;
 use pptext::{Hashing, Place, Spelling, Token};
 use std::alloc::{AllocError, Global};
@@ -162,7 +162,11 @@ fn stringized_operand<'a>(
 }
 
 /// Returns the next part. There is none at a `#`: it belongs to the token after it.
-fn next_part<'a>(kind: &Parameters, hash: Option<HashSign>, token: &'a Token) -> Option<ChainPart<'a>>
+fn next_part<'a>(
+    kind: &Parameters,
+    hash: Option<HashSign>,
+    token: &'a Token,
+) -> Option<ChainPart<'a>>
     ensures { (ts : List Token) → parts_after kind.now hash (token.now ∷ ts) ≡ led_by kind.now token.now
         (option_map (elim [ ChainPart.Operates flag operand ↦ specification.Operates flag operand | ChainPart.Joins ↦ specification.Joins ]) result) ts }
 {

@@ -6,16 +6,18 @@ ghost use Rattle.pptext.specs.Tokens.{fault};
 ghost use Rattle.pptext.specs.declared.tokens.Place.{Place};
 ghost use Rattle.ppmacro.specs.Define.{read_parameter_list, read_definition, function_like, refusal_of, check_body, number_of, with_place, with_macro_name, check_define, after_define, undefined, after_undef, Leaves};
 
-mod redefinition;
 mod body_checks;
 mod parameter_lists;
+mod redefinition;
 
-use self::redefinition::is_conflicting;
 use self::body_checks::{misplaces_hash, misplaces_paste, misplaces_variable_arguments};
-use self::parameter_lists::{all_parameters, has_variable_arguments, read_parameter_list, repeats, variadic_by};
-use crate::replacement_list::{ReplacementList, SpellingRef};
+use self::parameter_lists::{
+    all_parameters, has_variable_arguments, read_parameter_list, repeats, variadic_by,
+};
+use self::redefinition::is_conflicting;
 use crate::chains::is_function_like;
 use crate::macros::{Macro, MacroKind};
+use crate::replacement_list::{ReplacementList, SpellingRef};
 use crate::tables::Table;
 use pptext::{Fault, Hashing, Memory, Place, Profile, Token};
 use std::alloc::{AllocError, Global};

@@ -68,8 +68,16 @@ impl<'a> StoredToken<'a> {
         ensures { result ≡ self.now.2 }
     {
         let (has_extra, extra) = match &self.storage {
-            TokenStorage::Source { has_extra, extra, .. } => (*has_extra, *extra),
-            TokenStorage::Made { has_extra, extra, .. } => (*has_extra, *extra),
+            TokenStorage::Source {
+                has_extra,
+                extra,
+                ..
+            } => (*has_extra, *extra),
+            TokenStorage::Made {
+                has_extra,
+                extra,
+                ..
+            } => (*has_extra, *extra),
         };
         if has_extra { Some(extra) } else { None }
     }
@@ -79,11 +87,19 @@ impl<'a> StoredToken<'a> {
         ensures { self.new ≡ (self.old.0, self.old.1, extra_set two set) }
     {
         match &mut self.storage {
-            TokenStorage::Source { has_extra, extra, .. } => {
+            TokenStorage::Source {
+                has_extra,
+                extra,
+                ..
+            } => {
                 *has_extra = two;
                 *extra = set;
             }
-            TokenStorage::Made { has_extra, extra, .. } => {
+            TokenStorage::Made {
+                has_extra,
+                extra,
+                ..
+            } => {
                 *has_extra = two;
                 *extra = set;
             }
@@ -243,7 +259,7 @@ impl<'a> Hidden<'a> {
         self.token.space()
     }
 
-    /// Returns the hide set, or the first of two. See `HideSets::split_memory` for their union.
+    /// Returns the hide set, or the first of two. See `HideSets::hide_set_of` for their union.
     pub fn hide(&self) -> Set
         ensures { result ≡ self.now.hide }
     {

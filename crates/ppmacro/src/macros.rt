@@ -8,10 +8,10 @@ ghost use Rattle.ppmacro.specs.PasteFree.{is_object_like, lone_tokens, lone_chai
 ghost use Rattle.ppmacro.specs.Patterns.{listed};
 ghost use Rattle.ppmacro.specs.HashOperators.{is_paste};
 
-use crate::replacement_list::{ReplacementList, BodyToken};
 use crate::chains::chains_of;
-use crate::patterns::{Pattern, pattern_of};
 use crate::hash_operators::is_paste;
+use crate::patterns::{Pattern, pattern_of};
+use crate::replacement_list::{BodyToken, ReplacementList};
 use pptext::{Hashing, Place, Sequence, Spelling, Token};
 use std::alloc::{AllocError, Global};
 use std::marker::Model;

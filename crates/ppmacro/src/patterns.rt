@@ -4,10 +4,10 @@ ghost use Rattle.std.specs.List.{list_any};
 ghost use Rattle.ppmacro.specs.Chains.{parameter_of, chains_of};
 ghost use Rattle.ppmacro.specs.Patterns.{is_operator, entry_of, entry_chain, listed};
 
-use crate::replacement_list::BodyToken;
 use crate::chains::{Parameters, chains_of, parameter_of};
-use crate::macros::{Chains, Macro};
 use crate::hash_operators::{is_hash, is_paste};
+use crate::macros::{Chains, Macro};
+use crate::replacement_list::BodyToken;
 use pptext::{Hashing, Kind, Token};
 use std::alloc::{AllocError, Global};
 

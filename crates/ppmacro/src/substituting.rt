@@ -26,7 +26,7 @@ use crate::hidden_token::Hidden;
 use crate::hide_sets::HideSets;
 use crate::invocation::{Arguments, MacroName};
 use crate::macros::{Chain, Operand};
-use pptext::{Fault, Memory, Place, Error, Token, split_memory};
+use pptext::{Error, Fault, Memory, Place, Token, split_memory};
 use std::alloc::{AllocError, Global};
 
 /// Returns whether there are at least two operands, so that `##` joins them.

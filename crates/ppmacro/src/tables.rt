@@ -5,10 +5,10 @@ ghost use Rattle.std.specs.FinMap as table;
 ghost use Rattle.ppmacro.specs.Define.{is_barred, is_fixed, is_fixed_kind, is_reserved};
 ghost use Rattle.ppmacro.specs.Predefined.{predefined_as, predefined};
 
-use crate::replacement_list::ReplacementList;
-use crate::name_key::NameKey;
-use crate::macros::{PredefinedMacro, Macro, MacroKind};
+use crate::macros::{Macro, MacroKind, PredefinedMacro};
 use crate::name_filter::NameFilter;
+use crate::name_key::NameKey;
+use crate::replacement_list::ReplacementList;
 use indexmap::IndexMap;
 use pptext::{Hashing, Memory, Profile};
 use std::alloc::{AllocError, Global};

@@ -23,7 +23,7 @@ impl HideSets {
     }
 
     /// Returns the hide set of a token. Computes the union if it has two sets.
-    pub fn split_memory(&mut self, hidden: &Hidden) -> Result<Set, Memory>
+    pub fn hide_set_of(&mut self, hidden: &Hidden) -> Result<Set, Memory>
         requires { HasSets self.old hidden.now }
         ensures set { IfOk result (λ s. set_at self.new s ≡ hide_of self.old hidden.now) }
         ensures known { IfOk result (λ s. IsKnown self.new s) }
@@ -42,7 +42,7 @@ impl HideSets {
         ensures known { IfOk result (λ s. IsKnown self.new s) }
         ensures keeps { KeepsSets self.old self.new }
     {
-        let base = self.split_memory(hidden)?;
+        let base = self.hide_set_of(hidden)?;
         let more = self.with(base, hidden.text())?;
         Ok(more)
     }
@@ -55,8 +55,8 @@ impl HideSets {
         ensures known { IfOk result (λ s. IsKnown self.new s) }
         ensures keeps { KeepsSets self.old self.new }
     {
-        let one = self.split_memory(left)?;
-        let two = self.split_memory(right)?;
+        let one = self.hide_set_of(left)?;
+        let two = self.hide_set_of(right)?;
         let both = self.meet(one, two)?;
         Ok(both)
     }

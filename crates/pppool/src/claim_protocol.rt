@@ -2,7 +2,7 @@
 ghost use Rattle.std.specs.Prelude.{◌+◌, ◌-◌, [], ◌++◌};
 ghost use Rattle.pppool.specs.Desk.{seat_state, ClaimInvariant, Claims};
 
-use crate::seat_state::{SeatState, Plan};
+use crate::seat_state::{Plan, SeatState};
 use atomic_table::{Join, Play, Split, TableRule};
 
 /// The rule: each block is claimed once.

@@ -3,8 +3,8 @@ ghost use Rattle.std.specs.Prelude.{◌≡◌, ℕ, ◌<◌, ◌≤◌, ◌==◌
 ghost use Rattle.std.specs.Prelude.{IfOk, IfSome, IfNone, IsTrue, if◌then◌else◌};
 ghost use Rattle.pppool.specs.Desk.{most_blocks, times, once_below, claims_of, any_empty, plan_of, new_seat};
 
-use crate::claim_protocol::{ClaimBlock, ClaimProtocol, SplitSeat, JoinSeats};
-use crate::seat_state::{SeatState, Plan};
+use crate::claim_protocol::{ClaimBlock, ClaimProtocol, JoinSeats, SplitSeat};
+use crate::seat_state::{Plan, SeatState};
 use atomic_table::{Seat, Table};
 use pptext::Memory;
 use std::alloc::Global;
@@ -90,7 +90,10 @@ impl Desk {
         if seat.found_empty {
             return None;
         }
-        let found = self.table.shared.fetch_add::<ClaimBlock>(&mut seat.seat, 0, 1);
+        let found = self
+            .table
+            .shared
+            .fetch_add::<ClaimBlock>(&mut seat.seat, 0, 1);
         if found < self.plan.blocks {
             Some(found)
         } else {

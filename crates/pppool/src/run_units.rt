@@ -11,7 +11,7 @@ use crate::batch::Batch;
 use crate::desk::{Desk, DeskSeat};
 use crate::gate::Gate;
 use crate::retention::Retain;
-use crate::slots::{take_all, empty_slots, fill_slots};
+use crate::slots::{empty_slots, fill_slots, take_all};
 use crate::workers::{Job, Worker};
 use ppshelf::{Disk, Pass};
 use pptext::Memory;

@@ -4,7 +4,7 @@ use Rattle.std.specs.Prelude.{if◌then◌else◌, codes, Option, Some, None, op
 use Rattle.serde_json.specs.Data.{Num, Data, Items, no_items, item}
 use Rattle.serde_json.specs.Find.{get, as_number, as_str, as_array, as_u64}
 use Rattle.ppserve.specs.Shape.{is_object_of, file_members, unit_members, list_members, hex_bytes, IsDraft}
-use Rattle.ppserve.specs.Drafts.{DraftFile, DraftUnit, DraftBudget, Missing, Everything, Other, DraftSetting, Draft}
+use Rattle.ppserve.specs.Drafts.{DraftFile, DraftUnit, DraftBudget, Missing, Integer, Other, DraftSetting, Draft}
 
 -- the result of a part, if there is one
 abbrev pub with_part : {A B : Type 0} → Option A → (A → Option B) → Option B
@@ -72,7 +72,7 @@ profile_at d = text_or (codes "c11") (get (codes "profile") d)
 
 -- a number as it is written: an unsigned integer of 64 bits, or another number
 abbrev pub written : Option ℕ → DraftBudget
-written (Some n) = Everything n
+written (Some n) = Integer n
 written None = Other
 
 -- the budget: a number, or missing

@@ -15,7 +15,7 @@ pub record DraftUnit : Type 0 where
 -- the budget: missing, an unsigned integer of 64 bits, or another number
 pub data DraftBudget : Type 0 where
   Missing : DraftBudget
-  Everything : ℕ → DraftBudget
+  Integer : ℕ → DraftBudget
   Other : DraftBudget
 
 -- what all units share, with the name of the profile

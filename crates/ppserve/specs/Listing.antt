@@ -19,7 +19,7 @@ use Rattle.ppserve.specs.Drafting.{draft}
 use Rattle.ppserve.specs.declared.list.List.{List as CompilationList}
 use Rattle.ppserve.specs.declared.list.ListFault.{ListFault}
 use Rattle.ppserve.specs.declared.list.ListFault.TheVariants.{Bad, Memory}
-use Rattle.ppserve.specs.Drafts.{DraftFile, DraftUnit, DraftBudget, Missing, Everything, Other, DraftSetting, Draft}
+use Rattle.ppserve.specs.Drafts.{DraftFile, DraftUnit, DraftBudget, Missing, Integer, Other, DraftSetting, Draft}
 
 -- a list, or the number of its refusal
 pub data Outcome : Type 0 where
@@ -92,7 +92,7 @@ most_budget = 2 ^ 32 - 1
 -- no budget, or an integer that isn't too large
 abbrev pub is_budget : DraftBudget → Bool
 is_budget Missing = true
-is_budget (Everything n) = nat_le n most_budget
+is_budget (Integer n) = nat_le n most_budget
 is_budget Other = false
 
 abbrev pub budget_holds : DraftSetting → Bool
@@ -101,7 +101,7 @@ budget_holds s = is_budget s.budget
 -- the budget of each unit, if there is one
 abbrev pub budget_of : DraftBudget → Option ℕ
 budget_of Missing = None
-budget_of (Everything n) = Some n
+budget_of (Integer n) = Some n
 budget_of Other = None
 
 abbrev pub listed_setting : DraftSetting → Setting

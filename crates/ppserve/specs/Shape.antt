@@ -5,7 +5,7 @@ use Rattle.std.specs.List.{list_any}
 use Rattle.std.specs.Str.{bytes_eq}
 use Rattle.serde_json.specs.Data.{Num, Data, number, string, array, Items, no_items, item, Members, no_members, member}
 use Rattle.serde_json.specs.Find.{get, as_object, as_u64}
-use Rattle.ppserve.specs.Drafts.{DraftFile, DraftUnit, DraftBudget, Missing, Everything, Other, DraftSetting, Draft}
+use Rattle.ppserve.specs.Drafts.{DraftFile, DraftUnit, DraftBudget, Missing, Integer, Other, DraftSetting, Draft}
 
 -- ---- names of members
 
@@ -100,7 +100,7 @@ pub data HasBudget (d : Data) : DraftBudget → Type 0 where
   whole_budget : {n : Num} {amount : ℕ}
       → get (codes "budget") d ≡ Some (number n)
       → as_u64 n ≡ Some amount
-      → HasBudget d (Everything amount)
+      → HasBudget d (Integer amount)
   other_budget : {n : Num}
       → get (codes "budget") d ≡ Some (number n)
       → as_u64 n ≡ None

@@ -1,16 +1,16 @@
 //! Runs a list of translation units: from the bytes of the list to the bytes of its output.
 #![tactic(auto)]
 
-mod line_prefix;
 mod exit_status;
+mod formatting;
 mod laws;
+mod line_prefix;
 mod list;
-mod output;
 mod out_buffer;
+mod output;
 mod run_list;
 mod serving;
 mod streams;
-mod formatting;
 
 pub use exit_status::{status, words};
 pub use laws::{known_bytes_decide, one_output, refuses_by_the_least, shape_decides};

@@ -3,7 +3,7 @@ ghost use Rattle.std.specs.Prelude.{◌≡◌, ◌+◌, ◌≤◌, ◌++◌, [],
 ghost use Rattle.ppserve.specs.Output.{kind_letter, space_sign as space_sign_of};
 ghost use Rattle.ppserve.specs.code.LinePrefix.{before_spelling, location_prefix};
 
-use crate::formatting::{Digits, put_byte, put_prefix, put_number};
+use crate::formatting::{Digits, put_byte, put_number, put_prefix};
 use pptext::{Kind, Place};
 use std::marker::Model;
 

@@ -10,7 +10,7 @@ mod validation;
 use crate::list::drafts::{Draft, draft_of};
 use crate::list::validation::validate;
 use pptext::{Hashing, Memory, Sequence};
-use ppunit::{Setting, OwnedTexts, Unit};
+use ppunit::{OwnedTexts, Setting, Unit};
 use serde_json::{Category, Value};
 use std::alloc::{AllocError, AllocFailed, Global};
 use std::marker::Model;

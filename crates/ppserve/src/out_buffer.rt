@@ -4,9 +4,9 @@ ghost use Rattle.ppserve.specs.code.LinePrefix.{before_spelling};
 ghost use Rattle.ppserve.specs.Output.{escaped};
 ghost use Rattle.ppserve.specs.code.Printing.{Puts};
 
+use crate::formatting::{as_is_prefix, put_byte, put_prefix};
 use crate::line_prefix::{LastPrefixes, LineFields, MOST_PREFIX};
 use crate::streams::Sink;
-use crate::formatting::{as_is_prefix, put_byte, put_prefix};
 use std::alloc::{AllocError, Global};
 use std::marker::Model;
 

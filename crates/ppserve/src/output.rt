@@ -21,7 +21,7 @@ use itoa::Buffer;
 use ppexpand::{Piece, TokenRope};
 use ppmacro::Hidden;
 use pptext::{Fault, Memory, Place, Spelling, Token};
-use ppunit::{Items, Part, OwnedTexts, Unit, UnitOut};
+use ppunit::{Items, OwnedTexts, Part, Unit, UnitOut};
 use std::alloc::Global;
 
 /// What is printed of each unit.

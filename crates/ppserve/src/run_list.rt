@@ -13,7 +13,7 @@ use crate::output::Mode;
 use pppool::{Batch, Gate, Retain, list_growth, run_retaining};
 use ppshelf::{Disk, MemoryDisk, Shelf, ShelfFault};
 use pptext::{Hashing, Memory, Profile};
-use ppunit::{Setting, OwnedTexts, Unit, UnitOut};
+use ppunit::{OwnedTexts, Setting, Unit, UnitOut};
 use std::alloc::Global;
 use std::mem;
 use std::thread::Threads;
@@ -63,7 +63,9 @@ impl RunOptions {
         requires block { 1 ≤ self.block }
         ensures { (1 ≤ result) × (result ≤ self.block) }
     {
-        units.div_ceil(self.workers * CLAIMS_PER_WORKER).clamp(1, self.block)
+        units
+            .div_ceil(self.workers * CLAIMS_PER_WORKER)
+            .clamp(1, self.block)
     }
 }
 
@@ -169,7 +171,13 @@ pub(crate) fn over_contents<'a, R: Threads + Sync>(
         workers: options.workers,
         block: options.block_size(units.len()),
     };
-    let outs = run_retaining(threads, alloc, &mut pass, &batch, needed_retention(options.mode))?;
+    let outs = run_retaining(
+        threads,
+        alloc,
+        &mut pass,
+        &batch,
+        needed_retention(options.mode),
+    )?;
     pass.contents_permitted();
     list_growth();
     Ok(outs)

@@ -7,8 +7,8 @@ ghost use Rattle.ppserve.specs.declared.serving.RunFault.TheVariants.{Read as Re
 ghost use Rattle.ppserve.specs.Serving.{some_fault, Received, ReadsList, WritesAll, WritesPrefix, Serves, ServesPrefix, Refuses};
 
 use crate::list::{Contents, List, ListFault, MOST_INPUT, read_list};
-use crate::output::{Mode, print};
 use crate::out_buffer::OutBuffer;
+use crate::output::{Mode, print};
 use crate::run_list::{OpenGate, RunOptions, empty_shelf, filled_shelf, over_contents, over_disk};
 use crate::streams::{Feed, Sink};
 use pppool::Batch;

@@ -76,7 +76,11 @@ fn path_in_directory(alloc: Global, directory: &str, name: &str) -> Result<Strin
 
 /// Reads a file up to one byte above `LONGEST`, which shows that it is too long. Allocates capacity for `len` bytes and
 /// one more, with which a read finds the end.
-fn read_up_to_limit<F: Read + Drop>(alloc: Global, file: F, len: usize) -> Result<Vec<u8>, ReadFault>
+fn read_up_to_limit<F: Read + Drop>(
+    alloc: Global,
+    file: F,
+    len: usize,
+) -> Result<Vec<u8>, ReadFault>
     requires { len ≤ longest }
     ensures { IfOk result (λ bytes. IfSome (F.remaining file) (λ all. bytes.items ≡ take (suc longest) all)) }
 {

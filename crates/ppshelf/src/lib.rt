@@ -2,8 +2,8 @@
 //! search for included files.
 #![tactic(auto)]
 
-mod disk;
 mod dir_disk;
+mod disk;
 mod index;
 mod laws;
 mod loaded;
@@ -14,11 +14,11 @@ mod row;
 mod search;
 mod shelf;
 
-pub use disk::{Disk, ReadFault};
 pub use dir_disk::DirDisk;
+pub use disk::{Disk, ReadFault};
 pub use index::Index;
 pub use laws::{
-    callers_agree, each_block_once, observed_stays, names_decide, next_ends_search, next_goes_on,
+    callers_agree, each_block_once, names_decide, next_ends_search, next_goes_on, observed_stays,
     one_row, some_row,
 };
 pub use loaded::Loaded;

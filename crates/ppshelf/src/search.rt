@@ -119,7 +119,14 @@ fn row_in_includer_dir<D: Disk>(
     // For proofs: the names are in normal form.
     shelf.contents_permitted();
     let directory = directory_of(shelf.name(from).as_bytes());
-    row_in_directory(alloc, shelf, directory, name, has_no_dot_segments(name), joined)
+    row_in_directory(
+        alloc,
+        shelf,
+        directory,
+        name,
+        has_no_dot_segments(name),
+        joined,
+    )
 }
 
 /// Returns the directory of the file with this name: the text before the last slash, or the empty text, which leads to
@@ -151,7 +158,14 @@ fn row_in_directories<D: Disk>(
     let plain = has_no_dot_segments(name);
     let count = directories.unit.len() + directories.setting.len();
     for passed in number..count {
-        let row = row_in_directory(alloc, shelf, directories.at_index(passed), name, plain, joined)?;
+        let row = row_in_directory(
+            alloc,
+            shelf,
+            directories.at_index(passed),
+            name,
+            plain,
+            joined,
+        )?;
         if let Some(row) = row {
             return Ok(Some((row, passed + 1)));
         }

@@ -2,7 +2,7 @@
 //! are in tests/row_tests.py and tests/token_tests.py, which compare the program's output.
 use crate::defining::{directed, env, source_of};
 use crate::showing::assert_shown;
-use ppexpand::{Expanded, Piece, TokenRope, TokenRef, expand};
+use ppexpand::{Expanded, Piece, TokenRef, TokenRope, expand};
 use ppmacro::{Hidden, Table};
 use pptext::{Memory, Source, Token};
 use std::alloc::{AllocError, Global};

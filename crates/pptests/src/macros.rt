@@ -8,7 +8,7 @@ mod substitution;
 mod two_sets;
 
 use crate::defining::{directed, source_of};
-use ppmacro::{Macro, Hidden, HideSets, Set, MacroKind, Table, Variadic};
+use ppmacro::{Hidden, HideSets, Macro, MacroKind, Set, Table, Variadic};
 use pptext::{Memory, Place, Source, Token};
 use std::alloc::{AllocError, Global};
 use std::process::Abort;

@@ -9,8 +9,8 @@ use crate::showing::{assert_shown, push_fault, push_place};
 use ppshelf::{File, MOST_ROWS, MemoryDisk, Pass, Shelf};
 use pptext::{Fault, Memory, Profile, Token};
 use ppunit::{
-    CommandMacros, Item, Items, Setting, OwnedText, OwnedTexts, Unit, UnitOut, fits_command, preprocess,
-    unit_ok,
+    CommandMacros, Item, Items, OwnedText, OwnedTexts, Setting, Unit, UnitOut, fits_command,
+    preprocess, unit_ok,
 };
 use std::alloc::{AllocError, Global};
 use std::process::Abort;

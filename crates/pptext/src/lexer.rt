@@ -9,13 +9,13 @@ ghost use Rattle.pptext.specs.Tokens.{spelled};
 ghost use Rattle.pptext.specs.code.FoundLexemes.{FindsLexeme, TokenizesInto};
 ghost use Rattle.pptext.specs.code.Grouping.{line_span};
 
+use crate::cleaned_text::CleanedText;
 use crate::directives::directive_of;
+use crate::longest_token::token_at;
 use crate::punctuators::begins_nothing_longer;
 use crate::scanning::literals::UnmatchedQuotes;
 use crate::scanning::{is_blank, starts_identifier, word_len};
 use crate::sources::{Line, Profile};
-use crate::cleaned_text::CleanedText;
-use crate::longest_token::token_at;
 use crate::tokens::{Kind, Place, Spelling, Token};
 use memchr::{memchr, memmem};
 use std::alloc::AllocError;
@@ -118,7 +118,12 @@ fn blank_len(text: &[u8]) -> usize
 /// Returns the lexeme that begins a text, after these tokens of its line. This is the slow path, for a text that begins
 /// with neither a new-line nor a blank.
 #[inline(never)]
-fn slow_lexeme_at(text: &[u8], line: &[Token], unmatched: &mut UnmatchedQuotes, profile: Profile) -> Found
+fn slow_lexeme_at(
+    text: &[u8],
+    line: &[Token],
+    unmatched: &mut UnmatchedQuotes,
+    profile: Profile,
+) -> Found
     requires some { 0 < length text.now }
     requires no_newline { slice_index text.now 0 ≢ 10 }
     requires no_blank { is_blank (slice_index text.now 0) ≡ false }

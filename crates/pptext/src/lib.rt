@@ -2,33 +2,33 @@
 #![tactic(auto)]
 
 mod characters;
+mod cleaned_text;
 mod cleaning;
-mod lexer;
 mod directives;
+mod error;
 mod grouping;
 mod hashing;
 mod laws;
+mod lexer;
+mod longest_token;
 mod punctuators;
 mod reading;
 mod scanning;
 mod sequences;
 mod sources;
-mod error;
-mod cleaned_text;
-mod longest_token;
 mod tokens;
 
 pub use characters::Char;
 pub use directives::{Class, Question};
+pub use error::{Error, split_memory};
 pub use hashing::{Hashing, u32_at};
 pub use laws::{
-    continued_token, tokenizes_unless_unclosed, keeps_every_token, kind_by_language, next_branches, one_tokenization,
-    one_guard, one_lexer, one_reading, one_tree, relexes_tokens, some_reading,
-    tests_are_languages, tree_unless_fault, which_group_fault,
+    continued_token, keeps_every_token, kind_by_language, next_branches, one_guard, one_lexer,
+    one_reading, one_tokenization, one_tree, relexes_tokens, some_reading, tests_are_languages,
+    tokenizes_unless_unclosed, tree_unless_fault, which_group_fault,
 };
 pub use reading::{read_lines, read_source, relex};
 pub use scanning::continuing::continues;
 pub use sequences::Sequence;
 pub use sources::{Directive, LONGEST, Line, Profile, Source, SourceFault};
-pub use error::{Error, split_memory};
 pub use tokens::{Fault, Kind, Memory, Place, Spelling, Token, Tokens};

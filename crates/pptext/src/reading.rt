@@ -8,8 +8,8 @@ ghost use Rattle.pptext.specs.Sources.{Reads, tokens_of, spans, file_fault, IsOn
 ghost use Rattle.pptext.specs.ReadResults.{ReadResult};
 
 use crate::cleaning::clean_text;
-use crate::lexer::{LeadingLexeme, tokenize_lines, next_lexeme};
 use crate::grouping::group_lines;
+use crate::lexer::{LeadingLexeme, next_lexeme, tokenize_lines};
 use crate::sources::{Line, Profile, Source, SourceFault};
 use crate::tokens::{Fault, Kind, Memory, Place, Token};
 use std::alloc::Global;

@@ -9,14 +9,16 @@ ghost use Rattle.ppunit.specs.DirectiveLines as spec_lines;
 ghost use Rattle.ppunit.specs.Probing.{condition_tokens};
 ghost use Rattle.ppunit.specs.States.{search_in_unit, with_left};
 
-use crate::directive_line::{line_fault, name, one_identifier, operands, refuse_unmatched_quote, hash_place};
+use crate::directive_line::{
+    hash_place, line_fault, name, one_identifier, operands, refuse_unmatched_quote,
+};
 use crate::open_file::UnitContext;
 use crate::probing::{is_probed, probe};
 use crate::states::State;
 use ppexpr::evaluate;
 use ppmacro::Table;
 use ppshelf::Disk;
-use pptext::{Directive, Fault, Place, Question, Error, Token};
+use pptext::{Directive, Error, Fault, Place, Question, Token};
 use std::alloc::Global;
 
 /// Decides whether the group after a line of the file at index `row` is taken. Fails with the line's fault: 7, 9, 30,

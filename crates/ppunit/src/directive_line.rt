@@ -8,7 +8,7 @@ ghost use Rattle.ppmacro.specs.Substitution.{spelled_space};
 ghost use Rattle.ppunit.specs.DirectiveLines as spec;
 ghost use Rattle.ppunit.specs.Quotes as quotes;
 
-use pptext::{Directive, Fault, Place, Error, Token};
+use pptext::{Directive, Error, Fault, Place, Token};
 use std::alloc::{AllocError, Global};
 
 /// A directive line of the file at index `row`: its tokens from the `#` on, and its number in that file, from 1.

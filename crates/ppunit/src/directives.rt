@@ -8,12 +8,12 @@ ghost use Rattle.pptext.specs.Tree.{sign_place};
 ghost use Rattle.ppmacro.specs.Define.{after_define, after_undef};
 ghost use Rattle.ppunit.specs.States.{going};
 
+use crate::directive_line::{DirectiveLine, hash_place, line_fault, name, operands, push_space};
 use crate::line_control::renumber;
-use crate::directive_line::{DirectiveLine, line_fault, name, operands, push_space, hash_place};
 use crate::states::State;
 use ppexpand::expand;
 use ppmacro::{define, undef};
-use pptext::{Directive, Fault, Profile, Error, Token};
+use pptext::{Directive, Error, Fault, Profile, Token};
 use std::alloc::{AllocError, Global};
 
 /// Emits the expansion of a run of text lines, up to its first fault (6.10.3).

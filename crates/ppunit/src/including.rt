@@ -7,12 +7,12 @@ ghost use Rattle.ppunit.specs.Including as spec;
 ghost use Rattle.ppunit.specs.Directives.{NamesHeader, NamesHeaderByExpansion};
 ghost use Rattle.ppunit.specs.States.{with_left};
 
-use crate::line_control::is_plain_string;
 use crate::directive_line::{line_fault, operands, push_space};
+use crate::line_control::is_plain_string;
 use crate::operand_expansion::expand_operands;
 use crate::states::State;
 use ppshelf::Form;
-use pptext::{Kind, Spelling, Error, Token};
+use pptext::{Error, Kind, Spelling, Token};
 use std::alloc::{AllocError, Global};
 use std::marker::Model;
 
@@ -127,7 +127,11 @@ fn name_of_expansion(alloc: Global, tokens: &[Token]) -> Result<Option<IncludeNa
 }
 
 /// Returns the header, or fault 30 if there is none or no file can have its name.
-fn name_or_fault(alloc: Global, line: &[Token], include_name: Option<IncludeName>) -> Result<IncludeName, Error>
+fn name_or_fault(
+    alloc: Global,
+    line: &[Token],
+    include_name: Option<IncludeName>,
+) -> Result<IncludeName, Error>
     ensures { UnlessOutOfMemory result (λ r. r ≡ spec.name_or (line_fault 30 line.now []) (spec.if_possible_name include_name)) }
 {
     match include_name {
@@ -148,7 +152,9 @@ fn if_possible_name(include_name: Option<IncludeName>) -> Option<IncludeName>
     ensures { result ≡ spec.if_possible_name include_name }
 {
     match include_name {
-        Some(include_name) if !is_impossible_name(include_name.name.as_bytes()) => Some(include_name),
+        Some(include_name) if !is_impossible_name(include_name.name.as_bytes()) => Some(
+            include_name,
+        ),
         _ => None,
     }
 }
@@ -164,7 +170,11 @@ pub(crate) fn name_of_tokens(
 }
 
 /// Returns the header that the tokens name after macro replacement, or fault 30.
-fn name_of_expansion_or(alloc: Global, line: &[Token], tokens: &[Token]) -> Result<IncludeName, Error>
+fn name_of_expansion_or(
+    alloc: Global,
+    line: &[Token],
+    tokens: &[Token],
+) -> Result<IncludeName, Error>
     ensures { UnlessOutOfMemory result (λ r. r ≡ spec.name_or (line_fault 30 line.now []) (spec.if_possible_name (spec.name_of_expansion tokens.now))) }
 {
     let include_name = name_of_expansion(alloc, tokens)?;
@@ -172,7 +182,11 @@ fn name_of_expansion_or(alloc: Global, line: &[Token], tokens: &[Token]) -> Resu
 }
 
 /// Returns the header that an include line names once its macros are replaced.
-fn expand_include_name<'x>(alloc: Global, state: &mut State<'x>, line: &'x [Token]) -> Result<IncludeName, Error>
+fn expand_include_name<'x>(
+    alloc: Global,
+    state: &mut State<'x>,
+    line: &'x [Token],
+) -> Result<IncludeName, Error>
     ensures rest { state.new ≡ with_left state.old state.new.left }
     ensures asks { UnlessOutOfMemory result (λ include_name. NamesHeaderByExpansion state.old line.now state.new.left include_name) }
 {

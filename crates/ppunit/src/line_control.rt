@@ -8,12 +8,12 @@ ghost use Rattle.ppunit.specs.LineControl as spec;
 ghost use Rattle.ppunit.specs.DirectiveLines.{directed, line_fault};
 ghost use Rattle.ppunit.specs.Directives.{SetsLine};
 
-use crate::well_formed::is_digit;
 use crate::directive_line::{line_fault, operands};
 use crate::operand_expansion::expand_operands;
 use crate::states::State;
+use crate::well_formed::is_digit;
 use ppexpand::Env;
-use pptext::{Kind, Spelling, Error, Token};
+use pptext::{Error, Kind, Spelling, Token};
 use std::alloc::{AllocError, Global};
 use std::marker::Model;
 

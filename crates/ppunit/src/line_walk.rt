@@ -16,15 +16,15 @@ ghost use Rattle.ppunit.specs.DirectiveLines.{directed};
 ghost use Rattle.ppunit.specs.code.Walk.{line_at, IsTextLine, IsRest, Outer, BranchesAt, Enters, FindsBranch, Advances, Leads, Steps, Walks};
 
 use crate::conditions::decide;
-use crate::directives::{control, error, emit_run};
+use crate::directive_line::{DirectiveLine, hash_place, line_fault, refuse_unmatched_quote};
+use crate::directives::{control, emit_run, error};
+use crate::include_stack::Stack;
 use crate::including::read_include_name;
 use crate::line_access::{count, line, tokens_at, tokens_between};
-use crate::directive_line::{DirectiveLine, line_fault, refuse_unmatched_quote, hash_place};
-use crate::open_file::{UnitContext, Entered, OpenFile, Opening, open, resolve_in};
-use crate::include_stack::Stack;
+use crate::open_file::{Entered, OpenFile, Opening, UnitContext, open, resolve_in};
 use crate::states::State;
 use ppshelf::{Disk, Pass};
-use pptext::{Class, Directive, Source, Error, Token};
+use pptext::{Class, Directive, Error, Source, Token};
 use std::alloc::Global;
 use std::marker::Model;
 
@@ -228,7 +228,14 @@ fn execute_line<'x, 'a: 'x, D: Disk>(
         Class::Includes(next) => {
             refuse_unmatched_quote(tokens)?;
             let directory = directory_before(next, state);
-            include(context, pass, state, depth, Opening { row, directory }, tokens)
+            include(
+                context,
+                pass,
+                state,
+                depth,
+                Opening { row, directory },
+                tokens,
+            )
         }
         _ => {
             refuse_unmatched_quote(tokens)?;

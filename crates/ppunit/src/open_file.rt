@@ -16,8 +16,8 @@ use crate::including::IncludeName;
 use crate::line_access::count;
 use crate::states::{FileContext, State, literal};
 use ppexpand::Env;
-use ppshelf::{Disk, Directories, Form, Pass, Shelf, resolve, resolve_next};
-use pptext::{Fault, Memory, Place, Profile, Source, Error};
+use ppshelf::{Directories, Disk, Form, Pass, Shelf, resolve, resolve_next};
+use pptext::{Error, Fault, Memory, Place, Profile, Source};
 use std::alloc::{AllocError, Global};
 use std::marker::Model;
 
@@ -190,7 +190,14 @@ pub(crate) fn resolve_in<D: Disk>(
         return resolve_next(context.alloc, shelf, number, name, directories);
     }
     if from.row < shelf.len() {
-        return resolve(context.alloc, shelf, from.row, include_name.form, name, directories);
+        return resolve(
+            context.alloc,
+            shelf,
+            from.row,
+            include_name.form,
+            name,
+            directories,
+        );
     }
     resolve(context.alloc, shelf, 0, Form::Angle, name, directories)
 }

@@ -10,15 +10,15 @@ ghost use Rattle.ppunit.specs.Unit.{IsUnit, IsUnitOf, Translates, initial_state,
 ghost use Rattle.ppunit.specs.Capped.{IsInBudget, IsCappedOver};
 ghost use Rattle.ppunit.specs.code.Walk.{DefinesOver};
 
+use crate::collections::{Items, Rows};
 use crate::command_macros::{COMMAND_FILE, CommandMacros};
 use crate::laws::{budget_caps_units, stays_in_budget};
-use crate::collections::{Items, Rows};
-use crate::open_file::{UnitContext, OpenFile, Opening, open};
+use crate::line_walk::walk;
+use crate::open_file::{OpenFile, Opening, UnitContext, open};
 use crate::states::State;
 use crate::units::{Setting, Unit, UnitOut};
-use crate::line_walk::walk;
-use ppshelf::{Disk, Directories, Pass, Shelf};
-use pptext::{Fault, Memory, Place, Error, split_memory, tree_unless_fault};
+use ppshelf::{Directories, Disk, Pass, Shelf};
+use pptext::{Error, Fault, Memory, Place, split_memory, tree_unless_fault};
 use std::alloc::Global;
 
 /// Executes the unit's definitions.
@@ -69,7 +69,10 @@ fn process<'x, 'a: 'x, D: Disk>(
         line: 1,
         col: 1,
     };
-    let opening = Opening { row, directory: None };
+    let opening = Opening {
+        row,
+        directory: None,
+    };
     let Some(entered) = open(context, pass, state, 0, at, opening)? else {
         return Ok(());
     };
@@ -138,7 +141,10 @@ fn unit_out<'x>(
 }
 
 /// Returns the output of a unit that ends in this state.
-fn into_output<'x>(state: State<'x>, ended: Result<Option<Fault>, Memory>) -> Result<UnitOut<'x>, Memory>
+fn into_output<'x>(
+    state: State<'x>,
+    ended: Result<Option<Fault>, Memory>,
+) -> Result<UnitOut<'x>, Memory>
     ensures { IfOk result (λ out.
         (fault : Option Fault) × (ended ≡ Ok fault) × (out ≡ output (record { state = state.entry; fault = fault }))) }
 {

@@ -9,7 +9,7 @@ ghost use Rattle.ppunit.specs.Probing as spec;
 ghost use Rattle.ppunit.specs.States.{search_in_unit};
 
 use crate::including::{IncludeName, name_of_tokens};
-use crate::open_file::{UnitContext, Opening, resolve_in};
+use crate::open_file::{Opening, UnitContext, resolve_in};
 use ppshelf::Disk;
 use pptext::{Kind, Memory, Profile, Spelling, Token};
 use std::alloc::{AllocError, Global};
@@ -71,11 +71,18 @@ fn without_first(tokens: &[Token]) -> &[Token]
 }
 
 /// Returns whether an `#include` of this header in the file at index `row` finds a file. The file isn't opened.
-fn has_file<D: Disk>(context: &UnitContext<'_, '_, D>, row: usize, include_name: &IncludeName) -> Result<bool, Memory>
+fn has_file<D: Disk>(
+    context: &UnitContext<'_, '_, D>,
+    row: usize,
+    include_name: &IncludeName,
+) -> Result<bool, Memory>
     requires { 0 < length context.now.shelf.names }
     ensures { IfOk result (λ found. found ≡ spec.has_file (search_in_unit context.now) row include_name.now) }
 {
-    let from = Opening { row, directory: None };
+    let from = Opening {
+        row,
+        directory: None,
+    };
     let found = resolve_in(context, from, include_name)?;
     Ok(found.is_some())
 }

@@ -1,6 +1,6 @@
 //! The input and the output of preprocessing a unit.
+use crate::collections::{Items, OwnedText, OwnedTexts, Rows};
 use crate::command_macros::CommandMacros;
-use crate::collections::{Items, Rows, OwnedText, OwnedTexts};
 use pptext::{Fault, Place, Profile, Token, Tokens};
 
 /// An item of the output, for translation phase 5 (5.1.1.2): a token, or a pragma with the location of its `#` and the

@@ -45,9 +45,9 @@ abbrev pub unreduced : {A : Type 0} → ℕ → List (Frame A) → List (Frame A
 unreduced p [] = []
 unreduced p (f ∷ fs) = if nat_le p (frame_level f) then unreduced p fs else (f ∷ fs)
 
-abbrev pub split_memory : {A : Type 0} → Meaning A → ℕ → List (Frame A) → A → A
-split_memory m p [] z = z
-split_memory m p (f ∷ fs) z = if nat_le p (frame_level f) then split_memory m p fs (completed m f z) else z
+abbrev pub reduced : {A : Type 0} → Meaning A → ℕ → List (Frame A) → A → A
+reduced m p [] z = z
+reduced m p (f ∷ fs) z = if nat_le p (frame_level f) then reduced m p fs (completed m f z) else z
 
 -- the frames, the innermost first, and the operand that was just read, if any
 abbrev pub State : Type 0 → Type 0
@@ -59,7 +59,7 @@ signed fs (Some o) = Some (Sign o ∷ fs, None)
 
 abbrev pub operated : {A : Type 0} → Meaning A → List (Frame A) → A → Option Binary → Option (State A)
 operated m fs z None = None
-operated m fs z (Some o) = Some (Left o (split_memory m (level_of o) fs z) ∷ unreduced (level_of o) fs, None)
+operated m fs z (Some o) = Some (Left o (reduced m (level_of o) fs z) ∷ unreduced (level_of o) fs, None)
 
 abbrev pub between : {A : Type 0} → List (Frame A) → A → Option (State A)
 between (Test x ∷ fs) z = Some (Arms x z ∷ fs, None)
@@ -80,9 +80,9 @@ step m (fs, None) Open = Some (Group ∷ fs, None)
 step m (fs, None) (Operator o) = signed fs (unary_of o)
 step m (fs, None) s = None
 step m (fs, Some z) (Operator o) = operated m fs z (binary_of o)
-step m (fs, Some z) Question = Some (Test (split_memory m 2 fs z) ∷ unreduced 2 fs, None)
-step m (fs, Some z) Colon = between (unreduced 1 fs) (split_memory m 1 fs z)
-step m (fs, Some z) Close = closed (unreduced 1 fs) (split_memory m 1 fs z)
+step m (fs, Some z) Question = Some (Test (reduced m 2 fs z) ∷ unreduced 2 fs, None)
+step m (fs, Some z) Colon = between (unreduced 1 fs) (reduced m 1 fs z)
+step m (fs, Some z) Close = closed (unreduced 1 fs) (reduced m 1 fs z)
 step m (fs, Some z) s = None
 
 -- the parser reads the symbol, or there is no step
@@ -91,4 +91,4 @@ ParserTakes old s more new = step outcomes old s ≡ (if more then Some new else
 
 abbrev pub finish : {A : Type 0} → Meaning A → State A → Option A
 finish m (fs, None) = None
-finish m (fs, Some z) = ended (unreduced 1 fs) (split_memory m 1 fs z)
+finish m (fs, Some z) = ended (unreduced 1 fs) (reduced m 1 fs z)

@@ -6,8 +6,8 @@ ghost use Rattle.ppmacro.specs.Define.{misplaces_variable_arguments, misplaces_p
 
 use super::parameter_lists::has_variable_arguments;
 use crate::chains::{Parameters, parameter_names, parameter_of};
-use crate::macros::MacroKind;
 use crate::hash_operators::{is_hash, is_paste};
+use crate::macros::MacroKind;
 use pptext::{Hashing, Token};
 use std::alloc::{AllocError, Global};
 

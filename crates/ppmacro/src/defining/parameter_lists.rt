@@ -6,9 +6,9 @@ ghost use Rattle.std.specs.Str.{bytes_eq};
 ghost use Rattle.ppmacro.specs.Define.{close_parameters, after_parameter_name, parameters_from, read_parameter_list, repeats, all_parameters, variadic_by, has_variable_arguments};
 ghost use Rattle.ppmacro.specs.code.ChainParts.{with_names};
 
-use crate::replacement_list::ReplacementList;
 use crate::macros::{Names, Variadic};
 use crate::parameter_index::{MAX_SCANNED, index_names};
+use crate::replacement_list::ReplacementList;
 use pptext::{Hashing, Profile, Spelling, Token};
 use std::alloc::{AllocError, Global};
 use std::marker::Model;
@@ -41,7 +41,11 @@ impl<'a> Model for ParsedParameters<'a> {
 }
 
 /// Returns the parameter list with these names, if `line` begins with `)`.
-fn close_parameters<'a>(names: Vec<Spelling>, ending: Ending, line: &'a [Token]) -> Option<ParsedParameters<'a>>
+fn close_parameters<'a>(
+    names: Vec<Spelling>,
+    ending: Ending,
+    line: &'a [Token],
+) -> Option<ParsedParameters<'a>>
     ensures { result ≡ option_map (with_names names.items) (close_parameters ending line.now) }
 {
     let Some(first) = line.first() else {
@@ -58,7 +62,11 @@ fn close_parameters<'a>(names: Vec<Spelling>, ending: Ending, line: &'a [Token])
 }
 
 /// Returns the parameter list with these names. `line` is what follows the last name; in GNU C it may begin with `...`.
-fn after_parameter_name<'a>(names: Vec<Spelling>, gnu: bool, line: &'a [Token]) -> Option<ParsedParameters<'a>>
+fn after_parameter_name<'a>(
+    names: Vec<Spelling>,
+    gnu: bool,
+    line: &'a [Token],
+) -> Option<ParsedParameters<'a>>
     ensures { result ≡ option_map (with_names names.items) (after_parameter_name gnu line.now) }
 {
     let Some(first) = line.first() else {

@@ -279,7 +279,7 @@ fn trivial_meet(one: u32, two: u32) -> Option<u32>
 }
 
 /// Returns the result of an operation if a set is empty or both are equal.
-fn split_memory(operation: Operation, one: u32, two: u32) -> Option<u32>
+fn trivial_result(operation: Operation, one: u32, two: u32) -> Option<u32>
     ensures { result ≡ known operation [] one two }
 {
     match operation.kind {
@@ -292,7 +292,7 @@ fn split_memory(operation: Operation, one: u32, two: u32) -> Option<u32>
 fn known(pairs: &PairCache, operation: Operation, one: u32, two: u32) -> Option<u32>
     ensures { result ≡ known operation pairs.now one two }
 {
-    match split_memory(operation, one, two) {
+    match trivial_result(operation, one, two) {
         Some(number) => Some(number),
         None => pairs.get(one, two),
     }
@@ -319,7 +319,7 @@ fn compute(
         → ((w : ℕ) → word nodes.old.keys n w ≡ word_rule operation (word nodes.old.keys one w) (word nodes.old.keys two w))
         → (result ≡ Ok n) × (nodes.new.keys ≡ nodes.old.keys) }
 {
-    match split_memory(operation, one, two) {
+    match trivial_result(operation, one, two) {
         Some(number) => Ok(number),
         None => compute_node(nodes, operation, one, two),
     }

@@ -9,7 +9,7 @@ ghost use Rattle.ppmacro.specs.Substituting.{lists_of, ListsKnown, HasSpelledKin
 use crate::hidden_token::Hidden;
 use crate::hide_sets::HideSets;
 use crate::substituting::pasting::pasted;
-use pptext::{Place, Error, continues};
+use pptext::{Error, Place, continues};
 use std::alloc::{AllocError, Global};
 
 /// Appends copies of tokens.

@@ -10,7 +10,7 @@ use crate::hide_sets::HideSets;
 use crate::invocation::Arguments;
 use crate::macros::Operand;
 use crate::substituting::stringizing::stringized;
-use pptext::{Place, Error, Token};
+use pptext::{Error, Place, Token};
 use std::alloc::{AllocError, Global};
 
 /// Returns the tokens of an argument. An absent argument has none.
@@ -25,7 +25,10 @@ fn argument<'g, 'a>(given: &'g [Vec<Hidden<'a>>], index: usize) -> &'g [Hidden<'
 }
 
 /// Returns the tokens of an argument's expansion.
-fn expansion_tokens<'g, 'a>(argument: &'g [Hidden<'a>], expansion: &'g Expansion<'a>) -> &'g [Hidden<'a>]
+fn expansion_tokens<'g, 'a>(
+    argument: &'g [Hidden<'a>],
+    expansion: &'g Expansion<'a>,
+) -> &'g [Hidden<'a>]
     ensures { result.now ≡ unwrap_or (option_of argument.now expansion.now) [] }
 {
     match expansion {

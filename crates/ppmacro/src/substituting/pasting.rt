@@ -8,7 +8,7 @@ ghost use Rattle.pptext.specs.Errors.{Returns};
 use crate::hidden_token::Hidden;
 use crate::hide_sets::HideSets;
 use crate::substituting::lexing::kind_of;
-use pptext::{Fault, Kind, Memory, Place, Spelling, Error, Token, split_memory};
+use pptext::{Error, Fault, Kind, Memory, Place, Spelling, Token, split_memory};
 use std::alloc::{AllocError, Global};
 
 /// Returns the concatenated spellings of two tokens.

@@ -8,7 +8,7 @@ ghost use Rattle.ppmacro.specs.Substituting.{tokens_of, hidden_in};
 use crate::hidden_token::Hidden;
 use crate::hide_sets::HideSets;
 use crate::substituting::lexing::kind_of;
-use pptext::{Fault, Kind, Memory, Place, Spelling, Error, Token, split_memory};
+use pptext::{Error, Fault, Kind, Memory, Place, Spelling, Token, split_memory};
 use std::alloc::{AllocError, Global};
 
 /// Appends a byte of a literal, with a backslash before `"` and `\`. If an allocation fails, the text is unchanged.

@@ -7,7 +7,7 @@ ghost use Rattle.ppunit.specs.Unit.{IsUnitOf};
 use super::stage::Stage;
 use ppshelf::{MOST_ROWS, Shelf};
 use pptext::{Fault, Profile};
-use ppunit::{CommandMacros, Item, Setting, OwnedText, OwnedTexts, Unit, UnitOut, fits_command};
+use ppunit::{CommandMacros, Item, OwnedText, OwnedTexts, Setting, Unit, UnitOut, fits_command};
 use std::alloc::{AllocError, Global};
 use std::test::Fail;
 

@@ -50,7 +50,7 @@ pub(super) enum WrittenBudget {
     /// The list has no budget.
     Missing,
     /// An unsigned integer of 64 bits.
-    Everything(u64),
+    Integer(u64),
     /// Another number: a negative one, a fraction, or one that is too large.
     Other,
 }
@@ -63,11 +63,11 @@ pub(super) struct DraftBudget {
 
 impl Model for DraftBudget {
     ghost use Rattle.ppserve.specs.Drafts as drafts;
-    ghost use Rattle.ppserve.specs.declared.list.drafts.WrittenBudget.TheVariants.{Missing, Everything, Other};
+    ghost use Rattle.ppserve.specs.declared.list.drafts.WrittenBudget.TheVariants.{Missing, Integer, Other};
 
     ghost Value = { drafts.DraftBudget };
 
-    ghost view = { λ b. elim b.written [ Missing ↦ drafts.Missing | Everything n ↦ drafts.Everything n | Other ↦ drafts.Other ] };
+    ghost view = { λ b. elim b.written [ Missing ↦ drafts.Missing | Integer n ↦ drafts.Integer n | Other ↦ drafts.Other ] };
 }
 
 /// The draft of a setting, with the name of the profile.
@@ -182,7 +182,7 @@ fn budget_at(value: &Value) -> Result<DraftBudget, ListFault>
         return Err(ListFault::Bad(2));
     };
     let written = match number.as_u64() {
-        Some(whole) => WrittenBudget::Everything(whole),
+        Some(whole) => WrittenBudget::Integer(whole),
         None => WrittenBudget::Other,
     };
     Ok(DraftBudget { written })

@@ -13,7 +13,9 @@ use crate::list::drafts::{Draft, DraftBudget, DraftFile, DraftSetting, DraftUnit
 use crate::list::{Contents, List, ListFault, Units};
 use ppshelf::{Index, LONGEST, MOST_ROWS, is_directory, is_file_name};
 use pptext::{Hashing, Memory, Profile, Sequence};
-use ppunit::{CommandMacros, Setting, OwnedTexts, Unit, fits_command, is_date, is_one_line, is_time};
+use ppunit::{
+    CommandMacros, OwnedTexts, Setting, Unit, fits_command, is_date, is_one_line, is_time,
+};
 use std::alloc::{AllocError, Global};
 
 /// The largest budget of a list.
@@ -195,7 +197,7 @@ fn is_budget(budget: &DraftBudget) -> bool
 {
     match budget.written {
         WrittenBudget::Missing => true,
-        WrittenBudget::Everything(number) => number <= MOST_BUDGET,
+        WrittenBudget::Integer(number) => number <= MOST_BUDGET,
         WrittenBudget::Other => false,
     }
 }
@@ -205,7 +207,7 @@ fn budget_of(budget: DraftBudget) -> Option<u64>
     ensures { result ≡ spec.budget_of budget }
 {
     match budget.written {
-        WrittenBudget::Everything(number) => Some(number),
+        WrittenBudget::Integer(number) => Some(number),
         WrittenBudget::Missing | WrittenBudget::Other => None,
     }
 }

@@ -3,7 +3,9 @@ ghost use Rattle.std.specs.Prelude.{◌≤◌, length};
 ghost use Rattle.ppshelf.specs.Files.{most_rows};
 
 use super::texts;
-use ppshelf::{Directories, Form, Index, MemoryDisk, Shelf, ShelfFault, is_directory, is_file_name, resolve};
+use ppshelf::{
+    Directories, Form, Index, MemoryDisk, Shelf, ShelfFault, is_directory, is_file_name, resolve,
+};
 use pptext::{Hashing, Memory, Profile};
 use std::alloc::Global;
 use std::hash::RandomState;

@@ -3,7 +3,7 @@ use super::substitution::{USED, assert_made};
 use super::{HASH, macro_of, push_spelled, set_of, table_of};
 use crate::defining::source_of;
 use crate::showing::{assert_shown, push_token};
-use ppmacro::{ReplacementList, Chain, Hidden, HideSets, Operand, push_escaped};
+use ppmacro::{Chain, Hidden, HideSets, Operand, ReplacementList, push_escaped};
 use pptext::{Kind, Memory, Source, Spelling, Token};
 use std::alloc::{AllocError, Global};
 use std::process::Abort;
@@ -60,7 +60,12 @@ fn tokens_in_flight_are_those_of_the_file(rt: HostRuntime) -> Result<(), Fail> {
     let source = source_of(&rt, rt.alloc(), b"a +1")?;
     let sets = HideSets::new(rt.alloc())?;
     let mut text = Vec::new(rt.alloc());
-    push_words(rt.alloc(), &mut text, &sets, &ReplacementList::new(source.tokens()))?;
+    push_words(
+        rt.alloc(),
+        &mut text,
+        &sets,
+        &ReplacementList::new(source.tokens()),
+    )?;
     let wanted = "i+ a 1:1:1 1:1:1, p+ + 1:1:3 1:1:3, n- 1 1:1:4 1:1:4, ";
     assert_shown(&rt, text.as_slice(), wanted);
     Ok(())

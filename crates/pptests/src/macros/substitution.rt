@@ -8,8 +8,8 @@ use super::{HASH, has, is_hidden_by, macro_of, push_spelled, set_of, sources_of,
 use crate::defining::{direct, source_of};
 use crate::showing::{assert_shown, push_fault, push_fields};
 use ppmacro::{
-    Arguments, Chain, Macro, Expansion, Hidden, HideSets, MacroName, Pattern, Set, Table,
-    paste, stringize, substitute, substitute_pattern, tells_each_kind,
+    Arguments, Chain, Expansion, Hidden, HideSets, Macro, MacroName, Pattern, Set, Table, paste,
+    stringize, substitute, substitute_pattern, tells_each_kind,
 };
 use pptext::{Fault, Memory, Place, Profile, Source, Token};
 use std::alloc::{AllocError, Global};

@@ -43,7 +43,7 @@ fn asked_of(
     let hidden = hidden_by_both(sets, token, a, b);
     assert!(rt; sets.hides(&hidden) == is_hidden);
     match asked {
-        Asked::Settled => sets.split_memory(&hidden),
+        Asked::Settled => sets.hide_set_of(&hidden),
         Asked::WithOwn => sets.with_own_name(&hidden),
         Asked::Common => sets.common_hide_set(&hidden, &Hidden::new(token, b)),
     }

@@ -1,5 +1,5 @@
 //! Tests of tokens, spellings and faults.
-use pptext::{Fault, Kind, Place, Spelling, Error, Token, Tokens, split_memory};
+use pptext::{Error, Fault, Kind, Place, Spelling, Token, Tokens, split_memory};
 use std::alloc::{AllocError, Global};
 use std::test::Fail;
 

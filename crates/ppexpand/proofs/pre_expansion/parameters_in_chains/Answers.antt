@@ -17,11 +17,11 @@ loop-chain-preserved c =
     let cs = c.args.chains.now in
     let chain = c.chain-item.result in
     let before = c.loop-chain.invariant in record {
-      len = c.flag.ensures.len ∙ before.len;
+      len = c.set_used.ensures.len ∙ before.len;
       used = λ i less.
           (let more = list_any_more (λ (x : Chain). is_lone_parameter i x.operands) cs c.loop-chain.chain-index chain c.loop-chain-test.true in
           let is : is_lone_parameter i c.as_slice.result.now ≡ is_lone_parameter i (get_or cs c.loop-chain.chain-index chain).operands = ap (is_lone_parameter i) c.as_slice.ensures ∙ ap (λ (x : Chain). is_lone_parameter i x.operands) c.chain-item.is in
-          c.flag.ensures.marks i (subst (λ n. i < n) (sym before.len) less) ∙ (λ j. before.used i less j || is j) ∙ sym more);
+          c.set_used.ensures.marks i (subst (λ n. i < n) (sym before.len) less) ∙ (λ j. before.used i less j || is j) ∙ sym more);
     }
 
 pub returns-clause-len : goal.returns-clause-len

@@ -1,5 +1,5 @@
 use Rattle.std.proofs.Common.{refl}
-use Rattle.std.proofs.KnownBytes.{Appends-retained}
+use Rattle.std.proofs.KnownBytes.{Appends-kept}
 use Rattle.ppserve.proofs.Known.{wrote_more}
 use Rattle.ppserve.proofs.Printing.{puts_broken}
 use Rattle.ppserve.proofs.out_buffer.write_out.Goals as goal
@@ -11,4 +11,4 @@ loop-done-preserved g c =
 
 pub returns-in_default : goal.returns-in_default
 returns-in_default g c =
-    puts_broken c.loop-done.done c.loop-done.invariant.was_unfailed (rw (c.in_default.ensures.fails, c.loop-done.invariant.unfailed) refl) (Appends-retained _ _ _ _ c.loop-done.invariant.out c.in_default.ensures.bytes)
+    puts_broken c.loop-done.done c.loop-done.invariant.was_unfailed (rw (c.in_default.ensures.fails, c.loop-done.invariant.unfailed) refl) (Appends-kept _ _ _ _ c.loop-done.invariant.out c.in_default.ensures.bytes)

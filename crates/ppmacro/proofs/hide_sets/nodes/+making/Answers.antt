@@ -2,15 +2,15 @@ use Rattle.std.proofs.Common.{◌∙◌, refl, sym, ap, subst, Ok}
 use Rattle.ppmacro.specs.code.Nodes.{Node, node_at, word, IsBounded}
 use Rattle.ppmacro.specs.code.Operations.{word_rule}
 use Rattle.ppmacro.proofs.Tries.{combine-set, member-member_rule, bounded-on, bounded-combine, keeps-on, length-keeps, words-sets_are_unique}
-use Rattle.ppmacro.proofs.Remembering.{split_memory-is}
+use Rattle.ppmacro.proofs.Remembering.{trivial_result-is}
 use Rattle.ppmacro.proofs.Standing.{lefts-asked, rights-asked, member_rule-found}
 use Rattle.ppmacro.proofs.hide_sets.nodes.+making.Goals as goal
 
 pub compute-returns-in-Some-clause-known : goal.compute-returns-in-Some-clause-known
-compute-returns-in-Some-clause-known t c = (split_memory-is c.args.operation c.args.nodes.now.keys c.args.one c.args.two c.in-Some.number c.requires.pool c.requires.one c.requires.two (sym c.split_memory.ensures ∙ c.in-Some.is)).within
+compute-returns-in-Some-clause-known t c = (trivial_result-is c.args.operation c.args.nodes.now.keys c.args.one c.args.two c.in-Some.number c.requires.pool c.requires.one c.requires.two (sym c.trivial_result.ensures ∙ c.in-Some.is)).within
 
 pub compute-returns-in-Some-clause-set : goal.compute-returns-in-Some-clause-set
-compute-returns-in-Some-clause-set t c = (split_memory-is c.args.operation c.args.nodes.now.keys c.args.one c.args.two c.in-Some.number c.requires.pool c.requires.one c.requires.two (sym c.split_memory.ensures ∙ c.in-Some.is)).is
+compute-returns-in-Some-clause-set t c = (trivial_result-is c.args.operation c.args.nodes.now.keys c.args.one c.args.two c.in-Some.number c.requires.pool c.requires.one c.requires.two (sym c.trivial_result.ensures ∙ c.in-Some.is)).is
 
 pub compute_node-returns-clause-set : goal.compute_node-returns-clause-set
 compute_node-returns-clause-set t c = λ w.
@@ -73,7 +73,7 @@ compute_node-returns-in_err-both-clause-bounded t c = λ limit b.
 pub compute-returns-in-Some-clause-there : goal.compute-returns-in-Some-clause-there
 compute-returns-in-Some-clause-there t c = λ n l h.
     let old = c.args.nodes.now.keys in
-    let made = split_memory-is c.args.operation old c.args.one c.args.two c.in-Some.number c.requires.pool c.requires.one c.requires.two (sym c.split_memory.ensures ∙ c.in-Some.is) in
+    let made = trivial_result-is c.args.operation old c.args.one c.args.two c.in-Some.number c.requires.pool c.requires.one c.requires.two (sym c.trivial_result.ensures ∙ c.in-Some.is) in
     (ap Ok (words-sets_are_unique old c.in-Some.number n c.requires.pool made.within l (λ w. made.is w ∙ sym (h w))), refl)
 
 pub compute_node-returns-in_err-left-clause-there : goal.compute_node-returns-in_err-left-clause-there
