@@ -73,6 +73,8 @@ fn assert_looks_again(
     for &(row, text) in rows {
         assert_shown_again(rt, shelf, &mut pass, disk, row, text)?;
     }
+    // shows proofs what a pass observes, and changes nothing
+    pass.contents_permitted();
     assert_rows(rt, shelf, &mut pass, disk, rows)?;
     assert_new(rt, shelf, disk, rows)
 }
