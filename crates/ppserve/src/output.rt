@@ -67,6 +67,8 @@ fn printed(alloc: Global, mode: Mode, list: &List, outs: &[UnitOut]) -> Result<V
 
 /// Prints the output of units through an empty buffer, without allocating. Fails only if a write fails; a prefix of the
 /// output is then written.
+///
+/// The functions below take buffer and writer apart: in one struct with a `&mut W`, each clause would have to name that loan.
 pub(crate) fn print<W: Sink>(
     buf: &mut OutBuffer,
     writer: &mut W,
