@@ -1,9 +1,9 @@
-"""Names that collide under hashes whose keys everybody knows, for shapes.py and hostile_floods.py.
+"""Makes names that collide under hashes with keys that everybody knows, for shapes.py and hostile_floods.py.
 
-`own` is the hash of crates/pptext/src/hashing.rt, by which names are hashed, with the key of `Hashing::fixed()`; `kit` is the
-kit's default one, core/src/hash/fold.rt there, which they were hashed by before.  A write takes a state of 64 bits and bytes
-to the next state; the first state is fixed, the last is the hash.  A number is folded when it is multiplied by another and the
-halves of the product are joined by xor.
+`own` is the hash of crates/pptext/src/hashing.rt, which hashes names, with the key of `Hashing::fixed()`.  `kit` is the kit's
+default hash, in core/src/hash/fold.rt there.  A write takes a state of 64 bits and some bytes, and returns the next state.
+The first state is fixed, and the last one is the hash.  To fold a number is to multiply it by another number, and to join
+the halves of the product by xor.
 """
 import itertools
 import string
@@ -23,7 +23,7 @@ def number(data):
 
 
 def short(data):
-    """Up to 8 bytes as one number, by reads that may overlap."""
+    """Returns up to 8 bytes as one number, from reads that may overlap."""
     if len(data) >= 4:
         return number(data[:4]) | number(data[-4:]) << 32
     return data[0] | data[len(data) // 2] << 8 | data[-1] << 16 if data else 0
@@ -39,7 +39,7 @@ def own(state, data):
 
 
 def block(state, data):
-    """The state of the kit's hash after a block of 16 bytes of a longer text."""
+    """Returns the state of the kit's hash after a block of 16 bytes of a longer text."""
     return folded(number(data[:8]) ^ state, number(data[8:]) ^ MULTIPLIER)
 
 
@@ -53,12 +53,12 @@ def kit(state, data):
 
 
 def whole(write, name):
-    """The hash of a text that is written whole, as names of macros, of parameters and in hide sets are."""
+    """Returns the hash of a text that is written whole, as names of macros, of parameters and in hide sets are."""
     return write(SEED, name)
 
 
 def each(write, name):
-    """The hash of a text that is written as its length and byte after byte, as names of files are."""
+    """Returns the hash of a text that is written as its length and byte by byte, as names of files are."""
     state = write(SEED, len(name).to_bytes(8, "little"))
     for byte in name:
         state = write(state, bytes([byte]))
@@ -66,7 +66,7 @@ def each(write, name):
 
 
 def colliding(made, hashed, write):
-    """These names; the first, the last and those between whose numbers are powers of 2 are seen to have one hash."""
+    """Returns these names; checks that the first, the last and those at powers of 2 have one hash."""
     seen = made[:1] + [made[2**i] for i in range((len(made) - 1).bit_length())] + made[-1:]
     assert len({hashed(write, name.encode()) for name in seen}) == 1
     return made
@@ -74,15 +74,15 @@ def colliding(made, hashed, write):
 
 # ---- under the program's own hash
 
-# Eight bytes, after which the state is itself eight letters, digits and `_`: these stand next, and take the state away, so that it
-# is 0. FIRST is so from the beginning of a text of 80 bytes, the others from 0; each takes a search of some 75,000 tries.
+# Eight bytes after which the state is itself eight letters, digits and `_`.  These follow as the next bytes, and xor the state to 0.
+# FIRST begins a text of 80 bytes, and the others begin at state 0; each takes a search of about 75,000 tries.
 FIRST = "aaaaabkD"
 OTHERS = (
     "aaaaasv0", "aaaaaRCW", "aaaaa4YL", "aaaabgpv", "aaaabpLQ", "aaaaby_U", "aaaabLIB", "aaaacioq",
     "aaaacKwh", "aaaaepA6", "aaaaeqWO", "aaaaezw2", "aaaaeEGJ", "aaaaeOLE", "aaaae03Y", "aaaae4Qh",
 )
-# each pair takes the state that the pairs before it leave, over a text of 208 bytes, to one state: found by a search of some
-# seconds a pair for two words that leave states which differ as two last bytes do
+# The words of each pair lead from the state after the earlier pairs, over a text of 208 bytes, to one state.  A search of some
+# seconds for each pair finds two words with states that differ as two last bytes do.
 PAIRS = (
     ("xFckeFfrqsoda", "gucwDauAuowc2"), ("igAFnratgilda", "gwzzoDtFAixd3"), ("adFmqpmygwBdv", "fxonfipavglb9"),
     ("juizdieCopjaa", "nmqmprAbgzocx"), ("knnlnygvgAAca", "DjdwybCshFbdg"), ("DAfwkgDFzybda", "hpAsnpwasdhaW"),
@@ -94,23 +94,23 @@ PAIRS = (
 
 
 def taken_away(state, text):
-    """The text with the state after it, in a name of 80 bytes."""
+    """Returns the text, with the state after it appended, in a name of 80 bytes."""
     return text + folded(state ^ number(text.encode()), MULTIPLIER ^ 80).to_bytes(8, "little").decode()
 
 
 def macro_names(count):
-    """Up to 65,536 identifiers of 80 bytes with the hash 0 where a name is hashed whole: of macros, of parameters, in hide sets."""
+    """Returns up to 65,536 identifiers of 80 bytes with the hash 0 if hashed whole: for macros, parameters and hide sets."""
     blocks = [taken_away(0, text) for text in OTHERS]
     made = [taken_away(SEED, FIRST) + "".join(parts) for parts in itertools.islice(itertools.product(blocks, repeat=4), count)]
     return colliding(made, whole, own)
 
 
 def long_names(count):
-    """Up to 65,536 names of 208 bytes with one hash where a name is hashed byte after byte: of files."""
+    """Returns up to 65,536 names of 208 bytes with one hash if hashed byte by byte: for files."""
     return colliding(["".join(parts) for parts in itertools.islice(itertools.product(*PAIRS), count)], each, own)
 
 
-# ---- under the kit's
+# ---- under the kit's hash
 
 KIT_PAIRS = (
     ("aekfebigCxcaA", "pfgCCAdpoCAc4"), ("uxoDiqlkpFeca", "ovobDCAlFuia2"), ("DrgDyifmialaa", "ucgAcddCqlpb1"),
@@ -123,8 +123,8 @@ KIT_PAIRS = (
 
 
 def kit_macro_names(count):
-    """Identifiers of 32 bytes with the hash 0: the state after the first 16 bytes stands as the next eight, which takes it away, and
-    0 stays whatever the last eight are."""
+    """Yields identifiers of 32 bytes with the hash 0: the state after the first 16 bytes is written as the next eight, which makes the
+    state 0, and it stays 0 whatever the last eight bytes are."""
     for start in ("a%015d" % i for i in itertools.count()):
         state = block(SEED + 32, start.encode()).to_bytes(8, "little")
         if all(byte in LETTERS.encode() for byte in state):

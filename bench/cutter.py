@@ -1,4 +1,4 @@
-"""Cuts text that is preprocessed into the spellings of its preprocessing tokens (C11 6.4); made for comparisons, and no part of cppunits."""
+"""Splits preprocessed text into the spellings of its preprocessing tokens (C11 6.4), for comparisons; it is no part of cppunits."""
 import re
 
 UNIVERSAL = r"\\(?:u[0-9A-Fa-f]{4}|U[0-9A-Fa-f]{8})"
@@ -11,5 +11,5 @@ TOKEN = re.compile(("(?:%s)|(?:%s)|(?:%s)|(?:%s)|[^ \\t\\v\\f\\r\\n]" % (LITERAL
 
 
 def spellings(text):
-    """The spellings of a text's tokens, as bytes."""
+    """Returns the spellings of a text's tokens, as bytes."""
     return TOKEN.findall(text)

@@ -64,12 +64,12 @@ class Cost:
     statuses: set
 
     def least(self, other):
-        """The least time and memory of both, and how each of them ended."""
+        """Returns the least time and memory of both programs, and how each of them ended."""
         return Cost(min(self.seconds, other.seconds), min(self.memory, other.memory), self.statuses | other.statuses)
 
     @property
     def signal(self):
-        """The name of a signal that stopped a run, or None."""
+        """Returns the name of the signal that stopped a run, or None."""
         return next((signal.Signals(-status).name for status in self.statuses if status < 0), None)
 
 
@@ -108,7 +108,7 @@ def grown(before, after, floor):
 
 
 def factors(costs):
-    """How many times the time and the memory of each size's run are those of the size before."""
+    """Returns the factors by which time and memory grow from each size to the next."""
     pairs = zip(costs, costs[1:])
     return [(grown(a.seconds, b.seconds, LEAST_SECONDS), grown(a.memory, b.memory, LEAST_MEMORY)) for a, b in pairs]
 
@@ -123,7 +123,7 @@ def write_texts(shape, sizes, folder):
 
 
 def one_round(command, paths, runs):
-    """The costs of the sizes, up to one that is stopped."""
+    """Measures the sizes, up to one that is stopped."""
     costs = []
     for path in paths:
         costs.append(best(command, path, runs))
@@ -133,7 +133,7 @@ def one_round(command, paths, runs):
 
 
 def measured(command, paths, runs, falls_short):
-    """The least costs of the sizes over rounds, up to a size that is stopped; the rounds end where nothing falls short."""
+    """Returns the least costs of the sizes over all rounds, up to a size that is stopped; the rounds end when no check fails."""
     costs = one_round(command, paths, runs)
     for _ in range(MOST_ROUNDS - 1):
         if costs[-1].signal or not falls_short(costs):
@@ -143,7 +143,7 @@ def measured(command, paths, runs, falls_short):
 
 
 def cells(costs):
-    """Seconds, factor, memory and factor of each size, as they are printed."""
+    """Returns the seconds, factor, memory and factor of each size, as printed."""
     shown = [("", "")] + factors(costs)
     return [("%.3f" % cost.seconds, time, "%.1f" % (cost.memory / MEGABYTE), memory) for cost, (time, memory) in zip(costs, shown)]
 
@@ -170,7 +170,7 @@ def shortfalls(shape, sizes, costs):
 
 
 def compared(program, shape, sizes, runs):
-    """Prints a shape's rows, and gives what falls short in it."""
+    """Prints a shape's rows, and returns the checks that fail."""
     with tempfile.TemporaryDirectory() as folder:
         apart(write_texts, shape, sizes, folder)
         paths = [os.path.join(folder, "%d" % size) for size in sizes]

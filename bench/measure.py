@@ -28,7 +28,7 @@ MEGABYTE = 1_000_000
 
 
 class Dice:
-    """A generator of numbers that is the same everywhere."""
+    """Generates numbers that are the same on every machine."""
 
     def __init__(self, seed):
         self.state = seed
@@ -43,7 +43,7 @@ class Dice:
 
 WORDS = ("count size_t index buffer length if else while return struct node next value static const int unsigned char"
          " printf result flags offset table entry key left right parent NULL errno memcpy sizeof i j n p tmp").split()
-# a slash, a question mark and a per cent sign stand by themselves, so that no comment, trigraph or directive comes by chance
+# a slash, a question mark and a percent sign have spaces around them, so that no comment, trigraph or directive arises by chance
 SIGNS = "+ - * == != <= >= && || << >> = += -= -> . , ; ( ) [ ] { } ! ~ & | ^ :".split() + [" / ", " ? ", " % "]
 
 
@@ -62,7 +62,7 @@ def expression(dice, words):
 
 
 def ordinary(dice):
-    """C text as people write it: indented lines, some comments, some empty lines."""
+    """Returns C text as people write it: indented lines, some comments, some empty lines."""
     pick = dice.below(20)
     if pick == 0:
         return "\n"
@@ -109,7 +109,7 @@ def listed(text):
 
 
 def timed(command, path):
-    """Seconds, status, and the most memory that the run held, in bytes."""
+    """Returns seconds, status, and the peak memory of the run in bytes."""
     with open(path, "rb") as source, open(os.devnull, "wb") as nowhere:
         start = time.perf_counter()
         child = subprocess.Popen(command, stdin=source, stdout=nowhere, stderr=subprocess.DEVNULL)
@@ -131,7 +131,7 @@ def write(kind, size, plain, as_list):
 
 
 def apart(task, *words):
-    """Runs the task in a process of its own: a child's peak memory counts what its parent held when it was started."""
+    """Runs the task in a process of its own, since a child's peak memory includes what its parent had when the child started."""
     process = multiprocessing.Process(target=task, args=words)
     process.start()
     process.join()
@@ -139,7 +139,7 @@ def apart(task, *words):
 
 def compare(program, kind, megabytes, runs, folder):
     plain, as_list = os.path.join(folder, "text.c"), os.path.join(folder, "list.json")
-    # the content of one file is at most 16,777,216 bytes
+    # the content of a file is at most 16,777,216 bytes
     apart(write, kind, min(megabytes * MEGABYTE, 16_700_000), plain, as_list)
     own, status, memory = best([program, "dump"], as_list, runs)
     other, _, _ = best(["gcc", "-E", "-P", "-trigraphs", "-w", "-x", "c", "-"], plain, runs)
@@ -161,7 +161,7 @@ LIMITS = {
 
 
 def deepest():
-    """200 includes, and at the deepest 256 nested invocations, 256 parentheses, 256 signs and 100,000 nested `#if`."""
+    """Returns a list with 200 includes, and in the last file 256 nested invocations, parentheses and signs, and 100,000 nested `#if`."""
     files = [{"name": "f%d.h" % i, "text": "#define D%d %d\n#include \"f%d.h\"\n" % (i, i, i + 1)} for i in range(200)]
     text = ("#define f(a) a\n" + "f(" * 256 + "1" + ")" * 256 + "\n#if " + "(" * 256 + "1" + ")" * 256 + "\n2\n#endif\n#if " + "!" * 256
             + "1\n3\n#endif\n" + "#if 1\n" * 100_000 + "4\n" + "#endif\n" * 100_000)
@@ -178,7 +178,7 @@ def limits(program, folder):
     path = os.path.join(folder, "list.json")
     for name in [*LIMITS, DEEPEST]:
         apart(write_limit, name, path)
-        # the stack of a thread, where a system gives it the least
+        # the smallest stack that a system gives a thread
         command = ["sh", "-c", 'ulimit -s 1024 && exec "$0" dump', program]
         seconds, status, memory = timed(command, path)
         print("%-22s %6.2f s  peak %7.1f MB  status %d" % (name, seconds, memory / MEGABYTE, status), flush=True)

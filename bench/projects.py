@@ -37,7 +37,7 @@ TOP = os.path.dirname(os.path.dirname(os.path.abspath(__file__)))
 sys.path.insert(0, os.path.join(TOP, "scripts"))
 from common import Unit, plain  # noqa: E402
 
-# words of a command that say where to write, and those whose next word does
+# options that name an output file, and those whose next word does
 WRITING, WRITING_WORD = ("-c", "-S", "-MD", "-MMD", "-MP", "-MG", "-M", "-MM"), ("-o", "-MF", "-MT", "-MQ", "-MJ")
 COMPILER = re.compile(r"(?:.*-)?(?:cc|gcc|clang)(?:-[\d.]+)?$")
 MADE = re.compile(r"cppunits-generated/\d+/")
@@ -46,7 +46,7 @@ UNASKED = b"/stdc-predef.h"
 PRINTED = re.compile(rb"\np?tok [^ \n]+ [^ \n]+ [^ \n]+ ([^\n]*)")
 PRAGMA = re.compile(rb"\nprag [^\n]*(?:\nptok [^\n]*)*")
 PIECE = 16777216
-# what gcc obeys and doesn't print, and what cppunits doesn't print
+# lines that gcc executes and doesn't print, and lines that cppunits doesn't print
 UNPRINTED = re.compile(rb"# ?(?:ident|sccs|pragma +(?:once|push_macro|pop_macro|GCC +(?:poison|system_header|warning|error|dependency)))\b")
 ENVIRONMENT = dict(os.environ, SOURCE_DATE_EPOCH="1707465903", LC_ALL="C")
 HEAD = ["Project", "Units", "Taken by the compiler", "ok", "Same tokens", "Same dependencies", "Seconds: build.py dump",
@@ -54,7 +54,7 @@ HEAD = ["Project", "Units", "Taken by the compiler", "ok", "Same tokens", "Same 
 
 
 class Entry:
-    """A command of the build: its file, and the words that ask the compiler for what a preprocessor gives."""
+    """Is a command of the build: its file, and the words that ask the compiler for preprocessed text."""
 
     def __init__(self, entry):
         self.directory = entry["directory"]
@@ -68,9 +68,9 @@ class Entry:
             skipped = not skipped and word in WRITING_WORD
 
     def preprocess(self, seconds):
-        """The compiler's text and the rule of its dependencies, or None where it refuses the unit or isn't there, and its seconds.
+        """Returns the compiler's text with the rule of its dependencies, or None if it refuses the unit or isn't there; and its seconds.
 
-        TimeoutExpired where it takes longer than it may."""
+        Raises TimeoutExpired if it takes longer than it may."""
         began = time.monotonic()
         if not self.words:
             return None, 0.0
@@ -85,7 +85,7 @@ class Entry:
 
 
 def answered(words, directory, seconds):
-    """What a program prints, or None where it fails or isn't there; it is stopped after some seconds, with the programs that it started."""
+    """Returns what a program prints, or None if it fails or isn't there; after some seconds it is stopped, with its child processes."""
     null = subprocess.DEVNULL
     try:
         process = subprocess.Popen(words, cwd=directory, env=ENVIRONMENT, stdin=null, stdout=subprocess.PIPE, stderr=null, process_group=0)
@@ -102,7 +102,7 @@ def answered(words, directory, seconds):
 
 
 def entries(path):
-    """The commands of a build by the files that they compile."""
+    """Returns the commands of a build by the files that they compile."""
     found = collections.defaultdict(list)
     with open(path, "rb") as file:
         for entry in map(Entry, json.load(file)):
@@ -114,12 +114,12 @@ def entries(path):
 
 
 def tokens_of_compiler(text):
-    """The spellings of the text, without lines that only one of the two prints."""
+    """Returns the spellings of the text, without lines that only one of the two programs prints."""
     return spellings(b"\n".join(line for line in text.split(b"\n") if not UNPRINTED.match(line)))
 
 
 def tokens_of_unit(unit):
-    """The spellings of a dump, the operator _Pragma as the line that a compiler makes of it."""
+    """Returns the spellings of a dump, with each operator _Pragma as the line that a compiler makes of it."""
     found, begin = [], 0
     for pragma in PRAGMA.finditer(unit.text):
         found += printed_spellings(unit.text, begin, pragma.start())
@@ -129,7 +129,7 @@ def tokens_of_unit(unit):
 
 
 def printed_spellings(text, begin, end):
-    """The spellings of a part of a dump."""
+    """Returns the printed spellings of a part of a dump."""
     return [plain(word) if b"%" in word else word for word in PRINTED.findall(text, begin, end)]
 
 
@@ -138,7 +138,7 @@ def pragma_line(tokens):
 
 
 def without_operators(tokens):
-    """The tokens with a line for each operator _Pragma."""
+    """Returns the tokens with a line for each operator _Pragma."""
     found, at = [], 0
     for _ in range(tokens.count(b"_Pragma")):
         operator = tokens.index(b"_Pragma", at)
@@ -155,7 +155,7 @@ def without_operators(tokens):
 
 
 def difference(ours, theirs, entry):
-    """The first place where the tokens differ, in words, or None."""
+    """Describes the first location where the tokens differ; None if they are the same."""
     if ours == theirs:
         return None
     for at, (mine, other) in enumerate(zip(ours, theirs)):
@@ -167,7 +167,7 @@ def difference(ours, theirs, entry):
 
 
 def same_file(mine, other, entry):
-    """Whether two literals name one file, as __FILE__ does."""
+    """Returns whether two literals name the same file, as __FILE__ does."""
     if not (mine[:1] == other[:1] == b'"'):
         return False
     path = os.path.join(os.fsencode(entry.directory), other[1:-1])
@@ -182,7 +182,7 @@ def told(tokens, at):
 
 
 def dependencies_of_compiler(text, entry):
-    """The files of a rule in their order, by what they are on the disk."""
+    """Returns the files of a rule in order, each as the real file on disk."""
     rule = text.replace(b"\\\n", b" ").split(b":", 1)[1]
     names = re.findall(rb"(?:\\.|[^\s\\])+", rule)
     names = [re.sub(rb"\\([ #:\\])", rb"\1", name).replace(b"$$", b"$") for name in names]
@@ -190,7 +190,7 @@ def dependencies_of_compiler(text, entry):
 
 
 def dependencies_of_unit(unit):
-    """The unit's, its source first as with a compiler, and without the file that was made for it."""
+    """Returns the unit's dependencies, its source first as with a compiler, and without the file that was generated for it."""
     names = [name for name in unit.dependencies() if not MADE.match(os.fsdecode(name))]
     if unit.source in names:
         names.insert(0, names.pop(names.index(unit.source)))
@@ -198,7 +198,7 @@ def dependencies_of_unit(unit):
 
 
 def real(paths):
-    """Each file once; one that gcc includes unasked is left out."""
+    """Returns each file once, without the one that gcc includes by itself."""
     return list(dict.fromkeys(path for path in map(os.path.realpath, paths) if not path.endswith(UNASKED)))
 
 
@@ -215,7 +215,7 @@ def order_difference(ours, theirs):
 
 
 class Row:
-    """What came of a project."""
+    """Holds the results of a project."""
 
     def __init__(self, name):
         self.name, self.units, self.taken, self.ok, self.tokens, self.dependencies = name, 0, 0, 0, 0, 0
@@ -228,7 +228,7 @@ class Row:
         return [self.name, *map(str, counts), "%.1f" % self.ours, "%.1f" % self.theirs, ", ".join(rest) or "none"]
 
     def add(self, name, seconds, faults):
-        """Counts a unit: the compiler's seconds, and what differs, by kind; words where the compiler gives nothing."""
+        """Counts a unit: the compiler's seconds, and the differences by kind, or words if the compiler gives nothing."""
         self.units += 1
         self.theirs += seconds
         if isinstance(faults, str):
@@ -247,7 +247,7 @@ class Row:
 
 
 def compared(unit, entry, seconds):
-    """A unit's name, the seconds of the compiler, and what differs, by kind; words where the compiler gives nothing."""
+    """Returns a unit's name, the compiler's seconds, and the differences by kind, or words if the compiler gives nothing."""
     try:
         found, taken = entry.preprocess(seconds)
     except subprocess.TimeoutExpired:
@@ -263,7 +263,7 @@ def compared(unit, entry, seconds):
 
 
 class Dumped(Unit):
-    """A unit of a dump, with its lines as one text, in which each stands after a line end."""
+    """Is a unit of a dump, with its lines as one text, in which a line end is before each line."""
 
     def __init__(self, text):
         number, name = text.partition(b"\n")[0].split(b" ", 1)
@@ -274,7 +274,7 @@ class Dumped(Unit):
 
 
 def dumped(path):
-    """The units of a dump, which is read in large pieces."""
+    """Yields the units of a dump, which is read in large pieces."""
     rest = b"\n"
     with open(path, "rb") as file:
         while piece := file.read(PIECE):
@@ -285,7 +285,7 @@ def dumped(path):
 
 
 def pairs(output, by_file):
-    """Each unit with its command; units of one file are in the order of their commands."""
+    """Pairs each unit with its command; units of one file are in the order of their commands."""
     used = collections.Counter()
     for unit in dumped(output):
         file = "/" + os.fsdecode(unit.source)
@@ -294,7 +294,7 @@ def pairs(output, by_file):
 
 
 def taken(folder, every, work):
-    """The path of the build's commands, or of those of them that are taken."""
+    """Returns the path of the build's commands, or of the selected part of them."""
     path = os.path.join(folder, "compile_commands.json")
     if every == 1:
         return path
@@ -307,7 +307,7 @@ def taken(folder, every, work):
 
 
 def project(folder, asked, work):
-    """The row of a project."""
+    """Returns the row of a project."""
     build, output = taken(folder, asked.every, work), os.path.join(work, "dump")
     row = Row((os.path.basename(os.path.abspath(folder)) if asked.name is None else asked.name)
               + (", one command of %d" % asked.every if asked.every > 1 else ""))

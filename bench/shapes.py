@@ -1,8 +1,7 @@
-"""Texts whose work grows with a size, for growth.py.
+"""Defines texts whose work grows with a size, for growth.py.
 
 A shape makes a text of a size N: N macros, arguments, operands or bytes, or a list with the budget N.  Doubling the
-size doubles the work that is asked for.  `things` counts what memory is measured by: tokens, and lines where a text has no
-tokens.
+size doubles the work.  `things` counts the units that memory is measured by: tokens, or lines if a text has no tokens.
 """
 import json
 from dataclasses import dataclass
@@ -51,7 +50,7 @@ def function_chain(count):
 
 
 def doubled(tokens):
-    """A chain whose last macro expands to this number of tokens, a power of 2."""
+    """Returns a chain whose last macro expands to this number of tokens, a power of 2."""
     depth = tokens.bit_length() - 1
     return lines("#define d0 x", ("#define d%d d%d d%d" % (i + 1, i, i) for i in range(depth)), "d%d" % depth)
 
@@ -75,7 +74,7 @@ def chain_in_argument(uses):
 
 
 def argument_through(tokens, macros, times=1):
-    """An argument of this number of tokens, which macros pass on this number of times."""
+    """Returns an argument of this number of tokens, which macros pass on this number of times."""
     chain = ("#define f%d(x) f%d(x)" % (i + 1, i) for i in range(macros - 1))
     return lines("#define f0(x) x", chain, ["f%d(%s)" % (macros - 1, "x " * tokens)] * times)
 
@@ -92,7 +91,7 @@ def names(count):
 
 
 def invoked(made, body=""):
-    """A macro with these parameters, invoked with empty arguments."""
+    """Returns a macro with these parameters, and its invocation with empty arguments."""
     return lines("#define f(%s) %s" % (", ".join(made), body), "f(%s)" % ("," * (len(made) - 1)))
 
 
@@ -109,23 +108,23 @@ def arguments(count):
 
 
 def pasted(count, first="a", rest=("a",)):
-    """So many operands: the first, and then the others in turn."""
+    """Returns a macro with this number of operands of ##: the first one, and then the others in turn."""
     operands = [first] + [rest[i % len(rest)] for i in range(count - 1)]
     return lines("#define p %s" % "##".join(operands), "p")
 
 
 def used_name(length, uses):
-    """A macro with a name of this number of bytes, which another one expands to, so each use of it is short in the text."""
+    """Returns a macro with a name of this number of bytes, and another that expands to it, so that each use is short in the text."""
     return lines("#define %s" % ("n" * length), "#define u %s" % ("n" * length), "u " * uses)
 
 
 def empty_list(places, uses):
-    """A replacement list in which a parameter stands so often, with an empty argument."""
+    """Returns a macro with this number of uses of its parameter, and invocations with an empty argument."""
     return lines("#define f(x) %s" % ("x " * places), "f() " * uses)
 
 
 def searched(folders, includes):
-    """An empty header in the last of this number of directories."""
+    """Returns a list with an empty header in the last of this number of directories."""
     files = [{"name": "a.c", "text": "#include <h>\n" * includes}, {"name": "d%d/h" % (folders - 1), "text": ""}]
     return dict(DATE, search=["d%d" % i for i in range(folders)], files=files, units=[{"file": "a.c"}])
 
@@ -138,7 +137,7 @@ def defined(made):
 
 
 def hidden(made):
-    """A chain of these names, the last of which is used: the hide set of its expansion has them all."""
+    """Returns a chain of these names, of which the last is used: the hide set of its expansion has all of them."""
     return lines("#define %s x" % made[0], ("#define %s %s" % pair for pair in zip(made[1:], made)), made[-1])
 
 
@@ -147,7 +146,7 @@ def listed_files(made):
 
 
 def repeated(name, text, things, status=0):
-    """So many bytes of one character, or of what makes a line go on."""
+    """Returns a shape of one repeated character, or of a repeated text that continues a line."""
     return Shape("bytes " + name, (CONTENT // 4, CONTENT // 2, CONTENT), lambda size: text * (size // len(text)), things=things, status=status)
 
 
@@ -162,7 +161,7 @@ SHORT = [
 
 
 def many(shape):
-    """The same at sizes at which it takes so long that its growth is measured. gcc, for which some are quadratic, isn't beside it."""
+    """Returns the shape at larger sizes, to measure the growth of its time, and without gcc, which is quadratic for some."""
     sizes = tuple(16 * size for size in shape.sizes)
     return Shape("many " + shape.name, sizes, listed=lambda size: list_of_text(shape.text(size)), quick=1)
 

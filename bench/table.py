@@ -29,7 +29,7 @@ from concurrent.futures import ThreadPoolExecutor
 
 from measure import MEGABYTE, PROGRAM, apart
 
-# macros and questions that gcc and clang keep with -undef, and C11 doesn't have
+# macros and operators that gcc and clang keep with -undef, and C11 doesn't have
 KEPT = ("__has_include __has_include_next __has_attribute __has_cpp_attribute __has_c_attribute __has_builtin __COUNTER__"
         " __INCLUDE_LEVEL__ __TIMESTAMP__ __BASE_FILE__ _Pragma").split()
 PLAIN = ["-std=c11", "-w", "-undef", "-nostdinc", *("-U" + name for name in KEPT)]
@@ -38,14 +38,14 @@ OURS = "cppunits, %d worker%s"
 
 
 class Cost:
-    """What a program took: seconds, the most bytes that one process held, and how many processes ended badly."""
+    """Holds the cost of a program: seconds, the peak memory of one process in bytes, and how many processes failed."""
 
     def __init__(self, seconds, memory, bad):
         self.seconds, self.memory, self.bad = seconds, memory, bad
 
 
 def run(command, folder, source=None):
-    """The status and the most memory of one process."""
+    """Returns the status and the peak memory of one process."""
     with open(source or os.devnull, "rb") as stdin, open(os.devnull, "wb") as nowhere:
         child = subprocess.Popen(command, cwd=folder, stdin=stdin, stdout=nowhere, stderr=nowhere)
         _, status, usage = os.wait4(child.pid, 0)
@@ -69,7 +69,7 @@ def best(runs, *words, **more):
 
 
 def flag_of(definition):
-    """A definition as -D has it: the first blank outside the parameters becomes `=`."""
+    """Returns a definition in the form of -D: the first blank outside the parameters becomes `=`."""
     depth = 0
     for at, character in enumerate(definition):
         depth += {"(": 1, ")": -1}.get(character, 0)
@@ -84,7 +84,7 @@ def flags_of(unit, whole):
 
 
 def prepare(path, root, folder):
-    """Writes the contents of a list that holds them, the flags of its units, and the commands for clang-scan-deps."""
+    """Writes the files of a list that has their contents, the flags of its units, and the commands for clang-scan-deps."""
     with open(path, "rb") as file:
         whole = json.load(file)
     for row in whole["files"] if root is None else ():
@@ -103,7 +103,7 @@ def prepare(path, root, folder):
 
 
 class Project:
-    """A list with its name, its root and the flags of its units."""
+    """Holds a list with its name, its root and the flags of its units."""
 
     def __init__(self, word, folder):
         self.name, _, rest = word.partition("=")
@@ -122,13 +122,13 @@ class Project:
 
 
 def scanner():
-    """clang-scan-deps, also where Debian gives it a number."""
+    """Returns the path of clang-scan-deps, also if Debian adds a version to its name."""
     numbers = [""] + ["-%d" % number for number in range(30, 10, -1)]
     return next((name for number in numbers if (name := shutil.which("clang-scan-deps" + number))), None)
 
 
 def rows(project, task, asked):
-    """Each program's name with what it took."""
+    """Yields each program's name with its cost."""
     for workers in (1, 4):
         command = [asked.program, "--workers", str(workers), *project.ours, task]
         yield OURS % (workers, "" if workers == 1 else "s"), best(
@@ -177,7 +177,7 @@ def escaped(text):
 
 
 def bars(top, title, measured):
-    """A group of bars, the longest as wide as there is room, and where the next group begins."""
+    """Returns a group of bars, the longest of the full width, and where the next group begins."""
     longest = max(one.seconds for _, one in measured)
     lines = ['<text x="8" y="%d" font-weight="bold">%s</text>' % (top + BAR, escaped(title))]
     for number, (name, one) in enumerate(measured, 1):
@@ -201,7 +201,7 @@ def picture(groups):
 
 
 def write(path, text):
-    """A file that stands under its name once all is written."""
+    """Writes a file that gets its name only when all is written."""
     with open(path + ".part", "w") as file:
         file.write(text)
     os.replace(path + ".part", path)

@@ -35,7 +35,7 @@ def object_like(dice, number, i):
 
 
 def function_like(dice, number, i):
-    """Each fourth has two parameters, and `#` or `##` in some; the others call the one before them."""
+    """Returns macros: each fourth has two parameters, and some have `#` or `##`; the others call the one before them."""
     if i % 4 == 0:
         body = dice.one_of(("((a) * b)", "a ## _%d + b" % i, "f(#a, b)", "(a ? b : 0)"))
         return "#define H%d_F%d(a, b) %s" % (number, i, body)
@@ -57,7 +57,7 @@ def header(dice, number):
 
 
 def invocation(dice, number, depth):
-    """A name or an invocation of a macro of this header, whose argument may be one as well."""
+    """Returns a name or an invocation of a macro of this header; its argument may be an invocation as well."""
     if depth == 0 or dice.below(3) == 0:
         return "H%d_O%d" % (number, dice.below(OBJECT_LIKE))
     i = dice.below(FUNCTION_LIKE)
@@ -106,7 +106,7 @@ def all_of_gcc(units, folder):
 
 
 def rows(program, folder, workers, runs):
-    """Each mode, inline and from the folder, with each number of workers: its words, seconds and peak memory."""
+    """Yields name, seconds, speed, peak memory and status for each mode, inline and from the directory, with each number of workers."""
     for mode in ("dump", "deps"):
         for where, listed in ((), "list.json"), (("--root", folder), "names.json"):
             first = None
@@ -119,7 +119,7 @@ def rows(program, folder, workers, runs):
 
 
 def at_once(program, folder, mode, count, runs):
-    """The seconds of this number of runs with one worker that are started together, and share nothing."""
+    """Returns the seconds of this number of runs with one worker that start together, and share nothing."""
     command = [program, "--workers", "1", "--root", folder, mode]
     least = None
     for _ in range(runs):

@@ -38,7 +38,7 @@ DEPENDENCY = re.compile(rb"\ndep (\d+) ")
 
 
 class Progress:
-    """What is being done, on a line of its own that goes again; nothing where standard error is no terminal."""
+    """Shows what is being done, on a line of standard error that is erased afterwards; shows nothing if that is no terminal."""
 
     def __init__(self):
         self.there = sys.stderr.isatty()
@@ -53,7 +53,7 @@ class Progress:
 
 
 class Counted(Said):
-    """What can't be expressed; commands that are left out are counted."""
+    """Reports what a list can't express, and counts the commands that are left out."""
 
     def __init__(self, progress):
         super().__init__()
@@ -72,7 +72,7 @@ class Counted(Said):
 
 
 class Asked(Given):
-    """The folders and definitions that a unit gets by what its compiler says."""
+    """Holds the directories and definitions that a unit gets from its compiler's answers."""
 
     def __init__(self, compilers, asked):
         super().__init__(asked.system, asked.define)
@@ -91,7 +91,7 @@ class Asked(Given):
 
 
 class Work:
-    """A build's list, and what cppunits says of it."""
+    """Makes a build's list, and runs cppunits on it."""
 
     def __init__(self, asked, folder):
         self.asked, self.folder, self.began = asked, folder, time.monotonic()
@@ -105,7 +105,7 @@ class Work:
         self.listed, self.pairs = None, []
 
     def prepare(self):
-        """Makes the list, and keeps it where that is asked for."""
+        """Makes the list, and writes it to a file if that was asked for."""
         self.progress("reading %s" % self.asked.build)
         all_commands = list(commands(self.asked.build, self.said))
         self.progress("asking compilers")
@@ -118,7 +118,7 @@ class Work:
             self.keep(all_commands)
 
     def keep(self, all_commands):
-        """Writes the list; with the contents of the files, where some are made."""
+        """Writes the list; if files were generated, with the contents of all files."""
         listed = self.listed
         if self.builder.made:
             self.builder.asked.inline = True
@@ -130,33 +130,33 @@ class Work:
         self.compilers.learn(self.builder.files.asked_of_operators(self.builder.paths))
 
     def run(self, word):
-        """The path of what cppunits prints."""
+        """Returns the path of the output of cppunits."""
         path = os.path.join(self.folder, "output")
         with open(path, "wb") as file:
             file.writelines(self.pieces(word))
         return path
 
     def pieces(self, word):
-        """What cppunits prints, in pieces that end lines."""
+        """Yields the output of cppunits in pieces that end with whole lines."""
         self.progress("running %d units over %d files" % (len(self.pairs), len(self.listed["files"])))
         for piece in self.program.pieces(word, self.listed, self.builder.root):
             self.progress.clear()
             yield piece
 
     def end(self):
-        """The last lines, and the status."""
+        """Prints the summary, and returns the exit status."""
         self.said.end()
         say("%d units, %d with a fault, %d files (%d on the list), %.1f seconds"
             % (len(self.pairs), self.faults, len(self.read), len(self.listed["files"]), time.monotonic() - self.began))
         return PARTLY if self.faults or self.said.lines else DONE
 
     def count(self, path):
-        """Counts the faults of an output and the files that were read, and gives its bytes in pieces."""
+        """Counts the faults of an output and the files that were read, and yields its bytes in pieces."""
         with open(path, "rb") as file:
             yield from self.counted(iter(lambda: file.read(PIECE) + file.readline(), b""))
 
     def counted(self, pieces):
-        """The same of an output's pieces, which end lines."""
+        """Counts the same in pieces that end with whole lines, and yields them."""
         for piece in pieces:
             lines = b"\n" + piece
             self.read.update(DEPENDENCY.findall(lines))
@@ -188,19 +188,19 @@ def deps(work):
 
 
 def dependencies(command, unit):
-    """The names of a unit's dependencies: relative where the command names their folder so, whole else."""
+    """Returns the names of a unit's dependencies: relative if the command names their directory so, otherwise absolute."""
     near = tuple(sorted(command.near))
     whole = tuple(sorted({os.path.dirname(command.file), *sum(command.folders.values(), [])} - command.near))
     made = GENERATED.encode() + b"/"
     paths = ["/" + os.fsdecode(name) for name in unit.dependencies() if not name.startswith(made)]
     if command.file in paths:
-        # a file that stands first in a made file's place comes first here, too
+        # a file that a generated file included comes first here, as if it were compiled itself
         paths.insert(0, paths.pop(paths.index(command.file)))
     return [os.path.relpath(path, command.directory) if is_near(near, whole, path) else path for path in paths]
 
 
 def is_near(near, whole, path):
-    """Whether the deepest folder above a path is one of those with a relative name."""
+    """Returns whether the deepest listed directory above a path has a relative name."""
     if not near:
         return False
     depth = max((len(folder) for folder in near if path.startswith(folder + "/")), default=-1)
@@ -224,7 +224,7 @@ def faults(work):
 
 
 def program_of(word):
-    """The program's path: the one that was named, or cppunits on PATH."""
+    """Returns the path of the program: the one that was given, or cppunits on PATH."""
     path = shutil.which(word or "cppunits")
     if path is None:
         raise Refused("%s: there is no such program (--program names one)" % (word or "cppunits"))
@@ -262,7 +262,7 @@ def options():
 
 
 def shared(word):
-    """The options that deps, dump and faults share."""
+    """Adds the options that deps, dump and faults share."""
     word.add_argument("--program", metavar="FILE", help="run this program (default: cppunits on PATH)")
     word.add_argument("--workers", metavar="N", type=lambda text: number(text, 1, 64, int), help="preprocess N units in parallel")
     word.add_argument("--profile", choices=("c11", "later", "gnu"), default="gnu",

@@ -1,4 +1,4 @@
-"""A compile command's words: which file is compiled, with which definitions and folders, and by which compiler."""
+"""Reads the words of a compile command: which file is compiled, with which definitions and directories, and by which compiler."""
 import functools
 import os
 import re
@@ -14,19 +14,19 @@ FOLDERS = {"-I": "bracket", "-iquote": "quote", "-isystem": "system", "-idirafte
 READ = (*FOLDERS, "-D", "-U", "-include", "-x", "-o")
 LONG = {"--include-directory": "-I", "--define-macro": "-D", "--undefine-macro": "-U", "--include": "-include",
         "--output": "-o", "--language": "-x"}
-# options whose next word is theirs, and says nothing to a preprocessor
+# options whose next word is their value, and which mean nothing to a preprocessor
 WORD_BEHIND = set("""-MF -MT -MQ -MJ -L -l -T -u -z -e -G -A -arch -target --target --param -Xlinker -Xassembler -Xclang
     -mllvm -framework -isysroot --sysroot -aux-info -dumpbase -dumpbase-ext -dumpdir -wrapper -specs
     --serialize-diagnostics -install_name -gcc-toolchain -include-pch""".split())
 NOT_READ = ("-imacros", "-iprefix", "-iwithprefix", "-iwithprefixbefore", "-I-", "-Xpreprocessor", "-imultilib")
-# what changes a compiler's own folders and macros, and neither runs nor writes anything
+# options that change a compiler's own directories and macros, and neither run nor write anything
 ASKING = re.compile(r"""-std=[\w:.+]+ | -ansi | -O(?:[0-3sgz]|fast)? | -m[\w.+,=-]+ | -f[\w-]+ | -f(?:sanitize|cf-protection|pack-struct
     |exec-charset|wide-exec-charset|abi-version|gnuc-version|fp-contract|excess-precision)=[\w,.+-]+
     | -nostdinc | -nostdlibinc | -undef | -pthreads? | --target=[\w.+-]+ | --sysroot=.+ | -isysroot.+""", re.VERBOSE)
 NOT_ASKED = tuple("""-fplugin -fpass-plugin -fdump -fsave -fprofile -fcallgraph -fopt-info -fsyntax-only -fpreprocessed -fdirectives-only
     -fcompare-debug -fmodule -ftime -fmem -fstack-usage -mllvm""".split())
 WORDS_ASKED = {"--sysroot", "-isysroot", "-target"}
-# programs that stand in front of a compiler and run it
+# programs that come before a compiler's name and run it
 LAUNCHERS = {"ccache", "sccache", "distcc", "icecc", "buildcache", "gomacc", "env"}
 SUFFIXES = {".c": "c", ".h": "c"}
 LANGUAGES = set("c c-header cpp-output c++ c++-header c++-cpp-output objective-c objective-c++ assembler"
@@ -34,10 +34,10 @@ LANGUAGES = set("c c-header cpp-output c++ c++-header c++-cpp-output objective-c
 
 
 class Command:
-    """What a command asks of the preprocessor: folders, definitions in their order, files to include first.
+    """Holds what a command asks of the preprocessor: directories, definitions in order, and files to include first.
 
-    `compiler` is the word that names the compiler, behind ccache and the like, and `asking` the options that change what it answers;
-    `near` are folders that have a relative name in the command, so that the names of their files have, too."""
+    `compiler` is the word that names the compiler, after ccache and the like.  `asking` has the options that change what the compiler
+    answers.  `near` has the directories with a relative name in the command; the names of their files are relative, too."""
 
     def __init__(self, entry, said):
         self.directory = os.path.abspath(entry["directory"])
@@ -53,14 +53,14 @@ class Command:
             self.take(option, word)
 
     def words_of(self, entry):
-        """The words behind the compiler's."""
+        """Returns the words after the compiler's name."""
         words = list(entry["arguments"]) if "arguments" in entry else split_command(entry["command"])
         at_word = compiler_at(words)
         self.compiler = words[at_word] if at_word < len(words) else ""
         return list(self.with_responses(words[at_word + 1:], 0))
 
     def with_responses(self, words, depth):
-        """The words, with those of response files in the place of @FILE, and those of -Wp, in its place."""
+        """Returns the words, with @FILE and -Wp, replaced by the words that they stand for."""
         for word in words:
             if word.startswith("@") and depth < 16 and os.path.isfile(path := os.path.join(self.directory, word[1:])):
                 with open(path, encoding="utf-8", errors="surrogateescape") as file:
@@ -71,7 +71,7 @@ class Command:
                 yield word
 
     def options(self, words):
-        """The options that are read, each with its word; what can't be is said."""
+        """Yields the options that are read, each with its value, and reports those that can't be read."""
         words = iter(words)
         for word in words:
             kind, option, tail = option_of(word)
@@ -85,7 +85,7 @@ class Command:
                 self.said.add("%s: %s isn't read" % (self.file, word))
 
     def ask(self, option, word=None):
-        """Notes an option that changes the compiler's answers; names of folders become whole ones."""
+        """Adds an option that changes the compiler's answers; names of directories become absolute."""
         head, sign, tail = option.partition("=")
         if word is not None:
             if option in WORDS_ASKED:
@@ -120,7 +120,7 @@ class Command:
             self.output = self.output or self.target
 
     def written(self, name):
-        """A name that is compiled to, or None where it is none that can be written."""
+        """Returns the name of the output file, or None if it is no valid text."""
         try:
             return name and os.fsdecode(os.fsencode(name))
         except UnicodeEncodeError:
@@ -128,7 +128,7 @@ class Command:
             return None
 
     def define(self, word):
-        """As gcc does: the first `=` becomes a space, without one ` 1` stands behind; a line end ends it."""
+        """Adds a definition as gcc does: the first `=` becomes a space, ` 1` follows if there is none, and a line end ends it."""
         word = re.split("[\r\n]", word, maxsplit=1)[0]
         name = defined_name(word)
         if name in NEVER:
@@ -141,18 +141,18 @@ class Command:
         self.definitions[name] = (word.replace("=", " ", 1) if "=" in word else word + " 1").rstrip(" ")
 
     def forget(self, name):
-        """What was said of a name before, also for all units, counts no more."""
+        """Drops earlier definitions of a name, also those for all units."""
         self.definitions.pop(name, None)
         self.named.add(name)
 
     def search(self, system):
-        """The folders for names in quotes, in their order, and how many of them are for such names alone."""
+        """Returns the directories for names in quotes, in order, and how many of them are for names in quotes only."""
         return searched(self.folders, system)
 
 
 @functools.lru_cache(maxsize=65536)
 def option_of(word):
-    """What is done with a command's word, the option's name, and its value if it has one; None if the value is the next word."""
+    """Returns what to do with a command's word, the option's name, and its value; the value is None if it is the next word."""
     head, sign, tail = word.partition("=")
     if head in LONG:
         return "read", LONG[head], tail if sign else None
@@ -169,7 +169,7 @@ def option_of(word):
 
 
 def searched(folders, system):
-    """Puts the folders of each kind together; one that stands twice is dropped as gcc drops it, told apart as a folder, not by its name."""
+    """Joins the directories of each kind, and drops duplicates as gcc does; directories are compared by what they are, not by name."""
     late = once(folders["system"] + system + folders["after"])
     behind = {place(folder) for folder in late}
     bracket = [folder for folder in once(folders["bracket"]) if place(folder) not in behind] + late
@@ -180,7 +180,7 @@ def searched(folders, system):
 
 
 def once(folders):
-    """The folders, each once, in the order of their first places."""
+    """Returns the directories without duplicates, in the order of their first places."""
     found = {}
     for folder in folders:
         found.setdefault(place(folder), folder)
@@ -194,7 +194,7 @@ def is_folder(path):
 
 @functools.lru_cache(maxsize=None)
 def place(path):
-    """What tells a folder or a file from others, whatever its name."""
+    """Returns what identifies a file or directory, whatever its name is."""
     try:
         found = os.stat(path)
     except OSError:
@@ -203,7 +203,7 @@ def place(path):
 
 
 def compiler_at(words):
-    """The place of the compiler's word: behind ccache and the like, their options, and variables that `env` sets."""
+    """Returns the index of the compiler's word, after programs like ccache, their options, and variables that `env` sets."""
     at_word = 0
     while at_word < len(words) - 1 and os.path.basename(words[at_word]) in LAUNCHERS:
         at_word += 1
@@ -218,7 +218,7 @@ MARK = re.compile(r"[\"'\\]")
 
 
 def split_command(text):
-    """The words of a command, as a shell reads them: what shlex gives, in a tenth of its time."""
+    """Splits a command into words as a shell does.  The result is that of shlex, in a tenth of the time."""
     if WORD.sub("", text).strip(" \t\r\n"):
         return shlex.split(text)
     words = (word[0] for word in WORD.finditer(text))
@@ -233,14 +233,14 @@ def unquoted(found):
 
 
 def split_response(text):
-    """The words of a response file: quotes hold white space together, and a backslash keeps the next character."""
+    """Splits a response file into words: quotes keep white space in a word, and a backslash keeps the next character."""
     words = shlex.shlex(text, posix=True, punctuation_chars=False)
     words.whitespace_split, words.commenters, words.escapedquotes = True, "", "\"'"
     return list(words)
 
 
 def defined_name(text):
-    """The name that a definition is for, as a command or `#define` has it."""
+    """Returns the name that a definition defines, in the form of a command or of `#define`."""
     return re.match(r"[^\s(=]*", text)[0]
 
 
@@ -254,7 +254,7 @@ def unique(words):
 
 
 def commands(path, said):
-    """The commands of a build's C units."""
+    """Returns the commands of a build's C units."""
     with opened(path) as file:
         entries = read_json(path, file.read())
     if not isinstance(entries, list):
@@ -274,7 +274,7 @@ def commands(path, said):
 
 
 def is_text(word):
-    """Whether it can be written in UTF-8."""
+    """Returns whether a name can be written in UTF-8."""
     try:
         word.encode()
     except UnicodeEncodeError:
@@ -283,14 +283,14 @@ def is_text(word):
 
 
 def is_name(name):
-    """Whether a list may hold this name, which is relative and normal."""
+    """Returns whether a list may have this name, which is relative and normalized."""
     if not is_text(name) or re.search("[\x00-\x1f\x7f]", name):
         return False
     return name != "." and 1 <= len(name.encode()) <= MOST_NAME
 
 
 class Said:
-    """What can't be expressed: each line once, on standard error."""
+    """Reports what a list can't express: each message once, on standard error."""
 
     def __init__(self):
         self.lines = set()
@@ -301,10 +301,10 @@ class Said:
             say(line)
 
     def left_out(self, path, reason):
-        """A command that isn't part of the list."""
+        """Reports a command that isn't part of the list."""
         self.add("%s: %s" % (path, reason))
 
     def same(self, asked, taken):
-        """`..` goes back by names here, and by folders on a disk: they differ behind a symbolic link."""
+        """Reports a path where removing `..` by name gives another directory than the disk does: after a symbolic link they differ."""
         if ".." in asked and place(asked) != place(taken) and os.path.realpath(asked) != os.path.realpath(taken):
             self.add("%s: behind a symbolic link; %s is taken" % (asked, taken))

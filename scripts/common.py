@@ -1,4 +1,4 @@
-"""What the scripts share: how they end, files written whole or not at all, and the lines that cppunits prints."""
+"""Has what the scripts share: exit statuses, files written whole or not at all, and a reader of the output of cppunits."""
 import argparse
 import contextlib
 import json
@@ -9,7 +9,7 @@ import sys
 import tempfile
 
 DONE, PARTLY, USAGE, REFUSED, STREAM = 0, 1, 2, 3, 5
-# files that list_from_build.py makes stand in this folder of a list, and on no disk unless it was asked to write them
+# files that list_from_build.py generates have names in this directory of a list; they are on disk only if it was asked to write them
 GENERATED = "cppunits-generated"
 
 STATUSES = """\
@@ -24,11 +24,11 @@ status:
 
 
 class Refused(Exception):
-    """An input that isn't what it has to be."""
+    """Is raised if an input doesn't have the required form."""
 
 
 class Parser(argparse.ArgumentParser):
-    """A parser of the command line that says in one line what is wrong with it."""
+    """Parses the command line, and reports an error in one line."""
 
     def error(self, message):
         say("%s (--help says more)" % message)
@@ -36,13 +36,13 @@ class Parser(argparse.ArgumentParser):
 
 
 def parser(text, partly):
-    """A parser whose help ends in the statuses; `partly` says when status 1 comes."""
+    """Returns a parser whose help ends with the exit statuses; `partly` says when the status is 1."""
     form = argparse.RawDescriptionHelpFormatter
     return Parser(description=text, epilog=STATUSES % partly, formatter_class=form)
 
 
 def say(text):
-    """One line on standard error, with the script's name in front; a byte that is no text stands as %XX."""
+    """Prints a line on standard error, after the script's name; a byte that isn't text is printed as %XX."""
     line = "%s: %s" % (os.path.basename(sys.argv[0]), text)
     print("".join(shown(c) for c in line), file=sys.stderr)
 
@@ -55,9 +55,9 @@ def shown(character):
 
 
 def run(main):
-    """Runs a script, and ends it with its status and at most one line for what went wrong."""
+    """Runs a script, prints at most one line if it fails, and exits with its status."""
     try:
-        # ends as an interrupt does, so that no file is left; nohup has SIGHUP ignored
+        # exit as an interrupt does, so that no file is left; under nohup SIGHUP is ignored
         for number in signal.SIGTERM, signal.SIGHUP:
             if signal.getsignal(number) != signal.SIG_IGN:
                 signal.signal(number, signal.default_int_handler)
@@ -78,12 +78,12 @@ def run(main):
 
 @contextlib.contextmanager
 def written(path):
-    """A binary file that stands under its name, or that to which it leads, once all is written; `-` is standard output."""
+    """Opens a binary file that gets its name, or the target of its link, only when all is written; `-` is standard output."""
     if path == "-":
         yield sys.stdout.buffer
         return
     if os.path.exists(path) and not os.path.isfile(path):
-        # a device or a pipe stays what it is, and is written to
+        # a device or a pipe isn't replaced, but written to
         with open(path, "wb") as file:
             yield file
         return
@@ -103,7 +103,7 @@ def written(path):
 
 
 def mask():
-    """The bits that new files don't get; there is no way to read them but to set them."""
+    """Returns the permission bits that new files don't get; the only way to read them is to set them."""
     bits = os.umask(0)
     os.umask(bits)
     return bits
@@ -111,7 +111,7 @@ def mask():
 
 @contextlib.contextmanager
 def opened(path):
-    """A binary file to read; `-` is standard input."""
+    """Opens a binary file to read; `-` is standard input."""
     if path == "-":
         yield sys.stdin.buffer
         return
@@ -120,7 +120,7 @@ def opened(path):
 
 
 def read_list(path):
-    """A list's JSON object, of which no more is judged than that it has files and units."""
+    """Reads a list's JSON object; checks only that it has files and units."""
     with opened(path) as file:
         value = read_json(path, file.read())
     if not isinstance(value, dict) or not all(isinstance(value.get(k), list) for k in ("files", "units")):
@@ -136,40 +136,40 @@ def read_json(path, data):
 
 
 def compact(value):
-    """A list's bytes: JSON on one line. Half a pair of surrogates, which no UTF-8 has, stays as it was written."""
+    """Returns a list's bytes: JSON on one line.  A lone surrogate, which UTF-8 can't have, stays as it was written."""
     text = json.dumps(value, ensure_ascii=False, separators=(",", ":")) + "\n"
     return text.encode("utf-8", "backslashreplace")
 
 
 def plain(word):
-    """The bytes that a printed name or spelling stands for."""
+    """Returns the bytes that a printed name or spelling stands for."""
     return re.sub(rb"%([0-9A-F]{2})", lambda pair: bytes([int(pair[1], 16)]), word)
 
 
 class Unit:
-    """A unit of the output: its number, its name as it is printed, the lines after that, and its last line."""
+    """Is a unit of the output: its number, its name as printed, the lines after that, and its last line."""
 
     def __init__(self, number, printed):
         self.number, self.printed, self.lines, self.last = number, printed, [], None
 
     @property
     def name(self):
-        """Its file's name, as bytes."""
+        """Returns its file's name, as bytes."""
         return plain(self.printed)
 
     @property
     def source(self):
-        """The name of the file that is compiled, also where the unit's file was made for it."""
+        """Returns the name of the file that is compiled, also if the unit's file was generated for it."""
         made = re.fullmatch(GENERATED.encode() + rb"/\d+/(.+)", self.name, re.DOTALL)
         return made[1] if made else self.name
 
     @property
     def fault(self):
-        """The words of its fault after `fault`, or None."""
+        """Returns what follows `fault` in its last line, or None."""
         return None if self.last == b"ok" else self.last[6:].decode("ascii", "replace")
 
     def dependencies(self):
-        """The names of its dependencies, as bytes."""
+        """Returns the names of its dependencies, as bytes."""
         return [plain(line.split(b" ", 2)[2]) for line in self.lines if line.startswith(b"dep ")]
 
 
@@ -177,13 +177,13 @@ INSIDE = (b"tok ", b"prag ", b"ptok ", b"dep ")
 
 
 def units(path):
-    """The units of an output, one after the other; refused where it isn't an output from its first line to its end."""
+    """Yields the units of an output in order; refuses a file that isn't a complete output."""
     with opened(path) as file:
         yield from units_of(path, file)
 
 
 def units_of(path, lines):
-    """The units of an output's lines, which are bytes; the path is what a refusal calls it."""
+    """Yields the units from an output's lines, as bytes; error messages use the path as the name."""
     unit, count = None, 0
     for number, line in enumerate(lines, 1):
         if not line.endswith(b"\n"):
@@ -212,7 +212,7 @@ def begun(where, line, number):
 
 
 def own_names(all_units, end):
-    """Each unit with a name of its own for a file: its source and the ending, its number between where that is taken."""
+    """Yields each unit with a file name of its own: its source's name and the suffix, with its number if that name is taken."""
     taken = set()
     for unit in all_units:
         name = os.fsdecode(unit.source)

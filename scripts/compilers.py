@@ -1,7 +1,7 @@
-"""What compilers say of themselves: the folders that they search, the macros that they define, and what their operators know.
+"""Asks compilers for the directories that they search, the macros that they define, and the values of their operators.
 
-A list of commands may come from a stranger, so few programs are run: those named as compilers are, which stand on PATH or below /usr or /opt,
-and those that the user names.  No shell is used, each question has a limit of seconds, and options that load or write anything aren't passed.
+A list of commands may be untrusted, so only few programs are run: those with the name of a compiler that are on PATH or below /usr or /opt,
+and those that the user allows.  No shell is used, each question has a time limit, and options that load or write anything aren't passed.
 """
 import contextlib
 import fnmatch
@@ -22,20 +22,20 @@ NAME = re.compile(r"(?:\w[\w.]*-){0,5}(?:cc|gcc|clang)(?:-\d[\d.]*)?")
 PLACES = ("/usr/", "/opt/")
 SECONDS, MOST_ANSWER, AT_ONCE = 10, 16777216, 4
 OPERATORS = ("has_attribute", "has_builtin", "has_c_attribute", "has_cpp_attribute", "has_feature", "has_extension")
-# names that a list may not define; `__STDC_VERSION__` isn't among them under the profile gnu
+# names that a list may not define; the profile gnu allows `__STDC_VERSION__`
 KEPT = {"__FILE__", "__LINE__", "__DATE__", "__TIME__", "__STDC__", "defined", "__VA_ARGS__", "__VA_OPT__"}
 MACRO = re.compile(r"#define ([A-Za-z_$][\w$]*(?:\([^()]*\))?(?: .*)?)")
 HAS_INCLUDE = "__has_include __has_include"
 
 
 class Limit:
-    """How many seconds a question may take; none where everything is to stop."""
+    """Holds how many seconds a question may take, and an event that stops all questions."""
 
     def __init__(self, seconds):
         self.seconds, self.stopped = seconds, threading.Event()
 
     def wait(self, stream, end):
-        """Waits until there is something to read; a moment at a time, as everything may be to stop."""
+        """Waits until there is something to read.  It waits in short steps, so that it sees the event that stops all questions."""
         while not self.stopped.is_set() and time.monotonic() < end:
             if select.select([stream], [], [], min(0.1, self.seconds))[0]:
                 return
@@ -43,7 +43,7 @@ class Limit:
 
 
 class NoAnswer(Exception):
-    """A compiler that gives no answer, and why; `hangs` where it is stopped."""
+    """Says why a compiler gives no answer; `hangs` if it was stopped."""
 
     def __init__(self, reason, hangs=False):
         super().__init__(reason)
@@ -51,27 +51,27 @@ class NoAnswer(Exception):
 
 
 class Answer:
-    """What a compiler says under some options: folders, definitions by name, and by operator what each name comes to."""
+    """Holds a compiler's answers under some options: directories, definitions by name, and for each operator the values by name."""
 
     def __init__(self, folders, macros):
         self.folders, self.macros, self.operators, self.whole, self.asked = folders, macros, [], None, False
         self.known = {operator: {} for operator in OPERATORS}
 
     def definitions(self):
-        """All definitions by their names, those of the operators among them."""
+        """Returns all definitions by name, with those of the operators."""
         if self.whole is None:
             self.whole = {**self.macros, **{defined_name(text): text for text in (HAS_INCLUDE, *self.of_operators())}}
         return self.whole
 
     def of_operators(self):
-        """The definitions that stand for the operators: each is asked by a name that its argument ends."""
+        """Yields the definitions that replace the operators: a macro for each operator pastes its name and that of the argument."""
         for operator in self.operators:
             yield "__%s(x) __%s_1(x)" % (operator, operator)
             yield "__%s_1(x) __%s_ ## x" % (operator, operator)
             yield from ("__%s_%s %s" % (operator, name, value) for name, value in sorted(self.known[operator].items()) if value != "0")
 
     def learn(self, pairs, printed):
-        """Takes what was printed of pairs of an operator and a name."""
+        """Reads what was printed for pairs of an operator and a name."""
         for operator, name in pairs:
             self.known[operator][name] = "0"
         found, self.asked = set(self.operators), True
@@ -83,21 +83,21 @@ class Answer:
 
 
 class Compilers:
-    """Answers by compiler and options, each asked for once, several at a time."""
+    """Holds answers by compiler and options.  Each question is asked once, several at a time."""
 
     def __init__(self, said, globs=(), seconds=SECONDS):
         self.said, self.globs, self.limit = said, globs, Limit(seconds)
         self.answers, self.failed, self.programs = {}, set(), {}
 
     def answer(self, command):
-        """What the command's compiler says, or None, which is told."""
+        """Returns the answer of the command's compiler, or None, which is reported."""
         key = self.key(command)
         if key not in self.answers:
             self.ask_for([command])
         return self.answers[key]
 
     def ask_for(self, all_commands):
-        """Asks for all answers that these commands need."""
+        """Gets all answers that these commands need."""
         keys = [key for key in unique(map(self.key, all_commands)) if key not in self.answers]
         self.answers.update({key: None for key in keys})
         found = self.each(asked, [(*key, self.limit) for key in keys if key[0] is not None])
@@ -110,7 +110,7 @@ class Compilers:
         return self.program(command), tuple(command.asking)
 
     def program(self, command):
-        """The path of the command's compiler, or None where it isn't run, which is told."""
+        """Returns the path of the command's compiler, or None if it isn't run, which is reported."""
         key = (command.compiler, command.directory if os.path.dirname(command.compiler) else None)
         if key not in self.programs:
             path, reason = trusted(command.compiler, command.directory, self.globs)
@@ -120,7 +120,7 @@ class Compilers:
         return self.programs[key]
 
     def learn(self, names):
-        """Asks each compiler what its operators say of these names."""
+        """Asks each compiler for the values of its operators for these names."""
         questions = []
         for key, answer in self.answers.items():
             if answer is not None:
@@ -131,7 +131,7 @@ class Compilers:
             self.answers[key].learn(fresh, printed)
 
     def each(self, task, questions):
-        """The answers to questions by compiler and options; a compiler that gave none isn't asked again."""
+        """Returns the answers to questions by compiler and options; a compiler that hangs isn't asked again."""
         found = {}
 
         def one(question):
@@ -159,24 +159,24 @@ class Compilers:
 
 
 def asked(program, options, limit):
-    """A compiler's folders and macros."""
+    """Asks a compiler for its directories and macros."""
     folders = folders_of(ask(program, options, ["-v"], False, limit))
     macros = macros_of(ask(program, options, ["-dM"], True, limit))
     return Answer(folders, macros)
 
 
 def asked_of_operators(program, options, limit, pairs):
-    """Pairs of an operator and a name, and what a compiler prints of them."""
+    """Asks a compiler for the values of pairs of an operator and a name; returns the pairs and what it prints."""
     return pairs, ask(program, options, ["-P"], True, limit, question_of(pairs))
 
 
 def ask(program, options, question, output, limit, text=b""):
-    """What a compiler prints on standard output, or on standard error."""
+    """Returns what a compiler prints on standard output (if `output`) or on standard error."""
     return answered([program, "-E", *question, "-x", "c", *options, "-"], text, output, limit)
 
 
 def trusted(word, directory, globs):
-    """The path of a compiler, and why it isn't run: none where it is."""
+    """Returns the path of a compiler and the reason why it isn't run; the reason is None if it may be run."""
     if not is_text(word) or "\0" in word:
         return None, "its name is no text"
     path = at(directory, word) if os.path.dirname(word) else found_on_path(word)
@@ -197,18 +197,18 @@ def trusted(word, directory, globs):
 
 
 def is_installed(path):
-    """Whether a path is below /usr or /opt, and leads to a program there."""
+    """Returns whether a path is below /usr or /opt, and leads to a program there."""
     return path.startswith(PLACES) and os.path.realpath(path).startswith(PLACES)
 
 
 def found_on_path(word):
-    """Where PATH has a program; relative folders of PATH don't count."""
+    """Returns the path of a program on PATH, or None; relative directories of PATH don't count."""
     folders = [folder for folder in os.environ.get("PATH", os.defpath).split(os.pathsep) if os.path.isabs(folder)]
     return shutil.which(word, path=os.pathsep.join(folders)) if word and folders else None
 
 
 def answered(words, text, output, limit):
-    """Runs a program over a text in a folder of its own, with a limit of seconds and of bytes."""
+    """Runs a program in a temporary directory with a text as its input, and returns its output; time and output are limited."""
     with tempfile.TemporaryDirectory() as folder, tempfile.TemporaryFile() as given:
         given.write(text)
         given.seek(0)
@@ -229,7 +229,7 @@ def answered(words, text, output, limit):
 
 
 def gathered(stream, end, limit):
-    """What a program prints until it ends."""
+    """Returns what a program prints until it ends."""
     data = []
     while sum(map(len, data)) <= MOST_ANSWER:
         limit.wait(stream, end)
@@ -240,7 +240,7 @@ def gathered(stream, end, limit):
 
 
 def folders_of(printed):
-    """The folders of `#include <...> search starts here`, those that are there."""
+    """Returns the directories after `#include <...> search starts here` that exist."""
     found = re.search(r"^#include <\.\.\.> search starts here:\n(.*?)^End of search list", printed, re.MULTILINE | re.DOTALL)
     if found is None:
         lines = printed.strip().split("\n")
@@ -250,20 +250,20 @@ def folders_of(printed):
 
 
 def macros_of(printed):
-    """The definitions of `#define` lines, by name; those of names that are kept for the standard are left out."""
+    """Returns the definitions of `#define` lines by name, without the names that the standard reserves."""
     lines = [line for line in printed.split("\n") if line.startswith("#define ")]
     found = [MACRO.fullmatch(line) for line in lines]
     if not found or not all(found):
         raise NoAnswer("it names no macros")
     texts = {defined_name(line[1]): line[1].rstrip() for line in found if line[1].isprintable()}
     texts = {name: text for name, text in texts.items() if name not in KEPT}
-    # without the name, as by -std=c90, the list's own value would stand
+    # without this definition, as with -std=c90, the list's default value would apply
     texts.setdefault("__STDC_VERSION__", "__STDC_VERSION__ 0L")
     return texts
 
 
 def question_of(pairs):
-    """A text that asks a compiler for each operator, and what it says of each name."""
+    """Returns a text that asks a compiler which operators it has, and for the value of each pair of an operator and a name."""
     lines = []
     for operator in OPERATORS:
         lines += ["#ifdef __%s" % operator, "@ %s :" % operator, "#endif"]

@@ -17,19 +17,19 @@ line, as list_from_build.py --targets writes it.  Names are relative to the list
 from the build directory to the root.  Files that list_from_build.py generated are left out.
 
 A unit with a fault has its dependencies only up to the fault, so its file isn't written; use --partial to write it."""
-# what stands for itself in no way that both ninja and make read
+# bytes that can't be written in a way that both ninja and make read
 UNWRITABLE = re.compile(rb"[\x00-\x1f\x7f*;<>|^`]|\\$|\\ ")
 
 
 def escaped(name):
-    """A name as it stands in a rule. Other backslashes stand for themselves."""
+    """Returns a name escaped for a rule.  A backslash elsewhere needs no escape."""
     if UNWRITABLE.search(name):
         raise Refused("the name %s can't be written so that ninja and make read it" % os.fsdecode(name))
     return name.replace(b"$", b"$$").replace(b"#", b"\\#").replace(b" ", b"\\ ").replace(b":", b"\\:")
 
 
 def rule(target, names, headers):
-    """The rule's text, and a rule of its own for each of the headers, so that make goes on where one is gone."""
+    """Returns the rule's text, and an empty rule for each header, so that make goes on if a header is gone."""
     text = escaped(target) + b":" + b"".join(b" \\\n  " + escaped(name) for name in names) + b"\n"
     return text + b"".join(escaped(name) + b":\n" for name in headers)
 
@@ -40,7 +40,7 @@ def object_of(name):
 
 
 def targets_of(path):
-    """The targets of a file, or None without one."""
+    """Returns the targets in a file, or None without a file."""
     if path is None:
         return None
     with opened(path) as file:

@@ -1,6 +1,6 @@
-"""The message and the remedy of each fault: docs/FAULTS.md, a line each.  `%s` stands for the fault's text."""
+"""Has the message and the advice for each fault, one line each, as docs/FAULTS.md.  `%s` stands for the fault's text."""
 
-# number: the message, the message without a text, and the remedy
+# number: message, message without a text, and advice
 FAULTS = {
     1: ("unterminated comment", None, "Close the comment."),
     2: ("backslash at the end of the file", None, "Remove the backslash, or add the line that it continues."),
@@ -67,7 +67,7 @@ FAULTS = {
 
 
 def message(number, text):
-    """The message of a fault with this text."""
+    """Returns the message of a fault with this text."""
     message_of, without, _ = FAULTS.get(number, ("%s", "fault", ""))
     if "%s" not in message_of:
         return message_of
@@ -75,5 +75,5 @@ def message(number, text):
 
 
 def advice(number):
-    """The remedy, in one line; empty for an unknown number."""
+    """Returns the advice in one line, empty for an unknown number."""
     return FAULTS[number][2] if number in FAULTS else ""

@@ -31,7 +31,7 @@ FAULT = re.compile(rb"fault (\d{1,2}) (\d{1,5}):(\d{1,9}):(\d{1,9})(?: (.*))?", 
 DEPENDENCY = re.compile(rb"dep (\d{1,5}) (.+)", re.DOTALL)
 COMMAND_LINE, DEFINITIONS = "<command line>", 65535
 UNREADABLE, TOO_DEEP = 6, 32
-# what stands at the place of a fault: a name at some, else the directive's #, which may be written in other ways
+# what is at a fault's location: a name for some faults, otherwise the directive's #, which may be written in other ways
 AT_NAMES = range(17, 22)
 AT_OTHERS = {1: (b"/",), 2: (b"\\", b"??/"), 7: (b"'", b'"')}
 HASHES = (b"#", b"%:", b"??=", b"%\\")
@@ -40,7 +40,7 @@ MOST_LETTERS, BEFORE_CARET, MOST_FILE = 200, 100, 16777216
 
 
 class Sources:
-    """A list's files, units and folders, and what stands in the files."""
+    """Holds a list's files, units and directories, and reads the files."""
 
     def __init__(self, listed, root, made=None):
         self.root, self.here = os.path.abspath(root), os.getcwd()
@@ -58,13 +58,13 @@ class Sources:
         self.rows, self.finders = {name: row for row, name in enumerate(self.names)}, {}
 
     def path(self, name):
-        """A file's path for a reader: relative to this folder where it lies below it."""
+        """Returns the path of a file as it is printed: relative to the current directory if the file is below it."""
         path = os.path.join(self.root, name)
         inside = os.path.relpath(path, self.here)
         return path if inside == ".." or inside.startswith("../") else inside
 
     def data(self, row):
-        """A file's bytes, or None where there are none."""
+        """Returns a file's bytes, or None if it has none."""
         if row not in self.read:
             self.read[row] = self.contents(self.files[row])
         return self.read[row]
@@ -85,7 +85,7 @@ class Sources:
             return None
 
     def line(self, row, number):
-        """A line of a file, without its end, or None."""
+        """Returns a line of a file without its line end, or None."""
         if row not in self.split:
             data = self.data(row)
             data = data[3:] if data is not None and data.startswith(b"\xef\xbb\xbf") else data
@@ -96,7 +96,7 @@ class Sources:
         return lines[number - 1].rstrip(b"\r")
 
     def source(self, row):
-        """A file's include lines, or None where they can't be told."""
+        """Returns a file's include lines, or None if they can't be known."""
         if row not in self.directives:
             data = self.data(row)
             try:
@@ -106,7 +106,7 @@ class Sources:
         return self.directives[row]
 
     def finder(self, search):
-        """What finds the files of include lines, with a unit's folders before those of the list."""
+        """Returns an object that finds the files of include lines, in a unit's directories and then in those of the list."""
         if tuple(search) not in self.finders:
             self.finders[tuple(search)] = include_chain.Names(self.names, self.rows, search + self.search)
         return self.finders[tuple(search)]
@@ -116,7 +116,7 @@ class Sources:
 
 
 class Fault:
-    """A unit's fault: its number, place and text."""
+    """Is a unit's fault: its number, location and text."""
 
     def __init__(self, unit, sources):
         found = FAULT.fullmatch(unit.last)
@@ -136,13 +136,13 @@ class Fault:
         return row
 
     def compare(self, agrees):
-        """Refuses an output that isn't that of the list."""
+        """Refuses an output that doesn't belong to the list."""
         if not agrees:
             raise Refused("the output isn't that of the list: unit %d or its files are others" % self.unit.number)
 
     @property
     def source(self):
-        """The path of the file that is compiled."""
+        """Returns the path of the file that is compiled."""
         return self.sources.path(self.unit.source.decode("utf-8", "surrogateescape"))
 
     @property
@@ -150,11 +150,11 @@ class Fault:
         return COMMAND_LINE if self.row == DEFINITIONS else self.sources.path(self.sources.names[self.row])
 
     def is_own(self):
-        """Whether it is in the file that is compiled."""
+        """Returns whether the fault is in the file that is compiled."""
         return self.row != DEFINITIONS and as_bytes(self.sources.names[self.row]) in (self.unit.name, self.unit.source)
 
     def shown_line(self):
-        """The line of the source, or None where none is there that has what the fault is about."""
+        """Returns the source line, or None if no line is there or the line doesn't have what the fault is about."""
         if self.row == DEFINITIONS:
             texts = self.sources.definitions(self.unit)
             return ("#define " + texts[self.line - 1]).encode() if 1 <= self.line <= len(texts) else None
@@ -170,7 +170,7 @@ class Fault:
         return line if fits else None
 
     def chain(self):
-        """The include lines above it, each its path and line, the innermost first; None where they aren't certain."""
+        """Returns the path and line of each include line above the fault, the innermost first; None if they aren't certain."""
         if self.row == DEFINITIONS or not self.order:
             return []
         found = self.rows_above()
@@ -199,11 +199,11 @@ class Fault:
         return include_chain.chain(*setting, self.number, self.row, self.line)
 
     def opened_files(self):
-        """The dependencies, but for one that couldn't be read: the fault is where it was asked for."""
+        """Returns the dependencies without one that couldn't be read: its fault is located at the include line."""
         return self.order[:-1] if self.number == UNREADABLE and len(self.order) > 1 else self.order
 
     def members(self):
-        """What the form `json` tells of it."""
+        """Returns the members of the fault's JSON object (--format json)."""
         chain = self.chain()
         above = None if chain is None else [{"path": path, "line": line} for path, line in chain]
         return {"path": self.path, "line": self.line, "column": self.column, "number": self.number,
@@ -211,7 +211,7 @@ class Fault:
                 "unit": self.unit.number, "source": self.source, "chain": above}
 
     def lines(self, colour):
-        """What the form `text` tells of it."""
+        """Returns the lines that are printed for the fault (--format text)."""
         def set_in(style, text):
             return style + text + PLAIN if colour else text
 
@@ -235,7 +235,7 @@ class Fault:
 
 
 def as_bytes(name):
-    """A name as the program has it."""
+    """Returns a name as the program has it."""
     return name.encode("utf-8", "surrogatepass")
 
 
@@ -244,7 +244,7 @@ def readable(text):
 
 
 def excerpt(line, column):
-    """A line for a reader, and what stands in the next one before the caret; of a long line a part."""
+    """Returns a line as it is printed, and the text before the caret in the next line; shortens a long line."""
     begin = len(line[:column - 1].decode("utf-8", "surrogateescape"))
     letters = line.decode("utf-8", "surrogateescape")
     if len(letters) <= MOST_LETTERS:
@@ -257,7 +257,7 @@ def excerpt(line, column):
 
 
 def letter(one):
-    """A letter as printed on a terminal: tabs stay, an invisible letter becomes its number."""
+    """Returns a character as it is printed on a terminal: tabs stay, an invisible character becomes its number."""
     if one == "\t" or one.isprintable():
         return one
     if "\udc80" <= one <= "\udcff":
@@ -266,7 +266,7 @@ def letter(one):
 
 
 def blank(one):
-    """As much white space as a letter is wide."""
+    """Returns as much white space as a character is wide."""
     if one == "\t":
         return one
     if one.isprintable():
@@ -276,11 +276,11 @@ def blank(one):
 
 
 def print_faults(listed, output_lines, root=".", to=None, colour=False, form="text", made=None):
-    """Prints the fault of each unit that has one, and gives their number.
+    """Prints the fault of each unit that has one, and returns how many there are.
 
-    listed: the list's object; output_lines: what cppunits printed, as lines of bytes (an open binary file, for one); root: the
-    folder of the list's names; to: a text file; colour: whether for a terminal; form: `text` or `json`; made: the folder of the
-    files that were made for the list, where they aren't below the root."""
+    listed: the list's object; output_lines: the output of cppunits, as lines of bytes (for example an open binary file); root: the
+    directory that names in the list are relative to; to: a text file; colour: whether to print colors; form: `text` or `json`; made: the
+    directory of the files that were generated for the list, if they aren't below the root."""
     to = sys.stdout if to is None else to
     sources, count = Sources(listed, root, made), 0
     for unit in units_of("the output", output_lines):
@@ -298,7 +298,7 @@ def print_faults(listed, output_lines, root=".", to=None, colour=False, form="te
 
 
 def put(to, data):
-    """Bytes of UTF-8 to a text file, whatever its own encoding is."""
+    """Writes UTF-8 bytes to a text file, whatever the file's encoding is."""
     if hasattr(to, "buffer"):
         to.flush()
         to.buffer.write(data)
@@ -307,14 +307,14 @@ def put(to, data):
 
 
 def wants_colour(word, to):
-    """Whether colours are asked for: by `auto` where the output is a terminal that has some."""
+    """Returns whether to print colors; with `auto`, whether the output is a terminal with colors."""
     if word != "auto":
         return word == "always"
     return to.isatty() and os.environ.get("TERM", "dumb") != "dumb" and "NO_COLOR" not in os.environ
 
 
 def forms(asked):
-    """The options that say in which form faults are told."""
+    """Adds the options for the form in which faults are printed."""
     asked.add_argument("--color", "--colour", dest="colour", choices=("auto", "always", "never"), default="auto",
                        help="use colors (default: auto, if standard output is a terminal)")
     asked.add_argument("--format", dest="form", choices=("text", "json"), default="text",

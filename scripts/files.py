@@ -1,4 +1,4 @@
-"""The files that units can reach: their include lines, and where each name is looked for."""
+"""Finds the files that units can reach: reads their include lines, and looks for each name."""
 import os
 import re
 
@@ -11,24 +11,24 @@ INCLUDE = re.compile(rb"[#%]:?" + BLANK + rb"include(_next)?(?![\w$])" + BLANK
                      + rb"(?:\"([^\"\n]+)\"|<([^>\n]+)>|([A-Za-z_$\\\x80-\xff][\w$\\\x80-\xff]*))")
 ASKED = re.compile(rb"\b__has_include" + BLANK + rb"\(" + BLANK + rb"(?:\"([^\"\n]+)\"|<([^>\n]+)>)")
 NEXT = re.compile(rb"\b__has_include_next" + BLANK + rb"\(" + BLANK + rb"(?:\"([^\"\n]+)\"|<([^>\n]+)>)")
-# what stands before it in a condition that is false wherever none of some names is a macro
+# the beginning of a condition that is false if none of some names is a macro
 OTHERS = re.compile(rb"[ \t]*#[ \t]*(?:el)?if[ \t]*\(?[ \t]*(defined[ \t]*\(?[ \t]*_\w+[ \t]*\)?"
                     rb"(?:[ \t]*\|\|[ \t]*defined[ \t]*\(?[ \t]*_\w+[ \t]*\)?)*)[ \t]*\)?[ \t]*&&(?![^\n]*\|\|)")
-# names that a compiler's operators may be asked for: by a macro whose name ends in the operator's, and by any in a condition
+# names that a compiler's operators may be asked for: in calls of a macro whose name ends like an operator's, and in all calls in a condition
 OPERATOR = re.compile(rb"has_(?:attribute|c_attribute|cpp_attribute|builtin|feature|extension)[ \t]*\([ \t]*([A-Za-z_]\w*)[ \t]*\)", re.IGNORECASE)
 CONDITION = re.compile(rb"#[ \t]*(?:el)?if\b([^\n]*)")
 CALLED = re.compile(rb"\b(?!defined\b)[A-Za-z_]\w*[ \t]*\([ \t]*([A-Za-z_]\w*)[ \t]*\)")
-# comments, and the literals in which `/*` is none
+# comments, and literals, in which `/*` begins no comment
 PASSED = re.compile(rb"/\*.*?\*/|//[^\n]*|\"(?:\\.|[^\"\\\n])*\"|'(?:\\.|[^'\\\n])*'", re.DOTALL)
 SPLICE = re.compile(rb"(?:\\|\?\?/)\r?\n")
 QUOTE, ANGLE, COMPUTED, EACH = "quote", "angle", "computed", "each"
 
 
 class Files:
-    """What stands on the disk, each file and folder looked at once.
+    """Holds what is on disk; looks at each file and directory once.
 
-    By the profile gnu, `#include_next` and `__has_include` are looked for.  With `every`, a name is each file that it may be, and a name that
-    a macro makes is what `settled` says of its file; without, a name is the first file that is found, and a macro's may be any header."""
+    With the profile gnu, `#include_next` and `__has_include` count, too.  With `every`, a name stands for each file that it may be, and a
+    name that a macro makes is looked up in `settled`; otherwise a name is the first file found, and a macro's name may be any header."""
 
     def __init__(self, said, gnu, every=False):
         self.said, self.gnu, self.every = said, gnu, every
@@ -41,12 +41,12 @@ class Files:
         return self.there[path]
 
     def includes(self, path):
-        """The include lines of a file: each its form and its name."""
+        """Returns the include lines of a file, each as its form and its name."""
         if path not in self.lines:
             text = joined_lines(content(path))
             found = include_lines(text, self.gnu) if b"include" in text else []
             if any(form == COMPUTED for form, _ in found):
-                # it may stand in a comment, which takes longer to see
+                # it may be in a comment; to see that takes longer
                 seen = include_lines(PASSED.sub(uncommented, text), self.gnu)
                 found = [pair for pair in found if pair[0] != COMPUTED or pair in seen]
             if self.gnu and b"__has_include" in text:
@@ -58,11 +58,11 @@ class Files:
         return self.lines[path]
 
     def computed_by(self, path):
-        """The macros that make the names of include lines of this file."""
+        """Returns the macros that make the names of include lines of this file."""
         return {name for form, name in self.includes(path) if form == COMPUTED}
 
     def defined_of(self, names, paths):
-        """Those of some names that these files define, with those that are always macros and those that are written in another way."""
+        """Returns which of these names the files define; predefined names, and names not written in plain ASCII, always count."""
         found = {name for name in names if name in PREDEFINED or not name.isascii() or "\\" in name}
         words = [os.fsencode(name) for name in sorted(names)]
         word = re.compile(rb"\bdefine" + BLANK + b"(%s)(?![\\w$])" % b"|".join(map(re.escape, words)))
@@ -74,10 +74,10 @@ class Files:
         return found
 
     def next_answers(self, paths, search, defined):
-        """What `__has_include_next` is where these files ask it: whether a folder after the file's has the name.
+        """Returns the values that `__has_include_next` has in these files: whether a directory after the file's has the name.
 
-        None is the answer for a file that is in no folder of the search.  What is asked for other systems alone, by names that aren't
-        `defined`, doesn't matter."""
+        The value is None for a file that is in no directory of the search.  Questions that are asked only on other systems, under names that
+        aren't in `defined`, don't count."""
         answers = set()
         for path in paths:
             for name, others in self.nexts.get(path, ()):
@@ -89,7 +89,7 @@ class Files:
         return answers
 
     def headers(self, folder):
-        """Every header at or below a folder; hidden folders are passed over."""
+        """Returns every header in a directory and below it, without hidden directories."""
         if folder not in self.below:
             found = []
             for where, folders, names in os.walk(folder):
@@ -99,7 +99,7 @@ class Files:
         return self.below[folder]
 
     def first(self, folders, name):
-        """The first file of this name in the folders, or None."""
+        """Returns the first file of this name in the directories, or None."""
         for folder in folders:
             path = joined(folder, name)
             if self.is_file(path):
@@ -108,7 +108,7 @@ class Files:
         return None
 
     def each(self, folders, name):
-        """Each file of this name in the folders."""
+        """Returns each file of this name in the directories."""
         found = []
         for folder in folders:
             path = joined(folder, name)
@@ -119,7 +119,7 @@ class Files:
         return found
 
     def reach(self, starts, looked):
-        """The files that some files reach over a search, with themselves, in the order of finding."""
+        """Returns these files and all files that they reach over a search, in the order in which they are found."""
         reached, passed = dict.fromkeys(starts), set()
         waiting = list(reversed(list(reached)))
         while waiting:
@@ -130,7 +130,7 @@ class Files:
         return list(reached)
 
     def above(self, paths, wanted, looked):
-        """Those of some files from which one of the wanted is reached, and these."""
+        """Returns the wanted files, and those of `paths` from which one of them is reached."""
         includers, reached, waiting = {}, set(wanted), list(wanted)
         for path in paths if waiting else ():
             for found in looked.asked_for(path):
@@ -142,21 +142,21 @@ class Files:
         return reached
 
     def say_shadow(self, path, name, found):
-        """A name in angle brackets is looked for in -iquote folders, too, as a list has one kind of folder."""
+        """Reports a name in angle brackets that is found in an -iquote directory, since a list has one kind of directory."""
         self.said.add("%s: <%s> is found in an -iquote folder, as %s" % (path, name, found))
 
     def say_shadows(self, members):
-        """The same of each file on the list that stands so before the right one."""
+        """Reports each such file that is on the list and comes before the right one."""
         for (path, name), found in self.shadows.items():
             if found in members:
                 self.say_shadow(path, name, found)
 
     def settle(self, path, name):
-        """Notes a name that a macro makes in this file."""
+        """Records a name that a macro makes in this file."""
         self.settled.setdefault(path, {})[name] = None
 
     def asked_of_operators(self, paths):
-        """The names that these files may ask a compiler's operators for."""
+        """Returns the names that these files may ask a compiler's operators for."""
         names = set()
         for path in paths:
             self.includes(path)
@@ -165,13 +165,13 @@ class Files:
 
 
 class Looked:
-    """What names are found as over one search: each name looked for once, and beside each folder of an includer once."""
+    """Remembers the files that names stand for over one search: each name is looked for once, and next to each includer's directory once."""
 
     def __init__(self, files, search, quotes):
         self.files, self.search, self.quotes, self.known, self.said = files, search, quotes, {}, files.said
 
     def asked_for(self, path, passed=None):
-        """The files that a file's include lines can ask for, but for those of lines that were passed."""
+        """Yields the files that a file's include lines can ask for, but not for lines in `passed`, to which it adds the others."""
         own = os.path.dirname(path)
         for form, name in self.files.includes(path):
             key = (form, name) if form == ANGLE else (form, path) if form == COMPUTED else (form, name, own)
@@ -184,7 +184,7 @@ class Looked:
             yield from self.known[key]
 
     def computed(self, path, own):
-        """The files of a name that a macro makes: every header, or those of the names that are known."""
+        """Yields the files of a name that a macro makes: every header, or the files of the known names."""
         if self.files.every:
             for name in self.files.settled.get(path, ()):
                 yield from self.named(path, own, EACH, name)
@@ -205,7 +205,7 @@ class Looked:
         return self.resolved(path, form, name, folders)
 
     def every(self, path, form, name, folders):
-        """Each file of this name; of a name in angle brackets none in a folder for names in quotes."""
+        """Returns each file of this name; for a name in angle brackets without the directories for names in quotes."""
         if form != ANGLE or not self.quotes:
             return self.files.each(folders, name)
         shadow = self.files.first(folders[:self.quotes], name)
@@ -224,7 +224,7 @@ class Looked:
 
 
 def content(path):
-    """A file's bytes, none of one that can't be read: a unit that opens it has a fault."""
+    """Returns a file's bytes, or none if it can't be read: a unit that opens it has a fault."""
     try:
         with open(path, "rb") as file:
             return file.read()
@@ -233,19 +233,19 @@ def content(path):
 
 
 def joined_lines(text):
-    """A text whose lines that end in a backslash are joined with the next, and whose trigraphs for # are replaced."""
+    """Returns the text with lines that end in a backslash joined to the next, and with trigraphs for # replaced."""
     if b"\\\n" in text or b"\\\r\n" in text or b"??" in text:
         return SPLICE.sub(b"", text).replace(b"??=", b"#")
     return text
 
 
 def joined(folder, name):
-    """The path of a name below a folder, in normal form."""
+    """Returns the normalized path of a name below a directory."""
     return at(folder, name) if "//" in name or "./" in name or folder == "/" else "%s/%s" % (folder, name)
 
 
 def include_lines(text, gnu):
-    """The include lines of a text, before which nothing but white space or a comment's end stands: each its form and its name."""
+    """Returns the include lines of a text, each as its form and name; before them is only white space or the end of a comment."""
     found = []
     for line in INCLUDE.finditer(text):
         before = text[text.rfind(b"\n", 0, line.start()) + 1:line.start()].strip()
@@ -255,7 +255,7 @@ def include_lines(text, gnu):
 
 
 def form_and_name(found, gnu):
-    """An include line's form and name, or the macro that makes the name.  `#include_next` may find each file of its name."""
+    """Returns an include line's form and name, or the macro that makes the name.  `#include_next` may find each file of its name."""
     following, quoted, angled, macro = found.groups()
     if following is not None:
         if not gnu:
@@ -267,7 +267,7 @@ def form_and_name(found, gnu):
 
 
 def names_before(text, start):
-    """The names of which one has to be a macro, so that what stands in a condition from a place on matters; none where that isn't so."""
+    """Returns the names of which one must be a macro for this place in a condition to matter; none if it always may."""
     found = OTHERS.match(text, text.rfind(b"\n", 0, start) + 1)
     if found is None or found.end() > start:
         return frozenset()
@@ -279,7 +279,7 @@ def uncommented(found):
 
 
 def operators_in(text):
-    """The names that a file may ask a compiler's operators for."""
+    """Returns the names that a file may ask a compiler's operators for."""
     names = {found[1] for line in CONDITION.finditer(text) for found in CALLED.finditer(line[1])}
     if b"has_" in text or b"HAS_" in text:
         names.update(found[1] for found in OPERATOR.finditer(text))

@@ -1,14 +1,14 @@
-"""The include lines by which a unit came to a place, where its dependencies and the sources leave one way alone.
+"""Finds the include lines that lead to a location in a unit, if its dependencies and the sources allow only one way.
 
-A unit's dependencies stand in the order of first opening.  Over the include lines of these files, every way to open them in
-this order is followed: a stack of files, each with the line that is being obeyed, for each way.  A line that no condition
-stands before is obeyed for certain; any other may be.  A file whose guard is never undefined does nothing when it is opened again.
-What all ways say at the location of the fault is certain; if they differ, nothing is printed."""
+A unit's dependencies are in the order in which they were first opened.  This module follows every way to open them in this order over
+the include lines of these files.  A way is a stack of files, each with the line that is processed.  An include line that depends on no
+condition is always processed; any other may be.  A file whose guard is never undefined does nothing if it is opened again.  What all ways
+have in common at the location of the fault is certain; if they differ, there is no result."""
 import collections
 import re
 
 SPLICE = re.compile(rb"(?:\\|\?\?/)\r?\n")
-# a splice, or a line end within a comment, stands as a zero byte, so that lines can be counted
+# a splice, or a line end within a comment, is replaced by a zero byte, so that lines can be counted
 PIECE = re.compile(rb"(^[ \t\v\f\r\0]*(?:#|%:)[ \t\0]*include(?:_next)?[ \t\0]*<[^>\n]*>)|/\*.*?(?:\*/|\Z)|//[^\n]*"
                    rb"|\"(?:\\.|[^\"\\\n])*\"|'(?:\\.|[^'\\\n])*'", re.DOTALL | re.MULTILINE)
 CUT = re.compile(rb"[/*]\0+[/*]")
@@ -17,7 +17,7 @@ HEADER = re.compile(rb"\s*(?:\"([^\"]+)\"|<([^>]+)>)\s*")
 NAME = re.compile(rb"[\w$\x80-\xff]+")
 GUARD = re.compile(rb"!\s*defined\s*(?:\(\s*)?([\w$]+)\s*\)?\s*$")
 OPENINGS, BRANCHES = (b"if", b"ifdef", b"ifndef"), (b"elif", b"else", b"elifdef", b"elifndef")
-# how many ways are followed, and how many steps that may take
+# the most ways that are followed, and the most steps in all
 MOST, MOST_STEPS = 200, 1000000
 ALL = float("inf")
 # faults of a file of which nothing is processed
@@ -25,16 +25,16 @@ READING = (1, 2, 3, 4, 5)
 
 
 class Unclear(Exception):
-    """There is more than one way, or a file can't be looked at."""
+    """Is raised if there are several ways, or if a file can't be analyzed."""
 
 
 class Source:
-    """A file's include lines, each with its line, depth and operand, and its #error lines; what it defines, and its guard."""
+    """Holds a file's include lines, each with its line, depth and operand, its #error lines, its definitions, and its guard."""
 
     def __init__(self, text):
         self.includes, self.errors, self.defined, self.undefined = [], [], {}, set()
         self.guard, self.once, self.dead, self.lines = None, False, [], 0
-        # the line of the guard's #else, after which a file that is opened again goes on
+        # the line of the guard's #else, where a file that is opened again goes on
         self.other = None
         self.closed = self.guarded = False
         for line, words in logical_lines(text):
@@ -43,13 +43,13 @@ class Source:
             self.guard = None
 
     def take(self, line, words):
-        """One line: its number, and its text without comments."""
+        """Reads one line: its number, and its text without comments."""
         found = DIRECTIVE.match(words)
         if not found and not words.strip():
             return
         self.lines += 1
         if self.closed or (self.lines > 1 and not self.dead):
-            # something is before or after the if-section that would be the guard's
+            # something is before or after the #if section that could be the guard's
             self.guard = None
         if not found:
             return
@@ -74,7 +74,7 @@ class Source:
         self.dead.append(name == b"if" and rest.strip() == b"0")
 
     def obey(self, line, name, rest):
-        """A directive that may be obeyed."""
+        """Reads a directive that may be executed."""
         subject = NAME.match(rest)
         if name in (b"include", b"include_next"):
             self.includes.append((line, len(self.dead) + bool(self.other), name == b"include_next", rest))
@@ -90,7 +90,7 @@ class Source:
 
 
 def logical_lines(text):
-    """Each line of a file, spliced and without comments, with the number of the physical line of its first token."""
+    """Yields each line of a file, spliced and without comments, with the number of the physical line of its first token."""
     if text.startswith(b"\xef\xbb\xbf"):
         text = text[3:]
     text = SPLICE.sub(b"\0", text.replace(b"\0", b" ")).replace(b"??=", b"#")
@@ -104,7 +104,7 @@ def logical_lines(text):
 
 
 def blank(found):
-    """A comment as one space, with a zero byte for each line that it goes over."""
+    """Returns a comment as one space, with a zero byte for each line end in it."""
     word = found[0]
     if not word.startswith(b"/"):
         return word
@@ -112,7 +112,7 @@ def blank(found):
 
 
 def joined(folder, name):
-    """A folder and a name below it in normal form, or None where `..` leads out of the root."""
+    """Returns the normalized path of a name below a directory, or None if `..` leads out of the root."""
     parts = []
     for part in (folder + "/" + name).split("/"):
         if part == "..":
@@ -125,7 +125,7 @@ def joined(folder, name):
 
 
 class Names:
-    """Which file of a list an include line opens, over the folders of a unit's search."""
+    """Finds the file of a list that an include line opens, over the directories of a unit's search."""
 
     def __init__(self, names, rows, search):
         self.names, self.rows, self.search, self.known = names, rows, search, {}
@@ -134,11 +134,11 @@ class Names:
         return (header[1] or header[2]).decode("utf-8", "surrogateescape")
 
     def beside(self, row, header):
-        """The row of the file of this name in the folder of a file, or None; a name in angle brackets isn't looked for there."""
+        """Returns the row of the file with this name in the directory of a file, or None; None for a name in angle brackets."""
         return self.row_of(self.names[row].rpartition("/")[0], self.name(header)) if header[1] else None
 
     def first(self, header, begin):
-        """The row of the first file of this name in the folders from one on, and the number of the next folder; None without one."""
+        """Returns the row of the first such file in the directories from `begin` on, and the index of the next one; the row may be None."""
         name = self.name(header)
         if (begin, name) not in self.known:
             found = ((self.row_of(folder, name), at + 1) for at, folder in enumerate(self.search) if at >= begin)
@@ -151,17 +151,17 @@ class Names:
         return self.known[folder, name]
 
     def begins(self, row):
-        """The numbers after each directory where a file may have been found."""
+        """Returns the index after each directory in which a file may have been found."""
         return [at + 1 for at, folder in enumerate(self.search) if self.names[row].startswith("" if folder == "." else folder + "/")]
 
 
 class Ways:
-    """All ways in which the files of a unit can have been opened in their order."""
+    """Holds all ways in which the files of a unit can have been opened in their order."""
 
     def __init__(self, names, order, sources, defined, pragma_once):
         self.names, self.order, self.sources, self.defined = names, order, sources, defined
         self.opened, self.steps, self.bodies = set(order[:1]), 0, {}
-        # where `#include_next` of each file may begin: after the directory where it was found, or at the first
+        # the directories where `#include_next` of each file may begin: after the one where the file was found, or at the first
         self.begins = {row: {0} if row == order[0] else set() for row in order}
         self.spent, self.again, self.split, self.to, self.sure = set(), {}, {}, {row: {} for row in order}, {}
         undefined = set().union(*(sources[row].undefined for row in order))
@@ -173,7 +173,7 @@ class Ways:
             if (guarded and source.other is None) or (source.once and pragma_once):
                 self.spent.add(row)
             self.again[row] = source.other if guarded and source.other else 0
-            # a guard that another file or a definition makes a macro may be closed from the beginning
+            # if another file or a definition defines the guard's macro, the guard may be closed from the beginning
             fresh = not source.guard or (times[source.guard] == 1 and source.guard not in defined)
             self.split[row] = self.again[row] if fresh else 0
             self.lines_of(row, source, fresh)
@@ -184,13 +184,13 @@ class Ways:
                 self.put(row, line, [found for found, _ in self.next_of(row, header)] if header else self.order)
 
     def step(self, count=1):
-        """Counts what is looked at, so that no list takes long."""
+        """Counts steps, and gives up after too many, so that no list takes long."""
         self.steps += count
         if self.steps > MOST_STEPS:
             raise Unclear
 
     def lines_of(self, row, source, sure):
-        """By file: the lines that may open each other file, and those that are obeyed for certain, with what they open."""
+        """Collects the lines that may open each other file, and those that are always processed, with the file that they open."""
         self.sure[row] = []
         for line, depth in source.errors:
             if sure and depth <= bool(source.guard):
@@ -208,7 +208,7 @@ class Ways:
                 self.put(row, line, self.by_macro(row, operand.strip()))
 
     def target(self, row, header):
-        """What a line opens."""
+        """Returns the file that a line opens."""
         found, begin = self.names.beside(row, header), 0
         if found is None:
             found, begin = self.names.first(header, 0)
@@ -217,16 +217,16 @@ class Ways:
         return found
 
     def next_lines(self, row):
-        """The lines of `#include_next`, each with its header name, or None where a macro makes it."""
+        """Returns the lines of `#include_next`, each with its header name, or with None if a macro makes the name."""
         return [(line, HEADER.fullmatch(operand)) for line, _, following, operand in self.sources[row].includes if following]
 
     def next_of(self, row, header):
-        """What such a line may open, each with where a next one begins."""
+        """Returns the files that such a line may open, each with the index where its own `#include_next` begins."""
         found = [self.names.first(header, begin) for begin in self.begins[row]]
         return found + [(self.names.beside(row, header), 0)] if row == self.order[0] else found
 
     def next_found(self, row, header):
-        """Notes how files are found by such a line, and tells whether one is found in a way that is new."""
+        """Records how files are found by such a line, and returns whether one is found in a new way."""
         before = sum(map(len, self.begins.values()))
         if header is None:
             self.anywhere()
@@ -236,7 +236,7 @@ class Ways:
         return sum(map(len, self.begins.values())) > before
 
     def anywhere(self):
-        """Any file may be found in any way."""
+        """Records that any file may be found in any way."""
         for row in self.order:
             self.begins[row].update(self.names.begins(row), [0])
 
@@ -246,7 +246,7 @@ class Ways:
             self.to[row].setdefault(target, []).append(line)
 
     def by_macro(self, row, macro):
-        """The files that an include line with a macro may open: all, where one of its definitions is no header name."""
+        """Returns the files that an include line with a macro may open: all files, if one of the macro's definitions is no header name."""
         if macro not in self.bodies:
             self.step(len(self.order))
             found = [self.sources[at].defined.get(macro, []) for at in self.order]
@@ -258,14 +258,14 @@ class Ways:
         return [self.target(row, header) for header in headers]
 
     def passes(self, row, begin, end):
-        """Whether a file can be read between two of its lines without opening a file for the first time."""
+        """Returns whether a file can be read between two of its lines without opening a file for the first time."""
         if begin < self.split[row] < end < ALL:
-            # the two branches of a guard aren't obeyed in one opening
+            # the two branches of a guard aren't both processed in one opening
             return False
         return all(target in self.opened for line, target in self.sure[row] if begin < line < end)
 
     def opening(self, stack, row):
-        """The stacks that come of a stack by opening a file, at the line of any file to which it can come back."""
+        """Yields the stacks after opening a file, from any include line in the files of the stack to which processing can return."""
         start = self.again[row] if row in self.opened else 0
         for depth in reversed(range(len(stack))):
             at, begin = stack[depth]
@@ -277,7 +277,7 @@ class Ways:
                 break
 
     def leading(self, goal):
-        """The files that can be opened again to some effect, and come to this one."""
+        """Returns the files that have an effect if they are opened again, and that can lead to this file."""
         again = [row for row in self.opened if row not in self.spent]
         found, grown = {goal}, True
         while grown:
@@ -290,7 +290,7 @@ class Ways:
         return [row for row in again if row in found]
 
     def opened_again(self, stacks, goal):
-        """These stacks, and those that come of them by opening files again on the way to this file."""
+        """Returns these stacks, and those after files on the way to this file were opened again."""
         found, waiting = set(stacks), list(stacks)
         rows = self.leading(goal)
         while waiting:
@@ -304,7 +304,7 @@ class Ways:
         return found
 
     def all(self):
-        """The stacks at the first opening of the last file."""
+        """Returns the stacks at the first opening of the last file."""
         stacks = {((self.order[0], 0),)}
         for row in self.order[1:]:
             before = self.opened_again(stacks, row)
@@ -315,7 +315,7 @@ class Ways:
         return stacks
 
     def at(self, row, end):
-        """The include lines above a line of a file, by each way."""
+        """Yields the include lines above a line of a file, for each way."""
         for stack in self.opened_again(self.all(), row):
             for depth in reversed(range(len(stack))):
                 at, begin = stack[depth]
@@ -326,10 +326,10 @@ class Ways:
 
 
 def chain(names, order, sources, defined, pragma_once, number, row, line):
-    """The include lines above a fault, each its file's row and line, the innermost first; None where they aren't certain.
+    """Returns the include lines above a fault, each as its file's row and line, the innermost first; None if they aren't certain.
 
-    names: what finds a unit's files; order: the rows of its dependencies; sources: the Source of each; defined: the macros of
-    its definitions with their bodies; pragma_once: whether the profile has it; then the fault's number and place."""
+    names: finds a unit's files; order: the rows of its dependencies; sources: the Source of each; defined: the macros that the unit defines,
+    with their bodies; pragma_once: whether the profile has #pragma once; then the fault's number and location."""
     try:
         ways = Ways(names, order, sources, defined, pragma_once)
         if number in READING:

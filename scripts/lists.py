@@ -1,4 +1,4 @@
-"""Puts a list together: names below a root, units with their definitions and folders, and files that are made."""
+"""Makes a list: names below a root, units with their definitions and directories, and generated files."""
 import os
 import time
 
@@ -11,7 +11,7 @@ MONTHS = "Jan Feb Mar Apr May Jun Jul Aug Sep Oct Nov Dec".split()
 
 
 class Given:
-    """The folders and definitions that all units get besides their commands'."""
+    """Holds the directories and definitions that all units get in addition to those of their commands."""
 
     def __init__(self, folders, texts):
         self.system = unique(os.path.abspath(folder) for folder in folders)
@@ -21,24 +21,24 @@ class Given:
         return self.system
 
     def definitions(self, command):
-        """The definitions by their names."""
+        """Returns the definitions by name."""
         return self.texts
 
 
 class Builder:
-    """Puts a list together: rows of names below a root, units, and files that are made."""
+    """Makes a list: rows of names below a root, units, and generated files."""
 
     def __init__(self, asked, said, given, every=False):
         self.asked, self.said, self.given = asked, said, given
         self.files = Files(said, asked.profile == "gnu", every)
         self.made, self.root, self.paths, self.computing, self.searches, self.nexts = {}, None, [], set(), {}, {}
-        # the names of each search's folders below the root
+        # by search: the names of its directories below the root
         self.folders = {}
-        # units whose files may say different things of `__has_include_next`, and what is taken for those that were run
+        # units whose files may disagree about `__has_include_next`, and the value that was assumed for those that were run
         self.several, self.taken = [], {}
 
     def build(self, all_commands):
-        """The rows of all files that were gathered, and these commands with their units."""
+        """Returns the rows of all gathered files, and these commands with their units."""
         self.made, self.folders = {}, {}
         self.root = os.path.abspath(self.asked.root) if self.asked.root else self.common(self.paths, all_commands)
         names = {path: name for path in self.paths if (name := self.name(path)) is not None}
@@ -52,7 +52,7 @@ class Builder:
         return rows, pairs
 
     def gather(self, all_commands):
-        """Finds all files that the units reach, each once; `computing` are the units that reach a name which a macro makes."""
+        """Finds all files that the units reach, each once; `computing` gets the units that reach an include line whose name a macro makes."""
         groups, reached, self.several = {}, {}, []
         for command in all_commands:
             groups.setdefault(self.search(command), []).append(command)
@@ -68,7 +68,7 @@ class Builder:
         self.paths = list(reached)
 
     def computing_of(self, members, found, looked):
-        """The units that reach an include line whose name is made by a macro that some file or command defines."""
+        """Returns the units that reach an include line whose name is made by a macro that some file or command defines."""
         macros = {path: names for path in found if (names := self.files.computed_by(path))}
         if not macros:
             return []
@@ -78,11 +78,11 @@ class Builder:
         return [command for command in members if not above.isdisjoint(self.starts(command))]
 
     def starts(self, command):
-        """A unit's file, and those that are included first."""
+        """Returns a unit's file, and the files that -include names."""
         return [command.file, *(path for word in command.includes if (path := self.first_of(command, word)) is not None)]
 
     def note_next(self, members, found, looked):
-        """Notes what `__has_include_next` is for units over one search, for each by itself where files differ."""
+        """Records the value of `__has_include_next` for units over one search; if files differ, for each unit by itself."""
         if not self.files.nexts:
             return
         search = looked.search
@@ -94,25 +94,25 @@ class Builder:
                 own = answers
             self.nexts[command] = next(iter(own)) if len(own) == 1 else self.taken.get(command)
             if len(own) > 1 or command in self.computing:
-                # a name that a macro makes may be that of any file on the list
+                # a name that a macro makes may stand for any file on the list
                 self.several.append(command)
 
     def macros(self, command):
-        """The names that a unit's definitions define."""
+        """Returns the names that a unit's definitions define."""
         return {*self.given.definitions(command), *command.definitions}
 
     def take_next(self, command, answer):
-        """Takes an answer of `__has_include_next` for a unit whose files may have others; None is no answer."""
+        """Assumes a value of `__has_include_next` for a unit whose files may disagree; None defines no value."""
         self.nexts[command] = self.taken[command] = answer
 
     def search(self, command):
-        """A command's folders, and how many of them are for names in quotes alone."""
+        """Returns a command's directories, and how many of them are for names in quotes only."""
         if command not in self.searches:
             self.searches[command] = command.search(self.given.folders(command))
         return self.searches[command]
 
     def first_of(self, command, word):
-        """The file of an -include: first in the command's own folder, then in those for names in quotes."""
+        """Returns the file of an -include: looked for in the command's own directory first, then as a name in quotes."""
         return self.files.first((command.directory, *self.search(command)[0]), word)
 
     def common(self, paths, all_commands):
@@ -122,12 +122,12 @@ class Builder:
         return os.path.commonpath(folders) if folders else os.getcwd()
 
     def below(self, path):
-        """The path relative to the root, or None where it isn't below it."""
+        """Returns the path relative to the root, or None if it isn't below the root."""
         front = os.path.join(self.root, "")
         return "." if path == self.root else path[len(front):] if path.startswith(front) else None
 
     def name(self, path):
-        """A file's name in the list, or None where it can't have one, which is said."""
+        """Returns a file's name in the list, or None if the list can't have it, which is reported."""
         name = self.below(path)
         if name is None:
             self.said.add("%s: not below the root %s" % (path, self.root))
@@ -151,7 +151,7 @@ class Builder:
                 "search": self.folders[search]}
 
     def defined(self, command):
-        """A command's definitions, and before them those for all units, but for names of which the command says more."""
+        """Returns a command's definitions; before them the ones for all units, without names that the command itself defines or undefines."""
         given = self.given.definitions(command)
         if self.nexts.get(command) is not None:
             given = {"__has_include_next": "__has_include_next(x) %d" % self.nexts[command], **given}
@@ -176,7 +176,7 @@ class Builder:
         return name
 
     def made_of(self, file, first, command):
-        """The name of the file that includes these and then the unit's."""
+        """Returns the name of a generated file that includes these files and then the unit's."""
         key = (file, first)
         if key in self.made:
             return self.made[key]["name"]
@@ -194,7 +194,7 @@ class Builder:
         return name
 
     def row(self, path, name):
-        """A file of the list, or None where its content is too long for one."""
+        """Returns a file's row in the list, or None if its content is too long for a list."""
         if not self.asked.inline:
             return {"name": name}
         with open(path, "rb") as file:
@@ -209,7 +209,7 @@ class Builder:
 
 
 def now():
-    """The date and the time as gcc has them: by SOURCE_DATE_EPOCH in UTC, otherwise the local time."""
+    """Returns the date and the time as gcc has them: from SOURCE_DATE_EPOCH in UTC, otherwise the local time."""
     epoch = os.environ.get("SOURCE_DATE_EPOCH", "")
     moment = time.gmtime(int(epoch)) if epoch.isdecimal() else time.localtime()
     date = "%s %2d %04d" % (MONTHS[moment.tm_mon - 1], moment.tm_mday, moment.tm_year)
@@ -217,7 +217,7 @@ def now():
 
 
 def list_of(asked, rows, pairs):
-    """The list; folders that all units share stand once."""
+    """Returns the list; directories that all units share are written once."""
     units = [unit for _, unit in pairs]
     date, clock = now()
     chosen = {"budget": asked.budget, "profile": asked.profile}
@@ -231,7 +231,7 @@ def list_of(asked, rows, pairs):
 
 
 def bytes_of(listed):
-    """The list's bytes, refused where they are more than cppunits reads."""
+    """Returns the list's bytes; refuses a list that is larger than cppunits reads."""
     data = compact(listed)
     if len(data) > MOST_INPUT:
         raise Refused("the list has %d bytes, more than %d" % (len(data), MOST_INPUT))

@@ -1,4 +1,4 @@
-"""Runs of cppunits over a list, and the names of headers that macros make, which these runs tell."""
+"""Runs cppunits over a list, and learns from these runs the names of headers that macros make."""
 import contextlib
 import os
 import select
@@ -15,17 +15,17 @@ STATUSES = {2: "it refuses its command line", 3: "it refuses the list", 4: "it i
 
 
 class Program:
-    """The program, where it keeps its lists and outputs, and how many workers it has."""
+    """Holds the program, the directory for its lists and outputs, and its number of workers."""
 
     def __init__(self, path, folder, workers=None):
         self.path, self.folder, self.workers = path, folder, workers
 
     def run(self, word, listed, root, output):
-        """Runs `dump` or `deps` over a list, into a binary file that is open."""
+        """Runs `dump` or `deps` over a list, and writes the output to an open binary file."""
         output.writelines(self.pieces(word, listed, root))
 
     def pieces(self, word, listed, root):
-        """Runs it, and gives what it prints in pieces that end lines; ends well where units have faults, too."""
+        """Runs the program, and yields its output in pieces that end with whole lines; units with faults are no failure."""
         path = os.path.join(self.folder, "list.json")
         with open(path, "wb") as file:
             file.write(bytes_of(listed))
@@ -48,13 +48,13 @@ class Program:
             self.judge(process.returncode, errors.read(1000).decode("utf-8", "replace").strip().split("\n")[0])
 
     def judge(self, status, said):
-        """Refuses a run that ended badly."""
+        """Refuses a run that failed."""
         if status not in (0, 1):
             reason = STATUSES.get(status, "status %d" % status)
             raise Refused("%s: %s%s" % (self.path, reason, said and ": " + said))
 
     def over(self, listed, root):
-        """The root; or, where files were made, a folder with them and links to what stands in the root."""
+        """Returns the root; if files were generated, a directory with them and with links to what is in the root."""
         made = os.path.join(self.folder, "root")
         if not os.path.isdir(os.path.join(made, GENERATED)):
             return root
@@ -65,7 +65,7 @@ class Program:
 
 
 def whole_lines(stream):
-    """What comes through a pipe, in pieces that end lines; it is waited for a moment at a time, so that an interrupt is seen."""
+    """Yields what comes through a pipe, in pieces that end with whole lines; it waits in short steps, so that it sees an interrupt."""
     rest, data = b"", b"\n"
     while data:
         if not select.select([stream], [], [], MOMENT)[0]:
@@ -81,10 +81,11 @@ def whole_lines(stream):
 
 
 def settled(builder, all_commands, program, asked=lambda: None, progress=lambda text: None):
-    """Gathers the files of all units, and adds those of the names that macros make until no unit asks for more.
+    """Gathers the files of all units, and adds the files of names that macros make, until no unit asks for more.
 
-    `asked` is called behind each gathering, as what compilers are asked depends on the files.  A name that cppunits doesn't find is looked for
-    beside its includer and in each folder; so is each name that a unit with such lines found, since another file of it may stand before."""
+    `asked` is called after each gathering, because the questions to compilers depend on the files.  A name that cppunits doesn't find is
+    looked for next to its includer and in each directory.  So is each name that a unit with such include lines found, since another file of
+    that name may come first."""
 
     def gather():
         builder.gather(all_commands)
@@ -106,7 +107,7 @@ def settled(builder, all_commands, program, asked=lambda: None, progress=lambda 
 
 
 def ran(builder, some_commands, program):
-    """Runs these units, and gives each command with the paths that its unit opened, its fault, and the paths of the list."""
+    """Runs these units, and yields each command with the paths that its unit opened, its fault, and the paths of the list."""
     rows, pairs = builder.build(some_commands)
     listed = list_of(builder.asked, rows, pairs)
     names = [os.path.join(builder.root, row["name"]) for row in listed["files"]]
@@ -118,9 +119,10 @@ def ran(builder, some_commands, program):
 
 
 def decide(builder, program):
-    """Decides what `__has_include_next` is where the files that a unit may open differ: what all those say that it does open, if they agree.
+    """Decides the value of `__has_include_next` for a unit if the files that it may open disagree: the value in the files that it does open.
 
-    A unit is run under an answer, and where a file that it opens says the other, under that; where one then still differs, there is no answer."""
+    A unit is run with a value.  If a file that it opens has the other value, the unit is run with that one.  If a file still disagrees, the
+    unit has no value."""
     waiting = builder.several
     for command in waiting:
         builder.take_next(command, builder.taken.get(command) is not False)
@@ -135,7 +137,7 @@ def decide(builder, program):
 
 
 def told(builder, waiting, program):
-    """Runs these units, and gives those that ask for files which aren't on the list."""
+    """Runs these units, and returns those that ask for files which aren't on the list."""
     lacking, asking = Lacking(builder), []
     for command, found, fault, names in ran(builder, waiting, program):
         asked = lacking.asked(command, found) + lacking.faulted(command, fault, names)
@@ -147,14 +149,14 @@ def told(builder, waiting, program):
 
 
 class Lacking:
-    """Which files aren't on a list that a unit looks for by a name which a macro makes: pairs of the file that asks and such a name."""
+    """Finds files that a unit looks for under names that macros make and that aren't on the list: pairs of an includer and a name."""
 
     def __init__(self, builder):
         self.files, self.builder, self.here = builder.files, builder, set(builder.paths)
         self.searches, self.known = {}, {}
 
     def faulted(self, command, fault, names):
-        """Where the unit's fault is that there is no such file, but there is one."""
+        """Returns the pair of the unit's fault, if the fault is that there is no such file and yet there is one."""
         words = (fault or "").split(" ", 2)
         if words[0] != NO_FILE or len(words) < 3:
             return []
@@ -164,7 +166,7 @@ class Lacking:
         return [(names[row], name)]
 
     def asked(self, command, found):
-        """What was found may not be what is first: each file that was read may be of a name that a macro made."""
+        """Returns pairs for the files that were read: each may have been found by a name that a macro made, and not be the first of that name."""
         includers = [path for path in found if path in self.files.lines and self.files.computed_by(path)]
         if not includers:
             return []
@@ -186,6 +188,6 @@ class Lacking:
 
 
 def names_of(path, folders):
-    """The names by which a file is found below some folders."""
+    """Returns the names by which a file is found below these directories."""
     fronts = [os.path.join(folder, "") for folder in folders]
     return unique(path[len(front):] for front in fronts if path.startswith(front))

@@ -35,7 +35,7 @@ def cut(asked):
 
 
 def refuse_others(folder, numbers):
-    """Files of a cut into more parts would be taken for parts of this one."""
+    """Refuses a directory that has files of a cut into more parts, which would be taken for parts of this one."""
     for name in sorted(os.listdir(folder)) if os.path.isdir(folder) else ():
         number = re.match(r"(\d{3,})\.", name)
         if number and number[1] not in numbers:

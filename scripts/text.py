@@ -24,7 +24,7 @@ HASHES = (b"#", b"%:")
 
 
 class Token:
-    """A token line's kind, whether a mark stands before it, where it is used, and its spelling."""
+    """Is a token line: the token's kind, whether white space comes before it, where it is used, and its spelling."""
 
     __slots__ = ("kind", "space", "text", "used")
 
@@ -38,7 +38,7 @@ class Token:
 
 
 def joins(left, right):
-    """Whether two tokens without a space between them could be read as others than these two."""
+    """Returns whether two tokens could be read as other tokens if no space were between them."""
     if left.kind == b"o" or right.kind == b"o":
         return True
     if left.kind == b"p":
@@ -49,20 +49,20 @@ def joins(left, right):
 
 
 def destringized(spelling):
-    """The text of a string literal after _Pragma (6.10.9)."""
+    """Returns the text of a string literal after _Pragma (6.10.9)."""
     inner = spelling[spelling.index(b'"') + 1:-1]
     return re.sub(rb'\\(["\\])', rb"\1", inner)
 
 
 def is_operator(tokens, at):
-    """Whether _Pragma and a literal in parentheses stand here."""
+    """Returns whether _Pragma and a literal in parentheses are here."""
     found = tokens[at:at + 4]
     return [token.kind for token in found] == [b"i", b"p", b"s", b"p"] and (
         (found[0].text, found[1].text, found[3].text) == (b"_Pragma", b"(", b")"))
 
 
 def line_of(tokens):
-    """Tokens on one line, which doesn't begin with `#` and doesn't end in a backslash: both would have a meaning there."""
+    """Returns tokens as one line that doesn't begin with `#` and doesn't end in a backslash, since both would have a meaning."""
     text, before = [], None
     for token in tokens:
         if before is not None and (token.space or joins(before, token)):
@@ -77,7 +77,7 @@ def line_of(tokens):
 
 
 def text_lines(tokens):
-    """The lines of a run of tokens."""
+    """Yields the lines of a run of tokens."""
     line, at = [], 0
     while at < len(tokens):
         token = tokens[at]
@@ -96,7 +96,7 @@ def text_lines(tokens):
 
 
 def runs(lines):
-    """Whether they are a pragma's, and its tokens, for each run of token lines."""
+    """Yields, for each run of token lines, whether it is a pragma's, and its tokens."""
     pragma, tokens = False, []
     for line in lines:
         if line.startswith((b"tok ", b"prag ")) and (pragma or line.startswith(b"prag ")):
@@ -108,7 +108,7 @@ def runs(lines):
 
 
 def text_of(unit):
-    """A unit's text."""
+    """Yields the lines of a unit's text."""
     for pragma, tokens in runs(unit.lines):
         if pragma:
             yield b"#pragma " + line_of(tokens) + b"\n"

@@ -1,13 +1,13 @@
 #!/bin/sh
-# The full check: `rt ci`, and then whether the crates' tests call each public function, and, over the program that it builds, rows of
-# conditions, macro replacement, files, budgets and tokens, files beside plain passes of phases 1 and 2, the tests of the scripts, the examples of
-# the README and of docs/, cut texts and lists, the limits that take no seconds (names, contents of a folder, includes, conditions,
-# arguments, `#line`, options, units, files, contents of a list, definitions), which lists are refused and what is printed of the others, all
-# depths at once in a small stack, streams and files that fail, and the runs with refused memory.  The last line is `N passed, N failed` over
-# all of it; before it stands which tests were missed, with the program that is missing and the Debian package that has it.  What takes
-# longer is in tests/hostile.sh.
+# The full check.  First `rt ci`, and whether the crates' tests call each public function.  Then tests of the program that it
+# builds: rows of conditions, macro replacement, files, budgets and tokens; files compared with plain passes of phases 1 and 2;
+# the tests of the scripts; the examples of the README and of docs/; cut texts and lists; the limits that take no seconds
+# (names, contents of a directory, includes, conditions, arguments, `#line`, options, units, files, contents of a list,
+# definitions); which lists are refused, and the output for the others; all depths at once in a small stack; streams and files
+# that fail; and runs with refused memory.  The last line is `N passed, N failed` for all of it.  Before it stand the missed
+# tests, each with the missing program and its Debian package.  Longer tests are in tests/hostile.sh.
 #
-#     tests/all.sh [PROGRAM]     with a PROGRAM, no `rt ci`: the other tests, over this one
+#     tests/all.sh [PROGRAM]     with a PROGRAM, no `rt ci`: only the other tests, of this program
 case ${1:-/} in
     /*) ;;
     *) set -- "$PWD/$1" ;;
@@ -22,7 +22,7 @@ trap 'kill $pids 2> /dev/null; rm -rf "$kept"' EXIT
 trap 'exit 1' HUP INT TERM
 : > "$kept/missed"
 
-# Adds the counts of the last line of what a command said; one that ends badly and counts no failure counts as one.
+# Adds the counts of the last line of a command's output; a command that fails and counts no failure counts as one.
 add() {
     counts=$(tail -n 1 "$1" | sed -n 's/^\([0-9][0-9]*\) passed, \([0-9][0-9]*\) failed$/\1 \2/p')
     status=$2
@@ -35,7 +35,7 @@ add() {
     grep '^missed: ' "$3" >> "$kept/missed"
 }
 
-# Runs a command, shows what it says, and says how long it took.
+# Runs a command, prints its output, and prints how long it took.
 count() {
     printf '== %s\n' "$*"
     began=$(date +%s)
@@ -44,7 +44,7 @@ count() {
     add "$kept/log" "$(cat "$kept/status")"
 }
 
-# Begins a command that runs beside the others that were begun.
+# Starts a command that runs at the same time as the others that were started.
 begin() {
     begun=$((begun + 1))
     {
@@ -57,7 +57,7 @@ begin() {
     pids="$pids $!"
 }
 
-# Waits for all that were begun, and shows what each said.
+# Waits for all commands that were started, and prints the output of each.
 finish() {
     wait
     for number in $(seq "$begun"); do
@@ -66,7 +66,7 @@ finish() {
     done
 }
 
-# Whether a program is there; otherwise notes what is missed without it.
+# Returns whether a program is there; otherwise records what is missed without it.
 has() {
     command -v "$1" > /dev/null && return
     package=$(sed -n "s/^$1 //p" tests/packages.txt)
@@ -77,7 +77,7 @@ has() {
 if [ $# -gt 0 ]; then
     CPPUNITS=$1
 else
-    # One check for each processor, 4 at most.  rt would run fewer, since it reckons with 9 GB for each; they take 1 to 4.
+    # One check for each processor, at most 4.  rt would run fewer, since it expects 9 GB for each; they take 1 to 4 GB.
     if [ -z "${RT_JOBS:-}" ]; then
         RT_JOBS=$(nproc)
         [ "$RT_JOBS" -le 4 ] || RT_JOBS=4

@@ -1,10 +1,10 @@
 #!/usr/bin/env python3
-"""Tests of scripts/build.py, over compilers that these tests make and over the machine's gcc with its own headers.
+"""Tests scripts/build.py, with compilers that these tests make and with the machine's gcc and its headers.
 
     tests/build_tests.py [PROGRAM] [-k NAME]
 
-A compiler that is made here is a shell script: it notes its words, and answers the questions for folders, macros and operators.  With the
-machine's gcc the tokens are compared with those of `gcc -E -P`, and the dependencies with those of `gcc -M`.
+A compiler that these tests make is a shell script.  It records its arguments, and answers the questions for directories, macros and
+operators.  With the machine's gcc, tokens are compared with those of `gcc -E -P`, and dependencies with those of `gcc -M`.
 """
 import json
 import os
@@ -27,7 +27,7 @@ case " $* " in
     *) sed -n 's/^#ifdef __has_attribute$/@ has_attribute :/p; s/^#if __has_attribute(good)$/@ has_attribute good : 1/p' ;;
 esac
 """
-# what a preprocessing token is, for texts of gcc -E -P
+# a preprocessing token in the text of gcc -E -P
 TOKEN = re.compile(r"""(?:u8|[uUL])?"(?:\\.|[^"\\\n])*" | [uUL]?'(?:\\.|[^'\\\n])*' | \.?[0-9](?:[eEpP][+-]|[\w.])* | [A-Za-z_$][\w$]*
     | \.\.\. | <<= | >>= | -> | \+\+ | -- | << | >> | [<>=!*/%+&^|-]= | && | \|\| | \#\# | \S""", re.VERBOSE)
 HEADERS = "stdio.h limits.h stdint.h errno.h sys/socket.h"
@@ -42,7 +42,7 @@ REAL = {
 
 
 class Builds(Folder):
-    """Builds in a folder of their own, with compilers in its folder `bin`, which PATH names first."""
+    """Makes builds in a temporary directory, with compilers in its directory `bin`, which comes first on PATH."""
 
     def setUp(self):
         super().setUp()
@@ -50,7 +50,7 @@ class Builds(Folder):
         self.path_of = os.pathsep.join([self.path("bin"), os.environ["PATH"]])
 
     def compiler(self, name, text=COMPILER, who="1"):
-        """Makes a compiler, and gives its path."""
+        """Makes a compiler, and returns its path."""
         write(self.top, {name: text % {"top": self.top, "who": who} if "%(" in text else text})
         os.chmod(self.path(name), 0o755)
         return self.path(name)
@@ -62,7 +62,7 @@ class Builds(Folder):
         return dict(os.environ, PATH=self.path_of, TMPDIR=self.path("tmp"))
 
     def build(self, task, commands, *words, status=0, **more):
-        """What build.py prints for commands, each words or text for the file a.c, or with the file's name, and its lines on standard error."""
+        """Returns the output of build.py and its lines on standard error; each command is words or a text for a.c, or has the name of its file."""
         entries = []
         for command in commands:
             command, file = command if isinstance(command, tuple) else (command, "a.c")
@@ -74,7 +74,7 @@ class Builds(Folder):
         return done.stdout.decode(), done.stderr.decode().splitlines()
 
     def tokens(self, commands, *words, **more):
-        """The spellings of each unit's tokens, and the lines on standard error."""
+        """Returns the spellings of each unit's tokens, and the lines on standard error."""
         printed, said = self.build("dump", commands, *words, **more)
         units = re.split(r"^unit .*\n", printed, flags=re.MULTILINE)[1:]
         return [[spelled(word.encode()) for word in re.findall(r"^tok \S+ \S+ \S+ (.*)$", unit, re.MULTILINE)] for unit in units], said
@@ -88,7 +88,7 @@ class Builds(Folder):
 
 
 class Compilers(Builds):
-    """Which compilers are asked, and what."""
+    """Tests which compilers are asked, and what."""
 
     def test_folders_macros_and_operators_are_the_compilers(self):
         self.compiler("bin/gcc")
@@ -101,7 +101,7 @@ class Compilers(Builds):
         self.assertEqual(len(said), 1)
 
     def test_profiles(self):
-        """Where a profile has no such operator, and lets no `__STDC_VERSION__` be defined, neither is."""
+        """Wants no operators and no `__STDC_VERSION__` of the compiler in a profile that doesn't allow them."""
         self.compiler("bin/gcc")
         write(self.top, {"a.c": "#ifdef __has_include\nhas\n#endif\n__STDC_VERSION__ WHO\n"})
         for words, wanted in ([], ["has", "199901L", "1"]), (["gnu"], ["has", "199901L", "1"]), (["later"], ["201112L", "1"]), (["c11"], ["201112L", "1"]):
@@ -146,7 +146,7 @@ class Compilers(Builds):
             self.assertIn("this compiler isn't asked: there is no such program", said[0])
 
     def test_what_is_run_is_what_is_trusted(self):
-        """Other names, relative paths, paths elsewhere; each is run where --query-driver says so."""
+        """Refuses other names, relative paths, and paths elsewhere; runs each of them if --query-driver allows it."""
         self.compiler("bin/nocc")
         self.compiler("here/gcc")
         self.compiler("bin/gcc; touch x")
@@ -200,7 +200,7 @@ class Compilers(Builds):
         self.assertIn("no answer", self.tokens(["gcc -Isys -c a.c"], status=1)[1][0])
 
     def test_a_folder_that_stands_twice(self):
-        """As gcc has it: a folder of the system stays where the system's are, links are the folders that they lead to."""
+        """Wants gcc's order: a system directory keeps its place, and a link is the directory that it leads to."""
         self.compiler("bin/gcc")
         write(self.top, {"a.c": "#include <h.h>\n", "one/h.h": "one\n#include_next <h.h>\n", "sys/h.h": "sys\n#include_next <h.h>\n",
                          "late/h.h": "late\n"})
@@ -210,14 +210,14 @@ class Compilers(Builds):
 
 
 class Lists(Builds):
-    """Which files are on the list."""
+    """Tests which files are on the list."""
 
     def setUp(self):
         super().setUp()
         self.compiler("bin/gcc")
 
     def names(self, commands, *words, **more):
-        """The tokens of units, and the names on the list."""
+        """Returns the tokens of units, and the names on the list."""
         tokens, said = self.tokens(commands, "--list", self.path("list.json"), *words, **more)
         with open(self.path("list.json")) as file:
             listed = json.load(file)
@@ -237,14 +237,14 @@ class Lists(Builds):
                    ["a.c", "one/h.h", "two/h.h", "two/b/q.h", "b/q.h", "b/r.h", "one/r.h", "two/k.h"])
 
     def test_folders_for_names_in_quotes_alone(self):
-        """They are told where a name in angle brackets is found there, and only there."""
+        """Wants a report if a name in angle brackets is found in such a directory, and only then."""
         write(self.top, {"a.c": "#include <h.h>\n", "b/b.c": '#include "h.h"\n', "q/h.h": "q\n", "i/h.h": "i\n"})
         self.check(["gcc -iquote q -Ii -c a.c"], [["i"]], ["a.c", "i/h.h"])
         said = self.names(["gcc -iquote q -Ii -c a.c", ("gcc -iquote q -c b/b.c", "b/b.c")], status=1)[2]
         self.assertEqual(said[0], "build.py: %s/a.c: <h.h> is found in an -iquote folder, as %s/q/h.h" % (self.top, self.top))
 
     def test_whether_there_is_a_next_file(self):
-        """As clang's headers ask it: a definition says it where all files that a unit opens have the same answer."""
+        """Tests the way in which clang's headers ask: a definition has the answer if it is the same for all files that a unit opens."""
         asks = "#if 1 && __has_include_next(<%s.h>)\n#include_next <%s.h>\n#endif\n%s\n"
         write(self.top, {"a.c": "#include <h.h>\n", "b.c": "#include <k.h>\n", "c.c": "#include <h.h>\n#include <k.h>\n", "two/h.h": "two\n",
                          **{"one/%s.h" % name: asks % (name, name, name) for name in "hk"}})
@@ -265,7 +265,7 @@ class Lists(Builds):
         self.names(["gcc -D_ELSE -Ione -Itwo -c a.c"], status=1)
 
     def test_names_that_macros_make(self):
-        """Each round finds more; no folder is taken as a whole, and a comment is no include line."""
+        """Finds more in each round; lists no directory as a whole, and takes no comment for an include line."""
         write(self.top, {"a.c": "#define STR(x) #x\n#include FIRST\n#include STR(sub/third.h)\n", "inc/sub/third.h": "third\n",
                          "inc/first.h": '#define S "second.h"\n#include S\nfirst\n', "inc/never.h": "", "inc/sub/never.h": "",
                          "inc/second.h": "second\n/* this is\n   #include what_is not\n*/\n"})
@@ -273,7 +273,7 @@ class Lists(Builds):
                    ["a.c", "inc/first.h", "inc/second.h", "inc/sub/third.h"])
 
     def test_a_name_that_a_macro_makes_is_found_where_the_compiler_finds_it(self):
-        """Another unit has a file of this name on the list, which stands behind the right one."""
+        """Takes the right file, though another unit has a file of this name on the list, which comes after it."""
         write(self.top, {"a.c": "#include X\n", "b.c": "#include <x.h>\n", "sub/c.c": "#define X \"x.h\"\n#include X\n", "sub/x.h": "sub\n",
                          "one/x.h": "one\n", "two/x.h": "two\n"})
         self.check(["gcc -Ione -Itwo '-DX=<x.h>' -c a.c", ("gcc -Itwo -c b.c", "b.c"), ("gcc -Itwo -c sub/c.c", "sub/c.c")],
@@ -288,7 +288,7 @@ class Lists(Builds):
                    ["a.c", "both.h", "inc/first.h", "inc/second0.h", "inc/second1.h", "inc/second2.h", "inc/third0.h", "inc/third1.h"])
 
     def test_units_that_are_run_for_names_that_macros_make(self):
-        """Those that reach such a line alone, and none where nothing defines its macro."""
+        """Runs only the units that reach such a line, and none if its macro is never defined."""
         self.compiler("bin/cppunits", "#!/bin/sh\ncat > %(top)s/given\necho $(grep -o '\"file\":\"[^\"]*' %(top)s/given) >> %(top)s/runs\n"
                                       "exec '" + program() + "' \"$@\" < %(top)s/given\n")
         write(self.top, {"a.c": "#include <one.h>\n", "b.c": "#include <two.h>\n", "inc/one.h": "#include \"low.h\"\n", "inc/two.h": "two\n",
@@ -307,7 +307,7 @@ class Lists(Builds):
             self.assertEqual(lines, [[name] for name in runs] + [["a.c", "b.c"]], text)
 
     def test_rounds_end(self):
-        """A unit that asks for ever more."""
+        """Stops for a unit that always asks for more."""
         files = {"inc/%d.h" % n: "#define N <%d.h>\n#include N\n#undef N\n" % (n + 1) for n in range(70)}
         write(self.top, {"a.c": "#include <0.h>\n", "inc/70.h": "", **files})
         printed, said = self.build("faults", ["gcc -Iinc -c a.c"], status=1)
@@ -321,7 +321,7 @@ class Lists(Builds):
         self.assertRegex("\n".join(said), r"^build.py: 2 units, 1 with a fault, 2 files \(2 on the list\), \S+ seconds$")
 
     def test_the_lines_above_a_fault(self):
-        """Also where a file is included first, and in the form for programs."""
+        """Tests this also for a file of -include, and for the JSON form."""
         write(self.top, {"a.c": "int a;\n#include \"own.h\"\n", "own.h": "#error no\n", "first.h": "#error first\n", "good.h": ""})
         commands = [["gcc", "-include", name, "-c", "a.c"] for name in ("good.h", "first.h")]
         printed, _ = self.build("faults", commands, status=1)
@@ -344,7 +344,7 @@ class Lists(Builds):
             self.assertEqual(file.read(), "x.o: \\\n  a.c \\\n  cfg.h\n")
 
     def test_dependency_files(self):
-        """Names are relative where the command's are, and targets are what it says; a further unit of a file has its number."""
+        """Wants relative names if the command's are relative, the command's targets, and a number for a further unit of a file."""
         write(self.top, {"src/a.c": '#include <sys.h>\n#include "own.h"\n#include <inc.h>\n', "src/own.h": "", "inc/inc.h": ""})
         whole = self.path("src/a.c")
         commands = [("gcc -Iinc -o a.o -c src/a.c", "src/a.c"), (["gcc", "-Iinc", "-c", whole], whole)]
@@ -381,7 +381,7 @@ class Lists(Builds):
 
 
 class Runs(Builds):
-    """How it runs: terminals, interrupts, refusals."""
+    """Tests how it runs: terminals, interrupts, refusals."""
 
     def setUp(self):
         super().setUp()
@@ -399,7 +399,7 @@ class Runs(Builds):
         self.assertRegex(said, "\r\x1b\\[Kbuild.py: 1 units, 0 with a fault")
 
     def test_workers_are_the_programs(self):
-        """Each run of the program, for what a macro names and for the units, has as many as are asked for, or its own number."""
+        """Wants the given number of workers, or the program's own, in each run: those for names that macros make, and that for the units."""
         self.compiler("bin/cppunits", "#!/bin/sh\necho \"$*\" >> %(top)s/words\nexec '" + program() + "' \"$@\"\n")
         write(self.top, {"a.c": "#define H <sys.h>\n#include H\nWHO\n"})
         for words, option in (["--workers", "3"], "--workers 3 "), ([], ""):
@@ -410,7 +410,7 @@ class Runs(Builds):
             os.unlink(self.path("words"))
 
     def test_interrupts_leave_nothing(self):
-        """Where compilers or the program are waited for; the files that stood there stay as they were."""
+        """Interrupts it while it waits for compilers or the program; existing files must stay as they were."""
         write(self.top, {"compile_commands.json": json.dumps([{"directory": self.top, "file": "a.c", "command": "gcc -c a.c"}]), "out": "as it was"})
         slow = "#!/bin/sh\ntouch %(top)s/begun\nprintf 'unit 0 '\nexec sleep 30\n"
         self.compiler("bin/slow", slow)
@@ -424,7 +424,7 @@ class Runs(Builds):
             self.assertEqual(file.read(), "as it was")
 
     def interrupted(self, words, number):
-        # a shell that runs these tests in the background has them ignore SIGINT, and nohup SIGHUP
+        # a shell that runs these tests in the background makes them ignore SIGINT, and nohup SIGHUP
         process = subprocess.Popen(words, cwd=self.top, env=self.environment(), stdout=subprocess.PIPE, stderr=subprocess.PIPE,
                                    preexec_fn=lambda: signal.signal(number, signal.SIG_DFL))
         while not os.path.exists(self.path("begun")) and process.poll() is None:
@@ -462,7 +462,7 @@ class Runs(Builds):
 
 
 class Real(Builds):
-    """The machine's gcc, and its headers."""
+    """Tests with the machine's gcc and its headers."""
 
     def setUp(self):
         super().setUp()
@@ -496,7 +496,7 @@ class Real(Builds):
 
 
 def names_of(rule):
-    """The names of a rule's prerequisites, but for the header that gcc includes unasked."""
+    """Returns the names of a rule's prerequisites, without the header that gcc includes by itself."""
     names = rule.split(":", 1)[1].replace("\\\n", " ").split()
     return [name for name in names if not name.endswith("/stdc-predef.h")]
 

@@ -1,10 +1,10 @@
 #!/usr/bin/env python3
-"""Looks whether the tests of the crates call each public function of the libraries, by the text of both.
+"""Checks that the tests of the crates call each public function of the libraries, by searching the text of both.
 
     tests/called_tests.py [-k NAME]
 
-Public is what a library's lib.rt exports: functions, and the functions of exported types. A law, which takes nothing and gives nothing, does nothing, so
-nothing is to call it. A method counts as called where a call of its name stands in a crate of tests, whatever value it is called for.
+Public is what a library's lib.rt exports: functions, and the functions of exported types.  A law takes nothing, returns nothing and does
+nothing, so no test has to call it.  A method counts as called if a crate of tests calls a method of that name, for any value.
 """
 import glob
 import os
@@ -17,7 +17,7 @@ LIBRARIES = ("pptext", "ppmacro", "ppexpand", "ppexpr", "ppshelf", "ppunit", "pp
 TESTS = ("pptests", "ppshelftests", "ppruntests")
 EXPORT = re.compile(r"^pub use ([^;]*);", re.MULTILINE)
 ALIAS = re.compile(r"^pub type (\w+)(?:<[^>]*>)? = (\w+)<", re.MULTILINE)
-# the type of an `impl`, or a function, its first parameter, and whether it takes nothing and gives nothing
+# the type of an `impl`; or a function, its first parameter, and whether it takes and returns nothing
 ITEM = re.compile(
     r"^impl\b(?P<impl>[^{;]*)|^(?P<space> *)pub (?:const )?fn (?P<name>\w+)(?:<[^(]*>)?\((?P<first>[^,)]*)(?P<law>\)$)?", re.MULTILINE)
 TYPE = re.compile(r"(?:.*\bfor\s+)?(?:<[^{]*?>\s*)?([A-Z]\w*)", re.DOTALL)
@@ -30,7 +30,7 @@ def texts(crate):
 
 
 def public(crate):
-    """Patterns of the calls of a library's public functions, but for its laws."""
+    """Yields patterns of calls of a library's public functions, without its laws."""
     with open(os.path.join(TOP, "crates", crate, "src", "lib.rt")) as file:
         exported = set(re.findall(r"\w+", " ".join(EXPORT.findall(file.read()))))
     for text in texts(crate):
@@ -44,7 +44,7 @@ def public(crate):
 
 
 def called():
-    """The text of the tests, with the names of types in place of those that stand for them."""
+    """Returns the text of the tests, with type aliases replaced by the types."""
     tests = "".join(text for crate in TESTS for text in texts(crate))
     aliases = {alias: name for crate in LIBRARIES for text in texts(crate) for alias, name in ALIAS.findall(text)}
     return re.sub(r"\b\w+(?=::)", lambda name: aliases.get(name[0], name[0]), tests)

@@ -1,8 +1,8 @@
-"""Runs of the program and the scripts, and a count of tests, for those that don't stand in the crates.
+"""Runs the program and the scripts, and counts tests, for the tests that aren't in the crates.
 
 The program is the first argument, or the environment variable CPPUNITS, or crates/cppunits/out/cppunits, which `rt ci` and
-`rt run` build.  A test that needs a program which isn't there is missed: it counts as neither passed nor failed,
-and the missing program is named with the Debian package that has it.
+`rt run` build.  A test is missed if it needs a program that isn't there.  It counts as neither passed nor failed, and the
+missing program is named with its Debian package.
 """
 import json
 import os
@@ -17,7 +17,7 @@ HERE = os.path.dirname(os.path.abspath(__file__))
 TOP = os.path.dirname(HERE)
 BUILT = os.path.join(TOP, "crates", "cppunits", "out", "cppunits")
 with open(os.path.join(HERE, "packages.txt")) as lines:
-    # a program that tests use, and the Debian package that has it
+    # a program that tests use, and its Debian package
     PACKAGES = dict(line.split() for line in lines)
 LIST = {"date": "Feb  9 2024", "time": "08:05:03"}
 PRINTED = re.compile(rb"%([0-9A-F]{2})")
@@ -28,7 +28,7 @@ def program():
 
 
 def missed(*names):
-    """Ends a test as missed where one of these programs isn't there."""
+    """Ends a test as missed if one of these programs isn't there."""
     for name in names:
         if shutil.which(name) is None:
             raise unittest.SkipTest("%s is missing (Debian package %s)" % (name, PACKAGES[name]))
@@ -39,7 +39,7 @@ def run(command, **more):
 
 
 def well(command, **more):
-    """What a command prints, which is to end with status 0."""
+    """Returns the output of a command that must end with status 0."""
     done = run(command, **more)
     if done.returncode:
         raise AssertionError("%s: status %d\n%s" % (command, done.returncode, (done.stdout + done.stderr).decode()))
@@ -55,7 +55,7 @@ def cppunits(*words, **more):
 
 
 def write(folder, files):
-    """Files under a folder, by their names and texts or bytes."""
+    """Writes files below a directory, from their names and texts or bytes."""
     for name, text in files.items():
         path = os.path.join(folder, name)
         os.makedirs(os.path.dirname(path), exist_ok=True)
@@ -64,7 +64,7 @@ def write(folder, files):
 
 
 def dumped(files, units, *words, **more):
-    """The lines that are printed of each unit of a list, which is to be taken."""
+    """Returns the lines that are printed for each unit of a list, which must be accepted."""
     done = cppunits(*words, "dump", input=json.dumps(dict(LIST, files=files, units=units, **more)).encode())
     if done.returncode not in (0, 1) or done.stderr:
         raise AssertionError("status %d: %s" % (done.returncode, done.stderr.decode()))
@@ -72,12 +72,12 @@ def dumped(files, units, *words, **more):
 
 
 def spelled(text):
-    """A printed spelling as it stands in its file."""
+    """Returns a printed spelling as it is in its file."""
     return PRINTED.sub(lambda found: bytes([int(found[1], 16)]), text).decode("latin-1")
 
 
 class Folder(unittest.TestCase):
-    """Tests in a folder of their own."""
+    """Runs tests in a temporary directory."""
 
     def setUp(self):
         folder = tempfile.TemporaryDirectory()
@@ -89,7 +89,7 @@ class Folder(unittest.TestCase):
 
 
 class Results(unittest.TextTestResult):
-    """Results that name each test in a line."""
+    """Counts results, and names each missed test in a line."""
 
     def __init__(self, *words):
         super().__init__(*words)
@@ -116,7 +116,7 @@ STATUS = """status:
 
 
 def main():
-    """Runs the tests of the file that calls this, and prints what was missed and the counts."""
+    """Runs the tests of the calling file, and prints the missed tests and the counts."""
     words = sys.argv[1:]
     if words in (["--help"], ["-h"]):
         print(sys.modules["__main__"].__doc__.strip() + "\n\n" + STATUS, end="")

@@ -1,24 +1,24 @@
 #!/usr/bin/env python3
-"""Runs each example of README.md and docs/*.md, and compares what it prints with what stands there.
+"""Runs each example of README.md and docs/*.md, and compares its output with the document.
 
     tests/docs_examples.py [PROGRAM] [-k NAME]
-    tests/docs_examples.py --record DOCUMENT..     runs the sessions of these, and writes what they print into them
+    tests/docs_examples.py --record DOCUMENT..     runs the sessions of these, and writes their output into them
 
-An example is a block of `json`, which is the list on standard input, or of `sh`, whose output is the list; then, each
-followed by a block, any of
+An example is a block of `json`, which is the list on standard input, or of `sh`, whose output is the list.  After it come any
+of these, each followed by a block:
 
-    `cppunits WORDS` prints, with status N,             (without `with status N`: 0; standard error has nothing)
+    `cppunits WORDS` prints, with status N,             (without `with status N`: 0; nothing on standard error)
     `cppunits WORDS` exits with status N; standard error has
     `cppunits WORDS < FILE` prints ..                   (FILE of the repository is the list)
     `FILE` holds                                        (FILE of the repository has exactly this text)
     - gcc: `WORDS`   or   - clang: `WORDS`              (the first error or warning on the list's file a.c, or: nothing)
-    - gcc gives: `TEXT`   or   - clang gives: `TEXT`      (what stands in their output, each white space as one space)
+    - gcc gives: `TEXT`   or   - clang gives: `TEXT`      (their output, all white space as single spaces)
 
-Blocks of `console` are sessions, run by a shell in a copy of examples/demo, one after another for each document: lines after
-`$ ` are commands (a line that ends in a backslash goes on in the next), the others what they print, whatever the seconds.
-cppunits and the scripts are on the path.
+Blocks of `console` are sessions.  A shell runs them in a copy of examples/demo, one after another for each document.  Lines
+after `$ ` are commands (a line that ends in a backslash continues in the next), and the others are their output, of which
+seconds aren't compared.  cppunits and the scripts are on PATH.
 
-Messages of gcc and clang are compared if the installed one has the version that docs/FAULTS.md names.
+Messages of gcc and clang are compared if the installed version is the one that docs/FAULTS.md names.
 """
 import contextlib
 import glob
@@ -43,7 +43,7 @@ DIAGNOSTIC = re.compile(r"(error|warning): ")
 
 
 def parts(text):
-    """The blocks (their language and text) and the other lines of a document, in their order."""
+    """Yields the blocks (language and text) and the other lines of a document, in order."""
     language, block = None, []
     for line in text.split("\n"):
         if line.startswith("```") and language is None:
@@ -58,7 +58,7 @@ def parts(text):
 
 
 def examples(text):
-    """What is claimed: a match of one of the sentences, the list's block and the block that follows."""
+    """Yields the claims of a document: the match of a sentence, the list's block, and the block that follows."""
     listed, claim = None, None
     for language, part in parts(text):
         if language is None:
@@ -77,7 +77,7 @@ def examples(text):
 
 
 def bytes_of(listed):
-    """The list of a block."""
+    """Returns the list of a block."""
     language, text = listed
     return text.encode() if language == "json" else well(["sh", "-c", text])
 
@@ -125,25 +125,25 @@ class Example:
 
 
 def commands(block):
-    """The commands of a session, each with what it prints."""
+    """Yields the commands of a session, each with its output."""
     for part in re.split(r"^\$ ", block, flags=re.M)[1:]:
         command, printed = re.match(r"((?:[^\n]*\\\n)*[^\n]*\n)(.*)", part, re.S).groups()
         yield command, printed
 
 
 def printed_by(command, where, environment):
-    """What a command of a session prints."""
+    """Returns the output of a command of a session."""
     done = subprocess.run(["sh", "-c", command], cwd=where, env=environment, stdout=subprocess.PIPE, stderr=subprocess.STDOUT)
     return done.stdout.decode()
 
 
 def same(found, printed):
-    """Whether they are the same, whatever the seconds."""
+    """Returns whether two outputs are the same; seconds aren't compared."""
     return SECONDS.sub("", found) == SECONDS.sub("", printed)
 
 
 def record(names):
-    """Writes the sessions of documents anew: their commands, with what these print now. Seconds alone change nothing."""
+    """Writes the current output of the commands into the sessions of documents.  A change of seconds alone changes nothing."""
     for name in names:
         with demo() as (where, environment):
             def recorded(block):
@@ -160,7 +160,7 @@ def record(names):
 
 @contextlib.contextmanager
 def demo():
-    """A copy of examples/demo, and an environment whose path has cppunits and the scripts."""
+    """Yields a copy of examples/demo, and an environment with cppunits and the scripts on PATH."""
     with tempfile.TemporaryDirectory() as folder:
         tools = os.path.join(folder, "tools")
         os.mkdir(tools)
@@ -196,7 +196,7 @@ def document_test(name):
 
 class Documents(unittest.TestCase):
     def claims(self, wanted, names=None):
-        """Checks the claims that are wanted, all of them, and tells which don't hold."""
+        """Checks all claims that are wanted, and reports those that don't hold."""
         for name in names or documents():
             example = Example(self, name)
             for claim, listed, block in examples(text_of(name)):

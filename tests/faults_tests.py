@@ -1,9 +1,9 @@
 #!/usr/bin/env python3
-"""Tests of scripts/faults.py: places, lines, carets, include chains, both forms, colours, and the table of advices.
+"""Tests scripts/faults.py: locations, lines, carets, include chains, both forms, colors, and the table of advice.
 
     tests/faults_tests.py [PROGRAM] [-k NAME]
 
-The chains are compared with those of gcc, over files that include each other at random.
+The chains are compared with those of gcc, over random files that include each other.
 """
 import io
 import json
@@ -27,20 +27,20 @@ FIRST = re.compile(r"^(.+):(\d+):(\d+): error: (.*) \[fault (\d+)\]$", re.M)
 
 class Faults(Folder):
     def listed(self, files, units=None, inside=False, **more):
-        """A list over files, which are written below the folder or, with `inside`, stand in the list."""
+        """Returns a list over files; writes them below the directory or, with `inside`, puts their contents in the list."""
         write(self.top, {} if inside else files)
         rows = [{"name": name, "text": text} if inside else {"name": name} for name, text in files.items()]
         return dict(LIST, files=rows, units=units or [{"file": rows[0]["name"]}], **more)
 
     def printed(self, listed):
-        """What the program prints of a list."""
+        """Returns what the program prints for a list."""
         words = [] if "text" in listed["files"][0] else ["--root", self.top]
         done = cppunits(*words, "deps", input=json.dumps(listed).encode())
         self.assertEqual(done.stderr, b"")
         return done.stdout
 
     def told(self, files, *words, status=1, **more):
-        """What the script writes of a list's faults."""
+        """Returns what the script prints for a list's faults."""
         listed = self.listed(files, **more)
         return self.said(listed, self.printed(listed), *words, status=status)
 
@@ -112,7 +112,7 @@ note: Give the folder that has it: by `-I` in a build's command, by `search` in 
 
 class Lines(Faults):
     def lines(self, text, **more):
-        """The source's line and the caret's, without what stands before them."""
+        """Returns the source line and the caret's line, without what is before them."""
         told = self.told({"a.c": text}, **more).splitlines()
         at = next(at for at, line in enumerate(told) if FIRST.match(line))
         found = told[at + 1:-1]
@@ -122,7 +122,7 @@ class Lines(Faults):
         self.assertEqual(self.lines("#define f(a) a\n\tx\tf(1, 2)\n"), ["\tx\tf(1, 2)", "\t \t^"])
 
     def test_letters_by_their_width(self):
-        # the last has a letter of two places and one that stands over another
+        # the last one has a character two columns wide, and one that combines with another
         for before, spaces in ("\u00e9\u00e9 ", 3), ("\u6f22\u5b57 ", 5), ("e\u0301 ", 2):
             self.assertEqual(self.lines("#define f(a) a\n%sf(1, 2)\n" % before), [before + "f(1, 2)", " " * spaces + "^"])
 
@@ -178,7 +178,7 @@ class Chains(Faults):
         self.assertEqual(self.chain(files), [("y.h", 3), ("a.c", 2)])
 
     def test_what_is_not_certain_is_left_out(self):
-        # whichever of the two lines opens it, the dependencies are the same
+        # the dependencies are the same, whichever of the two lines opens it
         files = {"a.c": "#ifdef A\n#include \"h.h\"\n#else\n#include \"h.h\"\n#endif\n", "h.h": "#error x\n"}
         self.assertIsNone(self.chain(files))
         self.assertTrue(self.told(files).startswith("In unit a.c:\nh.h:1:1: error: "))
@@ -187,11 +187,11 @@ class Chains(Faults):
         files = {"a.c": "#include \"h.h\"\n#include \"k.h\"\n", "h.h": "#ifndef G\n#define G\n#include \"k.h\"\n#endif\n",
                  "k.h": "#define N 1\n#error x\n"}
         self.assertEqual(self.chain(files, units=[{"file": "a.c", "define": ["N 1"]}]), [("h.h", 3), ("a.c", 1)])
-        # where the guard is a macro from the beginning, h.h may do nothing
+        # if the guard is defined from the beginning, h.h may do nothing
         self.assertIsNone(self.chain(files, units=[{"file": "a.c", "define": ["G"]}]))
 
     def test_a_guard_with_a_second_branch(self):
-        """Like gcc's limits.h: a file that is opened again goes on after #else."""
+        """Reads a file like gcc's limits.h: if it is opened again, it goes on after #else."""
         files = {"a.c": "#include <limits.h>\n", "one/limits.h": "#ifndef G\n#define G\n#include \"again.h\"\n#else\n#include_next <limits.h>\n#endif\n",
                  "one/again.h": "#include_next <limits.h>\n", "two/limits.h": "#error x\n"}
         above = [("one/limits.h", 5), ("one/again.h", 1), ("one/limits.h", 3), ("a.c", 1)]
@@ -245,7 +245,7 @@ class Chains(Faults):
         self.assertGreater(counts[0], 2 * counts[1] // 3)
 
     def compare(self, files, found, counts):
-        """The chain is gcc's, if one is printed."""
+        """Wants that the chain is gcc's, if one is printed."""
         write(self.top, files)
         done = run(["gcc", "-E", "-P", "a.c"], cwd=self.top, env=dict(os.environ, LC_ALL="C"))
         head = done.stderr.decode().split(": error: ")[0]
@@ -258,7 +258,7 @@ class Chains(Faults):
 
 
 def at_random(choice):
-    """Files that include later ones, some of them guarded, and end in an error somewhere."""
+    """Returns files that include later ones, some of them guarded, with an error somewhere at the end."""
     count = choice.randint(3, 8)
     names, files = ["a.c"] + ["h%d.h" % at for at in range(1, count)], {}
     for at, name in enumerate(names):
@@ -367,7 +367,7 @@ class Table(unittest.TestCase):
             faults.print_faults(json.loads(listed), io.BytesIO(output.encode()), ".", to)
             number = re.search(r"^fault (\d+) ", output, re.M)[1]
             self.assertEqual(FIRST.search(to.getvalue())[5], number)
-            # what the caret is under is there, but where no file can be read
+            # the line is there, but a file can't be read
             self.assertEqual(" | " in to.getvalue(), number not in ("6", "35"), to.getvalue())
 
 

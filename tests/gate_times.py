@@ -1,20 +1,21 @@
 #!/usr/bin/env python3
-"""Tells what the gate's time goes to: the proof of each crate, that of its tests, and its must-fail edits.
+"""Measures where the gate's time goes: the proof of each crate, the proof of its tests, and its must-fail edits.
 
     tests/gate_times.py [--watch FOLDER] [--dearest N] [--] [COMMAND ..]
 
-Runs COMMAND, by default `sh tests/all.sh` at the top of this repository, and looks once a second at the checks that run on this machine, each a
-process of `rattle`; so nothing else may check there meanwhile.  --watch FOLDER runs no command: it waits for a gate that runs in this folder
-already, from when it is called on.  What `rt ci` has kept is not done again, and so not told: `rt ci --anew` does all.
+Runs COMMAND, by default `sh tests/all.sh` at the top of this repository.  Once a second it looks at the checks that run on this machine, each a
+process of `rattle`; so nothing else may run checks meanwhile.  --watch FOLDER runs no command: it waits for a gate that already runs in this
+directory, and measures from its own start.  `rt ci` doesn't repeat what it has kept, so that isn't measured: `rt ci --anew` runs everything.
 
-Printed is, of each crate, by the clock from the start when its proof and that of its tests ended, in minutes; processor seconds of the proof,
-of the tests, of the check that the edits begin with, of all edits, and how many these were; the most memory that one check took, in GB; and
-of all crates the N dearest edits (10 by default), since an edit whose refusal takes the prover long can mostly be told in a form
-that takes less.  So that runs on several machines can be compared, it says what share of their time the processors were busy, what share a
-virtual machine's host gave to others, and the processor seconds of a loop of 10,000,000 additions, a twentieth of which is done twice a minute:
-the least of twenty times before the gate, each time on all processors at once, and the median and the most while it runs.  A loop that takes longer
-meanwhile tells that others use the processors as well: the last line is what the gate
-would have taken at the speed before.
+For each crate it prints when its proof and the proof of its tests ended, in minutes from the start; the processor seconds of the proof, of the
+tests, of the check that the edits begin with, and of all edits; the number of edits; and the most memory of one check, in GB.  Of all crates it
+prints the N most expensive edits (10 by default), since an edit that the prover takes long to refuse can mostly be written in a form that takes
+less time.
+
+To compare runs on several machines, it prints which share of their time the processors were busy, and which share the host of a virtual
+machine gave to others.  It also measures the processor seconds of a loop of 10,000,000 additions: before the gate on all processors at once
+(the least of twenty times), and while the gate runs a twentieth of the loop twice a minute (the median and the most).  If the loop takes longer
+meanwhile, other programs use the processors as well.  The last line has the time that the gate would have taken at the speed before.
 
 status: that of the command
 """
@@ -33,14 +34,14 @@ TOP = os.path.dirname(os.path.dirname(os.path.abspath(__file__)))
 TICK = os.sysconf("SC_CLK_TCK")
 PAGE = os.sysconf("SC_PAGE_SIZE")
 KINDS = ("proof", "tests", "seed", "edit")
-# The loop that tells how fast a processor is, and the part of it that is done each time.
+# The loop that measures how fast a processor is, and the fraction of it that runs each time.
 ADDITIONS = 10_000_000
 PART = 20
 
 
 @dataclass
 class Check:
-    """A check that was seen: of which crate and kind, the number of its edit, and what it took."""
+    """Is a check that was seen: its crate and kind, the number of its edit, and its time and memory."""
     crate: str
     kind: str
     number: int
@@ -55,17 +56,17 @@ def read(process, name):
 
 
 def kind_of(words, process, turns):
-    """The kind of a check by its command line, and an edit's number; None of what is no check of a crate.
+    """Returns the kind of a check from its command line, and an edit's number; None for a process that checks no crate.
 
-    Where a crate's edits share one folder, they are checked in turn, and the first is the one that begins from nothing: `turns` has the processes
-    of each folder in the order in which they were seen.
+    If a crate's edits share one directory, they are checked in turn, and the first check is the one that they all begin with.  `turns` has the
+    processes of each directory in the order in which they were seen.
     """
     if words[1] == "build":
         return ("tests" if "--test" in words else "proof"), 0
     if words[1] != "check":
         return None
     if "--incremental" not in words:
-        # the only edit of a crate, or one that is tried once more, from nothing
+        # the only edit of a crate, or an edit that is checked again, from the beginning
         return "edit", 0
     over = words[words.index("--incremental") + 1]
     found = re.search(r"/rt-edits-[^/]*(?:/(seed|\d+))?$", over)
@@ -80,7 +81,7 @@ def kind_of(words, process, turns):
 
 
 def look(process, turns):
-    """The check that a process is, or None."""
+    """Returns the check that a process is, or None."""
     words = read(process, "cmdline").decode(errors="replace").split("\0")
     if os.path.basename(words[0]) != "rattle" or "--crate-name" not in words:
         return None
@@ -93,14 +94,14 @@ def look(process, turns):
 
 
 def processor_times():
-    """The ticks that all processors were busy, idle, and given to others, since the machine started."""
+    """Returns the ticks that all processors were busy, idle, and given to others, since the machine started."""
     with open("/proc/stat") as file:
         user, nice, system, idle, waits, interrupts, more, stolen = (int(word) for word in file.readline().split()[1:9])
     return user + nice + system + interrupts + more, idle + waits, stolen
 
 
 def additions(count):
-    """The processor seconds of a loop of this number of additions."""
+    """Returns the processor seconds of a loop of this number of additions."""
     start, total = time.process_time(), 0
     for number in range(count):
         total += number
@@ -108,18 +109,18 @@ def additions(count):
 
 
 def loop_seconds():
-    """The processor seconds of the whole loop, by a part of it."""
+    """Returns the processor seconds of the whole loop, estimated from a part of it."""
     return additions(ADDITIONS // PART) * PART
 
 
 def loop_seconds_on_all():
-    """The same on all processors at once, their mean, the least of twenty: nearly what the loop takes where nothing else uses them."""
+    """Returns the mean over all processors at once, the least of twenty tries: nearly the loop's time on an idle machine."""
     with multiprocessing.Pool(os.cpu_count()) as pool:
         return min(statistics.mean(pool.starmap(loop_seconds, [()] * os.cpu_count(), 1)) for _ in range(20))
 
 
 def watch(goes_on, loops):
-    """The checks that are seen while the gate goes on.  How long the loop takes meanwhile is appended to `loops`."""
+    """Returns the checks that are seen while the gate runs, and appends the loop's times meanwhile to `loops`."""
     seen, turns, due = {}, {}, time.time() + 30
     while goes_on():
         if time.time() > due:
@@ -129,7 +130,7 @@ def watch(goes_on, loops):
             try:
                 check = look(process, turns)
             except (OSError, IndexError, ValueError):
-                # it has ended
+                # the process has ended
                 continue
             if check:
                 before = seen.get((process, check.crate, check.kind, check.number))
@@ -140,7 +141,7 @@ def watch(goes_on, loops):
 
 
 def edits_of(top, crate):
-    """The crate's edits in the order in which they are numbered."""
+    """Returns the crate's edits in the order of their numbers."""
     found = glob.glob(os.path.join(top, "crates", crate, "must-fail", "*.edit"))
     return [os.path.basename(path)[:-len(".edit")] for path in sorted(found)]
 
@@ -164,7 +165,7 @@ def report(top, checks, start, dearest):
 
 
 def report_machine(start, before, first, loops):
-    """How busy the processors were since then and those ticks, how fast they were, and what the gate would have taken at the speed before."""
+    """Prints how busy and how fast the processors were since the start, and the gate's time at the speed before."""
     busy, idle, stolen = (now - then for now, then in zip(processor_times(), before))
     whole = max(busy + idle + stolen, 1)
     print("%d processors, busy for %.0f %% of their time, given to others for %.0f %%" % (os.cpu_count(), 100 * busy / whole, 100 * stolen / whole))
@@ -175,7 +176,7 @@ def report_machine(start, before, first, loops):
 
 
 def runs_in(top):
-    """Whether an `rt` runs in this folder."""
+    """Returns whether an `rt` runs in this directory."""
     for process in filter(str.isdigit, os.listdir("/proc")):
         try:
             words = read(process, "cmdline").decode(errors="replace").split("\0")

@@ -1,16 +1,16 @@
 #!/usr/bin/env python3
-"""Rows of the profile gnu, by what the program prints: what gcc's manual calls variadic macros, wrapper headers and `__has_include`.
+"""Tests rows of the profile gnu by the program's output: variadic macros and wrapper headers as in gcc's manual, and `__has_include`.
 
     tests/gnu_tests.py [PROGRAM] [-k NAME]
 
-Where a unit is ok, its tokens are those of gcc 12 with -std=gnu11, but for the trailing comma of `0, ## __VA_ARGS__` under the later profile.
+If a unit is ok, its tokens are those of gcc 12 with -std=gnu11, except for the trailing comma of `0, ## __VA_ARGS__` in the later profile.
 """
 import unittest
 
 from counted import dumped, main
 from row_tests import given
 
-# Texts of a.c, and what a unit of it gives.
+# Texts of a.c, and the result of a unit of it.
 TEXTS = [
     # a named variadic parameter
     ("#define f(x...) [x]\nf(1, 2)\n", "[ 1 , 2 ] | 0 | ok"),
@@ -25,7 +25,7 @@ TEXTS = [
     ("#define f(x...) # __VA_ARGS__\n", "| 0 | 15 0:1:1 f"),
     ("#define f(x...) # y\n", "| 0 | 14 0:1:1 f"),
     ("#define f(x...) x ##\n", "| 0 | 13 0:1:1 f"),
-    # a variable argument that is absent
+    # an absent variable argument
     ("#define f(a, ...) a|__VA_ARGS__|\nf(1) f(1,) f(1,2)\n", "1 | | 1 | | 1 | 2 | | 0 | ok"),
     ("#define f(a, ...) a|__VA_ARGS__|\nf() f( )\n", "| | | | | 0 | ok"),
     ("#define f(a, b, ...) a\nf(1,2) f(1)\n", "1 | 0 | 18 0:2:8 f"),
@@ -54,7 +54,7 @@ TEXTS = [
     ("#warning old  header\n#ident \"x\"\n#sccs \"y\"\nz\n", "z | 0 | ok"),
     ("#warning don't\n#ident \"\nz\n", "z | 0 | ok"),
     ("#assert x(y)\n", "| 0 | 8 0:1:1 assert"),
-    # another definition of a name
+    # a second definition of a name
     ("#define X 1\n#define X 2\nX\n", "2 | 0 | ok"),
     ("#define X(a) a\n#define X 2\nX(1)\n", "2 ( 1 ) | 0 | ok"),
     ("#define X 1\n#define X 1\nX\n", "1 | 0 | ok"),
@@ -73,10 +73,10 @@ TEXTS = [
     # `__STDC_VERSION__`
     ("__STDC_VERSION__\n#undef __STDC_VERSION__\n__STDC_VERSION__\n", "201112L __STDC_VERSION__ | 0 | ok"),
     ("#undef __STDC__\n", "| 0 | 10 0:1:1 __STDC__"),
-    # all of the later profile
+    # all of the above in the later profile
     ("#if 0\n#elifdef __STDC__\n1\n#endif\n#pragma once\n", "1 pragma@0:5:1[ once ] | 0 | ok"),
 ]
-# The same in other profiles.
+# The same for other profiles.
 OTHERS = [
     ("later", "#define f(x...) x\n", "| 0 | 11 0:1:1 f"),
     ("c11", "#define f(a, ...) a\nf(1)\n", "| 0 | 18 0:2:1 f"),
@@ -87,7 +87,7 @@ OTHERS = [
     ("later", "#define X 1\n#define X 2\n", "| 0 | 16 0:2:1 X"),
     ("later", "#if __has_include(\"a.c\")\n1\n#endif\n", "| 0 | 23 0:1:1"),
 ]
-# Files, what a unit of the first has, what all units share, and what it gives.
+# Files, the members of a unit of the first file, the members that all units share, and the result.
 LISTS = [
     # `#include_next`
     ([
@@ -174,7 +174,7 @@ LISTS = [
         ("a.c", "#include_next \"h.h\"\n"),
         ("h.h", ""),
     ], {}, {"profile": "later"}, "| 0 | 8 0:1:1 include_next"),
-    # another definition of a name
+    # a second definition of a name
     ([
         ("a.c", "X\n"),
     ], {"define": ["X 1", "X 2"]}, {}, "2 | 0 | ok"),
@@ -208,13 +208,13 @@ LISTS = [
     ([
         ("a.c", "x\n"),
     ], {"define": ["__STDC_VERSION__ 199901L"]}, {"profile": "later"}, "| | 10 65535:1:1 __STDC_VERSION__"),
-    # `__has_attribute` by definitions
+    # `__has_attribute` from definitions
     ([
         ("a.c", "#if defined __has_attribute && __has_attribute(__unused__) && !__has_attribute(nothing)\n1\n#endif\n"),
     ], {"define": ["__has_attribute(x) __has_attribute_1(x)", "__has_attribute_1(x) __has_attribute_ ## x", "__has_attribute___unused__ 1"]}, {}, "1 | 0 | ok"),
 ]
 
-# What stands where, of tokens behind a comma and of one behind a comma that went.
+# The locations of tokens after a comma, and of one after a comma that was deleted.
 PLACED = [
     b"tok 0:2:4 0:2:2 n+ 1",
     b"tok 0:2:7 0:2:7 p+ +",
@@ -230,7 +230,7 @@ PLACED = [
 
 
 def gives(files, unit, shared):
-    """What a unit of the first file gives, in the profile gnu unless another is said."""
+    """Returns the result of a unit of the first file; the profile is gnu by default."""
     return given(files, [{"file": files[0][0], **unit}], **{"profile": "gnu", **shared})
 
 

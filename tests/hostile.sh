@@ -44,7 +44,7 @@ export TMPDIR PYTHONDONTWRITEBYTECODE
 passed=0
 failed=0
 
-# Runs a part and adds the counts of its last line; one that fails and counts no failure counts as one.
+# Runs a part and adds the counts of its last line; a part that fails and counts no failure counts as one failure.
 part() {
     named=$1
     shift

@@ -3,10 +3,10 @@
 
     tests/hostile_devices.py [PROGRAM] [-k NAME]
 
-Inputs that are closed, a directory, without data yet or slow; outputs that are closed, full, without room yet, slow or left by
-their reader, of a run and of `--help`; standard error closed or full; and, in a folder, files that are none, and reads for
-which the system has no memory or no file descriptor.  A stream that fails is status 5, with nothing printed or a beginning of
-the answer; what the system hasn't got is status 4, with nothing printed; no run may hang or end by a signal.
+Inputs are closed, a directory, slow, or have no data yet.  Outputs of a run and of `--help` are closed, full, slow, have no room yet, or lose
+their reader.  Standard error is closed or full.  In a directory some names aren't regular files, and some reads fail because the system has
+no memory or no file descriptor.  If a stream fails, the status is 5, and nothing or a beginning of the answer is printed.  If the system is
+out of memory or descriptors, the status is 4, and nothing is printed.  No run may hang or end by a signal.
 """
 import errno
 import json
@@ -22,28 +22,28 @@ from counted import LIST, Folder, cppunits, main, missed, program, write
 from refusals import refusing_files, runs
 
 MOST_SECONDS = 10
-# where the other end is slow, on a machine that has other things to do
+# enough seconds for a slow other end, on a machine that is busy
 MOST_SECONDS_OF_SLOW_ENDS = 120
-# its answer is longer than a pipe holds
+# a text whose tokens take more bytes than a pipe holds
 TEXT = "word " * 20_000
 LONG = json.dumps(dict(LIST, files=[{"name": "a.c", "text": TEXT}], units=[{"file": "a.c"}])).encode()
 READ_FAILED, WRITE_FAILED = (5, b"", b"cppunits: read failed\n"), (5, b"cppunits: write failed\n")
 OUT_OF_MEMORY = (4, b"", b"cppunits: out of memory\n")
 EMPTY = b'{"date":"Feb  9 2024","time":"08:05:03","files":[],"units":[]}'
-# errors that say nothing about a file, and some of those that do
+# errors that aren't about the file, and some that are
 SHORTAGES = errno.ENOMEM, errno.ENFILE, errno.EMFILE
 OTHERS = errno.EACCES, errno.EIO, errno.EISDIR, errno.ELOOP, errno.ENAMETOOLONG, errno.ENOENT, errno.ENOTDIR
 
 
 def shell(redirected, data=LONG, words="dump"):
-    """The status and standard error of a run whose streams a shell redirects."""
+    """Returns the status and standard error of a run whose streams a shell redirects."""
     command = '"$0" %s %s' % (words, redirected)
     done = subprocess.run(["sh", "-c", command, program()], input=data, capture_output=True, timeout=MOST_SECONDS)
     return done.returncode, done.stderr
 
 
 def give(descriptor, data, size, pause=0.0):
-    """Writes the data in pieces, and closes: as a thread, so that the other end can be read meanwhile."""
+    """Writes the data in pieces and closes the stream, in a thread, so that the other end can be read meanwhile."""
     with os.fdopen(descriptor, "wb", buffering=0) as stream:
         for at in range(0, len(data), size):
             try:
@@ -73,7 +73,7 @@ class Streams(unittest.TestCase):
         return child.returncode, output, words
 
     def is_whole_or(self, failure, found):
-        """The answer, or the failure with a beginning of it."""
+        """Wants the answer, or the failure with a beginning of the answer."""
         status, output, words = found
         if status:
             self.assertEqual((status, words), failure)
@@ -107,7 +107,7 @@ class Inputs(Streams):
             giver.join()
 
     def test_no_data_yet(self):
-        """A pipe that answers at once where it has no data: the program waits, or the read failed."""
+        """Reads a pipe that returns at once if it has no data: the program waits, or the read fails."""
         takes, gives = os.pipe()
         os.set_blocking(takes, False)
         child = self.started(stdin=takes)
@@ -131,7 +131,7 @@ class Outputs(Streams):
         self.assertEqual(shell("> /dev/full"), WRITE_FAILED)
 
     def test_nothing_to_print(self):
-        """A list without units prints nothing, and nothing fails."""
+        """Prints nothing for a list without units, so nothing fails."""
         for redirected in "> /dev/full", ">&-":
             self.assertEqual(shell(redirected, EMPTY), (0, b""), redirected)
 
@@ -145,7 +145,7 @@ class Outputs(Streams):
         self.assertEqual((child.wait(MOST_SECONDS), words, first), (*WRITE_FAILED, b"u"))
 
     def test_no_room_yet(self):
-        """A pipe that answers at once where it has no room: the program waits, or the write failed."""
+        """Writes to a pipe that returns at once if it has no room: the program waits, or the write fails."""
         takes, gives = os.pipe()
         os.set_blocking(gives, False)
         child = self.started(stdout=gives)
@@ -173,7 +173,7 @@ class Outputs(Streams):
 
 
     def test_help_and_version(self):
-        """What they print is the whole answer, so a write that fails is reported."""
+        """Wants that a failed write is reported, since what these options print is the whole answer."""
         full = ["> /dev/full"] if os.path.exists("/dev/full") else []
         for words in "--help", "--version", "dump --help":
             self.assertEqual(shell("", b"", words), (0, b""), words)
@@ -250,7 +250,7 @@ class Files(unittest.TestCase):
 
 
 class Shortages(Folder):
-    """Runs for which the system has no memory or no file descriptor: status 4 and nothing printed, or the answer."""
+    """Tests runs for which the system has no memory or no descriptor: status 4 and nothing printed, or the answer."""
 
     def setUp(self):
         super().setUp()
@@ -271,12 +271,12 @@ class Shortages(Folder):
         return done.returncode, done.stdout, done.stderr
 
     def limited(self, descriptors, workers):
-        """What comes of a run of all units with a limit of descriptors."""
+        """Returns the result of a run of all units with a limit on descriptors."""
         limits = descriptors, descriptors
         return self.outcome(self.units, workers, preexec_fn=lambda: resource.setrlimit(resource.RLIMIT_NOFILE, limits))
 
     def test_few_descriptors(self):
-        """More workers than files that may be open at once."""
+        """Runs more workers than files that may be open at once."""
         answer = self.outcome(self.units)
         self.assertEqual((answer[0], answer[2]), (0, b""))
         for limit in 4, 5, 6, 8, 16:
@@ -284,18 +284,18 @@ class Shortages(Folder):
                 self.assertIn(self.limited(limit, 64), (answer, OUT_OF_MEMORY), limit)
 
     def test_enough_descriptors(self):
-        """A file at a time for each worker, and the three streams."""
+        """Allows a file at a time for each worker, and the three streams."""
         answer = self.outcome(self.units)
         for _ in range(8):
             self.assertEqual(self.limited(8 + 3, 8), answer)
 
     def test_no_descriptor(self):
-        """A limit of 3, set once the program reads its list: no file can be opened."""
+        """Sets a limit of 3 after the program begins to read its list: no file can be opened."""
         for workers in 1, 64:
             child = subprocess.Popen(self.command(workers), stdin=subprocess.PIPE, stdout=subprocess.PIPE, stderr=subprocess.PIPE)
             self.addCleanup(child.wait)
             self.addCleanup(child.kill)
-            # more white space than a pipe holds, so that the program has begun to read it
+            # more white space than a pipe holds, so that the program begins to read it before the limit
             child.stdin.write(b" " * 2_000_000)
             child.stdin.flush()
             resource.prlimit(child.pid, resource.RLIMIT_NOFILE, (3, 3))
@@ -303,7 +303,7 @@ class Shortages(Folder):
             self.assertEqual((child.returncode, output, words), OUT_OF_MEMORY, workers)
 
     def refused_in_turn(self, error, workers, units):
-        """What comes of each run with one call on a file refused, by this error."""
+        """Yields the result of each run in which one call on a file fails with this error."""
         with refusing_files() as files:
             for _, done, met in runs(self.command(workers), files, self.list_of(units), error=error):
                 if met:
@@ -314,12 +314,12 @@ class Shortages(Folder):
         for error in SHORTAGES:
             for workers in 1, 4:
                 found = list(self.refused_in_turn(error, workers, self.units[:4]))
-                # at least a look, an opening and a read of six files
+                # at least one stat, open and read for each of six files
                 self.assertGreaterEqual(len(found), 18)
                 self.assertEqual(set(found), {OUT_OF_MEMORY}, (errno.errorcode[error], workers))
 
     def test_each_call_fails(self):
-        """Any other error is that of a file that isn't there."""
+        """Wants that any other error counts as a missing file."""
         missed("cc")
         units = self.units[:1]
         wanted = set()

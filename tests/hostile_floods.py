@@ -1,12 +1,11 @@
 #!/usr/bin/env python3
-"""Floods the program with names that were chosen to collide, and runs it where no key can be drawn.
+"""Floods the program with names that were chosen to collide, and runs it where no random key is available.
 
     tests/hostile_floods.py [PROGRAM] [-k NAME]
 
-Names of macros, of one macro's parameters, of macros in hide sets and of files that collide under the hash of names by its
-fixed key, or under the kit's default hash, cost at most ten times what as many ordinary names of the same length cost; less
-than a tenth of a second counts as that.  Where the system gives no random bytes, a run ends as where its input can't be read,
-with nothing printed.
+The names are those of macros, of one macro's parameters, of macros in hide sets, and of files.  They collide under the hash of names with its
+fixed key, or under the kit's default hash.  They may cost at most ten times as much as other names of the same number and length; less than a
+tenth of a second counts as that.  If the system gives no random bytes, a run ends as if its input can't be read, with nothing printed.
 """
 import json
 import os
@@ -41,12 +40,12 @@ def hide_sets(names):
 
 
 def parameters(names):
-    """More than 16 have an index, where the macro is defined and where it is invoked."""
+    """Tests a macro with many parameters: more than 16 have an index, where the macro is defined and where it is invoked."""
     return list_of_text(invoked(names, names[-1]))
 
 
 def seconds(asked):
-    """The processor seconds of a run that is to find no fault."""
+    """Returns the processor seconds of a run that must find no fault."""
     before = resource.getrusage(resource.RUSAGE_CHILDREN)
     done = subprocess.run([program(), "--workers", "1", "dump"], input=json.dumps(asked).encode(), stdout=subprocess.DEVNULL,
                           timeout=MOST_SECONDS)

@@ -3,9 +3,9 @@
 
     tests/hostile_limits.py [PROGRAM] [-k NAME]
 
-The bytes of the input, also from a reader that never ends; the bytes of a name; files, units, contents in the list and from a
-folder, and definitions; includes, operators of a condition and levels of arguments; the number of `#line`; the options.  One
-run holds a gigabyte or two, and all take about half a minute.
+The limits are the bytes of the input, also from a reader that never ends; the bytes of a name; files, units, contents in the list and in a
+directory, and definitions; includes, operators of a condition and levels of arguments; the number of `#line`; and the options.  One run takes
+up to two gigabytes, and all runs take about half a minute.
 """
 import json
 import os
@@ -35,7 +35,7 @@ def unit_lines(count):
 class Limits(unittest.TestCase):
     def answers(self, data, status, output, *words):
         done = cppunits(*words, "dump", input=data)
-        # the outputs are too long to be shown
+        # the outputs are too long to print
         self.assertEqual((done.returncode, done.stderr[:200]), (status, b""))
         self.assertTrue(done.stdout == output, done.stdout[-200:])
 
@@ -50,7 +50,7 @@ class Input(Limits):
         self.refused(EMPTY + b" " * (INPUT + 1 - len(EMPTY)), 1)
 
     def test_a_reader_that_never_ends(self):
-        """It is asked for no more than what a pipe holds beyond the limit."""
+        """Wants that the program reads no more than a pipe holds beyond the limit."""
         child = subprocess.Popen([program(), "dump"], stdin=subprocess.PIPE, stdout=subprocess.PIPE, stderr=subprocess.PIPE)
         piece, given = b" " * 2**20, 0
         try:
@@ -86,7 +86,7 @@ class Input(Limits):
         self.refused(one_text(" " * (CONTENT + 1)), 4)
 
     def test_a_content_of_a_folder(self):
-        """A file of a terabyte, nearly all of it a hole, is left once it is known to be too long."""
+        """Stops at a file of a terabyte, nearly all of it a hole, once it is known to be too long."""
         names = listed([{"name": "a.c"}], [{"file": "a.c"}])
         unreadable = b"unit 0 a.c\ndep 0 a.c\nfault 6 0:1:1 a.c\n"
         with tempfile.TemporaryDirectory() as folder:
@@ -97,7 +97,7 @@ class Input(Limits):
                 self.answers(names, status, output, "--root", folder)
 
     def test_definitions(self):
-        """Together, each with `#define ` before it and a new-line after it."""
+        """Counts all definitions together, each with `#define ` before it and a new-line after it."""
         for others in [], ["A B"]:
             rest = "".join("#define %s\n" % line for line in ["X ", *others])
             line = "X " + "1" * (CONTENT - len(rest))

@@ -1,12 +1,12 @@
 #!/usr/bin/env python3
-"""Runs the program with a small stack, and with limits of memory that it meets while it runs.
+"""Runs the program with a small stack, and with limits of memory that it reaches while it runs.
 
     tests/hostile_stack.py [PROGRAM] [-k NAME]
 
-All depths at once must do with a stack of 256 KB: 200 includes, and in the last file 256 levels of arguments, and 256
-parentheses, signs and conditional operators of a condition.  So must 127 nested arrays.  If they don't, the least stack
-that does is printed.  With each limit of memory and stacks together (`ulimit -v`) a run prints the right output, or
-exits with 4 and prints nothing, and never ends by a signal.
+A stack of 256 KB must be enough for all depths at once: 200 includes, and in the last file 256 levels of arguments, and 256 parentheses, signs
+and conditional operators of a condition.  It must also be enough for 127 nested arrays.  If it isn't, the least sufficient stack is printed.
+With each limit of memory and stacks together (`ulimit -v`) a run prints the right output, or exits with 4 and prints nothing, and never ends
+by a signal.
 """
 import json
 import subprocess
@@ -17,7 +17,7 @@ from counted import LIST, main, program
 STACK = 256
 STACKS = (128, 192, 256, 320, 384, 448, 512, 768, 1_024, 2_048)
 OUT_OF_MEMORY = (4, b"", b"cppunits: out of memory\n")
-# what the loader of a program says where there is no room for the program itself
+# what the system's loader prints if there is no memory for the program itself
 NOT_STARTED = (126, 127)
 
 
@@ -42,7 +42,7 @@ ARRAYS = b"[" * 127 + b"]" * 127
 
 
 def outcome(limits, workers, data):
-    """Status, output and standard error of a run under these limits of the shell."""
+    """Returns status, output and standard error of a run under these limits of the shell."""
     command = ["sh", "-c", limits + ' && exec "$0" --workers "$1" --block 1 dump', program(), workers]
     done = subprocess.run(command, input=data, capture_output=True, timeout=60)
     return done.returncode, done.stdout, done.stderr
@@ -63,10 +63,10 @@ class Stack(unittest.TestCase):
 
 
 class Room(unittest.TestCase):
-    """Sizes are kilobytes; a stack of 1,024 keeps what the workers' stacks ask for small."""
+    """Tests limits in kilobytes; a stack limit of 1,024 keeps the requests for the workers' stacks small."""
 
     def ends_well(self, workers):
-        """From too little room for the program to start with to what several workers need, and a gigabyte."""
+        """Tries limits from too little memory to start the program to enough for several workers, and a gigabyte."""
         good, bad = (OUT_OF_MEMORY, (0, ANSWER, b"")), []
         for size in [*range(4_096, 24_576, 128), 1_048_576]:
             found = outcome("ulimit -s 1024 && ulimit -v %d" % size, workers, DEEPEST)

@@ -1,9 +1,9 @@
 #!/usr/bin/env python3
-"""Tests of scripts/list_from_build.py, on what cmake, meson, ninja and bear write for a small project.
+"""Tests scripts/list_from_build.py with the build files that cmake, meson, ninja and bear write for a small project.
 
     tests/list_tests.py [PROGRAM] [-k NAME]
 
-The project has several folders, two targets and a header that the build makes.  The dependencies that cppunits prints for
+The project has several directories, two targets and a header that the build makes.  The dependencies that cppunits prints for
 the list are compared with those of `gcc -MM` over the build's own commands.
 """
 import json
@@ -68,7 +68,7 @@ UNITS = ["app/main.c", "app/more.c", "lib/low.c"]
 
 
 def dependencies(printed):
-    """The sets of names by unit, of what `cppunits deps` printed."""
+    """Returns the sets of dependencies that `cppunits deps` prints, by unit."""
     found = {}
     for line in printed.decode().splitlines():
         words = line.split(" ", 2)
@@ -80,7 +80,7 @@ def dependencies(printed):
 
 
 def by_gcc(commands, root):
-    """The same sets, of `gcc -MM` over a build's commands."""
+    """Returns the same sets from `gcc -MM` over a build's commands."""
     found = {}
     for entry in commands:
         words = entry.get("arguments") or shlex.split(entry["command"])
@@ -93,14 +93,14 @@ def by_gcc(commands, root):
 
 
 class Lists(Folder):
-    """Lists of commands over files below a root."""
+    """Makes lists of commands over files below a root."""
 
     def setUp(self):
         super().setUp()
         self.root = os.path.join(self.top, "demo")
 
     def listed(self, path, *words, status=0, **more):
-        """The list that the script makes, and its lines on standard error."""
+        """Returns the list that the script makes, and its lines on standard error."""
         done = script("list_from_build.py", path, *words, **more)
         self.assertEqual(done.returncode, status, done.stderr.decode())
         return json.loads(done.stdout), done.stderr.decode().splitlines()
@@ -113,7 +113,7 @@ class Builds(Lists):
         write(self.root, PROJECT)
 
     def compare(self, path, commands=None, **more):
-        """The dependencies of the list's units are gcc's, over names and over contents."""
+        """Wants gcc's dependencies for the list's units, over a list of names and over one with contents."""
         with open(path) as file:
             commands = commands or json.load(file)
         listed, _ = self.listed(path, "--root", self.root, **more)
@@ -124,7 +124,7 @@ class Builds(Lists):
         found = dependencies(printed.stdout)
         self.assertEqual(sorted(found), UNITS)
         self.assertEqual(found, by_gcc(commands, self.root))
-        # one header stands in a group that is skipped
+        # one header is in a group that is skipped
         self.assertEqual({row["name"] for row in listed["files"]}, set().union({"lib/public/extra.h"}, *found.values()))
 
     def test_cmake(self):
@@ -143,7 +143,7 @@ class Builds(Lists):
             commands = json.load(file)
         with open(path, "wb") as file:
             file.write(well(["ninja", "-C", build, "--quiet", "-t", "compdb"]))
-        # ninja names what is linked, too
+        # ninja includes the commands that link, too
         self.compare(path, commands, status=1)
 
     def test_meson(self):
@@ -169,10 +169,10 @@ class Builds(Lists):
 
 
 class Commands(Lists):
-    """Commands by hand."""
+    """Tests single commands, written by hand."""
 
     def unit(self, command, files=(), words=(), **more):
-        """The one unit of a command, with the list and what was said before the last line."""
+        """Returns the one unit of a command, the list, and the messages before the last line."""
         write(self.root, {"a.c": "x\n", **dict(files)})
         path = os.path.join(self.top, "commands.json")
         entry = {"directory": self.root, "file": "a.c"}
@@ -316,12 +316,12 @@ class Commands(Lists):
 
 
 class Budgets(unittest.TestCase):
-    """Lists with a budget."""
+    """Tests lists with a budget."""
     FILES = [{"name": "a.c", "text": '#include "h.h"\n#include "h.h"\n#if X == 1\nf(2)(9) X\n#endif\n#error f(1)\n'},
              {"name": "h.h", "text": "#ifndef H\n#define H\n#define f(a) a*g\n#define g(a) f(a)\n#define X 1\n#endif\n"}]
 
     def printed(self, budget, **more):
-        """What is printed of a list whose budget is this JSON text."""
+        """Returns the result of `cppunits dump` for a list with this JSON text as its budget."""
         whole = json.dumps({**LIST, "files": self.FILES, "units": [{"file": "a.c"}, {"file": "h.h"}], **more})
         return cppunits("dump", input=('{"budget":%s,%s' % (budget, whole[1:])).encode())
 
@@ -339,7 +339,7 @@ class Budgets(unittest.TestCase):
     def test_each_budget_gives_a_beginning(self):
         without = cppunits("dump", input=json.dumps({**LIST, "files": self.FILES, "units": [{"file": "a.c"}, {"file": "h.h"}]}).encode())
         wholes = parts(without.stdout)
-        # three files are opened for a.c, X is replaced twice, and f, g and f once each
+        # three files are opened for a.c; X is replaced twice, then f, g and f once each
         for budget in range(10):
             found = parts(self.printed(str(budget)).stdout)
             for whole, one, count in zip(wholes, found, (8, 1), strict=True):
@@ -354,7 +354,7 @@ class Budgets(unittest.TestCase):
 
 
 def parts(printed):
-    """Each unit of an output: its first line, its items, its dependencies and its last line."""
+    """Returns the parts of each unit of an output: its first line, its items, its dependencies and its last line."""
     found = []
     for line in printed.decode().splitlines():
         word = line.split(" ", 1)[0]

@@ -1,10 +1,11 @@
 #!/usr/bin/env python3
-"""Files beside translation phases 1 and 2 done one after the other, by the tokens and places that the program prints of them.
+"""Compares files with translation phases 1 and 2 done one after the other, by the tokens and locations that the program prints.
 
     tests/phase_tests.py [PROGRAM] [-k NAME]
 
-Phase 1 leaves out a byte order mark and each return in front of a new-line, supplies the last new-line and replaces trigraphs (5.2.1.1); phase 2
-deletes each splice, and wants that the file ends in none (5.1.1.2p1, phases 1 and 2).  Each character keeps the line and the column of its first byte.
+Phase 1 removes a byte order mark and each return before a new-line, adds the last new-line and replaces trigraphs (5.2.1.1).  Phase 2 deletes
+each splice, and requires that the file doesn't end in one (5.1.1.2p1, phases 1 and 2).  Each character keeps the line and column of its first
+byte.
 """
 import itertools
 import re
@@ -29,7 +30,7 @@ class Char:
 
 
 def placed(data):
-    """Each byte after a byte order mark, with its location."""
+    """Returns each byte after a byte order mark, with its location."""
     chars, line, col = [], 1, 1
     for code in data.removeprefix(MARK).decode("latin-1"):
         chars.append(Char(code, line, col))
@@ -38,7 +39,7 @@ def placed(data):
 
 
 def stands(chars, at, text):
-    """Whether these characters stand there."""
+    """Returns whether these characters are at this place."""
     return "".join(char.code for char in chars[at:at + len(text)]) == text
 
 
@@ -47,14 +48,14 @@ def without_returns(chars):
 
 
 def terminated(chars):
-    """With a new-line after the last character, if there is text without one."""
+    """Returns the characters with a new-line after the last one, if there is text without one."""
     if not chars or chars[-1].code == "\n":
         return chars
     return [*chars, Char("\n", chars[-1].line, chars[-1].col + 1)]
 
 
 def without_trigraphs(chars):
-    """With the character in place of each trigraph, where that begins."""
+    """Returns the characters with each trigraph replaced, at the location where it begins."""
     replaced, at = [], 0
     while at < len(chars):
         is_one = stands(chars, at, "??") and at + 2 < len(chars) and chars[at + 2].code in TRIGRAPHS
@@ -75,7 +76,7 @@ def without_splices(chars):
 
 
 def cleaned(data):
-    """The characters after phase 2, or the place of the backslash that the file must not end in."""
+    """Returns the characters after phase 2, or the location of the backslash that the file must not end in."""
     chars = without_trigraphs(terminated(without_returns(placed(data))))
     if stands(chars, len(chars) - 2, "\\\n"):
         return chars[-2].place
@@ -83,13 +84,13 @@ def cleaned(data):
 
 
 def blanks(chars):
-    """How many of these are white space and comments up to the end of their line, in front of the first token."""
+    """Returns how many characters are white space and comments before the first token, up to the end of their line."""
     text = "".join(char.code for char in chars)
     return re.match(r"(?:[\r\n]|//.*)*", text).end()
 
 
 def rest_after(token, chars):
-    """What comes after a token, which is to be the first of these characters, in its place."""
+    """Returns what follows a token, which must be the first of these characters, at its location."""
     place, text = token
     rest = chars[blanks(chars):]
     if not stands(rest, 0, text) or rest[0].place != place:
@@ -98,14 +99,14 @@ def rest_after(token, chars):
 
 
 def printed(texts):
-    """What is printed of each of these, as a unit's only file, told."""
+    """Returns the result of a unit of each of these texts."""
     names = ["%d.c" % number for number in range(len(texts))]
     files = [{"name": name, "text": text.decode()} for name, text in zip(names, texts)]
     return [told(lines) for lines in dumped(files, [{"file": name} for name in names])]
 
 
 def told(lines):
-    """A unit's tokens with their places, or the place of its fault 2."""
+    """Returns a unit's tokens with their locations, or the location of its fault 2."""
     fault = re.match(rb"fault 2 \d+:(\d+:\d+)", lines[-1])
     if fault:
         return fault[1].decode()
@@ -115,7 +116,7 @@ def told(lines):
     return [(place.split(b":", 1)[1].decode(), spelled(text)) for _, place, _, _, text in tokens]
 
 
-# Texts, most of whose characters are tokens of their own; none has a directive.
+# Texts without directives; most of their characters are tokens of their own.
 TEXTS = [
     MARK + b"@\n",
     b"@\r\n;\r\n",
@@ -139,7 +140,7 @@ TEXTS = [
     b"\\\\\n\n",
     b"@\r",
     MARK + b"??/\r\n\\\n;\r\n\r\n??(\\\n??)@",
-    # many breaks
+    # many splices
     b"\r\n\r\n\r\n\r\n@\r\n\r\n",
     b"@;\r\n,~\r\n@;",
     b"@??=??(??)??'??<??!??>??-@??=\n??-",
@@ -150,7 +151,7 @@ TEXTS = [
 
 
 def short_texts(codes):
-    """All texts of at most five of these characters."""
+    """Yields all texts of at most five of these characters."""
     return [bytes(text) for length in range(6) for text in itertools.product(codes, repeat=length)]
 
 
@@ -173,7 +174,7 @@ class Phases(unittest.TestCase):
         self.agree(TEXTS)
 
     def test_places_behind_a_comment(self):
-        """Each place that is asked for at once, over all that stands in front of it."""
+        """Asks for each location at once, after everything before it."""
         fronts = [data[:length] for data in TEXTS for length in range(len(data) + 1) if length not in (1, 2) or not data.startswith(MARK)]
         texts = [b"/*" + front + b"*/@" for front in fronts]
         for data, read in zip(texts, printed(texts), strict=True):
@@ -181,7 +182,7 @@ class Phases(unittest.TestCase):
                 self.assertEqual(read, [(cleaned(data)[-2].place, "@")])
 
     def test_numbers_of_lines(self):
-        """The line after the one with the new-line of a `#line` has the number that it says (6.10.4p3)."""
+        """Wants that the line after the one that ends a `#line` has the given number (6.10.4p3)."""
         texts = [b"#line 100 //" + text + b"\n\n__LINE__" for text in short_texts(b"?/\\\r\n")]
         for data, read in zip(texts, printed(texts), strict=True):
             with self.subTest(data=data):

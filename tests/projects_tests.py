@@ -1,5 +1,5 @@
 #!/usr/bin/env python3
-"""Tests of bench/projects.py and its cutter: a small project over the machine's own headers, beside the machine's gcc.
+"""Tests bench/projects.py and its cutter: a small project with the machine's own headers, compared with the machine's gcc.
 
     tests/projects_tests.py [PROGRAM] [-k NAME]
 """
@@ -28,7 +28,7 @@ OWN = "#pragma once\n#define LOG(format, ...) log(format, ##__VA_ARGS__);\nint l
 
 class Projects(Folder):
     def compared(self, files, commands, *words):
-        """The cells of the project's row, what was said of its units, and the status."""
+        """Returns the cells of the project's row, the messages about its units, and the status."""
         missed("gcc")
         write(self.top, {**files, "p/compile_commands.json": json.dumps(
             [{"directory": self.path("p"), "file": file, "command": command} for file, command in commands])})
@@ -56,7 +56,7 @@ class Projects(Folder):
                          ["tokens: token 5: b = __COUNTER__ ;, and the compiler has b = 0 ;", "fault: 25 %d:1:1 'ab'" % self.row(said)])
 
     def test_a_compiler_that_hangs(self):
-        """It is stopped with the programs that it started, and its unit counts as one that the compiler doesn't take."""
+        """Stops a compiler with the programs that it started; its unit counts as one that the compiler refuses."""
         write(self.top, {"bin/gcc": "#!/bin/sh\ncase $* in *slow.c*) sleep 1000; exit;; esac\nexec /usr/bin/gcc \"$@\"\n"})
         os.chmod(self.path("bin/gcc"), 0o755)
         files = {"p/slow.c": "int a;\n", "p/skipped.c": "int b;\n", "p/quick.c": "int c;\n"}

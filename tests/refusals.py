@@ -1,4 +1,4 @@
-"""Runs of a program with one of its requests refused, or all from one on, for refused_memory.py, refused_in_tests.py and hostile_devices.py."""
+"""Runs a program with one of its requests refused, or all from one on; refused_memory.py, refused_in_tests.py and hostile_devices.py use it."""
 import contextlib
 import os
 import subprocess
@@ -6,7 +6,7 @@ import tempfile
 
 HERE = os.path.dirname(os.path.abspath(__file__))
 MOST_RUNS = 20_000
-# whether all after a request are refused with it, and how that is printed
+# whether all requests after a refused one are refused, too, and how that is printed
 KINDS = {False: "each alone", True: "each with all after it"}
 
 
@@ -16,7 +16,7 @@ def refused(call, on):
 
 @contextlib.contextmanager
 def built(source):
-    """The path of this C file of the folder, built as a library to preload, for as long as it is used."""
+    """Yields the path of this C file, built as a library to preload; it exists only inside the `with`."""
     with tempfile.TemporaryDirectory() as folder:
         library = os.path.join(folder, "refusing.so")
         subprocess.run(["cc", "-O2", "-shared", "-fPIC", "-o", library, os.path.join(HERE, source)], check=True)
@@ -24,17 +24,17 @@ def built(source):
 
 
 def refusing_malloc():
-    """The path of the built refuse_malloc.c, for as long as it is used."""
+    """Yields the path of the built refuse_malloc.c; it exists only inside the `with`."""
     return built("refuse_malloc.c")
 
 
 def refusing_files():
-    """The path of the built refuse_files.c, for as long as it is used."""
+    """Yields the path of the built refuse_files.c; it exists only inside the `with`."""
     return built("refuse_files.c")
 
 
 def run(command, library, call, data=None, on=False, error=None):
-    """The run in which this request is refused, with this error number, and with `on` all after it, and whether it met the refusal."""
+    """Runs with this request refused with this error number, and with `on` all later ones; returns the run and whether it met the refusal."""
     told, tells = os.pipe()
     environment = dict(os.environ, LD_PRELOAD=library, REFUSED_CALL=str(call), REFUSAL_FD=str(tells))
     if on:
@@ -51,7 +51,7 @@ def run(command, library, call, data=None, on=False, error=None):
 
 
 def runs(command, library, data=None, on=False, error=None):
-    """The runs with the 1st, 2nd, 3rd .. request refused, each with its number, up to the first that meets no refusal."""
+    """Yields the runs with the 1st, 2nd, 3rd .. request refused, each with its number, up to the first that meets no refusal."""
     for call in range(1, MOST_RUNS):
         done, met = run(command, library, call, data, on, error)
         yield call, done, met
@@ -61,7 +61,7 @@ def runs(command, library, data=None, on=False, error=None):
 
 
 def tally(cases):
-    """Prints each case's name, its first problems and the counts, and gives the status to exit with."""
+    """Prints each case's name, its first problems and the counts, and returns the exit status."""
     passed = failed = 0
     for name, problems in cases:
         print(name)

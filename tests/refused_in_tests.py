@@ -1,15 +1,16 @@
 #!/usr/bin/env python3
-"""Refuses each request for memory of crates' built tests in turn, alone and with all after it.
+"""Refuses each request for memory of the crates' built tests in turn, alone and with all after it.
 
     tests/refused_in_tests.py [--each-up-to N] NAME..
 
-For each NAME the tests are crates/NAME/out/NAME_tests, which `rt test` builds.  Each test runs with its 1st, 2nd,
-3rd .. request refused, and with all refused from that one on, until a run meets no refusal.  A test that looks at what a
-refused call left, and calls again, passes where the second call gets what it asks for; in another out of memory is the
-test's own error.  Whatever else fails is a problem, and so is a test that is there to call again (`CALLS_AGAIN` below) and passes
-over no refused request.  Of those each request is refused; of the others fewer and fewer after the Nth, where N is by default
-200, since threads that aren't made make some tests slow, and 20 in those of ppserve (`serving::` in ppruntests), which take long
-texts.  As many tests run side by side as there are processors.
+For each NAME the tests are crates/NAME/out/NAME_tests, which `rt test` builds.  Each test runs with its 1st, 2nd, 3rd .. request refused,
+and with all refused from that one on, until a run meets no refusal.  Some tests call again after a refused call, and check what that call
+left (`CALLS_AGAIN` below): such a test passes if the second call gets its memory, and it is a problem if it passes over no refused request.
+In any other test, out of memory is the test's own error.  Any other failure is a problem.
+
+For the tests that call again each request is refused.  For the others each request is refused up to the Nth, and after it more and more are
+skipped.  N is 200 by default, since threads that aren't made make some tests slow, and 20 in the tests of ppserve (`serving::` in
+ppruntests), which read long texts.  As many tests run at the same time as there are processors.
 """
 import argparse
 import os
@@ -21,7 +22,7 @@ from concurrent.futures import ThreadPoolExecutor
 from refusals import HERE, KINDS, refused, refusing_malloc, run, tally
 
 LONG_TEXTS = "serving::"
-# what stands in the names of tests that are there to call again
+# parts of the names of tests that call again after a failure
 CALLS_AGAIN = (
     "after_want_of_memory", "where_memory_is_refused", "defines_compares_and_refuses", "replaces_by_the_replacement_list",
     "hides_and_places_what_it_gives",
@@ -35,8 +36,8 @@ def tests_of(program):
 
 
 def some_runs(command, malloc, on, each_up_to):
-    """The runs with a request refused, each with the request's number, up to the first that meets no refusal. Behind the one `each_up_to`, if
-    there is such a bound, fewer and fewer."""
+    """Yields the runs with a request refused, each with the request's number, up to the first that meets no refusal.  After the one
+    `each_up_to`, if there is such a bound, it skips more and more requests."""
     call, met = 1, True
     while met:
         done, met = run(command, malloc, call, on=on)
@@ -49,14 +50,14 @@ def calls_again(test):
 
 
 def bound_of(test, given):
-    """Up to which request each is refused, if there is a bound."""
+    """Returns the last request up to which each is refused, or None if there is no such bound."""
     if calls_again(test):
         return None
     return given or (20 if test.startswith(LONG_TEXTS) else 200)
 
 
 def judged(name, test, malloc, each_up_to):
-    """A test's name with how many requests were refused, and its problems."""
+    """Returns a test's name with the number of refused requests, and its problems."""
     program = os.path.join(HERE, "..", "crates", name, "out", name + "_tests")
     told, problems = [name + " " + test], []
     for on, how in KINDS.items():

@@ -3,13 +3,13 @@
 
     tests/refused_memory.py [PROGRAM]
 
-PROGRAM is by default crates/cppunits/out/cppunits, which `rt ci` and `rt run` build.  For each list below the
-program runs, with one worker and with more, over the list and over a folder, with its 1st, 2nd, 3rd .. request refused,
-and with all refused from that one on, until a run meets no refusal, which must give the answer.  Each run before must end
-with status 4, nothing on standard output and `cppunits: out of memory` on standard error, or with the answer: where a
-thread isn't made, where a block isn't fitted to what it holds, and where less room does.  Printed is how many do; in a
-row with one worker at most as many may as it has blocks that are fitted, and as many more as do in a run without a list.
-The proofs can't refuse memory to the built program.
+PROGRAM is by default crates/cppunits/out/cppunits, which `rt ci` and `rt run` build.  The program runs over each list below
+with one worker and with more, and over the list of a directory.  Its 1st, 2nd, 3rd .. request is refused, and all are
+refused from that one on, until a run meets no refusal.  That run must print the answer.  Each earlier run must end with
+status 4, nothing on standard output and `cppunits: out of memory` on standard error.  It may also print the answer: if it
+makes fewer threads, if it doesn't shrink a block, or if less memory is enough.  The number of such runs is printed.  In a
+row with one worker there may be at most as many as the row has blocks to shrink, and as many more as in a run without a
+list.  The proofs can't refuse memory to the built program.
 
 status:
   0  each run ended so
@@ -53,8 +53,8 @@ INVOCATION = {"a.c": "#define f(a) a*g\n#define g(a) f(a)\nf(2)(9)\n"}
 GUARDED = {"a.c": '#include "h.h"\n#include "h.h"\n', "h.h": "#ifndef H\n#define H\nint a;\n#endif\n"}
 SEARCHED = {"src/a.c": '#include "x.h"\n#include <x.h>\n#include "../inc/x.h"\n#include <y.h>\n', "src/x.h": "1", "inc/x.h": "2"}
 
-# Files, units and folders, what is printed of them, and how many blocks are fitted to what they hold: the tokens and lines of
-# files and the items of units, where they have room to give back.  One that isn't fitted keeps its room.
+# Files, units and directories, what is printed for them, and how many blocks are shrunk to their contents: the tokens and lines
+# of files and the items of units, if they have unused room.  A block that can't be shrunk keeps its size.
 ROWS = {
     "one token": ({"a.c": "x\n"}, [{"file": "a.c"}], [], "unit 0 a.c\ntok 0:1:1 0:1:1 i+ x\ndep 0 a.c\nok\n", 3),
     "an invocation that reaches past its replacement": (
@@ -76,7 +76,7 @@ ROWS = {
 
 
 def row(name, inline):
-    """The list of a row, with its contents or names alone."""
+    """Returns the list of a row, with its files' contents or with names only."""
     files, units, folders, *_ = ROWS[name]
     rows = [{"name": file, "text": text} if inline else {"name": file} for file, text in files.items()]
     return json.dumps({"date": "Feb  9 2024", "time": "08:05:03", "search": folders, "files": rows, "units": units}).encode()
@@ -84,7 +84,7 @@ def row(name, inline):
 
 @contextlib.contextmanager
 def written(name):
-    """A folder with the files of a row."""
+    """Yields a directory with the files of a row."""
     with tempfile.TemporaryDirectory() as folder:
         for file, text in ROWS[name][0].items():
             path = os.path.join(folder, file)
@@ -94,7 +94,7 @@ def written(name):
         yield folder
 
 
-# what stands before the list, and in it: one thread, several, and files of a folder
+# the options and the member with which lists run: one thread, several, and files in a directory
 WAYS = {
     "one worker": (["--workers", "1", "dump"], LISTS),
     "four workers": (["--workers", "4", "--block", "1", "deps"], LISTS),
@@ -110,7 +110,7 @@ def outcome(done):
 
 
 def spared(command, malloc):
-    """How many requests of a run without a list, each refused alone, leave its answer: for the program's words less room does."""
+    """Returns how many requests of a run without a list can be refused alone and leave its answer: less memory is enough for the words."""
     answer = outcome(run(command, malloc, 0, b"")[0])
     return sum(met and outcome(done) == answer for _, done, met in runs(command, malloc, b""))
 
@@ -133,12 +133,12 @@ def problems(command, data, malloc, wanted=None, fitted=None):
 
 
 def cases(program, malloc):
-    """Each case's name, and its problems."""
+    """Yields each case's name, and its problems."""
     for way, (words, lists) in WAYS.items():
         for name, data in lists.items():
             yield "%s: %s" % (way, name), problems([program, *words], data, malloc)
     for name, (*_, wanted, fitted) in ROWS.items():
-        # with one worker no thread is made
+        # one worker makes no thread
         for workers, most in ("1", fitted), ("2", None):
             words = [program, "--workers", workers, "--block", "1"]
             yield "--workers %s: %s" % (workers, name), problems([*words, "dump"], row(name, True), malloc, wanted, most)

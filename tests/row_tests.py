@@ -1,10 +1,10 @@
 #!/usr/bin/env python3
-"""Rows of conditions, macro replacement, files, budgets, dates, times and definitions, by what the program prints of them.
+"""Tests rows of conditions, macro replacement, files, budgets, dates, times and definitions, by the program's output.
 
     tests/row_tests.py [PROGRAM] [-k NAME]
 
-Values of conditions are gcc 12's by its `#if`, but for `'\xff'`, where gcc takes the sign of `char`; the examples of 6.10.3.5 give what the
-standard says.  The other rows are this project's own.
+Values of conditions are those of `#if` in gcc 12, except for `'\xff'`, where gcc uses the sign of `char`.  The results of the examples of
+6.10.3.5 are the standard's.  The other rows are this project's own.
 """
 import json
 import os
@@ -18,7 +18,7 @@ from truncated import EXAMPLES
 
 
 def told(lines):
-    """What a unit gave, as `a b | 0 2 | 31 0:4:1 y.h`: its tokens, with a pragma as `pragma@0:1:1[ once ]`, its dependencies and its end."""
+    """Returns a unit's result as `a b | 0 2 | 31 0:4:1 y.h`: its tokens, with a pragma as `pragma@0:1:1[ once ]`, its dependencies and its end."""
     items, rows, end = [], [], ""
     for line in lines:
         word, _, rest = line.partition(b" ")
@@ -38,7 +38,7 @@ def told(lines):
 
 
 def given(files, units, root=None, **more):
-    """What the units of a list give, each told.  With a root the files' texts stand there, and one that is called gone.h nowhere."""
+    """Returns the result of each unit of a list.  With a root the files are written there; a file gone.h is on the list, but not there."""
     names = [{"name": name} if root else {"name": name, "text": text} for name, text in files]
     if root:
         for name, text in files:
@@ -50,11 +50,11 @@ def given(files, units, root=None, **more):
 
 
 def each_given(texts, **more):
-    """What a unit of each of these texts gives, as the only file a.c."""
+    """Returns the result of a unit of each of these texts, as the only file a.c."""
     return [given([("a.c", text)], [{"file": "a.c"}], **more)[0] for text in texts]
 
 
-# Expressions whose group is taken, each on a line.
+# Expressions whose group is processed, each on a line.
 TAKEN = r"""1
 -1
 !0
@@ -155,7 +155,7 @@ __STDC_VERSION__ == 201112L
 2u << 63 == 0
 4611686018427387904 << 0 > 0
 """
-# Expressions whose group is left.
+# Expressions whose group is skipped.
 LEFT = r"""0
 -1 < 0u
 (1 ? -1 : 0) > 0
@@ -177,7 +177,7 @@ GROUPED = {
     "4&6==6": 0, "1|2^3&6": 1, "0&&0||1": 1, "1||0&&0": 1, "1?2:0?3:4": 2, "0?2:0?3:4": 4, "1?0?5:6:7": 6, "1||0?2:3": 2, "(1?2:3)*4": 8,
     "1?2:3*4": 2, "1?(2):((3))": 2, "8%5-3": 0, "2-!1-1": 1, "1!=1<=0": 1,
 }
-# What is no expression, beside no token at all.
+# Token lists that are no expression; no token at all is another case.
 UNGROUPED = r"""1 2
 (
 )
@@ -201,9 +201,9 @@ UNGROUPED = r"""1 2
 @
 1?2:3:4
 """
-# Definitions, expressions behind them, and the number, the byte and the text of their faults.
+# Definitions, expressions after them, and the number, the byte and the text of their faults.
 REFUSED = [
-    # what an expression is
+    # the form of an expression
     ("", "", "23 1"),
     ("", "1 2", "23 1"),
     ("", "(1", "23 1"),
@@ -260,7 +260,7 @@ REFUSED = [
     ("", "1/0 ? 1 : 2", "26 1 /"),
     ("", "1/0 && 0", "26 1 /"),
     ("", "1 ? 1/0 : 2", "26 1 /"),
-    # what is asked before and after replacement
+    # checks before and after replacement
     ("", "defined", "22 1"),
     ("", "defined 1", "22 1"),
     ("", "defined (X", "22 1"),
@@ -274,7 +274,7 @@ REFUSED = [
     ("#define D defined\n#define f(a) a\n", "D f(", "17 7 f"),
     ("#define f(a) a\n", "f( defined", "22 1"),
 ]
-# Definitions, and expressions behind them whose group is taken.
+# Definitions, and expressions after them whose group is processed.
 ASKED = [
     ("#define EAT(x)\n", "EAT(defined X) 1"),
     ("#define EAT(x)\n#define D defined\n", "EAT(D) 1"),
@@ -283,12 +283,12 @@ ASKED = [
     ("", "!defined defined"),
     ("#define X 2\n", "X == 2 && defined X && defined ( X )"),
 ]
-# What opens a level of an expression, and what closes it.
+# The beginning and the end of a level of an expression.
 NESTED = [("(", ")"), ("!", ""), ("0?0:", ""), ("- ", ""), ("1 ? (", ") : 0")]
-# No expressions, and nested too deeply: the depth comes first, also where a sign has two operands.
+# No expressions, and nested too deeply: the fault is about the depth, also if a sign has two operands.
 TOO_DEEP = ["1 " + "?" * 257, "1 " + "(" * 257, "1 " + "- " * 257 + "1", "1 " + "~ " * 257]
-# Macros, and conditions after them whose group is taken, with how many names are replaced: those of an argument too; `defined` and a name that is
-# no macro's are none.
+# Macros, and conditions after them whose group is processed, with how many names are replaced; names in an argument count, too, but not
+# those after `defined` and those that are no macro's.
 COUNTED = "#define ONE 1\n#define SAME(x) x\n#define UNUSED(x) 1\n"
 COUNTS = [
     ("1", 0), ("!x && defined ONE", 0), ("ONE", 1), ("SAME(1)", 1), ("UNUSED(ONE)", 1), ("ONE + ONE == 2", 2), ("SAME(ONE) && __STDC__", 3),
@@ -296,13 +296,13 @@ COUNTS = [
 ]
 # Conditions after the same macros, how many replacements are left for them, and their faults.
 SHORT = [
-    # what was replaced before is counted, and nothing where a `defined` is ill-formed
+    # earlier replacements are counted; if a `defined` is ill-formed, nothing is
     ("ONE 1x", 1, "24 0:4:1 1x"),
     ("ONE 1x", 0, "35 0:4:5"),
     ("ONE + SAME(", 2, "17 0:4:11 SAME"),
     ("ONE + SAME(", 1, "35 0:4:11"),
     ("ONE defined", 0, "22 0:4:1"),
-    # a budget is used up at the name that isn't replaced
+    # the budget's fault is at the first name that isn't replaced
     ("ONE", 0, "35 0:4:5"),
     ("SAME(1)", 0, "35 0:4:5"),
     ("SAME(", 0, "35 0:4:5"),
@@ -313,13 +313,13 @@ SHORT = [
     ("defined ONE ? ONE : ONE", 1, "35 0:4:25"),
     ("0 && ONE", 0, "35 0:4:10"),
 ]
-# Expressions that are taken, however long.
+# Expressions that are accepted, however long they are.
 LONG = ["(1) + " * 300 + "1", "1 + " * 100000 + "0 == 100000", "1+" * 99999 + "1 == 100000", "(" * 256 + "!" * 256 + "1" + ")" * 256 + " == 1"]
 
 
 class Conditions(unittest.TestCase):
     def judged(self, rows):
-        """Wants of each condition, behind definitions, that its group is taken, that it is left, or the end of its fault's text."""
+        """Wants for each condition after definitions that its group is processed, that it is skipped, or the end of its fault's text."""
         texts = ["%s#if %s\nyes\n#endif\n" % (definitions, expression) for definitions, expression, _ in rows]
         files = [("%d.c" % n, text) for n, text in enumerate(texts)]
         found = given(files, [{"file": name} for name, _ in files])
@@ -342,7 +342,7 @@ class Conditions(unittest.TestCase):
 
     def test_faults(self):
         self.judged(REFUSED)
-        # two bytes, since a text of a list is UTF-8
+        # two bytes, since a list's text is UTF-8
         self.judged([("", "'\xe9'", "25 1 '\xc3\xa9'")])
         self.judged([("", text, "23 1") for text in UNGROUPED.splitlines()])
 
@@ -353,7 +353,7 @@ class Conditions(unittest.TestCase):
     def test_what_is_left_of_a_budget(self):
         for expression, count in COUNTS:
             for more in (0, 1, 1000):
-                # one of the budget goes to the file, and the next name but these is not replaced
+                # the file takes one of the budget, and the next name after these is not replaced
                 text = "%s#if %s\n%sONE\n#endif\n" % (COUNTED, expression, "ONE " * more)
                 wanted = "1 " * more + "| 0 | 35 0:5:%d" % (4 * more + 1)
                 self.assertEqual(each_given([text], budget=1 + count + more), [wanted], (expression, more))
@@ -365,12 +365,12 @@ class Conditions(unittest.TestCase):
         for count, wanted in ((256, True), (257, "29 1")):
             self.judged([("", start * count + "1" + end * count, wanted) for start, end in NESTED])
         self.judged([("", text, "29 1") for text in TOO_DEEP])
-        # the tokens come first, and the depth is that of what they are replaced by
+        # faults of tokens come first; the depth is that of the tokens after replacement
         self.judged([("", "1x " + "(" * 257, "24 1 1x"), ("#define P %s\n" % ("(" * 257), "P 1", "29 1")])
         self.judged([("", text, True) for text in LONG])
 
 
-# What the standard's examples give (6.10.3.5p5 to p7, p9, and 6.10.3.3p4).
+# The results of the standard's examples (6.10.3.5p5 to p7, p9, and 6.10.3.3p4).
 STANDARD = {
     "example 3": """f(2 * (y+1)) + f(2 * (f(2 * (z[0])))) % f(2 * (0)) + t(1);
 f(2 * (2+(3,4)-0,1)) | f(2 * (~ 5)) & f(2 * (0,1))^m(0,1);
@@ -390,11 +390,11 @@ puts("The first, second, and third items.");
 """,
     "hash_hash": 'char p[] = "x ## y";',
 }
-# Texts, those whose tokens they give, and how they end: well, or by a fault.
+# Texts, other texts with the same tokens, and how they end: ok, or with a fault.
 REPLACED = [
     ("#define x x\nx", "x", "ok"),
     ("#define M(a,b) a b\n#define X g\n#define Y (1)\n#define g(z) z M(X,Y)\nM(X,Y)", "1 M(g,(1))", "ok"),
-    # how many arguments there are
+    # the number of arguments
     ("#define f(a) a\nf()", "", "ok"),
     ("#define z() 1\nz( )", "1", "ok"),
     ("#define E\n#define f(a) [a]\nf(E)", "[]", "ok"),
@@ -402,41 +402,41 @@ REPLACED = [
     ("#define f(a) a\nb f(1,2)", "b", "18 2:3 f"),
     ("#define f(a,...) a\nf(1)", "", "18 2:1 f"),
     ("#define E\n#define f(a) [a]\nf E (1) f", "f (1) f", "ok"),
-    # a lone quote comes before a missing `)`, and that before the number of arguments
+    # a lone quote comes before a missing `)`, and this before the number of arguments
     ("#define f(a) a\nb ' c", "b", "7 2:3 '"),
     ("#define f(a) a\nb f(1,'", "b", "7 2:7 '"),
     ("#define f(a) a\nb f(1,2", "b", "17 2:3 f"),
-    # an argument's fault is its invocation's and comes before `#`, and that before `##`
+    # an argument's fault is that of its invocation; it comes before `#`, and `#` before `##`
     ("#define f(a) a\nb f(c f(1,2)) d", "b", "18 2:7 f"),
     ("#define s(a) #a a\nb s(s(\\))", "b", "20 2:5 \"\\\""),
     ("#define s(a) #a - ## a\nb s(\\)", "b", "20 2:3 \"\\\""),
     ("#define c(a) x ## + a\nb c(1)", "b", "19 2:3 x+"),
-    # names that hide a token of an argument, and those that it gains beside them
+    # names that hide a token of an argument, and names that are added to them
     ("#define a a f\n#define f(x) x (2)\nf(a)", "a f (2)", "ok"),
     ("#define a a c\n#define c(y) <y a>\n#define f(x) x (2)\nf(a)", "a <2 a c>", "ok"),
     ("#define a a f g\n#define f(x) x (2)\n#define g(x) f(x) (3)\ng(a)", "a f g (2) (3)", "ok"),
     # predefined names
     ("__DATE__ __TIME__ __STDC_VERSION__ __FILE__ __STDC__ __STDC_HOSTED__", "\"Feb  9 2024\" \"08:05:03\" 201112L \"a.c\" 1 1", "ok"),
-    # the line where the argument stands, and that of the invocation
+    # the line of the argument, and the line of the invocation
     ("#define f(a) a\nf(\n__LINE__)", "3", "ok"),
     ("#define g(a,b) a##b\ng(\n__LINE__,)", "2", "ok"),
     ("#define s(...) #__VA_ARGS__\n#define f(...) [__VA_ARGS__]\ns(a ,b) f()", "\"a ,b\" []", "ok"),
 ]
-# Texts, how many replacements are left for each, what it gives then, and how it ends.
+# Texts, how many replacements are left for each, its result, and how it ends.
 SPENDING = [
     ("#define f(a) a*g\n#define g(a) f(a)\nf(2)(9)", 3, "2*9*g", "ok"),
     ("#define f(a) a*g\n#define g(a) f(a)\nf(2)(9)", 2, "2*", "35 3:1"),
     ("#define f(a) a*g\n#define g(a) f(a)\nf(2)(9)", 1, "2*", "35 3:1"),
     ("#define f(a) a*g\n#define g(a) f(a)\nf(2)(9)", 0, "", "35 3:1"),
-    # the fault is at the place where the name is used, not at the name's own
+    # the fault is at the location where the name is used, not where it is written
     ("#define X a Y\n#define Y 1\nb  X c", 2, "b a 1 c", "ok"),
     ("#define X a Y\n#define Y 1\nb  X c", 1, "b a", "35 3:4"),
     ("#define X\na __LINE__", 0, "a", "35 2:3"),
     ("#define X\na __LINE__", 1, "a 2", "ok"),
-    # a macro's name that passes costs nothing, and neither does a hidden one
+    # a macro's name that isn't replaced costs nothing, nor does a hidden one
     ("#define f(a) a\nf a f", 0, "f a f", "ok"),
     ("#define X X\nX", 1, "X", "ok"),
-    # an invocation is counted before its arguments are cut, and whatever becomes of it
+    # an invocation is counted before its arguments are read, even if it then fails
     ("#define f(a) a\nf(1", 0, "", "35 2:1"),
     ("#define f(a) a\nf(1", 1, "", "17 2:1 f"),
     ("#define f(a) a\nf(1,2)", 1, "", "18 2:1 f"),
@@ -446,22 +446,22 @@ SPENDING = [
     ("#define X 1\n#define f(a,b) a a+b+#b\nf(X,X X)", 3, "", "35 3:7"),
     ("#define X 1\n#define f(a,b) a a+b+#b\nf(X,X X)", 2, "", "35 3:5"),
     ("#define X 1\n#define f(a,b) a a+b+#b\nf(X,X X)", 1, "", "35 3:3"),
-    # an argument that is only spelled or joined is not expanded
+    # an argument that is only stringized or pasted is not expanded
     ("#define X 1\n#define f(a,b) #a b##0\nf(X,X) X", 2, "\"X\" X0 1", "ok"),
     ("#define X 1\n#define f(a,b) #a b##0\nf(X,X) X", 1, "\"X\" X0", "35 3:8"),
 ]
-# Names with whether each is predefined.
+# Names, and whether each is predefined.
 PREDEFINED = {"__FILE__": True, "__LINE__": True, "__DATE__": True, "__TIME__": True, "__STDC__": True, "__STDC_HOSTED__": True,
               "__STDC_VERSION__": True, "defined": False, "__VA_ARGS__": False, "__STDC": False}
-# How many invocations stand around a text, what they give, and how they end.
+# How many invocations are nested around a text, their result, and how they end.
 LEVELS = [(256, "1", "1", "ok"), (256, "s(1)", '"1"', "ok"), (257, "1", "", "21 3:513 f"), (256, "f()", "", "21 3:513 f")]
-# Each macro but the first is two of the one before it.
+# Each macro except the first is the one before it, twice.
 DOUBLING = "#define a0 0\n" + "".join("#define a%d a%d a%d\n" % (n + 1, n, n) for n in range(64)) + "a64\n"
 
 
 class Replacement(unittest.TestCase):
     def gives(self, text, like, end, **more):
-        """Wants of a text the tokens of another one that names no macro, and this end."""
+        """Wants the tokens of another text, which uses no macro, and this end."""
         files = [("a.c", text), ("b.c", like), ("vers2.h", "")]
         found, same = given(files, [{"file": "a.c"}, {"file": "b.c"}], **more)
         tokens = same.removesuffix("| 1 | ok")
@@ -507,20 +507,20 @@ class Replacement(unittest.TestCase):
         self.assertTrue(done.stdout.endswith(b"\ndep 0 a.c\nfault 35 0:66:1\n"))
 
 
-# Dates and times, and whether they have their form.
+# Dates and times, and whether they have the right form.
 DATES = {"Jan  1 0000": True, "May 10 2024": True, "Oct 31 9999": True, "Feb 31 2023": True, "Feb 09 2024": False, "Feb  0 2024": False,
          "Feb 32 2024": False, "feb  9 2024": False, "Feb  9 202x": False, "Feb  9 20240": False}
 TIMES = {"00:00:00": True, "19:09:60": True, "23:59:59": True, "24:00:00": False, "08:60:03": False, "08:05:61": False, "8:05:03": False,
          "08.05.03": False}
-# Definitions that a list may have or not, and what a unit then gives.
+# Definitions in a list, and the result of a unit, or the number by which the list is refused.
 DEFINITIONS = [(["F(x) x \\ \v\f"], "1 \\ | 0 | ok"), ([""], "| | 9 65535:1:1 define"), (["F(x) 1\n"], 7), (["F(x)\r1"], 7),
-               # with `#define ` before each and a new-line after it, together as long as a file may be
+               # with `#define ` before each and a new-line after it, together as long as the longest file
                (["F(x) x", "x" * 16777192], "1 | 0 | ok"), (["F(x) x", "x" * 16777193], 4)]
 
 
 class Forms(unittest.TestCase):
     def told(self, text, **more):
-        """What a unit of a text gives, or the number by which its list is refused."""
+        """Returns the result of a unit of a text, or the number by which its list is refused."""
         files, unit = [{"name": "a.c", "text": text}], {"file": "a.c", "define": more.pop("define", [])}
         done = cppunits("dump", input=json.dumps({**LIST, "files": files, "units": [unit], **more}).encode())
         if done.returncode == 3:
@@ -539,12 +539,12 @@ class Forms(unittest.TestCase):
             self.assertEqual(self.told("F(1)\n", define=lines), wanted, [line[:20] for line in lines])
 
 
-# Files of one text each, and what a unit of it gives.
+# Files of one text each, and the result of a unit of it.
 TEXTS = [
     ("", "| 0 | ok"),
     ("#\na+b/**/c\n", "a + b c | 0 | ok"),
     ("#define A 1\nA\n#undef A\nA\n", "1 A | 0 | ok"),
-    # an invocation does not go on behind a directive line
+    # an invocation doesn't continue after a directive line
     ("#define f(a) a\nf(1\n#define Q\n)\n", "| 0 | 17 0:2:1 f"),
     ("#define f(a) a\nf\n#define Q\n(1)\n", "f ( 1 ) | 0 | ok"),
     ("x\n#error no  \"y\n", "x | 0 | 34 0:2:1 no \"y"),
@@ -554,17 +554,17 @@ TEXTS = [
     # items of every kind in a row
     ("#define X 1 + 2\n#define J(a,b) a##b\na b X c\n#pragma p q\nJ(d,e) X\n#pragma\nf\n",
      "a b 1 + 2 c pragma@0:4:1[ p q ] de 1 + 2 pragma@0:6:1[ ] f | 0 | ok"),
-    # the mark of what vanished at an argument's end goes with it, and one in front or within stays with what follows
+    # the mark of a removed token at an argument's end is removed with it; one at the beginning or within goes to the next token
     ("#define E\n#define S(x) #x\n#define T(x) S(x)\nT(y E) T(E y) T(y E z)\n", '"y" "y" "y z" | 0 | ok'),
-    # one group of a section is taken
+    # one group of a section is processed
     ("#ifdef A\n1\n#else\n2\n#endif\n#ifndef A\n3\n#endif\n", "2 3 | 0 | ok"),
-    # an `#elif` behind a taken group is not looked at, nor one in a skipped group
+    # an `#elif` after a processed group isn't evaluated, nor is one in a skipped group
     ("#if 1\n1\n#elif 1/0\n2\n#else\n3\n#endif\n4\n", "1 4 | 0 | ok"),
     ("#if 0\n#if 1/0\n#elif 1/0\n#endif\n#elif 2\n2\n#endif\n", "2 | 0 | ok"),
     ("#if 0\n1\n#elif 1/0\n2\n#endif\n", "| 0 | 26 0:3:1 /"),
     ("#ifdef 1\n#endif\n", "| 0 | 9 0:1:1 ifdef"),
     ("#if -1 > 0u\n1\n#endif\n#if (0 ? 1u : -1) > 0\n2\n#endif\n", "1 2 | 0 | ok"),
-    # skipped groups are read for their directives' names alone
+    # skipped groups are read only for the names of their directives
     ("#if 0\ndon't\n#foo\n#error x\n#include <x\n#endif\nx\n", "x | 0 | ok"),
     ("#if 1\ndon't\n#endif\nx\n", "don | 0 | 7 0:2:4 '"),
     # lines are numbered, and named
@@ -574,12 +574,12 @@ TEXTS = [
     ("#line 0\n", "| 0 | 33 0:1:1"),
     ("#line 1 L\"a\"\n", "| 0 | 33 0:1:1"),
 ]
-# Files, and what a unit of each gives in C11 and in the later profile.
+# Files, and the result of a unit of each in C11 and in the later profile.
 BRANCHED = [
     ("#if 0\n#elifdef __STDC__\n1\n#endif\n", "| 0 | ok", "1 | 0 | ok"),
     ("#if 0\n#elifndef __STDC__\n1\n#endif\n", "| 0 | ok", "| 0 | ok"),
     ("#if 0\n#elifndef Q\n1\n#else\n2\n#endif\n", "2 | 0 | ok", "1 | 0 | ok"),
-    # a branch behind a taken group is not looked at
+    # a branch after a processed group isn't evaluated
     ("#if 1\n#elifdef\n#endif\n", "| 0 | 8 0:2:1 elifdef", "| 0 | ok"),
     ("#if 0\n#elifdef\n#endif\n", "| 0 | ok", "| 0 | 9 0:2:1 elifdef"),
     ("#if 0\n#elifdef 'a\n#endif\n", "| 0 | ok", "| 0 | 7 0:2:10 '"),
@@ -590,9 +590,9 @@ GUARDED = [
     ("a.c", "#include \"h.h\"\n#include \"h.h\"\n"),
     ("h.h", "#ifndef H\n#define H\nint a;\n#endif\n"),
 ]
-# Files that include one another, the profile, and units by their rows and definitions with what each gives.
+# Files that include one another, the profile, and units by row and definitions, each with its result.
 INCLUDING = [
-    # units are kept apart
+    # units don't affect each other
     ("c11", [
         ("a.c", "#include \"h.h\"\n#include \"h.h\"\n"),
         ("h.h", "#ifndef H\n#define H\nint a;\n#endif\n"),
@@ -605,14 +605,14 @@ INCLUDING = [
         (2, ["X 'a"], "| | 7 65535:1:11 '"),
         (1, [], "int a ; | 1 | ok"),
     ]),
-    # of a macro-made name the spaces count, but for one behind `<`
+    # in a name that a macro makes spaces count, except for one after `<`
     ("c11", [
         ("a.c", "#define H < h.h >\n#include H\n#define J < d / j.h>\n#include J\n"),
         ("inc/h.h ", "1\n"),
         ("inc/h.h", "2\n"),
         ("inc/d / j.h", "3\n"),
     ], [(0, [], "1 3 | 0 1 3 | ok")]),
-    # where headers are looked for, and what becomes of a file that isn't there
+    # where headers are looked for, and files that aren't there
     ("c11", [
         ("src/a.c", "#include \"x.h\"\n#include <x.h>\n#include \"../inc/x.h\"\n#include <y.h>\n"),
         ("src/x.h", "1\n"),
@@ -637,14 +637,14 @@ INCLUDING = [
         (8, [], "| 8 | 32 8:1:1 s.c"),
         (9, [], "| 9 | 6 9:1:1 gone.h"),
     ]),
-    # an included file has its own name and lines, and the includer its own again
+    # an included file has its own name and lines, and then the includer has its own again
     ("c11", [
         ("a.c", "#line 9 \"q\"\n#include \"h.h\"\n__LINE__ __FILE__\n"),
         ("h.h", "__LINE__ __FILE__\n#line 50 \"r\"\n"),
     ], [
         (0, [], "1 \"h.h\" 10 \"q\" | 0 1 | ok"),
     ]),
-    # what one unit reads once the next one reads again, and a pragma in a skipped group says nothing
+    # the next unit reads again what one unit read, and a pragma in a skipped group does nothing
     ("later", [
         ("s.c", "#pragma once\nt\n#include \"s.c\"\n"),
         ("a.c", "#include \"h.h\"\n#include \"h.h\"\n"),
@@ -657,7 +657,7 @@ INCLUDING = [
         (1, [], "t t | 1 2 | ok"),
         (3, [], "t pragma@4:2:1[ once ] pragma@4:3:1[ once x ] | 3 4 | ok"),
     ]),
-    # at the last depth, the depth is asked for first
+    # at the last depth, the depth is checked first
     ("later", [
         ("a.c", "#include \"o.h\"\n#include \"d.h\"\n"),
         ("o.h", "#pragma once\n"),
@@ -666,7 +666,7 @@ INCLUDING = [
         (0, [], "pragma@1:1:1[ once ] | 0 1 2 | 32 2:1:1 o.h"),
     ]),
 ]
-# Files, and what a unit of the first gives in the later profile within each of these budgets.
+# Files, and the result of a unit of the first in the later profile with each of these budgets.
 WITHIN = [
     # each name that is replaced
     ([("a.c", "#define f(a) a*g\n#define g(a) f(a)\nf(2)(9)\n")], [
@@ -675,7 +675,7 @@ WITHIN = [
         (3, "2 * | 0 | 35 0:3:1"),
         (0, "| | 35 0:1:1"),
     ]),
-    # a condition spends, also where its group is not taken
+    # a condition uses the budget, also if its group is skipped
     ([("a.c", "#define A 0\n#if 0\n#elif A\n#endif\n#if A\n#endif\nA\n")], [
         (4, "0 | 0 | ok"),
         (3, "| 0 | 35 0:7:1"),
@@ -688,24 +688,24 @@ WITHIN = [
         (2, "| 0 | 35 0:3:1"),
         (1, "| 0 | 35 0:2:7"),
     ]),
-    # the dependency comes behind what is left
+    # the dependency comes after the check of the budget
     ([("a.c", "#define N \"h.h\"\n#include N\n"), ("h.h", "t\n")], [
         (3, "t | 0 1 | ok"),
         (2, "| 0 | 35 0:2:1"),
         (1, "| 0 | 35 0:2:10"),
     ]),
-    # a file that is read once
+    # a file that is read only once
     ([("a.c", "#include \"o.h\"\n#include \"o.h\"\n"), ("o.h", "#pragma once\nt\n")], [
         (3, "pragma@1:1:1[ once ] t | 0 1 | ok"),
         (2, "pragma@1:1:1[ once ] t | 0 1 | 35 0:2:1"),
     ]),
-    # the depth comes before what is left
+    # the depth is checked before the budget
     ([("s.c", "#include \"s.c\"\n")], [
         (201, "| 0 | 32 0:1:1 s.c"),
         (200, "| 0 | 35 0:1:1"),
     ]),
 ]
-# A file that includes itself, and one that would be read once in the later profile, down to depth 200.
+# A file that includes itself down to depth 200, and one that the later profile reads only once.
 DEEP = [("t\n#include \"s.c\"\n", "t " * 201 + "| 0 | 32 0:2:1 s.c"),
         ("#pragma once\nt\n#include \"s.c\"\n", "pragma@0:1:1[ once ] t " * 201 + "| 0 | 32 0:3:1 s.c")]
 

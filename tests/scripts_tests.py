@@ -1,5 +1,5 @@
 #!/usr/bin/env python3
-"""Tests of scripts/depfile.py, text.py and shards.py, with what ninja, make, gcc and GNU parallel make of what they write.
+"""Tests scripts/depfile.py, text.py and shards.py, and gives their output to ninja, make, gcc and GNU parallel.
 
     tests/scripts_tests.py [PROGRAM] [-k NAME]
 """
@@ -30,7 +30,7 @@ def read(*parts):
 
 
 def tokens(dump):
-    """Kind and spelling of each token line."""
+    """Returns the kind and the spelling of each token line."""
     lines = [line.split(b" ", 3)[3] for line in dump.split(b"\n") if line.startswith((b"tok ", b"ptok "))]
     return [(line[:1], line[3:]) for line in lines]
 
@@ -121,7 +121,7 @@ class Dependencies(Folder):
         self.made()
         theirs = well(["gcc", "-MM", "-MT", "src/a\\ b.o", "src/a b.c"], cwd=self.top)
         ours = read(self.top, "src/a b.c.d")
-        # gcc leaves a colon as it is, or writes a backslash before it, by its version
+        # some versions of gcc write a backslash before a colon, and others don't
         self.assertEqual(*(text.replace(b"\\\n", b" ").replace(b"\\:", b":").split() for text in (ours, theirs)))
 
     def test_two_units_of_a_file_and_the_way_to_the_root(self):
@@ -148,7 +148,7 @@ class Dependencies(Folder):
         script("depfile.py", input=deps, cwd=self.top)
         rule = b"src/a.o: \\\n  first.h \\\n  src/a.c\n"
         self.assertEqual(read(self.top, "src/a.c.d"), rule)
-        # headers alone have a rule of their own, also one that stands before the source
+        # only headers have a rule of their own, also a header that comes before the source
         script("depfile.py", "--phony", input=deps, cwd=self.top)
         self.assertEqual(read(self.top, "src/a.c.d"), rule + b"first.h:\n")
 
@@ -193,7 +193,7 @@ int printf(const char *, ...);
 #define STR(x) #x
 #endif
 """
-# each line's tokens, side by side, would be other tokens
+# tokens on each line that would be other tokens without a space between them
 CLOSE = r"""#define E
 #define I(x) x
 +I(+)a -I(-)-I(=)b &I(&) |I(|)|I(=)c <I(<)I(<)= >I(>)I(=) <I(:) %I(:)%I(:) ?I(?)= .I(.). .I(5) 1I(.)2 1I(a)
@@ -292,7 +292,7 @@ class Shards(Folder):
         parts = self.make(23, 4, fault=True)
         command = "%s --block 1 dump < {} > {.}.out" % shlex.quote(program())
         done = run(["parallel", "--jobs", "4", command, ":::", *parts], cwd=self.top)
-        # its status is the number of jobs that didn't end with 0
+        # the status of parallel is the number of jobs that failed
         self.assertEqual(done.returncode, 1, done.stderr)
         self.compare([part.replace(".json", ".out") for part in parts], 1)
 

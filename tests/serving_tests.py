@@ -1,10 +1,10 @@
 #!/usr/bin/env python3
-"""Tests whole runs: which lists are refused, and what is printed of the others, byte for byte.
+"""Tests whole runs: which lists are refused, and the output for the others, byte for byte.
 
     tests/serving_tests.py [PROGRAM] [-k NAME]
 
-A list that is refused gives status 3, the least number that applies on standard error, and nothing on standard output.  Any other
-gives status 1 if a unit has a fault, 0 if none has, and nothing on standard error.
+For a refused list the status is 3, standard error has the least number that applies, and nothing is on standard output.  For any other list
+the status is 1 if a unit has a fault, and 0 if none has, and nothing is on standard error.
 """
 import json
 import unittest
@@ -12,17 +12,17 @@ import unittest
 from counted import LIST, Folder, cppunits, main, write
 from row_tests import given
 
-# What the words of the lists below stand for.
+# The text that replaces each word in the lists below.
 WORDS = {"$when": '"date":"Feb  9 2024","time":"08:05:03"', "$file": '{"name":"a.c","text":""}', "$unit": '{"file":"a.c"}'}
 EMPTY_FILE, UNIT = {"name": "a.c", "text": ""}, {"file": "a.c"}
-# Lists that are refused, by their numbers, each on a line.
+# Lists that are refused, by number, each on a line.
 REFUSED = {
-    # JSON that breaks off, and a number that is too large
+    # incomplete JSON, and a number that is too large
     1: r"""{"date":
 {$when,"files":[$file],"units":[$unit]
 {"date":1e999}
 """,
-    # other members and values of the list, of files and of units; the last four have what a larger number refuses, too
+    # other members and values of the list, of files and of units; the last four are also refused for a larger number
     2: r"""[]
 {$when,"files":[$file]}
 {"date":"Feb  9 2024","time":8,"files":[$file],"units":[$unit]}
@@ -56,11 +56,11 @@ REFUSED = {
 {"profile":"c23","budget":"5",$when,"files":[$file],"units":[$unit]}
 {"profile":null,$when,"files":[$file],"units":[{"file":"a.c","search":["/"]}]}
 """,
-    # names that stand twice or out of form, with units whose files aren't there
+    # duplicate names and names of a wrong form, with units whose files aren't there
     3: r"""{$when,"files":[{"name":"a//c","text":""}],"units":[{"file":"b.c"}]}
 {$when,"files":[$file,{"name":"b.c","text":""},$file],"units":[{"file":"c.c"}]}
 """,
-    # files that aren't there; the last three have what a larger number refuses, too
+    # files that aren't there; the last three are also refused for a larger number
     5: r"""{$when,"files":[$file],"units":[{"file":"b.c"}]}
 {$when,"files":[],"units":[$unit]}
 {"date":"9 Feb","time":"08:05:03","files":[$file],"units":[{"file":"b.c"}]}
@@ -72,12 +72,12 @@ REFUSED = {
 {"date":"9 Feb","time":"08:05:03","files":[$file],"units":[{"file":"a.c","define":["X\n"]}]}
 {"budget":-1,"date":"Feb  9 2024","time":"24:00:00","files":[$file],"units":[$unit]}
 """,
-    # definitions of more than a line, the last one with another folder
+    # definitions with a line end, the last one with another directory
     7: r"""{$when,"files":[$file],"units":[{"file":"a.c","define":["A 1\n"]}]}
 {$when,"files":[$file],"units":[{"file":"a.c","define":["A","\r"]}]}
 {$when,"files":[$file],"units":[{"file":"a.c","define":["A\n"],"search":["/"]}]}
 """,
-    # folders out of form, the last one with another profile
+    # directories of a wrong form, the last one with another profile
     8: r"""{$when,"files":[$file],"units":[{"file":"a.c","search":[""]}]}
 {$when,"files":[$file],"units":[{"file":"a.c","search":["inc","../inc"]}]}
 {$when,"files":[$file],"units":[$unit,{"file":"a.c","search":["a/"]}]}
@@ -99,9 +99,9 @@ REFUSED = {
 {"budget":1e1,$when,"files":[$file],"units":[$unit]}
 """,
 }
-# What is no JSON as a whole: nothing, and bytes that are no UTF-8.
+# Inputs that aren't JSON as a whole: nothing, and bytes that aren't UTF-8.
 NO_TEXT = [b"", b'"\xff"']
-# Texts, whether each is the name of a file, and whether it is a folder.
+# Texts, whether each is the name of a file, and whether it is a directory.
 NAMES = [
     ("a", True, True),
     ("a.c", True, True),
@@ -140,24 +140,24 @@ tok 0:1:16 0:3:1 i- g
 dep 0 a.c
 ok
 """
-# The text or bytes of a.c, other members of a list, and what is printed of a unit of it after its first line.
+# The text or bytes of a.c, other members of a list, and the output for a unit of it after the first line.
 PRINTED = [
     ("", {}, "dep 0 a.c\nok\n"),
     # a comment as one space
     ("a+b/**/c\n", {}, "tok 0:1:1 0:1:1 i+ a\ntok 0:1:2 0:1:2 p- +\ntok 0:1:3 0:1:3 i- b\ntok 0:1:8 0:1:8 i+ c\ndep 0 a.c\nok\n"),
     # a byte order mark, CR LF and no last new-line
     (b"\xef\xbb\xbfx\r\ny", {}, "tok 0:1:1 0:1:1 i+ x\ntok 0:2:1 0:2:1 i+ y\ndep 0 a.c\nok\n"),
-    # bytes from 128 up, and other ones that don't stand for themselves
+    # bytes from 128 up, and others that are printed as %XX
     (b"\xc3\xa9", {}, "tok 0:1:1 0:1:1 i+ %C3%A9\ndep 0 a.c\nok\n"),
     (b"\x00\xff\nk", {}, "tok 0:1:1 0:1:1 o+ %00\ntok 0:1:2 0:1:2 i- %FF\ntok 0:2:1 0:2:1 i+ k\ndep 0 a.c\nok\n"),
-    # a spliced name, a comment's opening in a literal
+    # a spliced name, and a comment's beginning in a literal
     ("a\\\nb \"/*\"//\n", {}, "tok 0:1:1 0:1:1 i+ ab\ntok 0:2:3 0:2:3 s+ \"/*\"\ndep 0 a.c\nok\n"),
     # percent signs
     ("a%:b\n%:\n50%\n", {},
      "tok 0:1:1 0:1:1 i+ a\ntok 0:1:2 0:1:2 p- %25:\ntok 0:1:4 0:1:4 i- b\ntok 0:3:1 0:3:1 n+ 50\ntok 0:3:3 0:3:3 p- %25\ndep 0 a.c\nok\n"),
     # a backslash at the end of a file
     (b"x\\", {}, "dep 0 a.c\nfault 2 0:1:2\n"),
-    # an unmatched quote in text, an unknown directive, and the one before the other
+    # an unmatched quote in text, an unknown directive, and one before the other
     ("x ' y\n", {}, "tok 0:1:1 0:1:1 i+ x\ndep 0 a.c\nfault 7 0:1:3 '\n"),
     ("#foo\n", {}, "dep 0 a.c\nfault 8 0:1:1 foo\n"),
     ("#foo 'z\n", {}, "dep 0 a.c\nfault 7 0:1:6 '\n"),
@@ -167,12 +167,12 @@ PRINTED = [
     ("#if 0\n#elifdef __STDC__\n1\n#endif\n", {"profile": "later"}, "tok 0:3:1 0:3:1 n+ 1\ndep 0 a.c\nok\n"),
     ("#if 0\n#elifdef __STDC__\n1\n#endif\n", {"profile": "c11"}, "dep 0 a.c\nok\n"),
     ("#if 0\n#elifdef __STDC__\n1\n#endif\n", {}, "dep 0 a.c\nok\n"),
-    # a file that includes itself is read once by the later profile, and down to the last depth by the other
+    # a file that includes itself: the later profile reads it once, the other down to the last depth
     ("#pragma once\nt\n#include \"a.c\"\n", {"profile": "later"},
      "prag 0:1:1\nptok 0:1:9 0:1:9 i+ once\ntok 0:2:1 0:2:1 i+ t\ndep 0 a.c\nok\n"),
     ("#pragma once\nt\n#include \"a.c\"\n", {"profile": "c11"},
      "prag 0:1:1\nptok 0:1:9 0:1:9 i+ once\ntok 0:2:1 0:2:1 i+ t\n" * 201 + "dep 0 a.c\nfault 32 0:3:1 a.c\n"),
-    # an invocation within an invocation takes four replacements and openings
+    # an invocation within an invocation uses four of the budget, with the opening of the file
     (CALLS, {"budget": 5}, CALLED),
     (CALLS, {"budget": 4}, CALLED),
     (CALLS, {"budget": 3}, "tok 0:3:3 0:3:1 n+ 2\ntok 0:1:15 0:3:1 p- *\ndep 0 a.c\nfault 35 0:3:1\n"),
@@ -182,12 +182,12 @@ PRINTED = [
     ("#define X\n" + "X\n" * 999, {"budget": 1000}, "dep 0 a.c\nok\n"),
     ("#define X\n" + "X\n" * 1000, {"budget": 1000}, "dep 0 a.c\nfault 35 0:1001:1\n"),
 ]
-# Lists, and what is printed of them.
+# Lists, and the output for them.
 LISTS = [
     (r'{$when,"files":[],"units":[]}', ""),
-    # no file is read without units
+    # without units no file is read
     (r'{$when,"files":[{"name":"a.c","text":"/*"}],"units":[]}', ""),
-    # the last value of a member that stands twice
+    # the last value of a duplicate member
     (r'{"date":"x",$when,"files":[{"name":"a.c","text":"__DATE__ __TIME__"}],"units":[$unit]}', """unit 0 a.c
 tok 0:1:1 0:1:1 s+ "Feb  9 2024"
 tok 0:1:10 0:1:10 s+ "08:05:03"
@@ -202,7 +202,7 @@ tok 0:1:10 0:1:10 s+ "23:59:60"
 dep 0 d/a.c
 ok
 """),
-    # several files and units, with definitions, and folders of a unit before those of all
+    # several files and units, with definitions; a unit's directories come before those of all units
     (r'{"search":["inc"],$when,"files":[{"name":"a.c","text":"1 A"},{"name":"inc/h.h","hex":"320a"},{"name":"b.c","text":"#include <h.h>\nA F(3)"},'
      r'{"name":"inc/sub/h.h","text":"4"}],'
      r'"units":[{"file":"b.c","define":["A 1","F(x) x"],"search":[".","inc/sub"]},{"file":"a.c"},{"file":"b.c"}]}', """unit 0 b.c
@@ -229,7 +229,7 @@ dep 1 inc/h.h
 ok
 """),
 ]
-# Two files over a header, for which the first unit defines a macro; the third unit defines it twice.
+# Two files that include a header, for which the first unit defines a macro; the third unit defines it twice.
 SHARED = {
     "a.c": "#include \"h.h\"\nN P(1) __FILE__\n",
     "inc/h.h": "#ifndef H\n#define H\n#define P(x) x+N\n#pragma once n\n#endif\n",
@@ -261,7 +261,7 @@ fault 34 2:3:1 no M
 unit 2 a.c
 fault 16 65535:2:1 N
 """
-# The same without the items.
+# The same output without the items.
 DEPENDENCIES = """unit 0 a.c
 dep 0 a.c
 dep 1 inc/h.h
@@ -275,16 +275,16 @@ fault 16 65535:2:1 N
 """
 # Numbers of workers, and the most units of a block.
 CREWS = [(1, 1), (1, 1024), (2, 1), (2, 3), (4, 8), (7, 1), (64, 2)]
-# Names of files, folders of the unit and of all units, and include lines: the file that holds it, the name, and the file that is found.
+# Names of files, directories of the unit and of all units, and include lines: the file that has it, the name, and the file that is found.
 SEARCHED = [
-    # the including file's folder comes first
+    # the including file's directory comes first
     (["src/a.c", "src/x.h", "inc/x.h"], [], ["inc"], [
         ("src/a.c", '"x.h"', "src/x.h"),
         ("src/a.c", "<x.h>", "inc/x.h"),
         ("src/a.c", '"../inc/x.h"', "inc/x.h"),
         ("src/a.c", "<y.h>", None),
     ]),
-    # folders are searched in order
+    # directories are searched in order
     (["src/a.c", "src/x.h", "inc/x.h", "h.h"], ["."], ["inc", "src"], [
         ("src/a.c", "<x.h>", "inc/x.h"),
         ("src/a.c", '"h.h"', "h.h"),
@@ -292,7 +292,7 @@ SEARCHED = [
         ("h.h", '"src/x.h"', "src/x.h"),
         ("src/a.c", "<../h.h>", "h.h"),
     ]),
-    # names are walked by their segments
+    # names are resolved segment by segment
     (["src/a.c", "inc/x.h", "h.h"], ["."], [], [
         ("src/a.c", "<h.h/>", "h.h"),
         ("src/a.c", "<./x/../h.h>", "h.h"),
@@ -312,20 +312,20 @@ SEARCHED = [
 
 
 def written(text):
-    """A list with its words spelled out."""
+    """Returns a list with its words replaced by their texts."""
     for word, meaning in WORDS.items():
         text = text.replace(word, meaning)
     return text.encode()
 
 
 def listed(files, units, **more):
-    """A list whose names stand as bytes of their own, where JSON lets them."""
+    """Returns a list whose names are written as raw bytes if JSON allows that."""
     return json.dumps(dict(LIST, files=files, units=units, **more), ensure_ascii=False).encode()
 
 
 class Refusals(unittest.TestCase):
     def judged(self, data, number):
-        """Wants that a list is refused by this number, or taken at 0."""
+        """Wants that a list is refused by this number, or accepted if the number is 0."""
         done = cppunits("dump", input=data)
         if number:
             wanted = 3, b"", b"cppunits: list refused L%d\n" % number
@@ -349,7 +349,7 @@ class Refusals(unittest.TestCase):
 
 class Output(Folder):
     def prints(self, data, wanted, *words):
-        """Wants that this is printed of a list, `dump` or `deps` among the words, and nothing said."""
+        """Wants this output for a list (`dump` or `deps` is among the words), and nothing on standard error."""
         done = cppunits(*words, input=data)
         status = int("\nfault " in wanted)
         self.assertEqual((done.returncode, done.stderr), (status, b""), data)

@@ -1,16 +1,16 @@
 #!/usr/bin/env python3
-"""Rows of single tokens: their kinds, spellings, space marks and places, by what the program prints.
+"""Tests rows of single tokens by the program's output: their kinds, spellings, space marks and locations.
 
     tests/token_tests.py [PROGRAM] [-k NAME]
 
-Where a text's first token ends is what the grammars of the standard's 6.4 say, a byte above 127 counting as part of a name; a `'` or `"` that
-begins no literal is fault 7 by itself. The other rows are this project's own.
+The grammars of the standard's 6.4 say where a text's first token ends; a byte above 127 counts as part of a name.  A `'` or `"` that begins
+no literal is fault 7.  The other rows are this project's own.
 """
 import unittest
 
 from counted import dumped, main, spelled
 
-# Texts, the letter of the kind of the token in front of each, and its length.
+# Texts, the letter for the kind of each text's first token, and that token's length.
 CUT = [
     (b".5e+3.x,", "n", 7),
     (b"0x1p-3 ", "n", 6),
@@ -46,7 +46,7 @@ CUT = [
     (b"\\", "o", 1),
     (b"\x00", "o", 1),
 ]
-# Lines of `#include` over no other file, and their faults, of which 31 has the name in the header name.
+# Lines of `#include` without another file, and their faults; fault 31 has the name in the header name.
 HEADERS = [
     (b"%:include<a b>", "31 0:1:1 a b"),
     (b"%:include<a b>c>", "30 0:1:1"),
@@ -55,31 +55,31 @@ HEADERS = [
     (b"%:include<>", "30 0:1:1"),
     (b"%:include<a\n>", "30 0:1:1"),
     (b"%:include\"a", "7 0:1:10 \""),
-    # after something else it is none: macros are replaced within
+    # after another token it is no header name, and macros are replaced in it
     (b"#define x\n#define a b\n%:include x<a>", "31 0:3:1 b"),
     (b"#define include\n#define a b\n%:include include<a>", "31 0:3:1 b"),
 ]
-# Texts, and their tokens as they are printed.
+# Texts, and their tokens as printed.
 PLACED = [
     (b"a+b/**/c", ["0:1:1 0:1:1 i+ a", "0:1:2 0:1:2 p- +", "0:1:3 0:1:3 i- b", "0:1:8 0:1:8 i+ c"]),
-    # what a macro's list and what an argument gives
+    # the tokens of a macro's replacement list and of an argument
     (b"#define f(a) a*g\n#define g(a) f(a)\nf(2)(9)",
      ["0:3:3 0:3:1 n+ 2", "0:1:15 0:3:1 p- *", "0:3:6 0:3:1 n- 9", "0:1:15 0:3:1 p- *", "0:1:16 0:3:1 i- g"]),
     (b"#define L __LINE__\n\nL", ["0:1:11 0:3:1 n+ 3"]),
     (b"#define L __LINE__\n#line 1\nL", ["0:1:11 0:3:1 n+ 1"]),
-    # the later of two definitions that agree
+    # the second of two equal definitions
     (b"#define X 1\n#define X 1\nX", ["0:2:11 0:3:1 n+ 1"]),
-    # the mark of what vanished is kept
+    # the mark of a removed token is kept
     (b"#define E\n\n[ E]-", ["0:3:1 0:3:1 p+ [", "0:3:4 0:3:4 p+ ]", "0:3:5 0:3:5 p- -"]),
     (b"#define E F\n#define F\n[ E]-", ["0:3:1 0:3:1 p+ [", "0:3:4 0:3:4 p+ ]", "0:3:5 0:3:5 p- -"]),
 ]
-# A spelling of up to 14 bytes is kept in another way than a longer one.
+# A spelling of up to 14 bytes is stored in another way than a longer one.
 LENGTHS = [1, 2, 13, 14, 15, 26]
 LETTERS = "abcdefghijklmnopqrstuvwxyz"
 
 
 def printed(text):
-    """The tokens that a unit of a text gives, each without the word `tok`, and its end."""
+    """Returns the printed tokens of a unit of a text, each without the word `tok`, and its end."""
     lines = [line.decode() for line in dumped([{"name": "a.c", "hex": text.hex()}], [{"file": "a.c"}])[0]]
     return [line.removeprefix("tok ") for line in lines if line.startswith("tok ")], lines[-1].removeprefix("fault ")
 
@@ -87,7 +87,7 @@ def printed(text):
 class Tokens(unittest.TestCase):
     def test_the_first_is_the_longest(self):
         for text, kind, length in CUT:
-            # a word before it, so that no `%:` begins a directive, and a blank after it, so that no `\` ends the file
+            # a word comes before it, so that no `%:` begins a directive, and a blank after it, so that no `\` ends the file
             tokens, end = printed(b"x " + text + b" ")
             front = text[:length].decode("latin-1")
             if front in ("'", '"'):

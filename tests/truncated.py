@@ -3,10 +3,10 @@
 
     tests/truncated.py [PROGRAM] [-k NAME]
 
-Examples 3, 4, 5 and 7 of the standard's 6.10.3.5 and the one of 6.10.3.3 are each cut to their first n bytes, for every n:
-a unit of each ends in `ok` or to a fault among 1 to 34, the same with 1 and 7 workers, and to fault 2 where the last byte
-is a backslash that a new-line followed.  A list of a guarded header, cut to every shorter length, is refused as no JSON (L1).  200 arrays within one
-another are refused as no JSON, 100 as a list of another shape (L2).
+Examples 3, 4, 5 and 7 of the standard's 6.10.3.5 and the one of 6.10.3.3 are each cut to their first n bytes, for every n.  A unit of each
+cut text ends in `ok` or in a fault from 1 to 34, the same with 1 and 7 workers; it ends in fault 2 if the last byte is a backslash before
+a new-line.  A list with a guarded header, cut to every shorter length, is refused because it isn't JSON (L1).  200 nested arrays are refused
+because they aren't JSON, and 100 because they aren't a list (L2).
 """
 import json
 import re
@@ -78,14 +78,14 @@ LAST = re.compile(rb"ok|fault ([1-9]|[12][0-9]|3[0-4]) \d+:\d+:\d+( .+)?")
 
 
 def cuts(text):
-    """A list of the text's beginnings, each a file and a unit."""
+    """Returns a list of the text's beginnings, each as a file and a unit."""
     files = [{"name": "p%d.c" % n, "text": text[:n]} for n in range(len(text) + 1)]
     units = [{"file": file["name"]} for file in files]
     return json.dumps(dict(LIST, files=files + [{"name": "vers2.h", "text": ""}], units=units)).encode()
 
 
 def last_lines(output):
-    """The last line of each unit."""
+    """Returns the last line of each unit."""
     units = re.split(rb"^unit .*\n", output, flags=re.MULTILINE)[1:]
     return [unit.rstrip(b"\n").split(b"\n")[-1] for unit in units]
 
