@@ -25,8 +25,8 @@ the same form was tried once and proved. It is in a line `# right:` instead of `
 - *Call* is the public call whose meaning it changes, from the line `# covers:`.
 - *Refused by* is the function that can't be proved, its file, and the first goal that fails. The
   name of a goal says where it arises. `returns-then-is_exhausted`: where the function returns
-  because `is_exhausted` holds. `loop-.._preserved`: the invariant after an iteration. `..-requires`: what a
-  call requires. The last part is the clause of the contract.
+  because `is_exhausted` holds. `loop-.._preserved`: the invariant after an iteration.
+  `..-requires`: what a call requires. The last part is the clause of the contract.
 
 A heading has the number of mutants in the table and in the crate. `tests/edits_table.py` writes
 this page from the log of the full check.
