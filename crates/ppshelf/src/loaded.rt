@@ -9,7 +9,7 @@ ghost use Rattle.ppshelf.specs.Files.{most_rows};
 ghost use Rattle.ppshelf.specs.code.TableRows.{LoadedView, IsPlaced};
 
 use crate::disk::{Disk, ReadFault};
-use pptext::{Fault, LONGEST, Memory, Profile, Source, read_lines};
+use pptext::{Fault, LONGEST, Memory, Profile, Source, read_source, split_memory};
 use std::alloc::Global;
 use std::marker::{Model, PhantomData};
 
@@ -75,7 +75,7 @@ fn parse_bytes(
     ensures bytes { IfOk result (λ p. p.bytes.items ≡ bytes.items) }
     ensures reading { IfOk result (λ p. Reads profile row p.bytes.items p.lines) }
 {
-    let lines = read_lines(alloc, bytes.as_slice(), row as u32, profile)?;
+    let lines = split_memory(read_source(alloc, bytes.as_slice(), row as u32, profile))?;
     Ok(Parsed { bytes, lines })
 }
 

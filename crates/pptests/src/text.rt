@@ -4,7 +4,7 @@ mod hashing;
 mod reading;
 mod tokens;
 
-use pptext::{Fault, LONGEST, Memory, Profile, Source, SourceFault, read_source};
+use pptext::{Fault, LONGEST, Memory, Profile, Source, read_source, split_memory};
 use std::alloc::Global;
 use std::process::Abort;
 
@@ -19,9 +19,5 @@ fn read(
     bytes: &[u8],
 ) -> Result<Result<Source, Fault>, Memory> {
     assert!(rt; bytes.len() <= LONGEST);
-    match read_source(alloc, bytes, FILE, profile) {
-        Ok(source) => Ok(Ok(source)),
-        Err(SourceFault::Bad(fault)) => Ok(Err(fault)),
-        Err(SourceFault::Memory) => Err(Memory),
-    }
+    split_memory(read_source(alloc, bytes, FILE, profile))
 }

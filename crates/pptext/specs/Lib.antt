@@ -14,7 +14,6 @@ pub mod Guard
 pub mod Sources
 pub mod NextBranches
 pub mod Errors
-pub mod ReadResults
 pub mod Laws
 pub mod Lexing
 pub mod KindTests

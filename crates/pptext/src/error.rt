@@ -4,10 +4,10 @@ ghost use Rattle.pptext.specs.Errors.{split_memory};
 ghost use Rattle.pptext.specs.declared.error.Error.TheVariants.{Memory as OutOfMemory};
 
 use crate::tokens::{Fault, Memory};
-use std::alloc::AllocError;
+use std::alloc::{AllocError, AllocFailed};
 
 /// The reason why a step has no value: a fault of the source, or a failed allocation.
-#[derive(Drop)]
+#[derive(Drop, Debug)]
 pub enum Error {
     /// A fault of the source.
     Fault(Fault),
@@ -23,6 +23,14 @@ impl From<AllocError> for Error {
     }
 }
 
+impl<T: Drop> From<AllocFailed<T>> for Error {
+    ghost from_gives = { λ _ e. e ≡ OutOfMemory };
+
+    fn from(_error: AllocFailed<T>) -> Error {
+        Error::Memory
+    }
+}
+
 impl From<Memory> for Error {
     ghost from_gives = { λ _ e. e ≡ OutOfMemory };
 
@@ -31,8 +39,8 @@ impl From<Memory> for Error {
     }
 }
 
-/// Moves a fault from the error to the value, so that a failed allocation is the only error. Public functions return
-/// results of this form.
+/// Moves a fault from the error to the value, so that a failed allocation is the only error. Public functions other than
+/// `read_source` return results of this form.
 pub fn split_memory<T>(outcome: Result<T, Error>) -> Result<Result<T, Fault>, Memory>
     ensures { result ≡ split_memory outcome }
 {

@@ -1,15 +1,16 @@
 //! The groups of a file (6.10), by directive names alone.
 ghost use Rattle.std.specs.Prelude.{◌≡◌, ◌<◌, ◌^◌, [], length, None};
-ghost use Rattle.pptext.specs.ReadResults.{GroupsInto};
+ghost use Rattle.pptext.specs.Errors.{UnlessOutOfMemory};
 ghost use Rattle.pptext.specs.Sources.{lines_from};
 ghost use Rattle.pptext.specs.Tree.{group_fault};
-ghost use Rattle.pptext.specs.code.Grouping.{AreLineSpans, AreLines};
+ghost use Rattle.pptext.specs.code.Grouping.{AreLineSpans, AreLines, GroupsInto};
 
 mod branches;
 mod faults;
 mod guards;
 
-use crate::sources::{Line, Source, SourceFault};
+use crate::error::Error;
+use crate::sources::{Line, Source};
 use crate::tokens::Token;
 use branches::linked_lines;
 use faults::first_fault;
@@ -36,14 +37,14 @@ pub(crate) fn group_lines(
     alloc: Global,
     tokens: Vec<Token>,
     lines: Vec<Line>,
-) -> Result<Source, SourceFault>
+) -> Result<Source, Error>
     requires are_drafts { AreLineSpans tokens.items lines.items }
     requires few { length lines.items < 2 ^ 32 }
-    ensures { GroupsInto (lines_from tokens.items lines.items) result }
+    ensures { UnlessOutOfMemory result (GroupsInto (lines_from tokens.items lines.items)) }
 {
     let lines = linked_lines(alloc, lines)?;
     if let Some(fault) = first_fault(alloc, tokens.as_slice(), lines.as_slice())? {
-        return Err(SourceFault::Bad(fault));
+        return Err(Error::Fault(fault));
     }
     Ok(source_of(tokens, lines))
 }

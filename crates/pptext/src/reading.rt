@@ -1,17 +1,18 @@
 //! The entry points: read a file, and read a text as one token.
-ghost use Rattle.std.specs.Prelude.{◌≡◌, ◌↔◌, ◌≤◌, ℕ, List, length, IsTrue, IfOk, IfSome, IfNone};
+ghost use Rattle.std.specs.Prelude.{◌≡◌, ◌↔◌, ◌≤◌, ℕ, List, length, IsTrue, IfSome, IfNone};
 ghost use Rattle.pptext.specs.Clean.{longest};
 ghost use Rattle.pptext.specs.declared.tokens.Kind.{Kind};
-ghost use Rattle.pptext.specs.declared.sources.SourceFault.TheVariants.{Bad};
+ghost use Rattle.pptext.specs.declared.error.Error.TheVariants.{Fault as Faulted};
+ghost use Rattle.pptext.specs.Errors.{UnlessOutOfMemory};
 ghost use Rattle.pptext.specs.Guard.{GuardedBy};
 ghost use Rattle.pptext.specs.Sources.{Reads, tokens_of, spans, file_fault, IsOneToken, IsUnmatchedQuote};
-ghost use Rattle.pptext.specs.ReadResults.{ReadResult};
 
 use crate::cleaning::clean_text;
+use crate::error::Error;
 use crate::grouping::group_lines;
 use crate::lexer::{LeadingLexeme, next_lexeme, tokenize_lines};
-use crate::sources::{Line, Profile, Source, SourceFault};
-use crate::tokens::{Fault, Kind, Memory, Place, Token};
+use crate::sources::{Line, Profile, Source};
+use crate::tokens::{Fault, Kind, Place, Token};
 use std::alloc::Global;
 
 impl Source {
@@ -31,10 +32,10 @@ impl Source {
 }
 
 /// Makes a fault of the file with an empty text. Allocates nothing.
-fn fault_at(number: u8, at: Place) -> SourceFault
-    ensures { result ≡ Bad (file_fault number at) }
+fn fault_at(number: u8, at: Place) -> Error
+    ensures { result ≡ Faulted (file_fault number at) }
 {
-    SourceFault::Bad(Fault::bare(number, at))
+    Error::Fault(Fault::bare(number, at))
 }
 
 /// Reads a file of at most `LONGEST` bytes: its lines of preprocessing tokens after translation phases 1 to 3 (5.1.1.2,
@@ -43,14 +44,14 @@ fn fault_at(number: u8, at: Place) -> SourceFault
 ///
 /// # Errors
 ///
-/// `Bad` with the first fault of the file:
+/// `Fault` with the first fault of the file:
 /// - 2, at the `\` of a last line that ends in one; otherwise
 /// - 1, at the opening of a comment that isn't closed; otherwise the first of
 /// - 3, a branch (such as `#elif` or `#else`) or an `#endif` outside an if-section, and
 /// - 4, a branch after the `#else` of its if-section; otherwise
 /// - 5, at the innermost if-section that isn't closed.
 ///
-/// Faults 3, 4 and 5 are located at the line's `#`, and have the directive's name.
+/// Faults 3, 4 and 5 are located at the line's `#`, and have the directive's name. Faults 1 and 2 have no text.
 ///
 /// `Memory` if an allocation fails.
 pub fn read_source(
@@ -58,9 +59,9 @@ pub fn read_source(
     bytes: &[u8],
     file: u32,
     profile: Profile,
-) -> Result<Source, SourceFault>
+) -> Result<Source, Error>
     requires { length bytes.now ≤ longest }
-    ensures { ReadResult result (Reads profile file bytes.now) }
+    ensures { UnlessOutOfMemory result (Reads profile file bytes.now) }
 {
     let text = match clean_text(alloc, bytes, file)? {
         Ok(text) => text,
@@ -77,29 +78,6 @@ pub fn read_source(
     tokens.shrink_to_fit();
     lines.shrink_to_fit();
     group_lines(alloc, tokens, lines)
-}
-
-/// Reads a file of at most `LONGEST` bytes as `read_source` does (5.1.1.2, 6.4, 6.10), for a caller that keeps the
-/// result whether it is a fault or not: the lines, or the first fault. Locations have this file number, and lines and
-/// bytes from 1.
-///
-/// # Errors
-///
-/// An allocation fails.
-pub fn read_lines(
-    alloc: Global,
-    bytes: &[u8],
-    file: u32,
-    profile: Profile,
-) -> Result<Result<Source, Fault>, Memory>
-    requires { length bytes.now ≤ longest }
-    ensures { IfOk result (λ lines. Reads profile file bytes.now lines) }
-{
-    match read_source(alloc, bytes, file, profile) {
-        Ok(source) => Ok(Ok(source)),
-        Err(SourceFault::Bad(fault)) => Ok(Err(fault)),
-        Err(SourceFault::Memory) => Err(Memory),
-    }
 }
 
 impl Source {

@@ -2,8 +2,7 @@
 ghost use Rattle.std.specs.Prelude.{◌≡◌};
 ghost use Rattle.pptext.specs.Profiles.{has_later, is_gnu};
 
-use crate::tokens::{Fault, Token};
-use std::alloc::{AllocError, AllocFailed};
+use crate::tokens::Token;
 use std::marker::Model;
 
 /// The maximum length of a file, in bytes.
@@ -126,42 +125,4 @@ impl Model for Source {
         × (spans 0 0 (lines_from s.tokens.items s.lines.items) ≡ s.lines.items)
         × MatchOption s.guard ((x : List ℕ) → GuardedBy (lines_from s.tokens.items s.lines.items) x → ⊥)
         (λ i. (i < length s.tokens.items) × ((d : Token) → GuardedBy (lines_from s.tokens.items s.lines.items) (slice_index_or s.tokens.items i d).text)) };
-}
-
-/// The reason why a file can't be read.
-#[derive(Drop, Debug)]
-pub enum SourceFault {
-    /// The first fault of the file: its number, location and text.
-    ///
-    /// - 2: the last line ends in a backslash (5.1.1.2). The text is empty.
-    /// - 1: a comment is not closed (5.1.1.2, 6.4.9). The text is empty.
-    /// - 3: a branch (such as `#elif` or `#else`) or `#endif` outside an if-section (6.10p1).
-    /// - 4: a branch after the `#else` of its if-section (6.10p1).
-    /// - 5: an if-section has no `#endif` (6.10p1). It is the innermost that is open.
-    ///
-    /// The location of 3, 4 and 5 is that of the line's `#`, and the text is the directive's name. For 5 the line is
-    /// the one that opens the if-section.
-    Bad(Fault),
-    /// An allocation fails.
-    Memory,
-}
-
-impl From<AllocError> for SourceFault {
-    ghost use Rattle.pptext.specs.declared.sources.SourceFault.TheVariants.{Memory};
-
-    ghost from_gives = { λ _ e. e ≡ Memory };
-
-    fn from(_error: AllocError) -> SourceFault {
-        SourceFault::Memory
-    }
-}
-
-impl<T: Drop> From<AllocFailed<T>> for SourceFault {
-    ghost use Rattle.pptext.specs.declared.sources.SourceFault.TheVariants.{Memory};
-
-    ghost from_gives = { λ _ e. e ≡ Memory };
-
-    fn from(_error: AllocFailed<T>) -> SourceFault {
-        SourceFault::Memory
-    }
 }

@@ -6,7 +6,7 @@ ghost use Rattle.ppunit.specs.Unit.{command_file, command_text, command_line};
 
 use crate::collections::OwnedTexts;
 use ppshelf::MOST_ROWS;
-use pptext::{Fault, Memory, Profile, Source, read_lines};
+use pptext::{Fault, Memory, Profile, Source, read_source, split_memory};
 use std::alloc::{AllocError, Global};
 use std::fmt;
 use std::marker::Model;
@@ -48,7 +48,7 @@ impl CommandMacros {
         ensures { IfOk result (λ d. d ≡ record { texts = texts; profile = profile }) }
     {
         let text = command_text(alloc, &texts)?;
-        let lines = read_lines(alloc, text.as_slice(), COMMAND_FILE, profile)?;
+        let lines = split_memory(read_source(alloc, text.as_slice(), COMMAND_FILE, profile))?;
         Ok(CommandMacros {
             texts,
             profile,

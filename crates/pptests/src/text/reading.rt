@@ -2,7 +2,7 @@
 //! tokens are in tests/token_tests.py, which compares the program's output.
 use super::{FILE, read};
 use crate::showing::{assert_shown, push_fault};
-use pptext::{Fault, Kind, Line, Profile, Source, continues, read_lines, relex};
+use pptext::{Fault, Kind, Line, Profile, Source, continues, relex};
 use std::alloc::{AllocError, Global};
 use std::process::Abort;
 use std::test::Fail;
@@ -217,12 +217,12 @@ fn reads_files(rt: HostRuntime) -> Result<(), Fail> {
 }
 
 #[test]
-fn keeps_lines_and_faults(rt: HostRuntime) -> Result<(), Fail> {
+fn reads_directives_by_profile(rt: HostRuntime) -> Result<(), Fail> {
     for (profile, wanted) in [
         (Profile::Later, "3 7:1:1 elifdef"),
         (Profile::C11, "0-3 1 Unknown -, "),
     ] {
-        let answer = read_lines(rt.alloc(), b"#elifdef X\n", FILE, profile)?;
+        let answer = read(&rt, rt.alloc(), profile, b"#elifdef X\n")?;
         let found = shown_of(rt.alloc(), &answer, Shown::Lines)?;
         assert_shown(&rt, found.as_slice(), wanted);
     }

@@ -1,12 +1,13 @@
 -- Predicates on the pass that groups a file's lines: spans without branches, their links, the open if-sections by their lines' indices, and an
 -- include guard found without the tree. Only the contracts of private functions cite this.
-use Rattle.std.specs.Prelude.{◌≡◌, ℕ, ◌+◌, ◌⊎◌, List, [], ◌∷◌, map, length, drop, Bool, Option, None, Some}
+use Rattle.std.specs.Prelude.{◌≡◌, ℕ, ◌+◌, ◌⊎◌, List, [], ◌∷◌, map, length, drop, Bool, Option, None, Some, Result, Ok, Err}
 use Rattle.std.specs.List.{AllByRecursion}
+use Rattle.pptext.specs.declared.tokens.Fault.{Fault}
 use Rattle.pptext.specs.declared.tokens.Token.{Token}
 use Rattle.pptext.specs.declared.sources.Line.{Line}
 use Rattle.pptext.specs.declared.sources.Profile.{Profile}
 use Rattle.pptext.specs.Lines.{LogicalLine, IsDirected}
-use Rattle.pptext.specs.Tree.{Role, Opens, Elses, Closes, role, role_by, branch_after}
+use Rattle.pptext.specs.Tree.{Role, Opens, Elses, Closes, role, role_by, branch_after, group_fault}
 use Rattle.pptext.specs.Sources.{lines_from, tokens_of, spans}
 use Rattle.pptext.specs.Guard.{IsBlankLine, guard_name}
 
@@ -85,3 +86,8 @@ abbrev pub FlatGuard : ℕ → List LogicalLine → List ℕ → Type 0
 FlatGuard k [] x = ⊥
 FlatGuard k (r ∷ rs) x =
     (IsBlankLine r × FlatGuard (k + 1) rs x) ⊎ ((role r ≡ Opens) × (guard_name r.tokens ≡ Some x) × ClosedAtOnce (k + 1) rs)
+
+-- the result of grouping these lines: the same lines, or the first fault of their groups
+abbrev pub GroupsInto : List LogicalLine → Result (List LogicalLine) Fault → Type 0
+GroupsInto lines (Ok s) = (s ≡ lines) × (group_fault [] lines ≡ None)
+GroupsInto lines (Err f) = group_fault [] lines ≡ Some f

@@ -4,7 +4,8 @@ ghost use Rattle.pptext.specs.Tree.{role_by};
 ghost use Rattle.pptext.specs.code.Grouping.{step_back, linked};
 
 use crate::directives::{Role, role_of};
-use crate::sources::{Directive, Line, SourceFault};
+use crate::error::Error;
+use crate::sources::{Directive, Line};
 use std::alloc::{AllocFailed, Global};
 
 /// Passes a line with this directive on the way from the last line to the first, and returns its next branch line. The
@@ -32,8 +33,8 @@ fn step_back(
 }
 
 /// Sets the next branch line of each line, from the last line to the first.
-fn link_branches(alloc: Global, lines: &mut [Line]) -> Result<(), SourceFault>
-    ensures { MatchResult result (λ _. lines.new ≡ linked 0 lines.old) (λ e. e ≡ SourceFault.Memory) }
+fn link_branches(alloc: Global, lines: &mut [Line]) -> Result<(), Error>
+    ensures { MatchResult result (λ _. lines.new ≡ linked 0 lines.old) (λ e. e ≡ Error.Memory) }
 {
     let mut open_branches = Vec::new(alloc);
     for at in (0..lines.len()).rev() {
@@ -44,8 +45,8 @@ fn link_branches(alloc: Global, lines: &mut [Line]) -> Result<(), SourceFault>
 }
 
 /// Returns the lines, each with its next branch line.
-pub(super) fn linked_lines(alloc: Global, lines: Vec<Line>) -> Result<Vec<Line>, SourceFault>
-    ensures { MatchResult result (λ v. v.items ≡ linked 0 lines.items) (λ e. e ≡ SourceFault.Memory) }
+pub(super) fn linked_lines(alloc: Global, lines: Vec<Line>) -> Result<Vec<Line>, Error>
+    ensures { MatchResult result (λ v. v.items ≡ linked 0 lines.items) (λ e. e ≡ Error.Memory) }
 {
     let mut lines = lines;
     link_branches(alloc, lines.as_mut_slice())?;

@@ -9,7 +9,8 @@ ghost use Rattle.pptext.specs.Tree.{role_by, after_line, fault_at, group_fault};
 ghost use Rattle.pptext.specs.code.Grouping.{AreLines, line_role, IsBranching, LineTakes};
 
 use crate::directives::{Role, role_of};
-use crate::sources::{Directive, Line, SourceFault};
+use crate::error::Error;
+use crate::sources::{Directive, Line};
 use crate::tokens::{Fault, Token};
 use std::alloc::{AllocError, AllocFailed, Global};
 use std::marker::Model;
@@ -94,10 +95,10 @@ pub(super) fn first_fault(
     alloc: Global,
     tokens: &[Token],
     lines: &[Line],
-) -> Result<Option<Fault>, SourceFault>
+) -> Result<Option<Fault>, Error>
     requires are_lines { AreLines tokens.now lines.now }
     requires few { length lines.now < 2 ^ 32 }
-    ensures { MatchResult result (λ f. f ≡ group_fault [] (lines_from tokens.now lines.now)) (λ e. e ≡ SourceFault.Memory) }
+    ensures { MatchResult result (λ f. f ≡ group_fault [] (lines_from tokens.now lines.now)) (λ e. e ≡ Error.Memory) }
 {
     // A line that opens an if-section has at least two tokens.
     let most = lines.len().min(tokens.len() / 2);

@@ -2,9 +2,9 @@ use Rattle.std.proofs.Common.{◌≡◌, ℕ, List, [], sym, ap, ◌∙◌, subs
 use Rattle.pptext.specs.declared.characters.Char.{Char}
 use Rattle.pptext.specs.declared.sources.Profile.{Profile}
 use Rattle.pptext.specs.declared.sources.Source.{Source}
-use Rattle.pptext.specs.declared.sources.SourceFault.{SourceFault}
-use Rattle.pptext.specs.declared.sources.SourceFault.TheVariants.{Bad, Memory}
-use Rattle.pptext.specs.ReadResults.{ReadResult, GroupsInto}
+use Rattle.pptext.specs.declared.error.Error.{Error}
+use Rattle.pptext.specs.declared.error.Error.TheVariants.{Fault as Faulted, Memory as OutOfMemory}
+use Rattle.pptext.specs.Errors.{UnlessOutOfMemory}
 use Rattle.pptext.specs.Clean.{cleaned}
 use Rattle.pptext.specs.Lexemes.{Lexeme, Tokenizes}
 use Rattle.pptext.specs.Lines.{LogicalLine, lines_of}
@@ -12,21 +12,22 @@ use Rattle.pptext.specs.Tree.{group_fault}
 use Rattle.pptext.specs.Sources.{lines_from, Reads, spliced_end, open_comment, bad_groups}
 use Rattle.pptext.specs.code.FoundLexemes.{TokenizesInto}
 use Rattle.pptext.specs.code.CleanedText.{Cleans}
+use Rattle.pptext.specs.code.Grouping.{GroupsInto}
 use Rattle.pptext.proofs.Spans.{same_lines}
 use Rattle.pptext.proofs.Lengths.{cleaned_length}
 use Rattle.pptext.proofs.reading.read_source.Goals as goal
 
 -- what grouping answers is what reading answers
-grouped : (profile : Profile) (file : ℕ) (bytes : List ℕ) (chars : List Char) (lexemes : List Lexeme) (lines : List LogicalLine) (r : Result Source SourceFault)
+grouped : (profile : Profile) (file : ℕ) (bytes : List ℕ) (chars : List Char) (lexemes : List Lexeme) (lines : List LogicalLine) (r : Result Source Error)
     → cleaned file bytes ≡ Ok chars
     → Tokenizes profile chars lexemes
     → lines_of profile lexemes ≡ lines
-    → GroupsInto lines r
-    → ReadResult r (Reads profile file bytes)
+    → UnlessOutOfMemory r (GroupsInto lines)
+    → UnlessOutOfMemory r (Reads profile file bytes)
 grouped profile file bytes chars lexemes lines (Ok s) clean tokenized are groups =
     record { chars = chars; lexemes = lexemes; cleaned = clean; tokenized = tokenized; grouped = ap (group_fault []) are ∙ groups.1; same = groups.0 ∙ sym are }
-grouped profile file bytes chars lexemes lines (Err (Bad f)) clean tokenized are groups = bad_groups clean tokenized (ap (group_fault []) are ∙ groups)
-grouped profile file bytes chars lexemes lines (Err Memory) clean tokenized are groups = tt
+grouped profile file bytes chars lexemes lines (Err (Faulted f)) clean tokenized are groups = bad_groups clean tokenized (ap (group_fault []) are ∙ groups)
+grouped profile file bytes chars lexemes lines (Err OutOfMemory) clean tokenized are groups = tt
 
 pub group_lines-requires-clause-few : goal.group_lines-requires-clause-few
 group_lines-requires-clause-few c =
