@@ -3,10 +3,10 @@ use Rattle.std.proofs.Common.{◌≡◌, ℕ, zero, suc, ◌+◌, ◌<◌, ◌�
 use Rattle.std.proofs.lemmas.List.{at_drop_more, take_more, set_at, get_or_at, length-take-le, take_all, drop_all, append-nil}
 use Rattle.pptext.specs.declared.tokens.Token.{Token}
 use Rattle.pptext.specs.declared.sources.Line.{Line}
-use Rattle.pptext.specs.Lines.{LogicalLine}
+use Rattle.pptext.specs.Lines.{LogicalLine, AreDirected}
 use Rattle.pptext.specs.Tree.{Role, TextLine, ControlLine, Opens, Elses, Closes, role, branch_after}
 use Rattle.pptext.specs.Sources.{next_branch, spans, tokens_of, lines_from}
-use Rattle.pptext.specs.code.Grouping.{line_spans, AreDirected, AreLineSpans, AreLines, line_role, branch_of, linked, first, step_back}
+use Rattle.pptext.specs.code.Grouping.{line_spans, AreLineSpans, AreLines, line_role, branch_of, linked, first, step_back}
 use Rattle.pptext.proofs.Spans.{line_from}
 
 -- the next branch line of each section that is open before these lines, the innermost first

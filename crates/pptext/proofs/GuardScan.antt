@@ -5,11 +5,11 @@ use Rattle.std.specs.List.{AllByRecursion}
 use Rattle.std.proofs.lemmas.List.{drop_all, drop_more, drop-drop, length-append, length-map, length-drop, length-take-le, nil_from_length, get_or-take, get_or-drop}
 use Rattle.pptext.specs.declared.tokens.Token.{Token}
 use Rattle.pptext.specs.declared.sources.Line.{Line}
-use Rattle.pptext.specs.Lines.{LogicalLine}
+use Rattle.pptext.specs.Lines.{LogicalLine, AreDirected}
 use Rattle.pptext.specs.Tree.{Role, TextLine, ControlLine, Opens, Elses, Closes, role, branch_after, group_fault}
 use Rattle.pptext.specs.Sources.{next_branch, tokens_of, lines_from}
 use Rattle.pptext.specs.Guard.{IsBlankLine, GuardedBy, guard_name}
-use Rattle.pptext.specs.code.Grouping.{AreDirected, AreLines, line_role, ClosedAtOnce, FlatGuard}
+use Rattle.pptext.specs.code.Grouping.{AreLines, line_role, ClosedAtOnce, FlatGuard}
 use Rattle.pptext.proofs.Spans.{line_at, line_from, same_lines}
 use Rattle.pptext.proofs.Faults.{blank_line}
 use Rattle.pptext.proofs.Guards.{blank_role, guarded_by_flat, flat_by_guarded}

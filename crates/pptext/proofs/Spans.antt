@@ -6,10 +6,10 @@ use Rattle.std.proofs.Math.Seq.{drop-append_seam, take-append_seam}
 use Rattle.pptext.specs.declared.tokens.Token.{Token}
 use Rattle.pptext.specs.declared.sources.Line.{Line}
 use Rattle.pptext.specs.declared.sources.Profile.{Profile}
-use Rattle.pptext.specs.Lines.{LogicalLine, IsDirected}
+use Rattle.pptext.specs.Lines.{LogicalLine, IsDirected, AreDirected}
 use Rattle.pptext.specs.Tree.{role}
 use Rattle.pptext.specs.Sources.{next_branch, spans, tokens_of, lines_from}
-use Rattle.pptext.specs.code.Grouping.{line_span, line_spans, AreDirected, AreLineSpans, AreLines}
+use Rattle.pptext.specs.code.Grouping.{line_span, line_spans, AreLineSpans, AreLines}
 
 abbrev pub no_line : Line
 no_line = record { start = 0; end = 0; number = 0; directive = None; next_branch = None }

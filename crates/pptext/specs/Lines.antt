@@ -1,5 +1,6 @@
 -- The lines of a text: its tokens, grouped by the new-lines outside comments.
 use Rattle.std.specs.Prelude.{◌≡◌, ℕ, List, [], ◌∷◌, ◌++◌, Bool, true, false, ◌||◌, if◌then◌else◌, Option, None, Some, codes}
+use Rattle.std.specs.List.{AllByRecursion}
 use Rattle.std.specs.Str.{bytes_eq}
 use Rattle.pptext.specs.declared.tokens.Token.{Token}
 use Rattle.pptext.specs.declared.tokens.Kind.{Kind}
@@ -86,3 +87,7 @@ lines_of profile ps = lines_after profile true [] ps
 -- the directive of the line is that of its tokens
 abbrev pub IsDirected : Profile → LogicalLine → Type 0
 IsDirected profile line = line.directive ≡ directive_of profile line.tokens
+
+-- the directive of each line is that of its tokens, by some profile
+abbrev pub AreDirected : List LogicalLine → Type 0
+AreDirected lines = (profile : Profile) × AllByRecursion (IsDirected profile) lines

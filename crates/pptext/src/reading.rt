@@ -5,6 +5,7 @@ ghost use Rattle.pptext.specs.declared.tokens.Kind.{Kind};
 ghost use Rattle.pptext.specs.declared.error.Error.TheVariants.{Fault as Faulted};
 ghost use Rattle.pptext.specs.Errors.{UnlessOutOfMemory};
 ghost use Rattle.pptext.specs.Guard.{GuardedBy};
+ghost use Rattle.pptext.specs.Lines.{AreDirected};
 ghost use Rattle.pptext.specs.Sources.{Reads, tokens_of, spans, file_fault, IsOneToken, IsUnmatchedQuote};
 
 use crate::cleaning::clean_text;
@@ -23,9 +24,10 @@ impl Source {
         self.tokens.as_slice()
     }
 
-    /// Returns the lines, in order, as spans of the tokens.
+    /// Returns the lines, in order, as spans of the tokens. The directive of each is that of its tokens.
     pub fn lines(&self) -> &[Line]
-        ensures { result.now ≡ spans 0 0 self.now }
+        ensures spans { result.now ≡ spans 0 0 self.now }
+        ensures directed { AreDirected self.now }
     {
         self.lines.as_slice()
     }

@@ -112,7 +112,7 @@ pub struct Source {
 impl Model for Source {
     ghost use Rattle.std.specs.Prelude.{◌≡◌, ◌<◌, ℕ, List, length, MatchOption, slice_index_or};
     ghost use Rattle.pptext.specs.declared.tokens.Token.{Token};
-    ghost use Rattle.pptext.specs.Lines.{LogicalLine};
+    ghost use Rattle.pptext.specs.Lines.{LogicalLine, AreDirected};
 
     ghost Value = { List LogicalLine };
 
@@ -123,6 +123,7 @@ impl Model for Source {
 
     ghost invariant = { λ s. (tokens_of (lines_from s.tokens.items s.lines.items) ≡ s.tokens.items)
         × (spans 0 0 (lines_from s.tokens.items s.lines.items) ≡ s.lines.items)
+        × AreDirected (lines_from s.tokens.items s.lines.items)
         × MatchOption s.guard ((x : List ℕ) → GuardedBy (lines_from s.tokens.items s.lines.items) x → ⊥)
         (λ i. (i < length s.tokens.items) × ((d : Token) → GuardedBy (lines_from s.tokens.items s.lines.items) (slice_index_or s.tokens.items i d).text)) };
 }

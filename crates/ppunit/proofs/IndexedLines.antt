@@ -1,12 +1,14 @@
 -- The lines of a file by index, and their tokens.
-use Rattle.std.proofs.Common.{◌≡◌, ℕ, zero, suc, ◌+◌, ◌-◌, ◌<◌, ◌≤◌, List, [], ◌∷◌, ◌++◌, length, take, drop, get_or, refl, sym, ap, ◌∙◌, subst, arith, append_assoc}
+use Rattle.std.proofs.Common.{◌≡◌, ℕ, zero, suc, ◌+◌, ◌-◌, ◌<◌, ◌≤◌, List, [], ◌∷◌, ◌++◌, length, take, drop, get_or, refl, sym, ap, ◌∙◌, subst, arith, append_assoc, Option, None}
 use Rattle.std.proofs.lemmas.List.{drop_more, drop-drop, drop_at, take_at, take_more, take-take, drop-take, take-append-drop, append-nil, length-append}
 use Rattle.pptext.specs.declared.tokens.Token.{Token}
 use Rattle.pptext.specs.declared.sources.Line.{Line}
-use Rattle.pptext.specs.Lines.{LogicalLine}
+use Rattle.pptext.specs.declared.sources.Directive.{Directive}
+use Rattle.pptext.specs.declared.sources.Profile.{Profile}
+use Rattle.pptext.specs.Lines.{LogicalLine, directive_of, AreDirected}
 use Rattle.pptext.specs.Sources.{spans, tokens_of}
-use Rattle.pptext.proofs.Spans.{span, span_at}
-use Rattle.ppunit.specs.code.Walk.{no_line, line_at}
+use Rattle.pptext.proofs.Spans.{span, span_at, each_directed}
+use Rattle.ppunit.specs.code.Walk.{no_line, line_at, IsTextLine}
 
 -- ---- lines by index
 
@@ -19,6 +21,16 @@ line_is lines index d l =
     span_at 0 0 lines index d no_line l
     ∙ ap (λ (z : ℕ). span z (0 + length (tokens_of (take index lines))) (line_at lines index) (drop (suc index) lines)) (omega arith)
     ∙ ap (λ (z : ℕ). span index z (line_at lines index) (drop (suc index) lines)) (omega arith)
+
+hash_of : (profile : Profile) (directive : Option Directive) (tokens : List Token) → directive ≡ directive_of profile tokens → ¬ (directive ≡ None) → 0 < length tokens
+hash_of profile directive [] is asked = absurd (asked is)
+hash_of profile directive (t ∷ ts) is asked = omega arith
+
+-- a directive line has a token, its `#`
+pub has_hash : (lines : List LogicalLine) (index : ℕ) → AreDirected lines → index < length lines → ¬ IsTextLine (line_at lines index) → 0 < length (line_at lines index).tokens
+has_hash lines index directed within asked =
+    let line = line_at lines index in
+    hash_of directed.0 line.directive line.tokens (each_directed directed.0 lines index no_line directed.1 within) asked
 
 -- what stands at an index
 pub record At (lines : List LogicalLine) (index : ℕ) (r : LogicalLine) (rest : List LogicalLine) : Type 0 where

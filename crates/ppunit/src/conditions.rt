@@ -9,9 +9,7 @@ ghost use Rattle.ppunit.specs.DirectiveLines as spec_lines;
 ghost use Rattle.ppunit.specs.Probing.{condition_tokens};
 ghost use Rattle.ppunit.specs.States.{search_in_unit, with_left};
 
-use crate::directive_line::{
-    hash_place, line_fault, name, one_identifier, operands, refuse_unmatched_quote,
-};
+use crate::directive_line::{DirectiveTokens, line_fault, one_identifier, refuse_unmatched_quote};
 use crate::open_file::UnitContext;
 use crate::probing::{is_probed, probe};
 use crate::states::State;
@@ -28,7 +26,7 @@ pub(crate) fn decide<D: Disk>(
     state: &mut State,
     row: usize,
     directive: Directive,
-    line: &[Token],
+    line: &DirectiveTokens<'_>,
 ) -> Result<bool, Error>
     requires rows { 0 < length context.now.shelf.names }
     requires condition { spec.IsConditional directive }
@@ -45,11 +43,16 @@ pub(crate) fn decide<D: Disk>(
 }
 
 /// Returns whether the macro table has the line's name, compared with `wanted`. Fault 9 unless the operand is one identifier.
-fn by_name(alloc: Global, wanted: bool, macros: &Table, line: &[Token]) -> Result<bool, Error>
+fn by_name(
+    alloc: Global,
+    wanted: bool,
+    macros: &Table,
+    line: &DirectiveTokens<'_>,
+) -> Result<bool, Error>
     ensures { UnlessOutOfMemory result (λ taken. taken ≡ spec.by_name wanted macros.now.macros line.now (spec_lines.one_identifier (spec_lines.operands line.now))) }
 {
-    let Some(include_name) = one_identifier(operands(line)) else {
-        return Err(Error::Fault(line_fault(alloc, 9, line, name(line))?));
+    let Some(include_name) = one_identifier(line.operands()) else {
+        return Err(Error::Fault(line_fault(alloc, 9, line, line.name())?));
     };
     Ok(macros.get(include_name).is_some() == wanted)
 }
@@ -59,15 +62,15 @@ fn by_condition<D: Disk>(
     context: &UnitContext<'_, '_, D>,
     state: &mut State,
     row: usize,
-    line: &[Token],
+    line: &DirectiveTokens<'_>,
 ) -> Result<bool, Error>
     requires { 0 < length context.now.shelf.names }
     ensures rest { state.new ≡ with_left state.old state.new.left }
     ensures is { UnlessOutOfMemory result (λ taken.
         spec.DecidesOf (condition_tokens (search_in_unit context.now) row line.now) state.old (sign_place line.now) state.new.left taken) }
 {
-    let at = hash_place(line);
-    let operands = operands(line);
+    let at = line.hash_place();
+    let operands = line.operands();
     // Most conditions have no `__has_include`, so that their tokens are not copied.
     if !is_probed(context.profile(), operands) {
         return value(context.alloc, state, at, operands);

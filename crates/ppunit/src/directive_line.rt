@@ -1,5 +1,5 @@
 //! The parts of a directive line (6.10).
-ghost use Rattle.std.specs.Prelude.{◌≡◌, ◌++◌, IfOk, OnOk};
+ghost use Rattle.std.specs.Prelude.{◌≡◌, ◌<◌, ◌++◌, length, IfOk, OnOk};
 ghost use Rattle.std.specs.Option.{option_copied};
 ghost use Rattle.std.specs.Result.{result_err};
 ghost use Rattle.pptext.specs.Errors.{UnlessOutOfMemory};
@@ -10,48 +10,69 @@ ghost use Rattle.ppunit.specs.Quotes as quotes;
 
 use pptext::{Directive, Error, Fault, Place, Token};
 use std::alloc::{AllocError, Global};
+use std::marker::Model;
 
-/// A directive line of the file at index `row`: its tokens from the `#` on, and its number in that file, from 1.
-#[derive(Clone, Copy)]
+/// The tokens of a directive line. There is at least one: the first is the `#`. Its model is the list of the tokens.
+#[derive(Drop)]
+pub(crate) struct DirectiveTokens<'x> {
+    tokens: &'x [Token],
+}
+
+impl<'x> Model for DirectiveTokens<'x> {
+    ghost use Rattle.std.specs.Prelude.{◌<◌, List, length};
+    ghost use Rattle.pptext.specs.declared.tokens.Token.{Token};
+
+    ghost Value = { List Token };
+
+    ghost view = { λ l. l.tokens.now };
+
+    ghost invariant = { λ l. 0 < length l.tokens.now };
+}
+
+impl<'x> DirectiveTokens<'x> {
+    /// Bundles the tokens of a directive line.
+    pub(crate) fn new(tokens: &'x [Token]) -> DirectiveTokens<'x>
+        requires { 0 < length tokens.now }
+        ensures { result ≡ tokens.now }
+    {
+        DirectiveTokens { tokens }
+    }
+
+    /// Returns the location of the `#`.
+    pub(crate) fn hash_place(&self) -> Place
+        ensures { result ≡ sign_place self.now }
+    {
+        self.tokens[0].at
+    }
+
+    /// Returns the directive's name.
+    pub(crate) fn name(&self) -> &'x [u8]
+        ensures { result.now ≡ name_of self.now }
+    {
+        match self.tokens {
+            [_, name, ..] => name.text.as_bytes(),
+            _ => b"",
+        }
+    }
+
+    /// Returns the tokens after the directive's name.
+    pub(crate) fn operands(&self) -> &'x [Token]
+        ensures { result.now ≡ spec.operands self.now }
+    {
+        match self.tokens {
+            [_, _, rest @ ..] => rest,
+            _ => &[],
+        }
+    }
+}
+
+/// A directive line of the file at index `row`: its tokens, and its number in that file, from 1.
+#[derive(Drop)]
 pub(crate) struct DirectiveLine<'x> {
     pub row: usize,
     pub directive: Directive,
-    pub tokens: &'x [Token],
+    pub tokens: DirectiveTokens<'x>,
     pub number: u32,
-}
-
-/// Returns the location of the `#`.
-pub(crate) fn hash_place(line: &[Token]) -> Place
-    ensures { result ≡ sign_place line.now }
-{
-    match line.first() {
-        Some(hash) => hash.at,
-        None => Place {
-            file: 0,
-            line: 0,
-            col: 0,
-        },
-    }
-}
-
-/// Returns the directive's name.
-pub(crate) fn name(line: &[Token]) -> &[u8]
-    ensures { result.now ≡ name_of line.now }
-{
-    match line {
-        [_, name, ..] => name.text.as_bytes(),
-        _ => b"",
-    }
-}
-
-/// Returns the tokens after the directive's name.
-pub(crate) fn operands(line: &[Token]) -> &[Token]
-    ensures { result.now ≡ spec.operands line.now }
-{
-    match line {
-        [_, _, rest @ ..] => rest,
-        _ => &[],
-    }
 }
 
 /// Appends a space if the token has leading white space and isn't the first.
@@ -68,12 +89,12 @@ pub(crate) fn push_space(text: &mut Vec<u8>, token: &Token, first: bool) -> Resu
 pub(crate) fn line_fault(
     alloc: Global,
     number: u8,
-    line: &[Token],
+    line: &DirectiveTokens<'_>,
     text: &[u8],
 ) -> Result<Fault, AllocError>
     ensures { IfOk result (λ f. f ≡ spec.line_fault number line.now text.now) }
 {
-    Fault::new(alloc, number, hash_place(line), text)
+    Fault::new(alloc, number, line.hash_place(), text)
 }
 
 /// Returns the identifier if it is the only token.
@@ -87,10 +108,10 @@ pub(crate) fn one_identifier(tokens: &[Token]) -> Option<&[u8]>
 }
 
 /// Fails with fault 7 at the first unmatched quote (6.4p3), if there is one.
-pub(crate) fn refuse_unmatched_quote(line: &[Token]) -> Result<(), Error>
+pub(crate) fn refuse_unmatched_quote(line: &DirectiveTokens<'_>) -> Result<(), Error>
     ensures { UnlessOutOfMemory result (λ r. result_err r ≡ quotes.unmatched_quote line.now) }
 {
-    for token in line {
+    for token in line.tokens {
         if token.is_unmatched_quote() {
             return Err(Error::Fault(Fault::of_token(7, token.at, token)?));
         }

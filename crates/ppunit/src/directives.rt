@@ -8,7 +8,7 @@ ghost use Rattle.pptext.specs.Tree.{sign_place};
 ghost use Rattle.ppmacro.specs.Define.{after_define, after_undef};
 ghost use Rattle.ppunit.specs.States.{going};
 
-use crate::directive_line::{DirectiveLine, hash_place, line_fault, name, operands, push_space};
+use crate::directive_line::{DirectiveLine, DirectiveTokens, line_fault, push_space};
 use crate::line_control::renumber;
 use crate::states::State;
 use ppexpand::expand;
@@ -54,10 +54,10 @@ fn message(alloc: Global, tokens: &[Token]) -> Result<Vec<u8>, AllocError>
 }
 
 /// Returns fault 34, with the message of an `#error` line.
-pub(crate) fn error(alloc: Global, line: &[Token]) -> Result<Fault, AllocError>
+pub(crate) fn error(alloc: Global, line: &DirectiveTokens<'_>) -> Result<Fault, AllocError>
     ensures { IfOk result (λ f. f ≡ spec_lines.line_fault 34 line.now (spec.message (spec_lines.operands line.now))) }
 {
-    let text = message(alloc, operands(line))?;
+    let text = message(alloc, line.operands())?;
     line_fault(alloc, 34, line, text.as_slice())
 }
 
@@ -77,12 +77,12 @@ fn pragma<'x>(
     state: &mut State<'x>,
     profile: Profile,
     row: usize,
-    line: &'x [Token],
+    line: &DirectiveTokens<'x>,
 ) -> Result<(), Error>
     ensures { UnlessOutOfMemory result (λ r. record { state = state.new; fault = result_err r } ≡ going (spec.pragma_emitted profile row state.old line.now)) }
 {
-    let tokens = operands(line);
-    state.emit_pragma(hash_place(line), tokens)?;
+    let tokens = line.operands();
+    state.emit_pragma(line.hash_place(), tokens)?;
     if is_once(profile, tokens) {
         state.mark_once(row)?;
     }
@@ -102,7 +102,7 @@ fn define_by<'x>(
     alloc: Global,
     state: &mut State<'x>,
     profile: Profile,
-    line: &'x [Token],
+    line: &DirectiveTokens<'x>,
 ) -> Result<(), Error>
     ensures { UnlessOutOfMemory result (λ r.
         record { state = state.new; fault = result_err r } ≡ spec.with_macros state.old (after_define profile state.old.macros (sign_place line.now) (spec_lines.operands line.now))) }
@@ -111,8 +111,8 @@ fn define_by<'x>(
         alloc,
         &mut state.macros,
         profile,
-        hash_place(line),
-        operands(line),
+        line.hash_place(),
+        line.operands(),
     )? {
         Ok(()) => Ok(()),
         Err(fault) => stopped(fault),
@@ -124,7 +124,7 @@ fn undef_by<'x>(
     alloc: Global,
     state: &mut State<'x>,
     profile: Profile,
-    line: &'x [Token],
+    line: &DirectiveTokens<'x>,
 ) -> Result<(), Error>
     ensures { UnlessOutOfMemory result (λ r.
         record { state = state.new; fault = result_err r } ≡ spec.with_macros state.old (after_undef profile state.old.macros (sign_place line.now) (spec_lines.operands line.now))) }
@@ -133,8 +133,8 @@ fn undef_by<'x>(
         alloc,
         &mut state.macros,
         profile,
-        hash_place(line),
-        operands(line),
+        line.hash_place(),
+        line.operands(),
     )? {
         Ok(()) => Ok(()),
         Err(fault) => stopped(fault),
@@ -142,10 +142,10 @@ fn undef_by<'x>(
 }
 
 /// Stops a unit with fault 8, with the name of an unknown directive.
-fn unknown(alloc: Global, line: &[Token]) -> Result<(), Error>
+fn unknown(alloc: Global, line: &DirectiveTokens<'_>) -> Result<(), Error>
     ensures { UnlessOutOfMemory result (λ r. result_err r ≡ Some (spec_lines.named_fault 8 line.now)) }
 {
-    stopped(line_fault(alloc, 8, line, name(line))?)
+    stopped(line_fault(alloc, 8, line, line.name())?)
 }
 
 /// Executes a control line without unmatched quotes, whatever its directive.
@@ -158,15 +158,15 @@ fn control_any<'x>(
 ) -> Result<(), Error>
     requires { spec.IsControl line.directive }
     ensures { UnlessOutOfMemory result (λ r.
-        spec.ControlBy profile line.entry.row (Some line.entry.directive) state.old (spec_lines.directed line.entry.directive line.entry.tokens.now line.entry.number)
+        spec.ControlBy profile line.entry.row (Some line.entry.directive) state.old (spec_lines.directed line.entry.directive line.entry.tokens line.entry.number)
         (record { state = state.new; fault = result_err r })) }
 {
     match line.directive {
-        Directive::Define => define_by(alloc, state, profile, line.tokens),
-        Directive::Undef => undef_by(alloc, state, profile, line.tokens),
-        Directive::Line => renumber(alloc, state, line.tokens, line.number),
-        Directive::Pragma => pragma(state, profile, line.row, line.tokens),
-        Directive::Unknown => unknown(alloc, line.tokens),
+        Directive::Define => define_by(alloc, state, profile, &line.tokens),
+        Directive::Undef => undef_by(alloc, state, profile, &line.tokens),
+        Directive::Line => renumber(alloc, state, &line.tokens, line.number),
+        Directive::Pragma => pragma(state, profile, line.row, &line.tokens),
+        Directive::Unknown => unknown(alloc, &line.tokens),
         _ => Ok(()),
     }
 }
@@ -180,12 +180,12 @@ pub(crate) fn control<'x>(
 ) -> Result<(), Error>
     requires { spec.IsControl line.directive }
     ensures { UnlessOutOfMemory result (λ r.
-        spec.ControlBy profile line.entry.row (Some line.entry.directive) state.old (spec_lines.directed line.entry.directive line.entry.tokens.now line.entry.number)
+        spec.ControlBy profile line.entry.row (Some line.entry.directive) state.old (spec_lines.directed line.entry.directive line.entry.tokens line.entry.number)
         (record { state = state.new; fault = result_err r })) }
 {
     // Most control lines define a macro.
     if line.directive == Directive::Define {
-        return define_by(alloc, state, profile, line.tokens);
+        return define_by(alloc, state, profile, &line.tokens);
     }
     control_any(alloc, state, profile, line)
 }

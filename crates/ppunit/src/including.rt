@@ -7,7 +7,7 @@ ghost use Rattle.ppunit.specs.Including as spec;
 ghost use Rattle.ppunit.specs.Directives.{NamesHeader, NamesHeaderByExpansion};
 ghost use Rattle.ppunit.specs.States.{with_left};
 
-use crate::directive_line::{line_fault, operands, push_space};
+use crate::directive_line::{DirectiveTokens, line_fault, push_space};
 use crate::line_control::is_plain_string;
 use crate::operand_expansion::expand_operands;
 use crate::states::State;
@@ -129,7 +129,7 @@ fn name_of_expansion(alloc: Global, tokens: &[Token]) -> Result<Option<IncludeNa
 /// Returns the header, or fault 30 if there is none or no file can have its name.
 fn name_or_fault(
     alloc: Global,
-    line: &[Token],
+    line: &DirectiveTokens<'_>,
     include_name: Option<IncludeName>,
 ) -> Result<IncludeName, Error>
     ensures { UnlessOutOfMemory result (λ r. r ≡ spec.name_or (line_fault 30 line.now []) (spec.if_possible_name include_name)) }
@@ -172,7 +172,7 @@ pub(crate) fn name_of_tokens(
 /// Returns the header that the tokens name after macro replacement, or fault 30.
 fn name_of_expansion_or(
     alloc: Global,
-    line: &[Token],
+    line: &DirectiveTokens<'_>,
     tokens: &[Token],
 ) -> Result<IncludeName, Error>
     ensures { UnlessOutOfMemory result (λ r. r ≡ spec.name_or (line_fault 30 line.now []) (spec.if_possible_name (spec.name_of_expansion tokens.now))) }
@@ -185,12 +185,12 @@ fn name_of_expansion_or(
 fn expand_include_name<'x>(
     alloc: Global,
     state: &mut State<'x>,
-    line: &'x [Token],
+    line: &DirectiveTokens<'x>,
 ) -> Result<IncludeName, Error>
     ensures rest { state.new ≡ with_left state.old state.new.left }
     ensures asks { UnlessOutOfMemory result (λ include_name. NamesHeaderByExpansion state.old line.now state.new.left include_name) }
 {
-    let tokens = expand_operands(alloc, state, operands(line))?;
+    let tokens = expand_operands(alloc, state, line.operands())?;
     name_of_expansion_or(alloc, line, tokens.as_slice())
 }
 
@@ -199,12 +199,12 @@ fn expand_include_name<'x>(
 pub(crate) fn read_include_name<'x>(
     alloc: Global,
     state: &mut State<'x>,
-    line: &'x [Token],
+    line: &DirectiveTokens<'x>,
 ) -> Result<IncludeName, Error>
     ensures rest { state.new ≡ with_left state.old state.new.left }
     ensures asks { UnlessOutOfMemory result (λ include_name. NamesHeader state.old line.now state.new.left include_name) }
 {
-    let rest = operands(line);
+    let rest = line.operands();
     if let Some(first) = rest.first() {
         if first.kind == Kind::Header {
             let include_name = name_of_header(alloc, rest)?;

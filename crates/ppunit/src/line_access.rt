@@ -2,8 +2,9 @@
 ghost use Rattle.std.specs.Prelude.{◌≡◌, ◌<◌, ◌≤◌, ◌+◌, ◌-◌, ◌^◌, suc, length, drop, take};
 ghost use Rattle.pptext.specs.Sources.{next_branch, tokens_of};
 ghost use Rattle.pptext.specs.Tree.{role};
-ghost use Rattle.ppunit.specs.code.Walk.{line_at};
+ghost use Rattle.ppunit.specs.code.Walk.{line_at, IsTextLine};
 
+use crate::directive_line::DirectiveTokens;
 use pptext::{Line, Source, Token};
 
 /// Returns the number of lines.
@@ -21,6 +22,7 @@ pub(crate) fn line(source: &Source, index: usize) -> &Line
     ensures end { result.now.end ≡ result.now.start + length (line_at source.now index).tokens }
     ensures number { result.now.number ≡ (line_at source.now index).number }
     ensures directive { result.now.directive ≡ (line_at source.now index).directive }
+    ensures hash { ¬ IsTextLine (line_at source.now index) → result.now.start < result.now.end }
     ensures next { result.now.next_branch ≡ next_branch index (role (line_at source.now index)) (drop (suc index) source.now) }
 {
     &source.lines()[index]
@@ -35,12 +37,13 @@ pub(crate) fn tokens_between(source: &Source, start: usize, end: usize) -> &[Tok
     &source.tokens()[line(source, start).start..line(source, end - 1).end]
 }
 
-/// Returns the tokens of the line at `index`.
-pub(crate) fn tokens_at(source: &Source, index: usize) -> &[Token]
-    requires { index < length source.now }
+/// Returns the tokens of the directive line at `index`.
+pub(crate) fn tokens_at(source: &Source, index: usize) -> DirectiveTokens<'_>
+    requires index { index < length source.now }
+    requires directive { ¬ IsTextLine (line_at source.now index) }
     ensures few { length source.now < 2 ^ 64 }
-    ensures tokens { result.now ≡ (line_at source.now index).tokens }
+    ensures tokens { result ≡ (line_at source.now index).tokens }
 {
     let line = line(source, index);
-    &source.tokens()[line.start..line.end]
+    DirectiveTokens::new(&source.tokens()[line.start..line.end])
 }

@@ -8,7 +8,7 @@ ghost use Rattle.ppunit.specs.LineControl as spec;
 ghost use Rattle.ppunit.specs.DirectiveLines.{directed, line_fault};
 ghost use Rattle.ppunit.specs.Directives.{SetsLine};
 
-use crate::directive_line::{line_fault, operands};
+use crate::directive_line::{DirectiveTokens, line_fault};
 use crate::operand_expansion::expand_operands;
 use crate::states::State;
 use crate::well_formed::is_digit;
@@ -90,7 +90,11 @@ fn rename(env: &mut Env, name: Option<Spelling>)
 }
 
 /// Returns the operands of `#line` after macro replacement, or fault 33.
-fn presumed_or_fault(alloc: Global, line: &[Token], tokens: &[Token]) -> Result<Presumed, Error>
+fn presumed_or_fault(
+    alloc: Global,
+    line: &DirectiveTokens<'_>,
+    tokens: &[Token],
+) -> Result<Presumed, Error>
     ensures { UnlessOutOfMemory result (λ r. r ≡ ok_or (spec.presumed tokens.now) (line_fault 33 line.now [])) }
 {
     match presumed_by(tokens)? {
@@ -112,12 +116,12 @@ fn present(env: &mut Env, presumed: Presumed, physical: u32)
 pub(crate) fn renumber<'x>(
     alloc: Global,
     state: &mut State<'x>,
-    line: &'x [Token],
+    line: &DirectiveTokens<'x>,
     physical: u32,
 ) -> Result<(), Error>
     ensures { UnlessOutOfMemory result (λ r. SetsLine state.old (directed Line line.now physical) (record { state = state.new; fault = result_err r })) }
 {
-    let tokens = expand_operands(alloc, state, operands(line))?;
+    let tokens = expand_operands(alloc, state, line.operands())?;
     let presumed = presumed_or_fault(alloc, line, tokens.as_slice())?;
     present(&mut state.env, presumed, physical);
     Ok(())

@@ -16,7 +16,7 @@ ghost use Rattle.ppunit.specs.DirectiveLines.{directed};
 ghost use Rattle.ppunit.specs.code.Walk.{line_at, IsTextLine, IsRest, Outer, BranchesAt, Enters, FindsBranch, Advances, Leads, Steps, Walks};
 
 use crate::conditions::decide;
-use crate::directive_line::{DirectiveLine, hash_place, line_fault, refuse_unmatched_quote};
+use crate::directive_line::{DirectiveLine, DirectiveTokens, line_fault, refuse_unmatched_quote};
 use crate::directives::{control, emit_run, error};
 use crate::include_stack::Stack;
 use crate::including::read_include_name;
@@ -68,7 +68,7 @@ fn enters<D: Disk>(
     if !directive.has_condition() {
         return Ok(true);
     }
-    decide(context, state, row, directive, tokens_at(source, index))
+    decide(context, state, row, directive, &tokens_at(source, index))
 }
 
 /// Finds the line at which processing continues if the group after line `start` isn't taken: the line after the first
@@ -131,7 +131,7 @@ fn enter_section<D: Disk>(
     ensures entered { (files : Files) (depth : ℕ)
         → UnlessOutOfMemory result (λ next. Advances (context_over context.now) files depth row source.now index state.old state.new next) }
 {
-    if decide(context, state, row, directive, tokens_at(source, index))? {
+    if decide(context, state, row, directive, &tokens_at(source, index))? {
         return Ok(index + 1);
     }
     find_branch(context, state, row, source, index)
@@ -163,7 +163,7 @@ fn include<'x, 'a: 'x, D: Disk>(
     state: &mut State<'x>,
     depth: u32,
     from: Opening,
-    line: &'x [Token],
+    line: &DirectiveTokens<'x>,
 ) -> Result<Option<Entered<'a>>, Error>
     requires shelf { pass.old.shelf ≡ context.now.shelf }
     requires rows { 0 < length context.now.shelf.names }
@@ -185,7 +185,7 @@ fn include<'x, 'a: 'x, D: Disk>(
         row,
         directory: Some(directory),
     };
-    open(context, pass, state, depth + 1, hash_place(line), opening)
+    open(context, pass, state, depth + 1, line.hash_place(), opening)
 }
 
 /// For `#include_next`, returns the number of the directory in which the current file was found: the search begins after it.
@@ -213,20 +213,15 @@ fn execute_line<'x, 'a: 'x, D: Disk>(
     ensures grows { Extends pass.new.files pass.old.files }
     ensures control { UnlessOutOfMemory result (λ leads.
         Leads (context_over context.now) pass.new.files (suc depth)
-        (λ (more : Files) (m : Reached). Controls (context_over context.now more) depth line.entry.row state.old (directed line.entry.directive line.entry.tokens.now line.entry.number) m)
+        (λ (more : Files) (m : Reached). Controls (context_over context.now more) depth line.entry.row state.old (directed line.entry.directive line.entry.tokens line.entry.number) m)
         state.new leads) }
 {
-    let DirectiveLine {
-        row,
-        directive,
-        tokens,
-        number: _,
-    } = line;
-    match directive.class() {
-        Class::Error => Err(Error::Fault(error(context.alloc, tokens)?)),
+    match line.directive.class() {
+        Class::Error => Err(Error::Fault(error(context.alloc, &line.tokens)?)),
         Class::Ignored => Ok(None),
         Class::Includes(next) => {
-            refuse_unmatched_quote(tokens)?;
+            refuse_unmatched_quote(&line.tokens)?;
+            let row = line.row;
             let directory = directory_before(next, state);
             include(
                 context,
@@ -234,11 +229,11 @@ fn execute_line<'x, 'a: 'x, D: Disk>(
                 state,
                 depth,
                 Opening { row, directory },
-                tokens,
+                &line.tokens,
             )
         }
         _ => {
-            refuse_unmatched_quote(tokens)?;
+            refuse_unmatched_quote(&line.tokens)?;
             control(context.alloc, state, context.profile(), line)?;
             Ok(None)
         }

@@ -5,8 +5,7 @@ use Rattle.std.specs.List.{AllByRecursion}
 use Rattle.pptext.specs.declared.tokens.Fault.{Fault}
 use Rattle.pptext.specs.declared.tokens.Token.{Token}
 use Rattle.pptext.specs.declared.sources.Line.{Line}
-use Rattle.pptext.specs.declared.sources.Profile.{Profile}
-use Rattle.pptext.specs.Lines.{LogicalLine, IsDirected}
+use Rattle.pptext.specs.Lines.{LogicalLine, AreDirected}
 use Rattle.pptext.specs.Tree.{Role, Opens, Elses, Closes, role, role_by, branch_after, group_fault}
 use Rattle.pptext.specs.Sources.{lines_from, tokens_of, spans}
 use Rattle.pptext.specs.Guard.{IsBlankLine, guard_name}
@@ -20,10 +19,6 @@ line_span start r =
 abbrev pub line_spans : ℕ → List LogicalLine → List Line
 line_spans start [] = []
 line_spans start (r ∷ rs) = line_span start r ∷ line_spans (start + length r.tokens) rs
-
--- the directive of each line is that of its tokens, by some profile
-abbrev pub AreDirected : List LogicalLine → Type 0
-AreDirected rs = (profile : Profile) × AllByRecursion (IsDirected profile) rs
 
 -- the spans, without next branch lines, are those of the lines into which they divide the tokens
 abbrev pub AreLineSpans : List Token → List Line → Type 0

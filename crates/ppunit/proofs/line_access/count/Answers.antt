@@ -3,4 +3,4 @@ use Rattle.ppunit.proofs.IndexedLines.{spans_length}
 use Rattle.ppunit.proofs.line_access.count.Goals as goal
 
 pub returns : goal.returns
-returns c = ap length c.lines.ensures ∙ spans_length 0 0 c.args.source.now
+returns c = ap length c.lines.ensures.spans ∙ spans_length 0 0 c.args.source.now

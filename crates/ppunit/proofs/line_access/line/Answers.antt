@@ -3,15 +3,15 @@ use Rattle.pptext.specs.declared.sources.Line.{Line}
 use Rattle.pptext.specs.Sources.{tokens_of}
 use Rattle.pptext.proofs.Spans.{no_line, span}
 use Rattle.ppunit.specs.code.Walk.{line_at}
-use Rattle.ppunit.proofs.IndexedLines.{spans_length, line_is}
+use Rattle.ppunit.proofs.IndexedLines.{spans_length, line_is, has_hash}
 use Rattle.ppunit.proofs.line_access.line.Goals as goal
 
 pub bounds-lines-index : goal.bounds-lines-index
-bounds-lines-index c = omega (arith, ap length c.lines.ensures, spans_length 0 0 c.args.source.now)
+bounds-lines-index c = omega (arith, ap length c.lines.ensures.spans, spans_length 0 0 c.args.source.now)
 
 pub offset_bounds-lines-index : goal.offset_bounds-lines-index
 offset_bounds-lines-index c =
-    let below : c.args.index < length c.lines.result.now = omega (arith, ap length c.lines.ensures, spans_length 0 0 c.args.source.now) in
+    let below : c.args.index < length c.lines.result.now = omega (arith, ap length c.lines.ensures.spans, spans_length 0 0 c.args.source.now) in
     search rules
 
 pub returns : goal.returns
@@ -19,13 +19,14 @@ returns c =
     let lines = c.args.source.now in
     let x = get_or c.lines.result.now c.args.index no_line in
     let is : x ≡ span c.args.index (length (tokens_of (take c.args.index lines))) (line_at lines c.args.index) (drop (suc c.args.index) lines) = ap
-    (λ (z : List Line). get_or z c.args.index no_line) c.lines.ensures
+    (λ (z : List Line). get_or z c.args.index no_line) c.lines.ensures.spans
     ∙ line_is lines c.args.index no_line c.requires in
     record {
-      few = omega (arith, ap length c.lines.ensures, spans_length 0 0 c.args.source.now, c.lines.type_inv);
+      few = omega (arith, ap length c.lines.ensures.spans, spans_length 0 0 c.args.source.now, c.lines.type_inv);
       start = ap (λ (z : Line). z.start) is;
       end = ap (λ (z : Line). z.end) is ∙ ap (λ (z : ℕ). z + length (line_at lines c.args.index).tokens) (sym (ap (λ (z : Line). z.start) is));
       number = ap (λ (z : Line). z.number) is;
       directive = ap (λ (z : Line). z.directive) is;
+      hash = λ asked. omega (arith, ap (λ (z : Line). z.start) is, ap (λ (z : Line). z.end) is, has_hash lines c.args.index c.lines.ensures.directed c.requires asked);
       next = ap (λ (z : Line). z.next_branch) is;
     }

@@ -8,7 +8,7 @@ use Rattle.ppunit.proofs.line_walk.enters.Goals as goal
 pub returns-clause-enters : goal.returns-clause-enters
 returns-clause-enters g c =
     on_settled c.decide.result
-    (λ taken. enters_asked (search_in_unit c.args.context.now) c.args.row c.args.state.now (line_at c.args.source.now c.args.index) c.in-Some.directive c.tokens_at.result.now
+    (λ taken. enters_asked (search_in_unit c.args.context.now) c.args.row c.args.state.now (line_at c.args.source.now c.args.index) c.in-Some.directive c.tokens_at.result
     c.decide.new.state.left taken (sym c.line.ensures.directive ∙ c.in-Some.is) c.tokens_at.ensures.tokens
     (sym c.has_condition.ensures ∙ c.if-not-has_condition.false))
     c.decide.ensures.decides

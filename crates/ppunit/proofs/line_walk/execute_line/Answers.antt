@@ -4,7 +4,7 @@ use Rattle.pptext.specs.declared.directives.Class.TheVariants as class
 use Rattle.pptext.specs.declared.tokens.Fault.{Fault}
 use Rattle.pptext.specs.Classes.{class_of}
 use Rattle.pptext.proofs.Stopping.{stopped}
-use Rattle.ppunit.specs.States.{State, context_over}
+use Rattle.ppunit.specs.States.{context_over}
 use Rattle.ppunit.specs.DirectiveLines.{directed}
 use Rattle.ppunit.specs.Directives.{looks_at_quotes}
 use Rattle.ppunit.specs.Group.{Controls}
@@ -17,7 +17,7 @@ pub returns-in_ok-error-in-Error-clause-control : goal.returns-in_ok-error-in-Er
 returns-in_ok-error-in-Error-clause-control g c more grows =
     let is : class_of c.args.line.directive ≡ class.Error = sym c.class.ensures ∙ c.in-Error.is in
     let fault = c.in_ok-error-in-Error.ensures in
-    let line = directed c.args.line.directive c.args.line.tokens.now c.args.line.number in
+    let line = directed c.args.line.directive c.args.line.tokens c.args.line.number in
     subst (λ (z : Fault). Controls (context_over c.args.context.now more) c.args.depth c.args.line.row c.args.state.now line
     (record { state = c.args.state.now; fault = Some z }))
     (sym fault) (Controls.error (ap (λ (z : Class). Some z) is))
@@ -39,7 +39,7 @@ returns-in_ok-refuse_unmatched_quote-in-Includes-clause-control g c =
     let alone = sym c.in_ok-refuse_unmatched_quote-in-Includes.ensures in
     on_settled c.include.result
     (λ r leads. leads_include (context_over c.args.context.now) c.include.new.pass.files c.args.depth c.args.line.row c.in-Includes.next c.directory_before-directory.result
-    (directed c.args.line.directive c.args.line.tokens.now c.args.line.number) c.args.state.now c.include.new.state r
+    (directed c.args.line.directive c.args.line.tokens c.args.line.number) c.args.state.now c.include.new.state r
     c.directory_before-directory.ensures (ap (λ (z : Class). Some z) is) alone (leads c.args.line.directive c.args.line.number))
     c.include.ensures.includes
 
@@ -56,7 +56,7 @@ returns-in_err-refuse_unmatched_quote-in_default g c = record {
 pub returns-in_err-control-in_default : goal.returns-in_err-control-in_default
 returns-in_err-control-in_default g c =
     let alone = sym c.in_ok-refuse_unmatched_quote-in_default.ensures in
-    let line = directed c.args.line.directive c.args.line.tokens.now c.args.line.number in
+    let line = directed c.args.line.directive c.args.line.tokens c.args.line.number in
     record {
       shelf = c.requires.shelf;
       grows = search rules;
@@ -68,7 +68,7 @@ returns-in_err-control-in_default g c =
 pub returns-in_ok-control-in_default : goal.returns-in_ok-control-in_default
 returns-in_ok-control-in_default g c =
     let alone = sym c.in_ok-refuse_unmatched_quote-in_default.ensures in
-    let line = directed c.args.line.directive c.args.line.tokens.now c.args.line.number in
+    let line = directed c.args.line.directive c.args.line.tokens c.args.line.number in
     record {
       shelf = c.requires.shelf;
       grows = search rules;

@@ -44,14 +44,14 @@ pub returns-in_err-entered-clause-step : goal.returns-in_err-entered-clause-step
 returns-in_err-entered-clause-step g c =
     rw (← c.file.view_is) (stopped _ _ _ _ c.from_residual-in_err-entered.ensures.1 c.in_err-entered.ensures.control
     (stops_control (context_over c.args.context.now) c.execute_line.new.pass.files c.args.depth c.file.inside.row c.file.inside.source.now
-    c.file.inside.index c.args.state.now c.execute_line.new.state c.in-Some.directive c.tokens_at-tokens.result.now c.line-2.result.now.number
+    c.file.inside.index c.args.state.now c.execute_line.new.state c.in-Some.directive c.tokens_at-tokens.result c.line-2.result.now.number
     (rw (← c.file.view_is) at c.requires.index) (sym c.line.ensures.directive ∙ c.in-Some.is) (sym c.opens_section.ensures ∙ c.if-opens_section.false)
     (sym c.ends_group.ensures ∙ c.if-ends_group.false) c.tokens_at-tokens.ensures.tokens c.line-2.ensures.number))
 
 pub returns-clause-step : goal.returns-clause-step
 returns-clause-step g c =
     rw (← c.file.view_is) (steps_control (context_over c.args.context.now) c.execute_line.new.pass.files c.args.depth c.file.inside.row c.file.inside.source.now
-    c.file.inside.index c.args.state.now c.execute_line.new.state c.in-Some.directive c.tokens_at-tokens.result.now c.line-2.result.now.number
+    c.file.inside.index c.args.state.now c.execute_line.new.state c.in-Some.directive c.tokens_at-tokens.result c.line-2.result.now.number
     (rw (← c.file.view_is) at c.requires.index) (sym c.line.ensures.directive ∙ c.in-Some.is) (sym c.opens_section.ensures ∙ c.if-opens_section.false)
     (sym c.ends_group.ensures ∙ c.if-ends_group.false) c.tokens_at-tokens.ensures.tokens c.line-2.ensures.number c.in_ok-entered.entered
     c.in_ok-entered.ensures.control)
@@ -62,8 +62,8 @@ line-requires g c = rw (← c.file.view_is) at c.requires.index
 pub line-requires-2 : goal.line-requires-2
 line-requires-2 g c = rw (← c.file.view_is) at c.requires.index
 
-pub tokens_at-tokens-requires : goal.tokens_at-tokens-requires
-tokens_at-tokens-requires g c = rw (← c.file.view_is) at c.requires.index
+pub tokens_at-tokens-requires-clause-index : goal.tokens_at-tokens-requires-clause-index
+tokens_at-tokens-requires-clause-index g c = rw (← c.file.view_is) at c.requires.index
 
 pub section_end-requires : goal.section_end-requires
 section_end-requires g c = rw (← c.file.view_is) at c.requires.index

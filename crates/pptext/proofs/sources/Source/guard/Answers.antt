@@ -23,11 +23,11 @@ known_some lines same ts g i t text k is e at said =
     subst (λ (z : List LogicalLine). GuardedBy z text) e (subst (λ (z : List ℕ). GuardedBy lines z) (ap (λ (u : Token). u.text) (sym at) ∙ sym said) h)
 
 pub returns-in-None-clause-none : goal.returns-in-None-clause-none
-returns-in-None-clause-none c = known_none _ c.args.self.now c.self.inside.tokens.items c.self.inside.guard c.self.invariant.2 c.in-None.is c.self.view_is
+returns-in-None-clause-none c = known_none _ c.args.self.now c.self.inside.tokens.items c.self.inside.guard c.self.invariant.3 c.in-None.is c.self.view_is
 
 pub returns-in-Some-clause-some : goal.returns-in-Some-clause-some
 returns-in-Some-clause-some c =
-    known_some _ c.args.self.now c.self.inside.tokens.items c.self.inside.guard c.in-Some.i c.index.result.now c.as_bytes.result.now c.self.invariant.2 c.in-Some.is c.self.view_is c.index.ensures c.as_bytes.ensures
+    known_some _ c.args.self.now c.self.inside.tokens.items c.self.inside.guard c.in-Some.i c.index.result.now c.as_bytes.result.now c.self.invariant.3 c.in-Some.is c.self.view_is c.index.ensures c.as_bytes.ensures
 
 pub returns-in-Some-clause-none : goal.returns-in-Some-clause-none
 returns-in-Some-clause-none c = search rules
