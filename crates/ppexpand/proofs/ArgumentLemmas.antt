@@ -1,8 +1,10 @@
 -- How the arguments of an invocation are expanded one after the other.
-use Rattle.std.proofs.Common.{MatchOption, IfSome, ◌≡◌, ℕ, zero, suc, ◌+◌, ◌<◌, ◌≤◌, Bool, true, false, ◌||◌, List, [], ◌∷◌, ◌++◌, map, drop, Option, Some, None, Ok, Err, Vec}
-use Rattle.std.proofs.Common.{Global, is_some, true≢false, refl, sym, ap, ◌∙◌, subst, get_or, length, add-one, arith, if◌then◌else◌}
+use Rattle.std.proofs.Common.{◌≡◌, ℕ, zero, suc, ◌+◌, ◌<◌, ◌≤◌, Bool, true, false, ◌||◌, List, [], ◌∷◌, ◌++◌, map, drop, Option, Some, None, Result, Ok, Err, IfOk, Vec}
+use Rattle.std.proofs.Common.{Global, refl, sym, ap, ◌∙◌, subst, get_or, length, add-one, arith, if◌then◌else◌}
 use Rattle.pptext.specs.declared.tokens.Token.{Token}
 use Rattle.pptext.specs.declared.tokens.Fault.{Fault}
+use Rattle.pptext.specs.declared.error.Error.{Error}
+use Rattle.pptext.specs.Errors.{UnlessOutOfMemory}
 use Rattle.ppmacro.specs.Names.{Name, Macros}
 use Rattle.ppmacro.specs.HideSetPool.{HideSetPool}
 use Rattle.ppmacro.specs.Hiding.{Hiding}
@@ -21,7 +23,7 @@ use Rattle.ppmacro.specs.declared.patterns.Entry.{Entry}
 use Rattle.std.specs.List.{list_any}
 use Rattle.ppexpand.specs.ExpansionStep.{Call, is_lone_parameter, pre_expands, to_expand, wanted}
 use Rattle.ppexpand.specs.Expansion.{Expands, ExpandsTo, ExpandsArguments}
-use Rattle.ppexpand.specs.code.ProgramValues.{given_in, expanded_in, ExpansionsKnown, owned_tokens, Raises, HasExpanded, ExpandsArgument, expands, raises}
+use Rattle.ppexpand.specs.code.ProgramValues.{given_in, expanded_in, ExpansionsKnown, ExpandsArgument, expands, raises}
 use Rattle.ppexpand.proofs.Follows.{ArgumentsFollow, arguments_start, arguments_unused, arguments_used, arguments_refused, arguments_end}
 use Rattle.ppexpand.proofs.Keeping.{expanded-keeps, expanded_in-push, arguments_known}
 
@@ -29,58 +31,22 @@ pub arguments_first : (macros : Macros) (env : Env) (level : ℕ) (call : Call) 
 unfolding wanted
 arguments_first macros env level call left = arguments_start macros env level call left (wanted call)
 
--- a fault that was raised, or none
-pub raised_some : (o : Option Fault) → is_some o ≡ true → (f : Fault) × (o ≡ Some f)
-raised_some (Some f) h = (f, refl)
-raised_some None h = absurd (true≢false (sym h))
+-- an argument's expansion, or its fault, from the outcome of its list
+module _ (macros : Macros) (env : Env) (level : ℕ) (head : Token) (left after : Option ℕ) (list tokens : List Hiding) where
+  at_level : (o : Option Fault) (one : ExpandsTo macros env (level + 1) left list (record { tokens = tokens; fault = o; left = after }))
+      → Expands macros env (suc level) left one.0 list (record { tokens = tokens; fault = o; left = after })
+  at_level o one = subst (λ n. Expands macros env n left one.0 list (record { tokens = tokens; fault = o; left = after })) (add-one level) one.1
 
-pub raised_none : (o : Option Fault) → is_some o ≡ false → o ≡ None
-raised_none None h = refl
-raised_none (Some f) h = absurd (true≢false h)
+  pub argument_expands : level < 256 → ExpandsTo macros env (level + 1) left list (record { tokens = tokens; fault = None; left = after }) → ExpandsArgument macros env level head left list after (Ok tokens)
+  argument_expands low one = expands low (at_level None one)
 
-pub raised_not : {X : Type 0} (o : Option Fault) (f : Fault) → o ≡ Some f → o ≡ None → X
-raised_not o f some none = absurd (let clash : Some f ≡ None = sym some ∙ none in cc clash)
+  pub argument_raises : (f : Fault) → level < 256 → ExpandsTo macros env (level + 1) left list (record { tokens = tokens; fault = Some f; left = after }) → ExpandsArgument macros env level head left list after (Err f)
+  argument_raises f low one = raises low (at_level (Some f) one)
 
--- an argument's expansion, or its fault
-module _ (macros : Macros) (env : Env) (level : ℕ) (head : Token) (left after : Option ℕ) (list tokens : List Hiding) (o : Option Fault) where
-  at_level : (p : Option Fault) → o ≡ p → (one : ExpandsTo macros env (level + 1) left list (record { tokens = tokens; fault = o; left = after }))
-      → Expands macros env (suc level) left one.0 list (record { tokens = tokens; fault = p; left = after })
-  at_level p e one =
-      let one_is = subst (λ q. Expands macros env (level + 1) left one.0 list (record { tokens = tokens; fault = q; left = after })) e one.1 in
-      subst (λ n. Expands macros env n left one.0 list (record { tokens = tokens; fault = p; left = after })) (add-one level) one_is
-
-  pub argument_expands : level < 256 → o ≡ None → ExpandsTo macros env (level + 1) left list (record { tokens = tokens; fault = o; left = after }) → ExpandsArgument macros env level head left list after (Ok tokens)
-  argument_expands low e one = expands low (at_level None e one)
-
-  pub argument_raises : (f : Fault) → level < 256 → o ≡ Some f → ExpandsTo macros env (level + 1) left list (record { tokens = tokens; fault = o; left = after }) → ExpandsArgument macros env level head left list after (Err f)
-  argument_raises f low e one = raises low (at_level (Some f) e one)
-
--- the expansion of the copied list of an argument is the expansion of the argument
-module _ (macros : Macros) (env : Env) (level : ℕ) (head : Token) (left after : Option ℕ) (s t : HideSetPool) (given copied emitted : List Hidden) (fault : Option Fault) where
-  -- what is known of the tokens that were made of what passed
-  abbrev IsMade : Expansion → Type 0
-  IsMade e = (is_some fault ≡ false) × (owned_tokens e ≡ emitted) × ((as' : List Hidden) → option_of as' e ≡ Some emitted)
-
-  pub argument_outcome : level < 256 → copied ≡ given → ExpandsTo macros env (level + 1) left (hidings s copied) (record { tokens = hidings t emitted; fault = fault; left = after })
-      → (r : Option Expansion)
-      → MatchOption r (is_some fault ≡ true) IsMade
-      → MatchOption r (Raises fault (λ f. ExpandsArgument macros env level head left (hidings s given) after (Err f)))
-      (λ e. (fault ≡ None) × HasExpanded macros env level head left after s t given e)
-  argument_outcome low same one None some =
-      let raised = raised_some fault some in
-      let same_list : hidings s copied ≡ hidings s given = ap (hidings s) same in
-      let out : ExpandsArgument macros env level head left (hidings s copied) after (Err raised.0) = argument_raises macros env level head left after (hidings s copied) (hidings t emitted) fault raised.0 low raised.1 one in
-      (raised.0, raised.1, subst (λ l. ExpandsArgument macros env level head left l after (Err raised.0)) same_list out)
-  argument_outcome low same one (Some e) argument_expansion =
-      let none = raised_none fault argument_expansion.0 in
-      let same_list : hidings s copied ≡ hidings s given = ap (hidings s) same in
-      let out : ExpandsArgument macros env level head left (hidings s copied) after (Ok (hidings t emitted)) = argument_expands macros env level head left after (hidings s copied) (hidings t emitted) fault low none one in
-      let tokens : option_map (hidings t) (option_of given e) ≡ Some (hidings t emitted) = ap (option_map (hidings t)) (argument_expansion.2 given) in
-      (none, (hidings t emitted, tokens, subst (λ l. ExpandsArgument macros env level head left l after (Ok (hidings t emitted))) same_list out))
-
-  pub argument_known : AllKnown t emitted → (r : Option Expansion) → MatchOption r (is_some fault ≡ true) IsMade → IfSome r (λ e. AllKnown t (owned_tokens e))
-  argument_known known None some = tt
-  argument_known known (Some e) argument_expansion = subst (AllKnown t) (sym argument_expansion.1) known
+-- a call that raises a fault, unless it fails, has no value
+pub no_value : {A : Type 0} (r : Result A Error) (f : Fault) (P : A → Type 0) → UnlessOutOfMemory r (λ x. x ≡ Err f) → IfOk r P
+no_value (Ok a) f P e = absurd (cc e)
+no_value (Err y) f P e = tt
 
 -- ---- the argument of a parameter
 
@@ -128,15 +94,15 @@ module _ (macros : Macros) (env : Env) (level : ℕ) (first left between : Optio
   argument = argument_at (lists_of vs) i
 
   pushed : (x : HideSetPool) (e : Expansion) → length done ≡ i → items ≡ done ++ e ∷ [] → expanded_in x vs items ≡ expanded_in x vs done ++ option_map (hidings x) (option_of argument e) ∷ []
-  pushed x e count argument_expansion =
-      ap (expanded_in x vs) argument_expansion ∙ expanded_in-push x vs done e ∙ ap (λ n. expanded_in x vs done ++ option_map (hidings x) (option_of (argument_at (lists_of vs) n) e) ∷ []) count
+  pushed x e count appended =
+      ap (expanded_in x vs) appended ∙ expanded_in-push x vs done e ∙ ap (λ n. expanded_in x vs done ++ option_map (hidings x) (option_of (argument_at (lists_of vs) n) e) ∷ []) count
 
   pub follows_unused : i < length names → length done ≡ i → pre_expands i cs ≡ false → items ≡ done ++ Unused ∷ [] → Here
       → ArgumentsFollow macros env level call first all (expanded_in u vs items) left Behind
-  follows_unused less count unused argument_expansion here =
+  follows_unused less count unused appended here =
       let next : ArgumentsFollow macros env level call first all (expanded_in u vs done) left (None ∷ Behind) =
       subst (ArgumentsFollow macros env level call first all (expanded_in u vs done) left) (rest-is cs names (given_in s vs) i false less unused) here in
-      subst (λ xs. ArgumentsFollow macros env level call first all xs left Behind) (sym (pushed u Unused count argument_expansion))
+      subst (λ xs. ArgumentsFollow macros env level call first all xs left Behind) (sym (pushed u Unused count appended))
       (arguments_unused macros env level call first all (expanded_in u vs done) left Behind next)
 
   is_next : i < length names → pre_expands i cs ≡ true → Here → ArgumentsFollow macros env level call first all (expanded_in u vs done) left (Some (hidings s argument) ∷ Behind)
@@ -152,9 +118,9 @@ module _ (macros : Macros) (env : Env) (level : ℕ) (first left between : Optio
       → ExpandsArgument macros env level call.head.token left (hidings s argument) between (Ok tokens)
       → Here
       → ArgumentsFollow macros env level call first all (expanded_in w vs items) between Behind
-  follows_used e tokens less count is_used argument_expansion keeps known done_known here_is one here =
+  follows_used e tokens less count is_used appended keeps known done_known here_is one here =
       let same : expanded_in w vs done ≡ expanded_in u vs done = expanded-keeps vs done keeps known done_known in
-      let shown : expanded_in w vs items ≡ expanded_in u vs done ++ Some tokens ∷ [] = pushed w e count argument_expansion ∙ (λ j. same j ++ here_is j ∷ []) in
+      let shown : expanded_in w vs items ≡ expanded_in u vs done ++ Some tokens ∷ [] = pushed w e count appended ∙ (λ j. same j ++ here_is j ∷ []) in
       subst (λ xs. ArgumentsFollow macros env level call first all xs between Behind) (sym shown)
       (arguments_used macros env level call first all (expanded_in u vs done) left between Behind (hidings s argument) tokens (is_next less is_used here) one)
 

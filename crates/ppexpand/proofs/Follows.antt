@@ -1,5 +1,5 @@
 -- How a loop over the expansion steps of a list goes on, and how many steps remain.
-use Rattle.std.proofs.Common.{◌≡◌, ◌∙◌, ℕ, suc, ◌<◌, Bool, true, false, not, true≢false, List, [], ◌∷◌, ◌++◌, Option, Some, None, is_some, Ok, Err, refl, sym, ap, subst, arith, append_assoc, append-nil}
+use Rattle.std.proofs.Common.{◌≡◌, ◌∙◌, ℕ, suc, ◌<◌, MatchOption, List, [], ◌∷◌, ◌++◌, Option, Some, None, Ok, Err, refl, sym, ap, subst, arith, append_assoc, append-nil}
 use Rattle.pptext.specs.declared.tokens.Fault.{Fault}
 use Rattle.ppmacro.specs.Names.{Macros}
 use Rattle.ppmacro.specs.HideSetPool.{HideSetPool}
@@ -7,10 +7,11 @@ use Rattle.ppmacro.specs.Hiding.{Hiding}
 use Rattle.ppmacro.specs.HideSets.{hidings}
 use Rattle.ppmacro.specs.declared.hidden_token.Hidden.{Hidden}
 use Rattle.ppexpand.specs.declared.env.Env.{Env}
+use Rattle.ppexpand.specs.declared.expand_step.Invocation.{Invocation}
 use Rattle.ppexpand.specs.ExpansionStep.{Call, ExpansionStep, Failed, Replaced, Called, wanted, ExpandedArguments, with_expanded}
 use Rattle.ppexpand.specs.Budget.{spend_one}
 use Rattle.ppexpand.specs.Expansion.{Outcome, step_in_budget, Expands, ExpandsTo, ExpandsArguments, argument_refused, call_failed, call_replaced, none, unused, too_deep, used, used_refused}
-use Rattle.ppexpand.specs.code.ProgramValues.{finished_in, Advances, EndsWith, HasAdvanced, HasEnded, HasTaken, CallStepsTo, refuses, finishes, ExpandsArgument, expands, raises, deep}
+use Rattle.ppexpand.specs.code.ProgramValues.{Advances, EndsWith, HasAdvanced, HasEnded, HasTaken, HasCalled, CallStepsTo, refuses, finishes, ExpandsArgument, expands, raises, deep}
 use Rattle.ppexpand.proofs.Total.{total}
 use Rattle.ppexpand.proofs.Unique.{same_outcome}
 
@@ -83,14 +84,24 @@ module _ (macros : Macros) (env : Env) (level : ℕ) (left : Option ℕ) (list :
   call_goes_on (refuses args) next e = absurd (cc e)
   call_goes_on (finishes args) next e = record { expansion_step = λ n out d. call_replaced found args e d }
 
-  -- the result of the call is the step of the list
-  pub call_taken : (s : HideSetPool) (hs : List Hidden) (emitted more : List Hiding) (raised : Option Fault) (after : Option ℕ) (goes : Bool) → is_some raised ≡ not goes → more ≡ emitted
-      → CallStepsTo macros env level call (spend_one left) after (finished_in s hs raised)
-      → HasTaken macros env level left list emitted goes raised after (hidings s hs) more
-  call_taken s hs emitted more None after true e same h = (refl, ([], same ∙ sym (append-nil emitted), call_goes_on h (hidings s hs) refl))
-  call_taken s hs emitted more None after false e same h = absurd (true≢false (sym e))
-  call_taken s hs emitted more (Some f) after true e same h = absurd (true≢false e)
-  call_taken s hs emitted more (Some f) after false e same h = (call_ends h f refl, same)
+  -- the call is replaced, and the list goes on
+  pub call_taken : (s : HideSetPool) (hs : List Hidden) (emitted more : List Hiding) (after : Option ℕ) → more ≡ emitted
+      → CallStepsTo macros env level call (spend_one left) after (Replaced (hidings s hs))
+      → HasAdvanced macros env level left list emitted after (hidings s hs) more
+  call_taken s hs emitted more after same h = ([], same ∙ sym (append-nil emitted), call_goes_on h (hidings s hs) refl)
+
+  -- the call fails, and the list ends
+  pub call_raises : (emitted more : List Hiding) (f : Fault) (after : Option ℕ) → more ≡ emitted
+      → CallStepsTo macros env level call (spend_one left) after (Failed f)
+      → HasEnded macros env level left list emitted (Some f) after more
+  call_raises emitted more f after same h = (call_ends h f refl, same)
+
+-- a step that raises a fault is no invocation
+pub begun_raises : (macros : Macros) (env : Env) (level : ℕ) (left : Option ℕ) (list emitted : List Hiding) (found : Option Invocation) (call : Invocation → Call) (f : Fault) (after : Option ℕ) (next more : List Hiding)
+    → MatchOption found ((level : ℕ) → HasTaken macros env level left list emitted (Err f) after next more) (λ c. HasCalled macros env left list emitted (call c) (Err f) after more)
+    → HasTaken macros env level left list emitted (Err f) after next more
+begun_raises macros env level left list emitted None call f after next more h = h level
+begun_raises macros env level left list emitted (Some c) call f after next more h = absurd (cc h.1)
 
 -- what is done of the arguments, before the rest
 abbrev pub before_rest : List (Option (List Hiding)) → ExpandedArguments → ExpandedArguments

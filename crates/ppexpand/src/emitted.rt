@@ -119,7 +119,7 @@ impl<'a> Emitted<'a> {
     }
 
     /// Returns the tokens as one vector.
-    #[inline]
+    #[inline(never)]
     pub(crate) fn into_vec(self, alloc: Global) -> Result<Vec<Hidden<'a>>, AllocError>
         ensures { IfOk result (λ v. v.items ≡ self.entry) }
     {

@@ -18,8 +18,8 @@ ghost use Rattle.ppexpand.specs.Budget.{in_budget};
 ghost use Rattle.ppexpand.specs.Expansion.{step_in_budget};
 ghost use Rattle.ppexpand.specs.code.Lists.{next_macro};
 ghost use Rattle.ppexpand.specs.code.ProgramValues.{expanded_in, fitting_in, FittingKnown, ExpansionsKnown, call_in, CallKnown, step_in, ActionKnown, replaced_in};
-ghost use Rattle.ppexpand.specs.code.ProgramValues.{finished_in};
 ghost use Rattle.ppexpand.specs.code.Action as next;
+ghost use Rattle.pptext.specs.Errors.{UnlessOutOfMemory};
 ghost use Rattle.pptext.specs.Tokens.{fault as fault_at};
 
 use crate::arguments::{Gathered, fit_arguments, gather, separators};
@@ -34,7 +34,7 @@ use ppmacro::{
     Arguments, Expansion, Hidden, HideSets, Macro, MacroKind, MacroName, Pattern, PredefinedMacro,
     Set, Table, Variadic, substitute_pattern,
 };
-use pptext::{Fault, Memory, Place, Spelling, Token};
+use pptext::{Error, Fault, Memory, Place, Spelling, Token};
 use std::alloc::AllocError;
 use std::marker::Model;
 
@@ -505,7 +505,7 @@ impl<'x> Replacer<'x> {
         self.macro_step(context.env, head, replaced, list)
     }
 
-    /// Pushes the replacement of an invocation whose arguments are expanded, or stores the fault in `fault`.
+    /// Pushes the replacement of an invocation whose arguments are expanded, or returns fault 19 or 20.
     ///
     /// `pattern` is the replacement list of the macro.
     #[inline(never)]
@@ -515,17 +515,15 @@ impl<'x> Replacer<'x> {
         pattern: &Pattern<'a>,
         expanded: &[Expansion<'x>],
         list: &mut TokenStack<'x>,
-        fault: &mut Option<Fault>,
-    ) -> Result<(), Memory>
+    ) -> Result<(), Error>
         requires call { CallKnown self.old.sets call.now.head call.now.arguments.items call.now.both }
         requires chains { listed pattern.now ≡ chains_of call.now.replaced.now }
         requires expanded { ExpansionsKnown self.old.sets expanded.now }
         requires list { AllKnown self.old.sets list.old }
-        requires no_fault { fault.old ≡ None }
-        ensures is { OnOk result (finished_in self.new.sets list.new fault.new
+        ensures is { UnlessOutOfMemory result (λ r. replaced_in self.new.sets list.new r
             ≡ finish_call (call_in self.old.sets call.now.head call.now.replaced.now call.now.arguments.items call.now.both list.old)
             (expanded_in self.old.sets call.now.arguments.items expanded.now)) }
-        ensures known { OnOk result (fault.new ≡ None → AllKnown self.new.sets list.new) }
+        ensures known { OnOk result (AllKnown self.new.sets list.new) }
         ensures keeps { KeepsSets self.old.sets self.new.sets }
     {
         let arguments = Arguments {
@@ -534,10 +532,7 @@ impl<'x> Replacer<'x> {
         };
         match self.replace(pattern, arguments, call.both, &call.head, list)? {
             Ok(()) => Ok(()),
-            Err(found) => {
-                *fault = Some(found);
-                Ok(())
-            }
+            Err(fault) => Err(Error::Fault(fault)),
         }
     }
 }

@@ -1,9 +1,11 @@
 //! Expands lists of tokens (6.10.3.4).
-ghost use Rattle.std.specs.Prelude.{◌≡◌, ℕ, ◌≤◌, ◌++◌, [], List, map, true, false, is_some, Some, None, Ok, Err, IfOk, OnOk, MatchOption, IfSome};
+ghost use Rattle.std.specs.Prelude.{◌≡◌, ℕ, ◌≤◌, ◌++◌, [], List, map, true, Some, Ok, Err, IfOk, OnOk, MatchOption, IfSome};
+ghost use Rattle.std.specs.Result.{result_err, result_and};
+ghost use Rattle.pptext.specs.Errors.{UnlessOutOfMemory};
 ghost use Rattle.ppmacro.specs.Chains.{chains_of};
 ghost use Rattle.ppmacro.specs.Patterns.{listed};
 ghost use Rattle.std.specs.Option.{option_copied};
-ghost use Rattle.ppmacro.specs.Substituting.{tokens_of, lists_of, option_of};
+ghost use Rattle.ppmacro.specs.Substituting.{tokens_of, lists_of};
 ghost use Rattle.ppmacro.specs.HideSets.{hidings, AllKnown, KeepsSets};
 ghost use Rattle.ppmacro.specs.HideSetPool.{HideSetPool};
 ghost use Rattle.ppmacro.specs.Substitution.{argument_at, plain};
@@ -13,7 +15,7 @@ ghost use Rattle.ppexpand.specs.Expansion.{ExpandsTo, IsExpansion};
 ghost use Rattle.ppexpand.specs.code.Lists.{NeverExpand, never_expands, next_macro};
 ghost use Rattle.std.specs.List.{AllByRecursion};
 ghost use Rattle.ppexpand.specs.code.Skipping.{HasSkipped};
-ghost use Rattle.ppexpand.specs.code.ProgramValues.{expanded_in, ExpansionsKnown, call_in, CallKnown, finished_in, Raises, owned_tokens, ExpandsArgument, HasExpanded};
+ghost use Rattle.ppexpand.specs.code.ProgramValues.{expanded_in, ExpansionsKnown, call_in, CallKnown, replaced_in, owned_tokens, HasExpanded};
 ghost use Rattle.ppexpand.specs.code.ProgramValues.{ExpandsWanted, CallStepsTo, HasTaken, HasCalled};
 
 use crate::budget::spend_one;
@@ -28,7 +30,7 @@ use crate::token_span::{never_expands, split_unexpanded};
 use crate::token_stack::{Lookahead, TokenStack};
 use crate::vec_pool::VecPool;
 use ppmacro::{Expansion, Hidden, HideSets, Macro, Pattern, Table};
-use pptext::{Fault, Memory, Token};
+use pptext::{Error, Fault, Memory, Token, split_memory};
 use std::alloc::{AllocError, Global};
 
 /// The deepest level of a token list. A list given to `expand` is at level 0, an argument one level deeper than its invocation.
@@ -90,16 +92,12 @@ fn none_expands(table: &Table, tokens: &[Hidden]) -> bool
     true
 }
 
-/// Raises fault 21 at a macro's name: the argument is nested too deep. There is no expansion.
+/// Returns fault 21 at a macro's name: the argument is nested too deep. There is no expansion.
 #[inline(never)]
-fn raise_depth<'x>(
-    head: &Hidden,
-    fault: &mut Option<Fault>,
-) -> Result<Option<Expansion<'x>>, Memory>
-    ensures { IfOk result (λ r. (r ≡ None) × (fault.new ≡ Some (fault_at 21 head.now.token.used head.now.token.text))) }
+fn raise_depth<'x>(head: &Hidden) -> Result<Expansion<'x>, Error>
+    ensures { UnlessOutOfMemory result (λ r. r ≡ Err (fault_at 21 head.now.token.used head.now.token.text)) }
 {
-    *fault = Some(fault_at_expansion(21, head)?);
-    Ok(None)
+    Err(Error::Fault(fault_at_expansion(21, head)?))
 }
 
 /// Gives the vectors of an invocation's arguments back to the pool.
@@ -112,22 +110,6 @@ fn keep_arguments<'x>(
         Some(call) => pool.keep(call.arguments),
         None => Ok(()),
     }
-}
-
-/// Returns the expansion of an argument from the tokens that it emitted, or `None` if a fault was raised.
-#[inline(never)]
-fn argument_expansion<'x>(
-    alloc: Global,
-    emitted: Emitted<'x>,
-    fault: &Option<Fault>,
-) -> Result<Option<Expansion<'x>>, Memory>
-    ensures { IfOk result (λ r. MatchOption r (is_some fault.now ≡ true)
-        (λ e. (is_some fault.now ≡ false) × (owned_tokens e ≡ emitted.entry) × ((given : List Hidden) → option_of given e ≡ Some emitted.entry))) }
-{
-    if fault.is_some() {
-        return Ok(None);
-    }
-    Ok(Some(Expansion::Made(emitted.into_vec(alloc)?)))
 }
 
 /// Returns the argument of a parameter. An absent one has no tokens.
@@ -148,16 +130,14 @@ struct Expander<'x> {
     replacer: Replacer<'x>,
     /// The rest of the budget; `None` means no limit.
     left: Option<u64>,
-    /// The fault that ended a list, if any.
-    fault: Option<Fault>,
 }
 
 impl<'x> Expander<'x> {
     /// Begins an expansion step of a list. `named` is the macro that the next token names, if any. Returns whether the expansion of the
-    /// list goes on.
+    /// list goes on, or the fault that ends it.
     ///
     /// Appends emitted tokens to `emitted` and removes what is done from `list`. An invocation of a function-like macro is only put in
-    /// `call`: its arguments are still to be expanded. A fault that ends the list is stored.
+    /// `call`: its arguments are still to be expanded. Otherwise `call` becomes `None`.
     #[inline(never)]
     fn begin_step<'t, 'a: 'x>(
         &mut self,
@@ -166,39 +146,34 @@ impl<'x> Expander<'x> {
         list: &mut TokenStack<'x>,
         emitted: &mut Emitted<'x>,
         call: &mut Option<Invocation<'t, 'x, 'a>>,
-    ) -> Result<bool, Memory>
+    ) -> Result<bool, Error>
         requires named { option_copied named ≡ next_macro context.now.table.now.macros (tokens_of list.old) }
-        requires no_fault { self.old.fault ≡ None }
-        requires no_call { call.old ≡ None }
         requires list_known { AllKnown self.old.replacer.sets list.old }
         requires passed_known { AllKnown self.old.replacer.sets emitted.old }
-        ensures on { IfOk result (λ goes. MatchOption call.new
+        ensures on { UnlessOutOfMemory result (λ r. MatchOption call.new
             ((level : ℕ) → HasTaken context.now.table.now.macros context.now.env.now level self.old.left (hidings self.old.replacer.sets list.old)
-            (hidings self.old.replacer.sets emitted.old) goes self.new.fault self.new.left (hidings self.new.replacer.sets list.new) (hidings self.new.replacer.sets emitted.new))
+            (hidings self.old.replacer.sets emitted.old) r self.new.left (hidings self.new.replacer.sets list.new) (hidings self.new.replacer.sets emitted.new))
             (λ c. HasCalled context.now.table.now.macros context.now.env.now self.old.left (hidings self.old.replacer.sets list.old)
             (hidings self.old.replacer.sets emitted.old) (call_in self.new.replacer.sets c.head c.replaced.now c.arguments.items c.both list.new)
-            self.new.fault self.new.left (hidings self.new.replacer.sets emitted.new))) }
+            r self.new.left (hidings self.new.replacer.sets emitted.new))) }
         ensures call_known { OnOk result (IfSome call.new (λ c. CallKnown self.new.replacer.sets c.head c.arguments.items c.both × AllKnown self.new.replacer.sets list.new)) }
         ensures list_known { IfOk result (λ goes. goes ≡ true → AllKnown self.new.replacer.sets list.new) }
         ensures passed_known { OnOk result (AllKnown self.new.replacer.sets emitted.new) }
         ensures keeps { KeepsSets self.old.replacer.sets self.new.replacer.sets }
     {
+        *call = None;
         let next = self.replacer.next_step(context, self.left, named, list)?;
         let step = next.step;
         match step {
             ActionKind::Done => Ok(false),
-            ActionKind::Refused(found) => {
-                self.fault = Some(found);
-                Ok(false)
-            }
+            ActionKind::Refused(fault) => Err(Error::Fault(fault)),
             ActionKind::Emits(head) => {
                 emitted.push_single(head)?;
                 Ok(true)
             }
-            ActionKind::Failed(found) => {
+            ActionKind::Failed(fault) => {
                 self.left = spend_one(self.left);
-                self.fault = Some(found);
-                Ok(false)
+                Err(Error::Fault(fault))
             }
             ActionKind::Replaced => {
                 self.left = spend_one(self.left);
@@ -212,31 +187,27 @@ impl<'x> Expander<'x> {
         }
     }
 
-    /// Expands an argument. Returns `None` if a fault was raised (21 if the argument is nested too deep); the fault is stored.
+    /// Expands an argument, or returns its first fault: 21 if it is nested too deep.
     #[cycle(expansion)]
     fn expand_argument<'a: 'x>(
         &mut self,
         context: &Context<'_, 'a>,
         head: &Hidden<'x>,
         argument: &[Hidden<'x>],
-    ) -> Result<Option<Expansion<'x>>, Memory>
+    ) -> Result<Expansion<'x>, Error>
         requires level { context.now.level ≤ 256 }
         requires known { AllKnown self.old.replacer.sets argument.now }
-        requires no_fault { self.old.fault ≡ None }
-        ensures is { IfOk result (λ r. MatchOption r
-            (Raises self.new.fault (λ f. ExpandsArgument context.now.table.now.macros context.now.env.now context.now.level head.now.token
-            self.old.left (hidings self.old.replacer.sets argument.now) self.new.left (Err f)))
-            (λ e. (self.new.fault ≡ None) × HasExpanded context.now.table.now.macros context.now.env.now context.now.level head.now.token
-            self.old.left self.new.left self.old.replacer.sets self.new.replacer.sets argument.now e)) }
-        ensures known { IfOk result (λ r. IfSome r (λ e. AllKnown self.new.replacer.sets (owned_tokens e))) }
+        ensures is { UnlessOutOfMemory result (HasExpanded context.now.table.now.macros context.now.env.now context.now.level head.now.token
+            self.old.left self.new.left self.old.replacer.sets self.new.replacer.sets argument.now) }
+        ensures known { IfOk result (λ e. AllKnown self.new.replacer.sets (owned_tokens e)) }
         ensures keeps { KeepsSets self.old.replacer.sets self.new.replacer.sets }
     {
         if context.level >= DEEPEST {
-            return raise_depth(head, &mut self.fault);
+            return raise_depth(head);
         }
         // Fast path: most arguments name no macro, and expand to themselves.
         if none_expands(context.table, argument) {
-            return Ok(Some(Expansion::AsGiven));
+            return Ok(Expansion::AsGiven);
         }
         let mut list = TokenStack::of_clones(
             self.replacer.pool.alloc(),
@@ -251,12 +222,13 @@ impl<'x> Expander<'x> {
             level: context.level + 1,
         };
         self.expand_list(&deeper, &mut list, &mut emitted)?;
-        argument_expansion(self.replacer.pool.alloc(), emitted, &self.fault)
+        let tokens = emitted.into_vec(self.replacer.pool.alloc())?;
+        Ok(Expansion::Made(tokens))
     }
 
     /// Pre-expands the arguments that the replacement list uses without `#` and `##`, and appends the expansions to `expanded` by parameter.
     ///
-    /// Stops at the first fault, which is stored. `pattern` is the replacement list of the macro.
+    /// Returns the first fault. `pattern` is the replacement list of the macro.
     #[cycle(expansion)]
     fn expand_arguments<'a: 'x>(
         &mut self,
@@ -264,20 +236,15 @@ impl<'x> Expander<'x> {
         call: &Invocation<'_, 'x, 'a>,
         pattern: &Pattern<'a>,
         expanded: &mut Vec<Expansion<'x>>,
-    ) -> Result<(), Memory>
+    ) -> Result<(), Error>
         requires level { context.now.level ≤ 256 }
         requires known { CallKnown self.old.replacer.sets call.now.head call.now.arguments.items call.now.both }
         requires chains { listed pattern.now ≡ chains_of call.now.replaced.now }
         requires none { expanded.old.items ≡ [] }
-        requires no_fault { self.old.fault ≡ None }
-        ensures is { OnOk result (MatchOption self.new.fault
-            ((following : List Hidden) → ExpandsWanted context.now.table.now.macros context.now.env.now context.now.level
+        ensures is { UnlessOutOfMemory result (λ r. (following : List Hidden) → ExpandsWanted context.now.table.now.macros context.now.env.now context.now.level
             (call_in self.old.replacer.sets call.now.head call.now.replaced.now call.now.arguments.items call.now.both following) self.old.left self.new.left
-            (Ok (expanded_in self.new.replacer.sets call.now.arguments.items expanded.new.items)))
-            (λ f. (following : List Hidden) → ExpandsWanted context.now.table.now.macros context.now.env.now context.now.level
-            (call_in self.old.replacer.sets call.now.head call.now.replaced.now call.now.arguments.items call.now.both following) self.old.left self.new.left
-            (Err f))) }
-        ensures known { OnOk result (self.new.fault ≡ None → ExpansionsKnown self.new.replacer.sets expanded.new.items) }
+            (result_and r (Ok (expanded_in self.new.replacer.sets call.now.arguments.items expanded.new.items)))) }
+        ensures known { OnOk result (ExpansionsKnown self.new.replacer.sets expanded.new.items) }
         ensures keeps { KeepsSets self.old.replacer.sets self.new.replacer.sets }
     {
         let used = pre_expanded_parameters(self.replacer.pool.alloc(), call.replaced, pattern)?;
@@ -288,30 +255,27 @@ impl<'x> Expander<'x> {
             }
             let head = &call.head;
             let tokens = argument_of(call.arguments.as_slice(), parameter);
-            match self.expand_argument(context, head, tokens)? {
-                Some(expansion) => put(expanded, expansion)?,
-                None => return Ok(()),
-            }
+            let expansion = self.expand_argument(context, head, tokens)?;
+            put(expanded, expansion)?;
         }
         Ok(())
     }
 
-    /// Replaces an invocation, after its arguments are expanded, and pushes the result onto the rest of its list. The first fault is stored.
+    /// Replaces an invocation, after its arguments are expanded, and pushes the result onto the rest of its list. Returns the first fault.
     #[cycle(expansion)]
     fn replace_call<'a: 'x>(
         &mut self,
         context: &Context<'_, 'a>,
         call: &Invocation<'_, 'x, 'a>,
         list: &mut TokenStack<'x>,
-    ) -> Result<(), Memory>
+    ) -> Result<(), Error>
         requires level { context.now.level ≤ 256 }
         requires call_known { CallKnown self.old.replacer.sets call.now.head call.now.arguments.items call.now.both }
         requires list_known { AllKnown self.old.replacer.sets list.old }
-        requires no_fault { self.old.fault ≡ None }
-        ensures is { OnOk result (CallStepsTo context.now.table.now.macros context.now.env.now context.now.level
+        ensures is { UnlessOutOfMemory result (λ r. CallStepsTo context.now.table.now.macros context.now.env.now context.now.level
             (call_in self.old.replacer.sets call.now.head call.now.replaced.now call.now.arguments.items call.now.both list.old) self.old.left self.new.left
-            (finished_in self.new.replacer.sets list.new self.new.fault)) }
-        ensures known { OnOk result (self.new.fault ≡ None → AllKnown self.new.replacer.sets list.new) }
+            (replaced_in self.new.replacer.sets list.new r)) }
+        ensures known { OnOk result (AllKnown self.new.replacer.sets list.new) }
         ensures keeps { KeepsSets self.old.replacer.sets self.new.replacer.sets }
     {
         let pattern = call
@@ -322,19 +286,15 @@ impl<'x> Expander<'x> {
             parameter_count(call.replaced),
         )?;
         self.expand_arguments(context, call, &pattern, &mut expanded)?;
-        if self.fault.is_some() {
-            return Ok(());
-        }
-        let expanded = expanded.as_slice();
         self.replacer
-            .finish_call(call, &pattern, expanded, list, &mut self.fault)
+            .finish_call(call, &pattern, expanded.as_slice(), list)
     }
 
     /// Makes one expansion step of a list, including the arguments of an invocation. `named` is the macro that the next token names, if
-    /// any. Returns whether the expansion of the list goes on.
+    /// any. Returns whether the expansion of the list goes on, or the fault that ends it.
     ///
-    /// Appends emitted tokens to `emitted` and removes what is done from `list`. A fault that ends the list is stored. `call` is storage for
-    /// an invocation, so that it lies in the caller's frame.
+    /// Appends emitted tokens to `emitted` and removes what is done from `list`. `call` is storage for an invocation, so that it lies in the
+    /// caller's frame.
     #[cycle(expansion)]
     fn advance<'t, 'a: 'x>(
         &mut self,
@@ -343,16 +303,14 @@ impl<'x> Expander<'x> {
         list: &mut TokenStack<'x>,
         emitted: &mut Emitted<'x>,
         call: &mut Option<Invocation<'t, 'x, 'a>>,
-    ) -> Result<bool, Memory>
+    ) -> Result<bool, Error>
         requires level { context.now.level ≤ 256 }
         requires named { option_copied named ≡ next_macro context.now.table.now.macros (tokens_of list.old) }
         requires list_known { AllKnown self.old.replacer.sets list.old }
         requires passed_known { AllKnown self.old.replacer.sets emitted.old }
-        requires no_fault { self.old.fault ≡ None }
-        requires no_call { call.old ≡ None }
-        ensures on { IfOk result (λ goes.
+        ensures on { UnlessOutOfMemory result (λ r.
             HasTaken context.now.table.now.macros context.now.env.now context.now.level self.old.left (hidings self.old.replacer.sets list.old)
-            (hidings self.old.replacer.sets emitted.old) goes self.new.fault self.new.left (hidings self.new.replacer.sets list.new) (hidings self.new.replacer.sets emitted.new)) }
+            (hidings self.old.replacer.sets emitted.old) r self.new.left (hidings self.new.replacer.sets list.new) (hidings self.new.replacer.sets emitted.new)) }
         ensures list_known { IfOk result (λ goes. goes ≡ true → AllKnown self.new.replacer.sets list.new) }
         ensures passed_known { OnOk result (AllKnown self.new.replacer.sets emitted.new) }
         ensures keeps { KeepsSets self.old.replacer.sets self.new.replacer.sets }
@@ -363,23 +321,22 @@ impl<'x> Expander<'x> {
         };
         self.replace_call(context, found, list)?;
         keep_arguments(&mut self.replacer.pool, call)?;
-        Ok(self.fault.is_none())
+        Ok(true)
     }
 
-    /// Expands a list, and appends the emitted tokens to `emitted`. A fault that ends the list is stored.
+    /// Expands a list, and appends the emitted tokens to `emitted`, also those before a fault. Returns the fault that ended the list.
     #[cycle(expansion)]
     fn expand_list<'a: 'x>(
         &mut self,
         context: &Context<'_, 'a>,
         list: &mut TokenStack<'x>,
         emitted: &mut Emitted<'x>,
-    ) -> Result<(), Memory>
+    ) -> Result<(), Error>
         requires level { context.now.level ≤ 256 }
         requires known { AllKnown self.old.replacer.sets list.old }
         requires none { emitted.old ≡ [] }
-        requires no_fault { self.old.fault ≡ None }
-        ensures outcome { OnOk result (ExpandsTo context.now.table.now.macros context.now.env.now context.now.level self.old.left (hidings self.old.replacer.sets list.old)
-            (record { tokens = hidings self.new.replacer.sets emitted.new; fault = self.new.fault; left = self.new.left })) }
+        ensures outcome { UnlessOutOfMemory result (λ r. ExpandsTo context.now.table.now.macros context.now.env.now context.now.level self.old.left (hidings self.old.replacer.sets list.old)
+            (record { tokens = hidings self.new.replacer.sets emitted.new; fault = result_err r; left = self.new.left })) }
         ensures known { OnOk result (AllKnown self.new.replacer.sets emitted.new) }
         ensures keeps { KeepsSets self.old.replacer.sets self.new.replacer.sets }
     {
@@ -432,10 +389,9 @@ fn expand_tokens<'x, 'a: 'x>(
             sets,
         },
         left,
-        fault: None,
     };
-    expander.expand_list(context, &mut list, emitted)?;
-    Ok((expander.left, expander.fault))
+    let ended = expander.expand_list(context, &mut list, emitted);
+    Ok((expander.left, split_memory(ended)?.err()))
 }
 
 /// Expands `prefix` and `rest`, where the tokens of `prefix` are emitted unchanged.

@@ -92,16 +92,7 @@ abbrev pub replaced_in : HideSetPool → List Hidden → Result (Unit {0}) Fault
 replaced_in sets left (Ok u) = Replaced (hidings sets left)
 replaced_in sets left (Err f) = Failed f
 
--- the expansion step of an invocation after which this list is left, or its fault
-abbrev pub finished_in : HideSetPool → List Hidden → Option Fault → ExpansionStep
-finished_in sets left None = Replaced (hidings sets left)
-finished_in sets left (Some f) = Failed f
-
 -- ---- expansion
-
--- a fault was raised, and it has this property
-abbrev pub Raises : Option Fault → (Fault → Type 0) → Type 0
-Raises raised holds = (f : Fault) × (raised ≡ Some f) × holds f
 
 -- an argument of an invocation at this level has this expansion or this fault, and leaves this much of the budget
 pub data ExpandsArgument (macros : Macros) (env : Env) (level : ℕ) (head : Token) (left : Option ℕ) (list : List Hiding)
@@ -116,11 +107,12 @@ pub data ExpandsArgument (macros : Macros) (env : Env) (level : ℕ) (head : Tok
       → ExpandsArgument macros env level head left list after (Err f)
   deep : 256 ≤ level → ExpandsArgument macros env level head left list left (Err (fault 21 head.used head.text))
 
--- an argument of an invocation at this level has an expansion, and this value of the program stands for it
-abbrev pub HasExpanded : Macros → Env → ℕ → Token → Option ℕ → Option ℕ → HideSetPool → HideSetPool → List Hidden → Expansion → Type 0
-HasExpanded macros env level head left after before sets given e = (tokens : List Hiding)
+-- an argument of an invocation at this level has an expansion, and this value of the program stands for it, or it has this fault
+abbrev pub HasExpanded : Macros → Env → ℕ → Token → Option ℕ → Option ℕ → HideSetPool → HideSetPool → List Hidden → Result Expansion Fault → Type 0
+HasExpanded macros env level head left after before sets given (Ok e) = (tokens : List Hiding)
     × (option_map (hidings sets) (option_of given e) ≡ Some tokens)
     × ExpandsArgument macros env level head left (hidings before given) after (Ok tokens)
+HasExpanded macros env level head left after before sets given (Err f) = ExpandsArgument macros env level head left (hidings before given) after (Err f)
 
 -- the arguments of an invocation at this level that are to be expanded have these expansions or this fault, and leave this much of the budget
 abbrev pub ExpandsWanted : Macros → Env → ℕ → Call → Option ℕ → Option ℕ → ExpandedArguments → Type 0
@@ -156,12 +148,13 @@ HasAdvanced macros env level left list emitted after next more = (tokens : List 
 abbrev pub HasEnded : Macros → Env → ℕ → Option ℕ → List Hiding → List Hiding → Option Fault → Option ℕ → List Hiding → Type 0
 HasEnded macros env level left list emitted f after more = EndsWith macros env level left list f after × (more ≡ emitted)
 
--- one expansion step was made: the list goes on, or it ended
-abbrev pub HasTaken : Macros → Env → ℕ → Option ℕ → List Hiding → List Hiding → Bool → Option Fault → Option ℕ → List Hiding → List Hiding → Type 0
-HasTaken macros env level left list emitted true f after next more = (f ≡ None) × HasAdvanced macros env level left list emitted after next more
-HasTaken macros env level left list emitted false f after next more = HasEnded macros env level left list emitted f after more
+-- one expansion step was made: the list goes on, or it ended, or it ended with this fault
+abbrev pub HasTaken : Macros → Env → ℕ → Option ℕ → List Hiding → List Hiding → Result Bool Fault → Option ℕ → List Hiding → List Hiding → Type 0
+HasTaken macros env level left list emitted (Ok true) after next more = HasAdvanced macros env level left list emitted after next more
+HasTaken macros env level left list emitted (Ok false) after next more = HasEnded macros env level left list emitted None after more
+HasTaken macros env level left list emitted (Err f) after next more = HasEnded macros env level left list emitted (Some f) after more
 
--- a list begins with this invocation, which is counted; nothing was emitted, and there was no fault
-abbrev pub HasCalled : Macros → Env → Option ℕ → List Hiding → List Hiding → Call → Option Fault → Option ℕ → List Hiding → Type 0
-HasCalled macros env left list emitted call f after more =
-    (step_in_budget macros env left list ≡ Called call) × (f ≡ None) × (after ≡ spend_one left) × (more ≡ emitted)
+-- a list begins with this invocation, which is counted; nothing was emitted, and the list goes on
+abbrev pub HasCalled : Macros → Env → Option ℕ → List Hiding → List Hiding → Call → Result Bool Fault → Option ℕ → List Hiding → Type 0
+HasCalled macros env left list emitted call r after more =
+    (step_in_budget macros env left list ≡ Called call) × (r ≡ Ok true) × (after ≡ spend_one left) × (more ≡ emitted)

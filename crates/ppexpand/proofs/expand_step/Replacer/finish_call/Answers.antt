@@ -17,7 +17,7 @@ unfolding finish_call
 returns-in-Ok-clause-is c =
     let s = c.args.self.now.sets in
     let call = c.args.call.now in
-    rw c.requires.no_fault (ap (replaced_in c.replace.new.self.sets c.replace.new.list) (sym c.in-Ok.is) ∙ c.in_ok-replace.ensures.is
+    (ap (replaced_in c.replace.new.self.sets c.replace.new.list) (sym c.in-Ok.is) ∙ c.in_ok-replace.ensures.is
     ∙ (λ i. replaced_by (chains_replacement (c.requires.chains i) (arguments_in s (c.as_slice.ensures.value i) c.args.expanded.now)
     (set.insert (set_at s call.both) call.head.token.text) call.head.token.used call.head.token.space)
     (hidings s c.args.list.now)))

@@ -1,7 +1,7 @@
 use Rattle.std.proofs.Common.{◌≡◌, ◌∙◌, ◌∷◌, [], ◌+◌, ◌<◌, ◌≤◌, length, Ok, Err, Some, None, true, false, refl, sym, ap, subst, arith}
 use Rattle.std.specs.Option.{option_map}
 use Rattle.std.proofs.lemmas.List.{length-append}
-use Rattle.std.proofs.lemmas.Result.{IfOk-weaker, on_ok_weaker}
+use Rattle.pptext.proofs.Stopping.{stopped, if_settled-weaker}
 use Rattle.ppmacro.specs.HideSets.{hidings, AllKnown}
 use Rattle.ppmacro.specs.Chains.{parameter_names, chains_of}
 use Rattle.ppmacro.specs.Patterns.{listed}
@@ -9,13 +9,13 @@ use Rattle.ppmacro.specs.Substitution.{argument_at}
 use Rattle.ppmacro.specs.Substituting.{lists_of, option_of}
 use Rattle.ppmacro.specs.declared.hidden_token.Expansion.TheVariants.{Unused}
 use Rattle.ppmacro.proofs.KeepLemmas.{hidings-keeps, known-keeps, keeps-all, keeps-after}
-use Rattle.ppexpand.specs.ExpansionStep.{finish_call, wanted, pre_expands}
+use Rattle.ppexpand.specs.ExpansionStep.{Failed, Replaced, finish_call, wanted, pre_expands}
 use Rattle.ppexpand.specs.Expansion.{ExpandsArguments}
-use Rattle.ppexpand.specs.code.ProgramValues.{finished_in, expanded_in, owned_tokens, ExpansionsKnown, ExpandsArgument, deep, CallStepsTo, refuses, finishes}
+use Rattle.ppexpand.specs.code.ProgramValues.{expanded_in, owned_tokens, ExpansionsKnown, ExpandsArgument, deep, CallStepsTo, refuses, finishes}
 use Rattle.ppexpand.proofs.Keeping.{call_of, call_of-keeps, call_known-keeps, given_known-keeps, expanded_known-keeps, expanded_known-push}
-use Rattle.ppexpand.proofs.ArgumentLemmas.{arguments_first, raised_some, raised_none, raised_not, argument_expands, argument_outcome, argument_known, argument-known, follows_unused, follows_used, follows_refused, follows_all, marked-alone}
+use Rattle.ppexpand.proofs.ArgumentLemmas.{arguments_first, no_value, argument_expands, argument_raises, argument-known, follows_unused, follows_used, follows_refused, follows_all, marked-alone}
 use Rattle.ppexpand.proofs.Skipping.{plain-expands, next-known, more-known, follows_skip, skip_falls}
-use Rattle.ppexpand.proofs.Follows.{more_follows, more_falls, end_follows, call_taken}
+use Rattle.ppexpand.proofs.Follows.{more_follows, more_falls, end_follows, call_taken, call_raises, begun_raises}
 use Rattle.ppexpand.proofs.expansion.Expander.+expansion.Goals as goal
 
 -- ---- one step
@@ -23,13 +23,29 @@ use Rattle.ppexpand.proofs.expansion.Expander.+expansion.Goals as goal
 pub advance-returns-in_default-clause-on : goal.advance-returns-in_default-clause-on
 advance-returns-in_default-clause-on m c = (rw c.in_default.is at c.in_ok-goes.ensures.on) c.args.context.now.level
 
+pub advance-returns-in_err-goes-clause-on : goal.advance-returns-in_err-goes-clause-on
+advance-returns-in_err-goes-clause-on m c =
+    let s = c.begin_step.new.self.replacer.sets in
+    stopped _ _ _ _ c.from_residual.ensures.1 c.in_err-goes.ensures.on (λ f begun.
+    begun_raises c.args.context.now.table.now.macros c.args.context.now.env.now c.args.context.now.level c.args.self.now.left (hidings c.args.self.now.replacer.sets c.args.list.now) (hidings c.args.self.now.replacer.sets c.args.emitted.now)
+    c.begin_step.new.call (λ found. call_of s found c.begin_step.new.list) f c.begin_step.new.self.left (hidings s c.begin_step.new.list) (hidings s c.begin_step.new.emitted) begun)
+
 pub advance-replace_call-requires : goal.advance-replace_call-requires
 advance-replace_call-requires m c =
-    let call_step = rw c.in-Some.is at c.in_ok-goes.ensures.on in
     let known = rw c.in-Some.is at c.in_ok-goes.ensures.call_known in (
       omega arith,
-      (c.requires.level, (known.0, (known.1, call_step.1))),
+      (c.requires.level, known),
     )
+
+pub advance-returns-in_err-replace_call-clause-on : goal.advance-returns-in_err-replace_call-clause-on
+advance-returns-in_err-replace_call-clause-on m c =
+    let s = c.begin_step.new.self.replacer.sets in
+    let call_step = rw c.in-Some.is at c.in_ok-goes.ensures.on in
+    let call = call_of s c.in-Some.found c.begin_step.new.list in
+    stopped _ _ _ _ c.from_residual-in_err-replace_call.ensures.1 c.in_err-replace_call.ensures.is (λ f steps.
+    call_raises c.args.context.now.table.now.macros c.args.context.now.env.now c.args.context.now.level c.args.self.now.left (hidings c.args.self.now.replacer.sets c.args.list.now) call call_step.0 _ _ f c.replace_call.new.self.left
+    (hidings-keeps _ c.in_err-replace_call.ensures.keeps c.in_ok-goes.ensures.passed_known ∙ call_step.3)
+    (subst (λ l. CallStepsTo c.args.context.now.table.now.macros c.args.context.now.env.now c.args.context.now.level call l c.replace_call.new.self.left (Failed f)) call_step.2 steps))
 
 pub advance-returns-clause-on : goal.advance-returns-clause-on
 advance-returns-clause-on m c =
@@ -37,59 +53,44 @@ advance-returns-clause-on m c =
     let t = c.replace_call.new.self.replacer.sets in
     let call_step = rw c.in-Some.is at c.in_ok-goes.ensures.on in
     let call = call_of s c.in-Some.found c.begin_step.new.list in
-    let invokes : CallStepsTo c.args.context.now.table.now.macros c.args.context.now.env.now c.args.context.now.level call _ c.replace_call.new.self.left (finished_in t c.replace_call.new.list c.replace_call.new.self.fault) =
-    subst (λ l. CallStepsTo c.args.context.now.table.now.macros c.args.context.now.env.now c.args.context.now.level call l c.replace_call.new.self.left (finished_in t c.replace_call.new.list c.replace_call.new.self.fault)) call_step.2 c.in_ok-replace_call.ensures.is in
-    call_taken c.args.context.now.table.now.macros c.args.context.now.env.now c.args.context.now.level c.args.self.now.left (hidings c.args.self.now.replacer.sets c.args.list.now) call call_step.0 t c.replace_call.new.list _ _ c.replace_call.new.self.fault c.replace_call.new.self.left _ c.is_none.ensures
+    call_taken c.args.context.now.table.now.macros c.args.context.now.env.now c.args.context.now.level c.args.self.now.left (hidings c.args.self.now.replacer.sets c.args.list.now) call call_step.0 t c.replace_call.new.list _ _ c.replace_call.new.self.left
     (hidings-keeps _ c.in_ok-replace_call.ensures.keeps c.in_ok-goes.ensures.passed_known ∙ call_step.3)
-    invokes
+    (subst (λ l. CallStepsTo c.args.context.now.table.now.macros c.args.context.now.env.now c.args.context.now.level call l c.replace_call.new.self.left (Replaced (hidings t c.replace_call.new.list))) call_step.2 c.in_ok-replace_call.ensures.is)
 
 pub advance-returns-clause-passed_known : goal.advance-returns-clause-passed_known
 advance-returns-clause-passed_known m c = known-keeps _ c.in_ok-replace_call.ensures.keeps c.in_ok-goes.ensures.passed_known
 
 pub advance-returns-clause-list_known : goal.advance-returns-clause-list_known
-advance-returns-clause-list_known m c = λ goes. c.in_ok-replace_call.ensures.known (raised_none c.replace_call.new.self.fault (rw goes at c.is_none.ensures))
+advance-returns-clause-list_known m c = λ goes. c.in_ok-replace_call.ensures.known
 
 -- ---- an invocation
 
-pub replace_call-returns-then-is_some-clause-is : goal.replace_call-returns-then-is_some-clause-is
-replace_call-returns-then-is_some-clause-is m c =
-    let raised = raised_some c.expand_arguments.new.self.fault (sym c.is_some.ensures ∙ c.if-is_some.true) in
-    rw raised.1 (refuses {f = raised.0} ((rw raised.1 at c.in_ok-expand_arguments.ensures.is) c.args.list.now))
-
-pub replace_call-returns-then-is_some-clause-known : goal.replace_call-returns-then-is_some-clause-known
-replace_call-returns-then-is_some-clause-known m c =
-    let raised = raised_some c.expand_arguments.new.self.fault (sym c.is_some.ensures ∙ c.if-is_some.true) in
-    raised_not c.expand_arguments.new.self.fault raised.0 raised.1
+pub replace_call-returns-in_err-expand_arguments-clause-is : goal.replace_call-returns-in_err-expand_arguments-clause-is
+replace_call-returns-in_err-expand_arguments-clause-is m c =
+    stopped _ _ _ _ c.from_residual-in_err-expand_arguments.ensures.1 c.in_err-expand_arguments.ensures.is (λ f raised. refuses (raised c.args.list.now))
 
 pub replace_call-finish_call-requires-clause-call : goal.replace_call-finish_call-requires-clause-call
 replace_call-finish_call-requires-clause-call m c = call_known-keeps c.args.call.now c.in_ok-expand_arguments.ensures.keeps c.requires.call_known
 
 pub replace_call-finish_call-requires-clause-expanded : goal.replace_call-finish_call-requires-clause-expanded
 replace_call-finish_call-requires-clause-expanded m c =
-    subst (ExpansionsKnown c.expand_arguments.new.self.replacer.sets) (sym c.as_slice-expanded.ensures.value)
-    (c.in_ok-expand_arguments.ensures.known (raised_none c.expand_arguments.new.self.fault (sym c.is_some.ensures ∙ c.if-is_some.false)))
+    subst (ExpansionsKnown c.expand_arguments.new.self.replacer.sets) (sym c.as_slice.ensures.value) c.in_ok-expand_arguments.ensures.known
 
 pub replace_call-finish_call-requires-clause-list : goal.replace_call-finish_call-requires-clause-list
 replace_call-finish_call-requires-clause-list m c = known-keeps c.args.list.now c.in_ok-expand_arguments.ensures.keeps c.requires.list_known
 
-pub replace_call-finish_call-requires-clause-no_fault : goal.replace_call-finish_call-requires-clause-no_fault
-replace_call-finish_call-requires-clause-no_fault m c = raised_none c.expand_arguments.new.self.fault (sym c.is_some.ensures ∙ c.if-is_some.false)
-
 pub replace_call-returns-clause-is : goal.replace_call-returns-clause-is
 replace_call-returns-clause-is m c =
-    let s = c.args.self.now.replacer.sets in
     let list = c.args.list.now in
     let u = c.expand_arguments.new.self.replacer.sets in
-    let v = c.finish_call.new.self.sets in
-    let argument_expansion = c.expand_arguments.new.expanded.items in
-    let call = call_of s c.args.call.now list in
-    let none = raised_none c.expand_arguments.new.self.fault (sym c.is_some.ensures ∙ c.if-is_some.false) in
-    let args : ExpandsArguments c.args.context.now.table.now.macros c.args.context.now.env.now c.args.context.now.level call c.args.self.now.left (wanted call) c.expand_arguments.new.self.left (Ok (expanded_in u c.args.call.now.arguments.items argument_expansion)) =
-    (rw none at c.in_ok-expand_arguments.ensures.is) list in
+    let expanded = c.expand_arguments.new.expanded.items in
+    let call = call_of c.args.self.now.replacer.sets c.args.call.now list in
+    let args : ExpandsArguments c.args.context.now.table.now.macros c.args.context.now.env.now c.args.context.now.level call c.args.self.now.left (wanted call) c.expand_arguments.new.self.left (Ok (expanded_in u c.args.call.now.arguments.items expanded)) =
+    c.in_ok-expand_arguments.ensures.is list in
     let same = call_of-keeps c.args.call.now list c.in_ok-expand_arguments.ensures.keeps c.requires.call_known c.requires.list_known in
-    on_ok_weaker c.finish_call.result
-    (λ e. subst (CallStepsTo c.args.context.now.table.now.macros c.args.context.now.env.now c.args.context.now.level call c.args.self.now.left c.expand_arguments.new.self.left)
-    (sym (e ∙ (λ i. finish_call (same i) (expanded_in u c.args.call.now.arguments.items (c.as_slice-expanded.ensures.value i)))))
+    if_settled-weaker c.finish_call.result _ _
+    (λ r e. subst (CallStepsTo c.args.context.now.table.now.macros c.args.context.now.env.now c.args.context.now.level call c.args.self.now.left c.expand_arguments.new.self.left)
+    (sym (e ∙ (λ i. finish_call (same i) (expanded_in u c.args.call.now.arguments.items (c.as_slice.ensures.value i)))))
     (finishes args))
     c.finish_call.ensures.is
 
@@ -100,49 +101,57 @@ replace_call-returns-clause-keeps m c = keeps-after c.in_ok-expand_arguments.ens
 
 pub expand_argument-returns-then-context-ge-DEEPEST-clause-is : goal.expand_argument-returns-then-context-ge-DEEPEST-clause-is
 expand_argument-returns-then-context-ge-DEEPEST-clause-is m c =
-    IfOk-weaker c.raise_depth.result _ _ (λ r raised. rw raised.0 (_, raised.1, deep (omega (arith, c.if-context-ge-DEEPEST.true)))) c.raise_depth.ensures
+    if_settled-weaker c.raise_depth.result _ _ (λ r raised. rw raised (deep (omega (arith, c.if-context-ge-DEEPEST.true)))) c.raise_depth.ensures
 
 pub expand_argument-returns-then-context-ge-DEEPEST-clause-known : goal.expand_argument-returns-then-context-ge-DEEPEST-clause-known
-expand_argument-returns-then-context-ge-DEEPEST-clause-known m c = IfOk-weaker c.raise_depth.result _ _ (λ r raised. rw raised.0 tt) c.raise_depth.ensures
+expand_argument-returns-then-context-ge-DEEPEST-clause-known m c = no_value c.raise_depth.result _ _ c.raise_depth.ensures
 
 pub expand_argument-returns-then-none_expands-clause-is : goal.expand_argument-returns-then-none_expands-clause-is
 expand_argument-returns-then-none_expands-clause-is m c =
     let s = c.args.self.now.replacer.sets in
     let list = c.args.argument.now in (
-      c.requires.no_fault,
-      (
-        hidings s list,
-        refl,
-        argument_expands c.args.context.now.table.now.macros c.args.context.now.env.now c.args.context.now.level c.args.head.now.token c.args.self.now.left c.args.self.now.left (hidings s list) (hidings s list) None
-            (omega (arith, c.if-context-ge-DEEPEST.false)) refl (plain-expands c.args.context.now.table.now.macros c.args.context.now.env.now (c.args.context.now.level + 1) c.args.self.now.left s list (c.none_expands.ensures c.if-none_expands.true)),
-      ),
+      hidings s list,
+      refl,
+      argument_expands c.args.context.now.table.now.macros c.args.context.now.env.now c.args.context.now.level c.args.head.now.token c.args.self.now.left c.args.self.now.left (hidings s list) (hidings s list)
+          (omega (arith, c.if-context-ge-DEEPEST.false)) (plain-expands c.args.context.now.table.now.macros c.args.context.now.env.now (c.args.context.now.level + 1) c.args.self.now.left s list (c.none_expands.ensures c.if-none_expands.true)),
     )
 
 pub expand_argument-expand_list-requires : goal.expand_argument-expand_list-requires
 expand_argument-expand_list-requires m c = (
   omega (arith, c.if-context-ge-DEEPEST.false),
-  (omega (arith, c.if-context-ge-DEEPEST.false), (subst (AllKnown c.args.self.now.replacer.sets) (sym c.in_ok-list.ensures) c.requires.known, (c.in_ok-emitted.ensures, c.requires.no_fault))),
+  (omega (arith, c.if-context-ge-DEEPEST.false), (subst (AllKnown c.args.self.now.replacer.sets) (sym c.in_ok-list.ensures) c.requires.known, c.in_ok-emitted.ensures)),
 )
+
+pub expand_argument-returns-in_err-expand_list-clause-is : goal.expand_argument-returns-in_err-expand_list-clause-is
+expand_argument-returns-in_err-expand_list-clause-is m c =
+    let s = c.args.self.now.replacer.sets in
+    let t = c.expand_list.new.self.replacer.sets in
+    let left = c.args.self.now.left in
+    let after = c.expand_list.new.self.left in
+    stopped _ _ _ _ c.from_residual-in_err-expand_list.ensures.1 c.in_err-expand_list.ensures.outcome (λ f one.
+    subst (λ list. ExpandsArgument c.args.context.now.table.now.macros c.args.context.now.env.now c.args.context.now.level c.args.head.now.token left (hidings s list) after (Err f)) c.in_ok-list.ensures
+    (argument_raises c.args.context.now.table.now.macros c.args.context.now.env.now c.args.context.now.level c.args.head.now.token left after (hidings s c.in_ok-list.list) (hidings t c.expand_list.new.emitted) f (omega (arith, c.if-context-ge-DEEPEST.false)) one))
 
 pub expand_argument-returns-clause-is : goal.expand_argument-returns-clause-is
 expand_argument-returns-clause-is m c =
-    IfOk-weaker c.argument_expansion.result _ _
-    (argument_outcome c.args.context.now.table.now.macros c.args.context.now.env.now c.args.context.now.level c.args.head.now.token c.args.self.now.left c.expand_list.new.self.left c.args.self.now.replacer.sets c.expand_list.new.self.replacer.sets
-    c.args.argument.now c.in_ok-list.list c.expand_list.new.emitted c.expand_list.new.self.fault (omega (arith, c.if-context-ge-DEEPEST.false)) c.in_ok-list.ensures c.in_ok-expand_list.ensures.outcome)
-    c.argument_expansion.ensures
+    let s = c.args.self.now.replacer.sets in
+    let t = c.expand_list.new.self.replacer.sets in
+    let left = c.args.self.now.left in
+    let after = c.expand_list.new.self.left in
+    let emitted = hidings t c.expand_list.new.emitted in (
+      emitted,
+      ap (λ tokens. Some (hidings t tokens)) c.in_ok-tokens.ensures,
+      subst (λ list. ExpandsArgument c.args.context.now.table.now.macros c.args.context.now.env.now c.args.context.now.level c.args.head.now.token left (hidings s list) after (Ok emitted)) c.in_ok-list.ensures
+          (argument_expands c.args.context.now.table.now.macros c.args.context.now.env.now c.args.context.now.level c.args.head.now.token left after (hidings s c.in_ok-list.list) emitted (omega (arith, c.if-context-ge-DEEPEST.false)) c.in_ok-expand_list.ensures.outcome),
+    )
 
 pub expand_argument-returns-clause-known : goal.expand_argument-returns-clause-known
-expand_argument-returns-clause-known m c =
-    IfOk-weaker c.argument_expansion.result _ _
-    (argument_known c.args.context.now.table.now.macros c.args.context.now.env.now c.args.context.now.level c.args.head.now.token c.args.self.now.left c.expand_list.new.self.left c.args.self.now.replacer.sets c.expand_list.new.self.replacer.sets
-    c.args.argument.now c.in_ok-list.list c.expand_list.new.emitted c.expand_list.new.self.fault c.in_ok-expand_list.ensures.known)
-    c.argument_expansion.ensures
+expand_argument-returns-clause-known m c = subst (AllKnown c.expand_list.new.self.replacer.sets) (sym c.in_ok-tokens.ensures) c.in_ok-expand_list.ensures.known
 
 pub expand_arguments-loop-parameter-init : goal.expand_arguments-loop-parameter-init
 expand_arguments-loop-parameter-init m c = record {
   low = c.requires.level;
   count = ap length c.requires.none;
-  no_fault = c.requires.no_fault;
   known = rw c.requires.none (record { each = tt });
   keeps = keeps-all c.args.self.now.replacer.sets;
   follows = λ following. rw c.requires.none (arguments_first c.args.context.now.table.now.macros c.args.context.now.env.now c.args.context.now.level (call_of c.args.self.now.replacer.sets c.args.call.now following) c.args.self.now.left);
@@ -160,17 +169,16 @@ expand_arguments-loop-parameter-preserved-then-not-alone m c =
     let less : i < length names = subst (λ n. i < n) (ap length c.deref-alone-items.ensures.value ∙ c.in_ok-used.ensures.len) c.loop-parameter-test.true in
     let unused : pre_expands i cs ≡ false = marked-alone c.in_ok-used.used.items c.deref-alone-items.result.now (length names) i (listed c.args.pattern.now) cs false
     c.deref-alone-items.ensures.value c.requires.chains c.in_ok-used.ensures.used less c.if-not-alone.true in
-    let argument_expansion = c.in_ok-put.ensures in
+    let appended = c.in_ok-put.ensures in
     record {
       low = c.loop-parameter.invariant.low;
-      no_fault = c.loop-parameter.invariant.no_fault;
-      known = subst (ExpansionsKnown u) (sym argument_expansion) (expanded_known-push done Unused c.loop-parameter.invariant.known (record { each = tt }));
-      count = ap length argument_expansion ∙ length-append done (Unused ∷ []) ∙ ap (λ n. n + 1) c.loop-parameter.invariant.count;
+      known = subst (ExpansionsKnown u) (sym appended) (expanded_known-push done Unused c.loop-parameter.invariant.known (record { each = tt }));
+      count = ap length appended ∙ length-append done (Unused ∷ []) ∙ ap (λ n. n + 1) c.loop-parameter.invariant.count;
       keeps = c.loop-parameter.invariant.keeps;
       follows = λ following.
           (let call = call_of s c.args.call.now following in
           follows_unused c.args.context.now.table.now.macros c.args.context.now.env.now c.args.context.now.level c.args.self.now.left c.loop-parameter.self.left c.loop-parameter.self.left s u u vs cs names i done c.put.new.items.items call (wanted call)
-          less c.loop-parameter.invariant.count unused argument_expansion (c.loop-parameter.invariant.follows following));
+          less c.loop-parameter.invariant.count unused appended (c.loop-parameter.invariant.follows following));
     }
 
 pub expand_arguments-expand_argument-requires : goal.expand_arguments-expand_argument-requires
@@ -181,11 +189,11 @@ expand_arguments-expand_argument-requires m c =
     let tokens_are : c.argument_of-tokens.result.now ≡ argument_at (lists_of vs) i = c.argument_of-tokens.ensures ∙ ap (λ gs. argument_at (lists_of gs) i) c.as_slice.ensures.value in
     let known = given_known-keeps vs c.loop-parameter.invariant.keeps c.requires.known.arguments in (
       omega arith,
-      (c.loop-parameter.invariant.low, (subst (AllKnown u) (sym tokens_are) (argument-known u vs i known), c.loop-parameter.invariant.no_fault)),
+      (c.loop-parameter.invariant.low, subst (AllKnown u) (sym tokens_are) (argument-known u vs i known)),
     )
 
-pub expand_arguments-returns-in-None-clause-is : goal.expand_arguments-returns-in-None-clause-is
-expand_arguments-returns-in-None-clause-is m c =
+pub expand_arguments-returns-in_err-expansion-clause-is : goal.expand_arguments-returns-in_err-expansion-clause-is
+expand_arguments-returns-in_err-expansion-clause-is m c =
     let s = c.args.self.now.replacer.sets in
     let u = c.loop-parameter.self.replacer.sets in
     let i = c.loop-parameter.parameter in
@@ -199,18 +207,12 @@ expand_arguments-returns-in-None-clause-is m c =
     let tokens_are : c.argument_of-tokens.result.now ≡ argument_at (lists_of vs) i = c.argument_of-tokens.ensures ∙ ap (λ gs. argument_at (lists_of gs) i) c.as_slice.ensures.value in
     let argument : hidings u c.argument_of-tokens.result.now ≡ hidings s (argument_at (lists_of vs) i) =
     ap (hidings u) tokens_are ∙ hidings-keeps (argument_at (lists_of vs) i) c.loop-parameter.invariant.keeps (argument-known s vs i c.requires.known.arguments) in
-    let raised = rw c.in-None.is at c.in_ok-expansion.ensures.is in
-    let one : ExpandsArgument c.args.context.now.table.now.macros c.args.context.now.env.now c.args.context.now.level c.args.call.now.head.token c.loop-parameter.self.left (hidings s (argument_at (lists_of vs) i)) c.expand_argument.new.self.left (Err raised.0) =
-    subst (λ l. ExpandsArgument c.args.context.now.table.now.macros c.args.context.now.env.now c.args.context.now.level c.args.call.now.head.token c.loop-parameter.self.left l c.expand_argument.new.self.left (Err raised.0)) argument raised.2 in
-    rw raised.1 (λ following.
+    stopped _ _ _ _ c.from_residual-in_err-expansion.ensures.1 c.in_err-expansion.ensures.is (λ f raised following.
     let call = call_of s c.args.call.now following in
+    let one : ExpandsArgument c.args.context.now.table.now.macros c.args.context.now.env.now c.args.context.now.level c.args.call.now.head.token c.loop-parameter.self.left (hidings s (argument_at (lists_of vs) i)) c.expand_argument.new.self.left (Err f) =
+    subst (λ l. ExpandsArgument c.args.context.now.table.now.macros c.args.context.now.env.now c.args.context.now.level c.args.call.now.head.token c.loop-parameter.self.left l c.expand_argument.new.self.left (Err f)) argument raised in
     follows_refused c.args.context.now.table.now.macros c.args.context.now.env.now c.args.context.now.level c.args.self.now.left c.loop-parameter.self.left c.expand_argument.new.self.left s u u vs cs names i done done call (wanted call)
-    raised.0 less is_used one (c.loop-parameter.invariant.follows following))
-
-pub expand_arguments-returns-in-None-clause-known : goal.expand_arguments-returns-in-None-clause-known
-expand_arguments-returns-in-None-clause-known m c =
-    let raised = rw c.in-None.is at c.in_ok-expansion.ensures.is in
-    raised_not c.expand_argument.new.self.fault raised.0 raised.1
+    f less is_used one (c.loop-parameter.invariant.follows following))
 
 pub expand_arguments-loop-parameter-preserved : goal.expand_arguments-loop-parameter-preserved
 expand_arguments-loop-parameter-preserved m c =
@@ -229,26 +231,25 @@ expand_arguments-loop-parameter-preserved m c =
     let keeps = c.in_ok-expansion.ensures.keeps in
     let argument : hidings u c.argument_of-tokens.result.now ≡ hidings s (argument_at (lists_of vs) i) =
     ap (hidings u) tokens_are ∙ hidings-keeps (argument_at (lists_of vs) i) c.loop-parameter.invariant.keeps (argument-known s vs i c.requires.known.arguments) in
-    let made_is = rw c.in-Some.is at c.in_ok-expansion.ensures.is in
-    let e = c.in-Some.expansion in
-    let tokens = made_is.1.0 in
+    let made_is = c.in_ok-expansion.ensures.is in
+    let e = c.in_ok-expansion.expansion in
+    let tokens = made_is.0 in
     let one : ExpandsArgument c.args.context.now.table.now.macros c.args.context.now.env.now c.args.context.now.level c.args.call.now.head.token c.loop-parameter.self.left (hidings s (argument_at (lists_of vs) i)) c.expand_argument.new.self.left (Ok tokens) =
-    subst (λ l. ExpandsArgument c.args.context.now.table.now.macros c.args.context.now.env.now c.args.context.now.level c.args.call.now.head.token c.loop-parameter.self.left l c.expand_argument.new.self.left (Ok tokens)) argument made_is.1.2 in
+    subst (λ l. ExpandsArgument c.args.context.now.table.now.macros c.args.context.now.env.now c.args.context.now.level c.args.call.now.head.token c.loop-parameter.self.left l c.expand_argument.new.self.left (Ok tokens)) argument made_is.2 in
     let here_is : option_map (hidings w) (option_of (argument_at (lists_of vs) i) e) ≡ Some tokens =
-    subst (λ g. option_map (hidings w) (option_of g e) ≡ Some tokens) tokens_are made_is.1.1 in
-    let tokens_known : AllKnown w (owned_tokens e) = rw c.in-Some.is at c.in_ok-expansion.ensures.known in
-    let argument_expansion = c.in_ok-put-in-Some.ensures in
+    subst (λ g. option_map (hidings w) (option_of g e) ≡ Some tokens) tokens_are made_is.1 in
+    let tokens_known : AllKnown w (owned_tokens e) = c.in_ok-expansion.ensures.known in
+    let appended = c.in_ok-put-2.ensures in
     let given_known = given_known-keeps vs c.loop-parameter.invariant.keeps c.requires.known.arguments in
     record {
       low = c.loop-parameter.invariant.low;
-      no_fault = made_is.0;
-      known = subst (ExpansionsKnown w) (sym argument_expansion) (expanded_known-push done e (expanded_known-keeps done keeps c.loop-parameter.invariant.known) tokens_known);
-      count = ap length argument_expansion ∙ length-append done (e ∷ []) ∙ ap (λ n. n + 1) c.loop-parameter.invariant.count;
+      known = subst (ExpansionsKnown w) (sym appended) (expanded_known-push done e (expanded_known-keeps done keeps c.loop-parameter.invariant.known) tokens_known);
+      count = ap length appended ∙ length-append done (e ∷ []) ∙ ap (λ n. n + 1) c.loop-parameter.invariant.count;
       keeps = keeps-after c.loop-parameter.invariant.keeps keeps;
       follows = λ following.
           (let call = call_of s c.args.call.now following in
-          follows_used c.args.context.now.table.now.macros c.args.context.now.env.now c.args.context.now.level c.args.self.now.left c.loop-parameter.self.left c.expand_argument.new.self.left s u w vs cs names i done c.put-in-Some.new.items.items call (wanted call)
-          e tokens less c.loop-parameter.invariant.count is_used argument_expansion keeps given_known c.loop-parameter.invariant.known here_is one (c.loop-parameter.invariant.follows following));
+          follows_used c.args.context.now.table.now.macros c.args.context.now.env.now c.args.context.now.level c.args.self.now.left c.loop-parameter.self.left c.expand_argument.new.self.left s u w vs cs names i done c.put-in-loop-parameter.new.items.items call (wanted call)
+          e tokens less c.loop-parameter.invariant.count is_used appended keeps given_known c.loop-parameter.invariant.known here_is one (c.loop-parameter.invariant.follows following));
     }
 
 pub expand_arguments-returns-clause-is : goal.expand_arguments-returns-clause-is
@@ -261,13 +262,10 @@ expand_arguments-returns-clause-is m c =
     let done = c.loop-parameter.expanded.items in
     let end : length names ≤ i =
     subst (λ n. n ≤ i) (ap length c.deref-alone-items.ensures.value ∙ c.in_ok-used.ensures.len) (omega (arith, c.loop-parameter-test.false)) in
-    rw c.loop-parameter.invariant.no_fault (λ following.
+    (λ following.
     let call = call_of s c.args.call.now following in
     follows_all c.args.context.now.table.now.macros c.args.context.now.env.now c.args.context.now.level c.args.self.now.left c.loop-parameter.self.left s u vs (chains_of c.args.call.now.replaced.now) names
     i done call (wanted call) end (c.loop-parameter.invariant.follows following))
-
-pub expand_arguments-returns-clause-known : goal.expand_arguments-returns-clause-known
-expand_arguments-returns-clause-known m c = λ none. c.loop-parameter.invariant.known
 
 -- ---- a list
 
@@ -276,7 +274,6 @@ expand_list-loop-named-init m c = record {
   low = c.requires.level;
   list_known = c.requires.known;
   passed_known = rw c.requires.none (record { each = tt });
-  no_fault = c.requires.no_fault;
   keeps = keeps-all c.args.self.now.replacer.sets;
   follows = λ n out d. rw c.requires.none (n, d);
 }
@@ -288,7 +285,7 @@ expand_list-advance-goes-requires m c =
     let list_known = next-known sets _ _ _ _ skipped c.loop-named.invariant.list_known in
     let passed_known = more-known sets _ _ _ _ skipped c.loop-named.invariant.list_known c.loop-named.invariant.passed_known in (
       omega arith,
-      (c.loop-named.invariant.low, (c.in_ok-named.ensures.named, (list_known, (passed_known, (c.loop-named.invariant.no_fault, refl))))),
+      (c.loop-named.invariant.low, (c.in_ok-named.ensures.named, (list_known, passed_known))),
     )
 
 pub expand_list-returns-then-not-branch-clause-outcome : goal.expand_list-returns-then-not-branch-clause-outcome
@@ -298,8 +295,19 @@ expand_list-returns-then-not-branch-clause-outcome m c =
     let list = c.skip.new.list in
     let emitted = c.skip.new.emitted in
     let here = follows_skip c.args.context.now.table.now.macros c.args.context.now.env.now c.args.context.now.level c.loop-named.self.left sets c.args.self.now.left start c.loop-named.list c.loop-named.emitted list emitted c.in_ok-named.ensures.skipped c.loop-named.invariant.follows in
-    end_follows c.args.context.now.table.now.macros c.args.context.now.env.now c.args.context.now.level c.args.self.now.left start (hidings sets emitted) c.loop-named.self.left (hidings sets list) c.advance-goes.new.self.fault c.advance-goes.new.self.left
+    end_follows c.args.context.now.table.now.macros c.args.context.now.env.now c.args.context.now.level c.args.self.now.left start (hidings sets emitted) c.loop-named.self.left (hidings sets list) None c.advance-goes.new.self.left
     (hidings c.advance-goes.new.self.replacer.sets c.advance-goes.new.emitted) here (rw c.if-not-branch.true at c.in_ok-goes.ensures.on)
+
+pub expand_list-returns-in_err-goes-clause-outcome : goal.expand_list-returns-in_err-goes-clause-outcome
+expand_list-returns-in_err-goes-clause-outcome m c =
+    let sets = c.loop-named.self.replacer.sets in
+    let start = hidings c.args.self.now.replacer.sets c.args.list.now in
+    let list = c.skip.new.list in
+    let emitted = c.skip.new.emitted in
+    let here = follows_skip c.args.context.now.table.now.macros c.args.context.now.env.now c.args.context.now.level c.loop-named.self.left sets c.args.self.now.left start c.loop-named.list c.loop-named.emitted list emitted c.in_ok-named.ensures.skipped c.loop-named.invariant.follows in
+    stopped _ _ _ _ c.from_residual-in_err-goes.ensures.1 c.in_err-goes.ensures.on (λ f ended.
+    end_follows c.args.context.now.table.now.macros c.args.context.now.env.now c.args.context.now.level c.args.self.now.left start (hidings sets emitted) c.loop-named.self.left (hidings sets list) (Some f) c.advance-goes.new.self.left
+    (hidings c.advance-goes.new.self.replacer.sets c.advance-goes.new.emitted) here ended)
 
 pub expand_list-loop-named-preserved : goal.expand_list-loop-named-preserved
 expand_list-loop-named-preserved m c =
@@ -307,16 +315,14 @@ expand_list-loop-named-preserved m c =
     let start = hidings c.args.self.now.replacer.sets c.args.list.now in
     let list = c.skip.new.list in
     let emitted = c.skip.new.emitted in
-    let taken = rw c.if-not-branch.false at c.in_ok-goes.ensures.on in
     let here = follows_skip c.args.context.now.table.now.macros c.args.context.now.env.now c.args.context.now.level c.loop-named.self.left sets c.args.self.now.left start c.loop-named.list c.loop-named.emitted list emitted c.in_ok-named.ensures.skipped c.loop-named.invariant.follows in
     record {
       low = c.loop-named.invariant.low;
       list_known = c.in_ok-goes.ensures.list_known c.if-not-branch.false;
       passed_known = c.in_ok-goes.ensures.passed_known;
-      no_fault = taken.0;
       keeps = keeps-after c.loop-named.invariant.keeps c.in_ok-goes.ensures.keeps;
       follows = more_follows c.args.context.now.table.now.macros c.args.context.now.env.now c.args.context.now.level c.args.self.now.left start (hidings sets emitted) c.loop-named.self.left (hidings sets list) c.advance-goes.new.self.left
-          (hidings c.advance-goes.new.self.replacer.sets c.advance-goes.new.list) (hidings c.advance-goes.new.self.replacer.sets c.advance-goes.new.emitted) here taken.1;
+          (hidings c.advance-goes.new.self.replacer.sets c.advance-goes.new.list) (hidings c.advance-goes.new.self.replacer.sets c.advance-goes.new.emitted) here (rw c.if-not-branch.false at c.in_ok-goes.ensures.on);
     }
 
 pub expand_list-loop-named-smaller : goal.expand_list-loop-named-smaller
@@ -325,6 +331,6 @@ expand_list-loop-named-smaller m c =
     let list = c.skip.new.list in
     let emitted = c.skip.new.emitted in
     let after = more_falls c.args.context.now.table.now.macros c.args.context.now.env.now c.args.context.now.level c.loop-named.self.left (hidings sets list) (hidings sets emitted) c.advance-goes.new.self.left
-    (hidings c.advance-goes.new.self.replacer.sets c.advance-goes.new.list) (hidings c.advance-goes.new.self.replacer.sets c.advance-goes.new.emitted) (rw c.if-not-branch.false at c.in_ok-goes.ensures.on).1 in
+    (hidings c.advance-goes.new.self.replacer.sets c.advance-goes.new.list) (hidings c.advance-goes.new.self.replacer.sets c.advance-goes.new.emitted) (rw c.if-not-branch.false at c.in_ok-goes.ensures.on) in
     let skipped = skip_falls c.args.context.now.table.now.macros c.args.context.now.env.now c.args.context.now.level c.loop-named.self.left sets c.loop-named.list c.loop-named.emitted list emitted c.in_ok-named.ensures.skipped in
     omega (arith, after, skipped)

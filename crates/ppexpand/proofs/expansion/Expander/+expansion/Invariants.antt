@@ -1,4 +1,4 @@
-use Rattle.std.proofs.Common.{◌≡◌, None, ◌≤◌, ◌-◌, ◌+◌, ◌*◌, List, drop, length}
+use Rattle.std.proofs.Common.{◌≡◌, ◌≤◌, ◌-◌, ◌+◌, ◌*◌, List, drop, length}
 use Rattle.ppmacro.specs.HideSets.{hidings, AllKnown, KeepsSets}
 use Rattle.ppmacro.specs.Chains.{parameter_names, chains_of}
 use Rattle.ppmacro.specs.declared.hidden_token.Hidden.{Hidden}
@@ -29,7 +29,6 @@ invariant-expand_list-loop-named l = record {
   low : l.context.level ≤ 256;
   list_known : AllKnown l.self.replacer.sets l.list;
   passed_known : AllKnown l.self.replacer.sets l.emitted;
-  no_fault : l.self.fault ≡ None;
   keeps : KeepsSets l.fn.self.replacer.sets l.self.replacer.sets;
   follows : Follows l.context.table.now.macros l.context.env.now l.context.level l.fn.self.left (hidings l.fn.self.replacer.sets l.fn.list) (hidings l.self.replacer.sets l.emitted) l.self.left (hidings l.self.replacer.sets l.list);
 }
@@ -42,7 +41,6 @@ invariant-expand_arguments-loop-parameter l = record {
   low : l.context.level ≤ 256;
   known : ExpansionsKnown l.self.replacer.sets l.expanded.items;
   count : length l.expanded.items ≡ l.parameter;
-  no_fault : l.self.fault ≡ None;
   keeps : KeepsSets l.fn.self.replacer.sets l.self.replacer.sets;
   follows : (following : List Hidden)
       → ArgumentsFollow l.context.table.now.macros l.context.env.now l.context.level (call_of l.fn.self.replacer.sets l.call following) l.fn.self.left (wanted (call_of l.fn.self.replacer.sets l.call following))

@@ -1,4 +1,4 @@
-use Rattle.std.proofs.Common.{◌≡◌, ◌∙◌, ◌∷◌, ◌++◌, [], sym, ap, subst, append-nil}
+use Rattle.std.proofs.Common.{◌≡◌, ◌∙◌, ◌∷◌, ◌++◌, [], refl, sym, ap, subst, append-nil}
 use Rattle.std.proofs.lemmas.List.{map-append}
 use Rattle.ppmacro.specs.HideSets.{hiding, hidings, AllKnown}
 use Rattle.ppmacro.proofs.KeepLemmas.{hidings-keeps, known-keeps, known-append}
@@ -14,32 +14,26 @@ pub returns-in-Done-clause-on : goal.returns-in-Done-clause-on
 returns-in-Done-clause-on c =
     let t : step_in_budget c.args.context.now.table.now.macros c.args.context.now.env.now c.args.self.now.left (hidings c.args.self.now.replacer.sets c.args.list.now) ≡ Done =
     sym (ap (step_in c.next_step.new.self.sets c.next_step.new.list) (sym (stepped c.next.inside c.next.view_is c.in-Done.is)) ∙ c.in_ok-next.ensures.is) in
-    rw (c.requires.no_call, c.requires.no_fault) (λ level. (done t, hidings-keeps _ c.in_ok-next.ensures.keeps c.requires.passed_known))
+    λ level. (done t, hidings-keeps _ c.in_ok-next.ensures.keeps c.requires.passed_known)
 
 pub returns-in-Done-clause-passed_known : goal.returns-in-Done-clause-passed_known
 returns-in-Done-clause-passed_known c = known-keeps _ c.in_ok-next.ensures.keeps c.requires.passed_known
 
 pub returns-in-Refused-clause-on : goal.returns-in-Refused-clause-on
 returns-in-Refused-clause-on c =
-    let t : step_in_budget c.args.context.now.table.now.macros c.args.context.now.env.now c.args.self.now.left (hidings c.args.self.now.replacer.sets c.args.list.now) ≡ Refused c.in-Refused.found =
+    let t : step_in_budget c.args.context.now.table.now.macros c.args.context.now.env.now c.args.self.now.left (hidings c.args.self.now.replacer.sets c.args.list.now) ≡ Refused c.in-Refused.fault =
     sym (ap (step_in c.next_step.new.self.sets c.next_step.new.list) (sym (stepped c.next.inside c.next.view_is c.in-Refused.is)) ∙ c.in_ok-next.ensures.is) in
-    rw c.requires.no_call (λ level. (refused t, hidings-keeps _ c.in_ok-next.ensures.keeps c.requires.passed_known))
-
-pub returns-in-Refused-clause-passed_known : goal.returns-in-Refused-clause-passed_known
-returns-in-Refused-clause-passed_known c = known-keeps _ c.in_ok-next.ensures.keeps c.requires.passed_known
+    λ level. (refused t, hidings-keeps _ c.in_ok-next.ensures.keeps c.requires.passed_known)
 
 pub returns-in-Failed-clause-on : goal.returns-in-Failed-clause-on
 returns-in-Failed-clause-on c =
     let s = c.args.self.now.replacer.sets in
-    let t : step_in_budget c.args.context.now.table.now.macros c.args.context.now.env.now c.args.self.now.left (hidings s c.args.list.now) ≡ Failed c.in-Failed.found =
+    let t : step_in_budget c.args.context.now.table.now.macros c.args.context.now.env.now c.args.self.now.left (hidings s c.args.list.now) ≡ Failed c.in-Failed.fault =
     sym (ap (step_in c.next_step.new.self.sets c.next_step.new.list) (sym (stepped c.next.inside c.next.view_is c.in-Failed.is)) ∙ c.in_ok-next.ensures.is) in
-    rw c.requires.no_call (λ level. (
-      subst (EndsWith c.args.context.now.table.now.macros c.args.context.now.env.now level c.args.self.now.left (hidings s c.args.list.now) (Some c.in-Failed.found)) (sym c.spend_one-self.ensures) (failed t),
+    λ level. (
+      subst (EndsWith c.args.context.now.table.now.macros c.args.context.now.env.now level c.args.self.now.left (hidings s c.args.list.now) (Some c.in-Failed.fault)) (sym c.spend_one-self.ensures) (failed t),
       hidings-keeps _ c.in_ok-next.ensures.keeps c.requires.passed_known,
-    ))
-
-pub returns-in-Failed-clause-passed_known : goal.returns-in-Failed-clause-passed_known
-returns-in-Failed-clause-passed_known c = known-keeps _ c.in_ok-next.ensures.keeps c.requires.passed_known
+    )
 
 pub returns-in_ok-push_single-in-Emits-clause-on : goal.returns-in_ok-push_single-in-Emits-clause-on
 returns-in_ok-push_single-in-Emits-clause-on c =
@@ -50,7 +44,7 @@ returns-in_ok-push_single-in-Emits-clause-on c =
     sym (ap (step_in s c.next_step.new.list) (sym (stepped c.next.inside c.next.view_is c.in-Emits.is)) ∙ c.in_ok-next.ensures.is) in
     let shown : hidings s c.push_single.new.self ≡ hidings c.args.self.now.replacer.sets emitted ++ hiding s head ∷ [] =
     ap (hidings s) c.in_ok-push_single-in-Emits.ensures ∙ map-append (hiding s) emitted (head ∷ []) ∙ ap (λ hs. hs ++ hiding s head ∷ []) (hidings-keeps emitted c.in_ok-next.ensures.keeps c.requires.passed_known) in
-    rw c.requires.no_call (λ level. (c.requires.no_fault, (hiding s head ∷ [], shown, record { expansion_step = λ n out d. emits t d })))
+    λ level. (hiding s head ∷ [], shown, record { expansion_step = λ n out d. emits t d })
 
 pub returns-in_ok-push_single-in-Emits-clause-passed_known : goal.returns-in_ok-push_single-in-Emits-clause-passed_known
 returns-in_ok-push_single-in-Emits-clause-passed_known c =
@@ -64,17 +58,14 @@ returns-in-Replaced-clause-on c =
     let t : step_in_budget c.args.context.now.table.now.macros c.args.context.now.env.now c.args.self.now.left (hidings c.args.self.now.replacer.sets c.args.list.now) ≡ Replaced (hidings s c.next_step.new.list) =
     sym (ap (step_in s c.next_step.new.list) (sym (stepped c.next.inside c.next.view_is c.in-Replaced.is)) ∙ c.in_ok-next.ensures.is) in
     let same = hidings-keeps _ c.in_ok-next.ensures.keeps c.requires.passed_known ∙ sym (append-nil _) in
-    rw c.requires.no_call (λ level. (
-      c.requires.no_fault,
-      (
-        [],
-        same,
-        record {
-          expansion_step = λ n out d.
-              replaced t (subst (λ l. Expands c.args.context.now.table.now.macros c.args.context.now.env.now level l n (hidings s c.next_step.new.list) out) c.spend_one-self-in-Replaced.ensures d);
-        },
-      ),
-    ))
+    λ level. (
+      [],
+      same,
+      record {
+        expansion_step = λ n out d.
+            replaced t (subst (λ l. Expands c.args.context.now.table.now.macros c.args.context.now.env.now level l n (hidings s c.next_step.new.list) out) c.spend_one-self-in-Replaced.ensures d);
+      },
+    )
 
 pub returns-in-Replaced-clause-passed_known : goal.returns-in-Replaced-clause-passed_known
 returns-in-Replaced-clause-passed_known c = known-keeps _ c.in_ok-next.ensures.keeps c.requires.passed_known
@@ -85,7 +76,7 @@ returns-in-Called-clause-on c =
     let list = c.next_step.new.list in
     let t : step_in_budget c.args.context.now.table.now.macros c.args.context.now.env.now c.args.self.now.left (hidings c.args.self.now.replacer.sets c.args.list.now) ≡ Called (call_of s c.in-Called.found list) =
     sym (ap (step_in s list) (sym (stepped c.next.inside c.next.view_is c.in-Called.is)) ∙ c.in_ok-next.ensures.is) in
-    (t, c.requires.no_fault, c.spend_one-self-in-Called.ensures, hidings-keeps _ c.in_ok-next.ensures.keeps c.requires.passed_known)
+    (t, refl, c.spend_one-self-in-Called.ensures, hidings-keeps _ c.in_ok-next.ensures.keeps c.requires.passed_known)
 
 pub returns-in-Called-clause-passed_known : goal.returns-in-Called-clause-passed_known
 returns-in-Called-clause-passed_known c = known-keeps _ c.in_ok-next.ensures.keeps c.requires.passed_known
