@@ -1,9 +1,6 @@
 -- What the units of a list give, over files that are known.
-use Rattle.std.proofs.Common.{Bool, Vec, ◌≡◌, ℕ, ◌<◌, ◌≤◌, List, [], ◌∷◌, map, length, get_or, take, Option, Some}
-use Rattle.std.proofs.Common.{None, IsSome, String, All, sym, ap, ◌∙◌, subst, arith, refl, replicate, inl, inr}
-use Rattle.std.specs.List.{AllZip}
-use Rattle.std.specs.String.{string_bytes}
-use Rattle.std.specs.declared.alloc.Global.{Global}
+use Rattle.std.proofs.Common.{Bool, ◌≡◌, ℕ, ◌<◌, ◌≤◌, List, [], map, length, get_or, take, Option, Some}
+use Rattle.std.proofs.Common.{None, IsSome, All, sym, ap, ◌∙◌, subst, arith, refl, replicate, inl, inr}
 use Rattle.std.proofs.lemmas.Bool.{cases_lt, false≢true}
 use Rattle.std.proofs.lemmas.List.Elements.{All-weaker}
 use Rattle.std.proofs.lemmas.List.{ext_get_or, get_or_past, get_or-map, get_or-replicate, length-map}
@@ -57,31 +54,22 @@ pub one_each : (retain : Retain) (names : List (List ℕ)) (files : Files) (sett
 one_each retain names files setting units outs gives =
     ap length gives.same ∙ (length-map gives.wholes (retained retain) ∙ AllZip-long (λ unit out. IsUnit names files setting unit out) units gives.wholes gives.values)
 
--- copies of texts are the same texts
-pub same_texts : (xs ys : List (String Global)) → AllZip (λ s t. string_bytes t ≡ string_bytes s) xs ys → map string_bytes ys ≡ map string_bytes xs
-same_texts [] [] z = refl
-same_texts [] (y ∷ ys) z = absurd z
-same_texts (x ∷ xs) [] z = absurd z
-same_texts (x ∷ xs) (y ∷ ys) z = ap (λ b. b ∷ map string_bytes ys) z.0 ∙ ap (λ bs. string_bytes x ∷ bs) (same_texts xs ys z.1)
-
 -- a shelf that was empty holds the contents that were moved to it
-pub filled_files : {A : Type 0} (contents : List (Vec ℕ A)) (old new : TableView) → old.base ≡ replicate (length old.names) None → length contents ≡ length old.names → new.names ≡ old.names → length new.base ≡ length old.names
-    → ((row : ℕ) → row < length old.names → Filled (λ c. c ≡ readable (bytes_at contents row)) (file_at old.base row) (file_at new.base row)) → IsFull new → new.base ≡ files_of (map (λ bytes. bytes.items) contents)
+pub filled_files : (contents : List (List ℕ)) (old new : TableView) → old.base ≡ replicate (length old.names) None → length contents ≡ length old.names → new.names ≡ old.names → length new.base ≡ length old.names
+    → ((row : ℕ) → row < length old.names → Filled (λ c. c ≡ readable (bytes_at contents row)) (file_at old.base row) (file_at new.base row)) → IsFull new → new.base ≡ files_of contents
 filled_files contents old new empty len named long rows full =
     let file : List ℕ → Option Content = λ bytes. Some (readable bytes) in
-    let texts : List (List ℕ) = map (λ bytes. bytes.items) contents in
-    let count : length texts ≡ length contents = length-map contents (λ bytes. bytes.items) in
-    let lens : length new.base ≡ length (files_of texts) = long ∙ (sym len ∙ (sym count ∙ sym (length-map texts file))) in
-    ext_get_or None new.base (files_of texts) lens (λ row below.
+    let lens : length new.base ≡ length (files_of contents) = long ∙ (sym len ∙ sym (length-map contents file)) in
+    ext_get_or None new.base (files_of contents) lens (λ row below.
     let in_old : row < length old.names = omega arith in
     let in_new : row < length new.names = let l = ap length named in omega arith in
-    let in_texts : row < length texts = omega arith in
+    let in_contents : row < length contents = omega arith in
     let was : file_at old.base row ≡ None = ap (λ (f : Files). get_or f row None) empty ∙ get_or-replicate (length old.names) row None None in_old in
     let now = content_now (file_at new.base row) (full row in_new) in
     let P : Option Content → Type 0 = λ o. Filled (λ c. c ≡ readable (bytes_at contents row)) o (file_at new.base row) in
     let Q : Option Content → Type 0 = λ o. Filled (λ c. c ≡ readable (bytes_at contents row)) None o in
     let content : now.0 ≡ readable (bytes_at contents row) = subst Q now.1 (subst P was (rows row in_old)) in
-    now.1 ∙ (ap Some content ∙ sym (get_or-map file texts row [] None in_texts)))
+    now.1 ∙ (ap Some content ∙ sym (get_or-map file contents row [] None in_contents)))
 
 -- what units give over some files of a shelf, they give for the list whose names the shelf has
 pub gives_from : (may : List ℕ → Content → Type 0) (retain : Retain) (list : CompilationList) (shelf : TableView) (units : List UnitOfList) (outs : List UnitOut) → shelf.names ≡ list.names → units ≡ list.units

@@ -14,8 +14,9 @@ mod streams;
 
 pub use exit_status::{status, words};
 pub use laws::{known_bytes_decide, one_output, refuses_by_the_least, shape_decides};
-pub use list::{Contents, List, ListFault, Units, read_list};
+pub use list::{List, ListFault, Units, read_list};
 pub use output::{Mode, deps, dump};
+pub use ppshelf::Contents;
 pub use run_list::{AtEnd, RunOptions};
 pub use serving::{RunFault, serve, serve_from};
 pub use streams::{Failed, Feed, ReaderFeed, Sink, SliceFeed, VecSink, WriterSink};

@@ -9,54 +9,15 @@ mod validation;
 
 use crate::list::drafts::{Draft, draft_of};
 use crate::list::validation::validate;
+use ppshelf::Contents;
 use pptext::{Hashing, Memory, Sequence};
 use ppunit::{OwnedTexts, Setting, Unit};
 use serde_json::{Category, Value};
 use std::alloc::{AllocError, AllocFailed, Global};
-use std::marker::Model;
 use thiserror::Error;
 
 /// The units of a list. Its model is their list.
 pub type Units = Sequence<Unit>;
-
-/// The contents of files. Its model is the list of their bytes.
-#[derive(Drop, Debug)]
-pub struct Contents {
-    contents: Vec<Vec<u8>>,
-}
-
-impl Model for Contents {
-    ghost use Rattle.std.specs.Prelude.{ℕ, List, map};
-
-    ghost Value = { List (List ℕ) };
-
-    ghost view = { λ c. map (λ bytes. bytes.items) c.contents.items };
-}
-
-impl Contents {
-    ghost use Rattle.std.specs.Prelude.{map};
-
-    /// Wraps contents.
-    pub fn new(contents: Vec<Vec<u8>>) -> Contents
-        ensures { result ≡ map (λ bytes. bytes.items) contents.items }
-    {
-        Contents { contents }
-    }
-
-    /// Borrows the contents.
-    pub fn as_slice(&self) -> &[Vec<u8>]
-        ensures { map (λ bytes. bytes.items) result.now ≡ self.now }
-    {
-        self.contents.as_slice()
-    }
-
-    /// Returns the contents.
-    pub fn into_vec(self) -> Vec<Vec<u8>>
-        ensures { map (λ bytes. bytes.items) result.items ≡ self }
-    {
-        self.contents
-    }
-}
 
 /// A list of translation units with its files. The index of a file is that of its name, and of its content.
 #[derive(Drop, Debug)]

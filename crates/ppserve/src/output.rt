@@ -318,7 +318,7 @@ fn put_name<W: Sink>(buf: &mut OutBuffer, writer: &mut W, names: &OwnedTexts, ro
     let Some(name) = names.as_slice().get(row) else {
         return;
     };
-    put_escaped(buf, writer, name.as_bytes());
+    put_escaped(buf, writer, name.as_str().as_bytes());
 }
 
 /// Prints the last line of a unit: its fault or `ok`.

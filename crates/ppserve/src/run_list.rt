@@ -1,5 +1,5 @@
 //! Runs the units of a list with workers.
-ghost use Rattle.std.specs.Prelude.{◌≡◌, ◌≤◌, [], length, replicate, All, IfOk, None};
+ghost use Rattle.std.specs.Prelude.{◌≡◌, ◌≤◌, [], length, map, replicate, string_bytes, All, IfOk, None};
 ghost use Rattle.ppshelf.specs.Content.{longest};
 ghost use Rattle.ppshelf.specs.Files.{most_rows, IsFull};
 ghost use Rattle.ppshelf.specs.Names.{AreNames};
@@ -8,13 +8,12 @@ ghost use Rattle.pppool.specs.Retained.{AreRetained};
 ghost use Rattle.ppserve.specs.Contents.{files_of, AreRetainedOverSome};
 ghost use Rattle.ppserve.specs.code.NeededRetention.{needed_retention};
 
-use crate::list::Contents;
 use crate::output::Mode;
 use pppool::{Batch, Gate, Retain, list_growth, run_retaining};
-use ppshelf::{Disk, MemoryDisk, Shelf, ShelfFault};
+use ppshelf::{Contents, Disk, MemoryDisk, Shelf, ShelfFault};
 use pptext::{Hashing, Memory, Profile};
-use ppunit::{OwnedTexts, Setting, Unit, UnitOut};
-use std::alloc::Global;
+use ppunit::{OwnedText, OwnedTexts, Setting, Unit, UnitOut};
+use std::alloc::{AllocError, Global};
 use std::mem;
 use std::thread::Threads;
 
@@ -95,6 +94,17 @@ pub(crate) fn no_disk(alloc: Global) -> MemoryDisk
     }
 }
 
+/// Copies names into strings.
+fn copies_of(alloc: Global, names: &[OwnedText]) -> Result<Vec<String>, AllocError>
+    ensures { IfOk result (λ copies. map string_bytes copies.items ≡ names.now) }
+{
+    let mut copies = Vec::with_capacity(alloc, names.len())?;
+    for name in names {
+        copies.push(String::from_str(alloc, name.as_str())?)?;
+    }
+    Ok(copies)
+}
+
 /// Creates a file table whose contents are unknown. The names must be distinct and in normal form. They are hashed by
 /// `hashing`.
 pub(crate) fn empty_shelf<D: Disk>(
@@ -109,7 +119,7 @@ pub(crate) fn empty_shelf<D: Disk>(
     ensures profile { IfOk result (λ s. s.profile ≡ profile) }
     ensures empty { IfOk result (λ s. s.base ≡ replicate (length names.now) None) }
 {
-    let copies = Vec::from_clones(alloc, names.as_slice())?;
+    let copies = copies_of(alloc, names.as_slice())?;
     match Shelf::with_hasher(alloc, copies, profile, hashing) {
         Ok(shelf) => Ok(shelf),
         Err(ShelfFault::Memory) => Err(Memory),
@@ -138,7 +148,7 @@ pub(crate) fn filled_shelf(
     ensures full { IfOk result (λ s. IsFull s) }
 {
     let mut shelf = empty_shelf(alloc, names, profile, hashing)?;
-    shelf.fill_with(contents.into_vec())?;
+    shelf.fill_with(contents)?;
     Ok(shelf)
 }
 

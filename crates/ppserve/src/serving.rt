@@ -6,13 +6,13 @@ ghost use Rattle.ppserve.specs.declared.serving.RunFault.TheVariants.{List as Li
 ghost use Rattle.ppserve.specs.declared.serving.RunFault.TheVariants.{Read as ReadFailed, Write as WriteFailed};
 ghost use Rattle.ppserve.specs.Serving.{some_fault, Received, ReadsList, WritesAll, WritesPrefix, Serves, ServesPrefix, Refuses};
 
-use crate::list::{Contents, List, ListFault, MOST_INPUT, read_list};
+use crate::list::{List, ListFault, MOST_INPUT, read_list};
 use crate::out_buffer::OutBuffer;
 use crate::output::{Mode, print};
 use crate::run_list::{OpenGate, RunOptions, empty_shelf, filled_shelf, over_contents, over_disk};
 use crate::streams::{Feed, Sink};
 use pppool::Batch;
-use ppshelf::Disk;
+use ppshelf::{Contents, Disk};
 use pptext::{Hashing, Memory};
 use ppunit::{OwnedTexts, Unit, UnitOut};
 use std::alloc::{AllocError, Global};

@@ -1,5 +1,5 @@
 -- What a fill keeps from row to row.
-use Rattle.std.proofs.Common.{Vec, Global, Option, IsSome, ◌+◌, ◌≡◌, ℕ, ◌<◌, ◌≤◌, List, [], length, get_or, set, Some, None, refl, sym, ◌∙◌, ap, arith, ◌⊎◌, inl, inr, subst}
+use Rattle.std.proofs.Common.{Option, IsSome, ◌+◌, ◌≡◌, ℕ, ◌<◌, ◌≤◌, List, [], length, get_or, set, Some, None, refl, sym, ◌∙◌, ap, arith, ◌⊎◌, inl, inr, subst}
 use Rattle.std.proofs.lemmas.List.{ext_get_or, get_or_past, get_or_read, get_or-map, get_or-set_other, get_or-set_same, length-map, length-set}
 use Rattle.std.proofs.lemmas.Bool.{cases_lt, cases_eq}
 use Rattle.std.proofs.lemmas.Option.{none-some}
@@ -195,19 +195,17 @@ pub rows_counted : (profile : Profile) (hashing : Hashing) (rows : List RowState
 rows_counted profile hashing rows view = sym (length-map rows (λ (s : RowState). s.name)) ∙ ap (λ (s : TableView). length s.names) view
 
 -- what a shelf that is filled with contents holds in each row
-abbrev pub given : List (Vec ℕ Global) → ℕ → List ℕ → Content → Type 0
+abbrev pub given : List (List ℕ) → ℕ → List ℕ → Content → Type 0
 given contents row name c = c ≡ readable (bytes_at contents row)
 
 -- the content whose turn it is belongs to this row
-pub bytes_here : (contents : List (Vec ℕ Global)) (row n : ℕ) (bytes : Vec ℕ Global) → row ≡ n → (n < length contents) × (bytes ≡ get_or contents n bytes) → (row < length contents) × (bytes.items ≡ bytes_at contents row)
+pub bytes_here : (contents : List (List ℕ)) (row n : ℕ) (bytes : List ℕ) → row ≡ n → (n < length contents) × (bytes ≡ get_or contents n bytes) → (row < length contents) × (bytes ≡ bytes_at contents row)
 bytes_here contents row n bytes e t =
-    let items : Vec ℕ Global → List ℕ = λ v. v.items in
-    let at : bytes.items ≡ bytes_at contents n = ap items t.1 ∙ sym (get_or-map items contents n bytes [] t.0) in
-    let P : ℕ → Type 0 = λ k. (k < length contents) × (bytes.items ≡ bytes_at contents k) in
-    subst P (sym e) (t.0, at)
+    let P : ℕ → Type 0 = λ k. (k < length contents) × (bytes ≡ bytes_at contents k) in
+    subst P (sym e) (t.0, get_or_read contents n bytes t.0 t.1 [])
 
 -- a row to which these bytes were moved has the content of its place
-pub given_row : (contents : List (Vec ℕ Global)) (profile : Profile) (row : ℕ) (bytes : List ℕ) (old new : RowState)
+pub given_row : (contents : List (List ℕ)) (profile : Profile) (row : ℕ) (bytes : List ℕ) (old new : RowState)
     → bytes ≡ bytes_at contents row
     → FilledRow (λ name c. c ≡ readable bytes) profile row old new
     → FilledRow (given contents row) profile row old new

@@ -1,6 +1,5 @@
 -- Files by row: the contents of a shelf, and what a caller has observed of it.
-use Rattle.std.specs.Prelude.{◌≡◌, ℕ, ◌<◌, List, [], length, map, Option, Some, None, IsSome, slice_index_or}
-use Rattle.std.specs.declared.vec.Vec.{Vec}
+use Rattle.std.specs.Prelude.{◌≡◌, ℕ, ◌<◌, List, [], length, Option, Some, None, IsSome, slice_index_or}
 use Rattle.pptext.specs.declared.hashing.Hashing.{Hashing}
 use Rattle.pptext.specs.declared.sources.Profile.{Profile}
 use Rattle.ppshelf.specs.Content.{Content, IsPermitted}
@@ -62,5 +61,5 @@ Filled P None None = Unit {0}
 Filled P None (Some c) = P c
 
 -- The bytes of a row, in a list of contents
-abbrev pub bytes_at : {A : Type 0} → List (Vec ℕ A) → ℕ → List ℕ
-bytes_at contents row = slice_index_or (map (λ bytes. bytes.items) contents) row []
+abbrev pub bytes_at : List (List ℕ) → ℕ → List ℕ
+bytes_at contents row = slice_index_or contents row []

@@ -1,8 +1,7 @@
 //! The search for included files (6.10.2).
-ghost use Rattle.std.specs.Prelude.{◌≡◌, ◌<◌, ◌+◌, ◌++◌, ◌∷◌, [], length, map, slice_index_or, IfOk, IfSome, OnOk, Some, true};
+ghost use Rattle.std.specs.Prelude.{◌≡◌, ◌<◌, ◌+◌, ◌++◌, ◌∷◌, [], length, slice_index_or, IfOk, IfSome, OnOk, Some, true};
 ghost use Rattle.std.specs.Option.{option_map};
 ghost use Rattle.std.specs.List.{list_all};
-ghost use Rattle.std.specs.String.{string_bytes};
 ghost use Rattle.ppshelf.specs.Names.{is_file_name, starts_without_dot, name_in, segments};
 ghost use Rattle.ppshelf.specs.Search as spec;
 
@@ -11,7 +10,7 @@ use crate::names::has_no_dot_segments;
 use crate::path::{Path, USUAL_NAME_LEN};
 use crate::shelf::Shelf;
 use memchr::memrchr;
-use pptext::Memory;
+use pptext::{Memory, OwnedText};
 use std::alloc::{AllocError, Global};
 
 /// The syntax of an include name (6.10.2).
@@ -28,22 +27,22 @@ pub enum Form {
 #[derive(Clone, Copy)]
 pub struct Directories<'a> {
     /// The directories of the unit.
-    pub unit: &'a [String],
+    pub unit: &'a [OwnedText],
     /// The directories of the setting.
-    pub setting: &'a [String],
+    pub setting: &'a [OwnedText],
 }
 
 impl<'a> Directories<'a> {
     /// Returns the directory with index `passed` among all of them.
     fn at_index(self, passed: usize) -> &'a [u8]
         requires { passed < length self.unit.now + length self.setting.now }
-        ensures { result.now ≡ slice_index_or (map string_bytes self.entry.unit.now ++ map string_bytes self.entry.setting.now) passed [] }
+        ensures { result.now ≡ slice_index_or (self.entry.unit.now ++ self.entry.setting.now) passed [] }
     {
         let own = self.unit.len();
         if passed < own {
-            return self.unit[passed].as_bytes();
+            return self.unit[passed].as_str().as_bytes();
         }
-        self.setting[passed - own].as_bytes()
+        self.setting[passed - own].as_str().as_bytes()
     }
 }
 
@@ -66,8 +65,8 @@ pub fn resolve<D: Disk>(
 ) -> Result<Option<(usize, usize)>, Memory>
     requires { from < length shelf.now.names }
     ensures first { IfOk result (λ found. spec.IsFirstRow shelf.now.names
-        (spec.candidates form (name_in shelf.now.names from) (map string_bytes directories.entry.unit.now)
-        (map string_bytes directories.entry.setting.now) name.now) found) }
+        (spec.candidates form (name_in shelf.now.names from) directories.entry.unit.now
+        directories.entry.setting.now name.now) found) }
     ensures within { IfOk result (λ found. IfSome found (λ f. f.0 < length shelf.now.names)) }
 {
     let mut joined = Vec::with_capacity(alloc, USUAL_NAME_LEN)?;
@@ -92,8 +91,8 @@ pub fn resolve_next<D: Disk>(
     directories: Directories<'_>,
 ) -> Result<Option<(usize, usize)>, Memory>
     ensures first { IfOk result (λ found. spec.IsFirstRow shelf.now.names
-        (spec.candidates_after number (map string_bytes directories.entry.unit.now)
-        (map string_bytes directories.entry.setting.now) name.now) found) }
+        (spec.candidates_after number directories.entry.unit.now
+        directories.entry.setting.now name.now) found) }
     ensures within { IfOk result (λ found. IfSome found (λ f. f.0 < length shelf.now.names)) }
 {
     let mut joined = Vec::with_capacity(alloc, USUAL_NAME_LEN)?;
@@ -152,8 +151,8 @@ fn row_in_directories<D: Disk>(
     joined: &mut Vec<u8>,
 ) -> Result<Option<(usize, usize)>, Memory>
     ensures { IfOk result (λ found. spec.IsFirstRow shelf.now.names
-        (spec.candidates_after number (map string_bytes directories.entry.unit.now)
-        (map string_bytes directories.entry.setting.now) name.now) found) }
+        (spec.candidates_after number directories.entry.unit.now
+        directories.entry.setting.now name.now) found) }
 {
     let plain = has_no_dot_segments(name);
     let count = directories.unit.len() + directories.setting.len();

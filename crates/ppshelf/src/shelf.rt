@@ -13,9 +13,12 @@ use crate::disk::Disk;
 use crate::index::{Index, index_names};
 use crate::loaded::Loaded;
 use crate::row::{Row, RowObservation};
-use pptext::{Hashing, Memory, Profile};
+use pptext::{Hashing, Memory, Profile, Sequence};
 use std::alloc::Global;
 use std::marker::Model;
+
+/// Contents of files. Its model is the list of their bytes.
+pub type Contents = Sequence<Sequence<u8>>;
 
 /// The maximum number of rows of a shelf.
 pub const MOST_ROWS: usize = 65_535;
@@ -217,21 +220,21 @@ impl<D: Disk> Shelf<D> {
     /// # Errors
     ///
     /// An allocation fails. The rows that were read stay filled.
-    pub fn fill_with(&mut self, contents: Vec<Vec<u8>>) -> Result<(), Memory>
-        requires count { length contents.items ≡ length self.old.names }
+    pub fn fill_with(&mut self, contents: Contents) -> Result<(), Memory>
+        requires count { length contents ≡ length self.old.names }
         requires contents_permitted { (row : ℕ) → row < length self.old.names
-            → IsPermitted D.may (name_in self.old.names row) (readable (bytes_at contents.items row)) }
+            → IsPermitted D.may (name_in self.old.names row) (readable (bytes_at contents row)) }
         ensures shelf { (self.new.names ≡ self.old.names) × (self.new.profile ≡ self.old.profile) × (self.new.cells ≡ self.old.cells) }
         ensures hashing { self.new.hashing ≡ self.old.hashing }
         ensures base { (row : ℕ) → row < length self.old.names
-            → Filled (λ c. c ≡ readable (bytes_at contents.items row)) (file_at self.old.base row) (file_at self.new.base row) }
+            → Filled (λ c. c ≡ readable (bytes_at contents row)) (file_at self.old.base row) (file_at self.new.base row) }
         ensures len { length self.new.base ≡ length self.old.names }
         ensures full { OnOk result (IsFull self.new) }
     {
         let (alloc, profile) = (self.alloc, self.profile);
         let mut row = 0;
-        for bytes in contents {
-            self.rows[row].put(alloc, profile, row, bytes)?;
+        for bytes in contents.into_vec() {
+            self.rows[row].put(alloc, profile, row, bytes.into_vec())?;
             row += 1;
         }
         Ok(())

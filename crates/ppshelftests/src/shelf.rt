@@ -11,7 +11,7 @@ mod naming;
 mod reading;
 
 use ppshelf::{Disk, File, Loaded, MemoryDisk, Pass, ReadFault, Shelf};
-use pptext::{Directive, Line, Memory, Profile};
+use pptext::{Directive, Line, Memory, OwnedText, OwnedTexts, Profile};
 use std::alloc::{AllocError, Global};
 use std::process::Abort;
 use std::sync::atomic::AtomicU64;
@@ -66,6 +66,15 @@ fn texts(alloc: Global, names: &[&str]) -> Result<Vec<String>, AllocError>
         texts.push(String::from_str(alloc, name)?)?;
     }
     Ok(texts)
+}
+
+/// Copies texts.
+fn owned(alloc: Global, texts: &[&str]) -> Result<OwnedTexts, AllocError> {
+    let mut owned = Vec::new(alloc);
+    for text in texts {
+        owned.push(OwnedText::new(String::from_str(alloc, text)?))?;
+    }
+    Ok(OwnedTexts::new(owned))
 }
 
 /// Creates a shelf of these names, with no row filled.

@@ -50,7 +50,7 @@ fn disk_of(alloc: Global, files: Files) -> Result<MemoryDisk, AllocError> {
 fn texts_of(alloc: Global, given: &[&str]) -> Result<OwnedTexts, AllocError> {
     let mut texts = Vec::new(alloc);
     for text in given {
-        texts.push(String::from_str(alloc, text)?)?;
+        texts.push(text_of(alloc, text)?)?;
     }
     Ok(OwnedTexts::new(texts))
 }

@@ -16,6 +16,7 @@ mod reading;
 mod scanning;
 mod sequences;
 mod sources;
+mod texts;
 mod tokens;
 
 pub use characters::Char;
@@ -31,4 +32,5 @@ pub use reading::{read_source, relex};
 pub use scanning::continuing::continues;
 pub use sequences::Sequence;
 pub use sources::{Directive, LONGEST, Line, Profile, Source};
+pub use texts::{OwnedText, OwnedTexts};
 pub use tokens::{Fault, Kind, Memory, Place, Spelling, Token, Tokens};

@@ -1,6 +1,6 @@
-//! Texts, file indices and items. Their models are lists.
+//! File indices and items. Their models are lists.
 ghost use Rattle.ppunit.specs.Parts.{part_items};
-ghost use Rattle.std.specs.Prelude.{flat_map, ◌≡◌, map, string_bytes, IfOk, OnOk, ◌++◌, ◌∷◌, []};
+ghost use Rattle.std.specs.Prelude.{flat_map, ◌≡◌, map, IfOk, OnOk, ◌++◌, ◌∷◌, []};
 ghost use Rattle.ppunit.specs.declared.units.Item.TheVariants as item;
 ghost use Rattle.ppunit.specs.Dependencies.{has_row, with_row};
 
@@ -10,73 +10,6 @@ use ppexpand::TokenRope;
 use pptext::{Place, Token, Tokens};
 use std::alloc::{AllocError, Global};
 use std::marker::Model;
-
-/// A text. Its model is the list of its bytes.
-#[derive(Drop, Debug)]
-pub struct OwnedText {
-    text: String,
-}
-
-impl Model for OwnedText {
-    ghost use Rattle.std.specs.Prelude.{ℕ, List, string_bytes};
-
-    ghost Value = { List ℕ };
-
-    ghost view = { λ t. string_bytes t.text };
-}
-
-impl OwnedText {
-    /// Wraps a string.
-    pub fn new(text: String) -> OwnedText
-        ensures { result ≡ string_bytes text }
-    {
-        OwnedText { text }
-    }
-
-    /// Returns the string.
-    pub fn into_string(self) -> String
-        ensures { string_bytes result ≡ self }
-    {
-        self.text
-    }
-
-    /// Borrows the string.
-    pub fn as_str(&self) -> &str
-        ensures { result.now ≡ self.now }
-    {
-        self.text.as_str()
-    }
-}
-
-/// A list of texts. Its model is the list of the texts' bytes.
-#[derive(Drop, Debug)]
-pub struct OwnedTexts {
-    texts: Vec<String>,
-}
-
-impl Model for OwnedTexts {
-    ghost use Rattle.std.specs.Prelude.{ℕ, List, map, string_bytes};
-
-    ghost Value = { List (List ℕ) };
-
-    ghost view = { λ t. map string_bytes t.texts.items };
-}
-
-impl OwnedTexts {
-    /// Wraps a vector of strings.
-    pub fn new(texts: Vec<String>) -> OwnedTexts
-        ensures { result ≡ map string_bytes texts.items }
-    {
-        OwnedTexts { texts }
-    }
-
-    /// Borrows the strings.
-    pub fn as_slice(&self) -> &[String]
-        ensures { map string_bytes result.now ≡ self.now }
-    {
-        self.texts.as_slice()
-    }
-}
 
 /// A set of file indices in insertion order. Its model is their list.
 #[derive(Drop)]

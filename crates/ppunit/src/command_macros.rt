@@ -4,9 +4,8 @@ ghost use Rattle.pptext.specs.Sources.{Reads};
 ghost use Rattle.ppshelf.specs.Content.{longest};
 ghost use Rattle.ppunit.specs.Unit.{command_file, command_text, command_line};
 
-use crate::collections::OwnedTexts;
 use ppshelf::MOST_ROWS;
-use pptext::{Fault, Memory, Profile, Source, read_source, split_memory};
+use pptext::{Fault, Memory, OwnedTexts, Profile, Source, read_source, split_memory};
 use std::alloc::{AllocError, Global};
 use std::fmt;
 use std::marker::Model;

@@ -22,7 +22,7 @@ mod states;
 mod units;
 mod well_formed;
 
-pub use collections::{Items, OwnedText, OwnedTexts, Part, Rows};
+pub use collections::{Items, Part, Rows};
 pub use command_macros::CommandMacros;
 pub use guards::guard_changes_nothing;
 pub use items::{ItemRef, ItemsIter};
@@ -30,6 +30,7 @@ pub use laws::{
     budget_caps_units, growth, larger_budgets_give_no_less, one_value, only_budgets_refuse,
     some_value, stays_in_budget,
 };
+pub use pptext::{OwnedText, OwnedTexts};
 pub use preprocessing::preprocess;
 pub use units::{Item, Setting, Unit, UnitOut};
 pub use well_formed::{fits_command, is_date, is_one_line, is_time, setting_ok, unit_ok};

@@ -1,5 +1,5 @@
 //! Opens files (6.10.2): dependencies, contents, and the predefined names in a file.
-ghost use Rattle.std.specs.Prelude.{◌≡◌, ◌<◌, ◌^◌, pos, map, length, string_bytes, IfOk, OnOk, IfErr, IfSome};
+ghost use Rattle.std.specs.Prelude.{◌≡◌, ◌<◌, ◌^◌, pos, length, IfOk, OnOk, IfErr, IfSome};
 ghost use Rattle.std.specs.Result.{result_err};
 ghost use Rattle.pptext.specs.Errors.{UnlessOutOfMemory};
 ghost use Rattle.ppshelf.specs.Files.{Files, Extends};
@@ -35,16 +35,14 @@ pub(crate) struct UnitContext<'a, 'b, D: Disk> {
 }
 
 impl<'a, 'b, D: Disk> Model for UnitContext<'a, 'b, D> {
-    ghost use Rattle.std.specs.Prelude.{map};
-    ghost use Rattle.std.specs.String.{string_bytes};
     ghost use Rattle.ppunit.specs.States.{UnitContext};
 
     ghost Value = { UnitContext };
 
     ghost view = { λ a. record {
       shelf = a.shelf.now;
-      unit_directories = map string_bytes a.directories.unit.now;
-      setting_directories = map string_bytes a.directories.setting.now;
+      unit_directories = a.directories.unit.now;
+      setting_directories = a.directories.setting.now;
     } };
 }
 
@@ -69,8 +67,8 @@ impl<'a, 'b, D: Disk> UnitContext<'a, 'b, D> {
     ) -> UnitContext<'a, 'b, D>
         ensures { result ≡ record {
           shelf = shelf.now;
-          unit_directories = map string_bytes directories.entry.unit.now;
-          setting_directories = map string_bytes directories.entry.setting.now;
+          unit_directories = directories.entry.unit.now;
+          setting_directories = directories.entry.setting.now;
         } }
     {
         UnitContext {
@@ -97,8 +95,8 @@ impl<'a, 'b, D: Disk> UnitContext<'a, 'b, D> {
 
     /// Returns the directories that are searched.
     fn directories(&self) -> Directories<'b>
-        ensures unit { map string_bytes result.unit.now ≡ self.now.unit_directories }
-        ensures setting { map string_bytes result.setting.now ≡ self.now.setting_directories }
+        ensures unit { result.unit.now ≡ self.now.unit_directories }
+        ensures setting { result.setting.now ≡ self.now.setting_directories }
     {
         self.directories
     }

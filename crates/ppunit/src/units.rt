@@ -1,7 +1,7 @@
 //! The input and the output of preprocessing a unit.
-use crate::collections::{Items, OwnedText, OwnedTexts, Rows};
+use crate::collections::{Items, Rows};
 use crate::command_macros::CommandMacros;
-use pptext::{Fault, Place, Profile, Token, Tokens};
+use pptext::{Fault, OwnedText, OwnedTexts, Place, Profile, Token, Tokens};
 
 /// An item of the output, for translation phase 5 (5.1.1.2): a token, or a pragma with the location of its `#` and the
 /// tokens after `pragma` (6.10.6).

@@ -1,14 +1,13 @@
 //! Syntax of the texts of a setting and of a unit.
-ghost use Rattle.std.specs.Prelude.{◌≡◌, length, map, nat_le};
+ghost use Rattle.std.specs.Prelude.{◌≡◌, length, nat_le};
 ghost use Rattle.std.specs.List.{list_all};
-ghost use Rattle.std.specs.String.{string_bytes};
 ghost use Rattle.ppshelf.specs.Content.{longest};
 ghost use Rattle.ppunit.specs.WellFormed as spec;
 ghost use Rattle.ppunit.specs.Unit.{command_text};
 
 use crate::units::{Setting, Unit};
 use ppshelf::{Disk, LONGEST, Shelf};
-use pptext::Profile;
+use pptext::{OwnedText, Profile};
 
 /// Returns whether the text has the format of `__DATE__` (6.10.8.1): `Mmm dd yyyy`, with a space before a day below 10.
 pub fn is_date(text: &[u8]) -> bool
@@ -110,15 +109,16 @@ const AROUND: usize = 9;
 
 /// Returns whether the file that holds the definitions has at most `LONGEST` bytes. It has a line `#define `, text,
 /// new-line for each.
-pub fn fits_command(defines: &[String]) -> bool
-    ensures { result ≡ nat_le (length (command_text (map string_bytes defines.now))) longest }
+pub fn fits_command(defines: &[OwnedText]) -> bool
+    ensures { result ≡ nat_le (length (command_text defines.now)) longest }
 {
     let mut room = LONGEST;
     for text in defines {
-        if room < AROUND || room - AROUND < text.len() {
+        let len = text.as_str().len();
+        if room < AROUND || room - AROUND < len {
             return false;
         }
-        room = room - AROUND - text.len();
+        room = room - AROUND - len;
     }
     true
 }
@@ -138,11 +138,11 @@ fn equal_profiles(one: Profile, other: Profile) -> bool
 }
 
 /// Returns whether each text is one line.
-fn are_lines(texts: &[String]) -> bool
-    ensures { result ≡ list_all spec.is_one_line (map string_bytes texts.now) }
+fn are_lines(texts: &[OwnedText]) -> bool
+    ensures { result ≡ list_all spec.is_one_line texts.now }
 {
     for text in texts {
-        if !is_one_line(text.as_bytes()) {
+        if !is_one_line(text.as_str().as_bytes()) {
             return false;
         }
     }

@@ -19,6 +19,14 @@ fn strings_of(alloc: Global, texts: &[&str]) -> Result<Vec<String>, AllocError> 
     Ok(strings)
 }
 
+fn texts_of(alloc: Global, texts: &[&str]) -> Result<OwnedTexts, AllocError> {
+    let mut owned = Vec::new(alloc);
+    for text in texts {
+        owned.push(OwnedText::new(String::from_str(alloc, text)?))?;
+    }
+    Ok(OwnedTexts::new(owned))
+}
+
 /// Creates a file table with these names.
 pub(crate) fn shelf_of(alloc: Global, names: &[&str]) -> Result<Shelf<Stage>, Fail>
     ensures { IfOk result (λ s. s.profile ≡ C11) }
@@ -34,12 +42,12 @@ pub(crate) fn shelf_of(alloc: Global, names: &[&str]) -> Result<Shelf<Stage>, Fa
 pub(crate) fn setting_of(alloc: Global) -> Result<Setting, AllocError>
     ensures { IfOk result (λ s. s.profile ≡ C11) }
 {
-    let search = strings_of(alloc, &["inc"])?;
+    let search = texts_of(alloc, &["inc"])?;
     Ok(Setting {
         profile: Profile::C11,
         date: OwnedText::new(String::new(alloc)),
         time: OwnedText::new(String::new(alloc)),
-        search: OwnedTexts::new(search),
+        search,
         budget: None,
     })
 }
@@ -48,7 +56,7 @@ pub(crate) fn setting_of(alloc: Global) -> Result<Setting, AllocError>
 pub(crate) fn unit_of(alloc: Global, file: usize, defines: &[&str]) -> Result<Unit, Fail>
     ensures { IfOk result (λ u. (u.file ≡ file) × (u.defines.profile ≡ C11)) }
 {
-    let defines = OwnedTexts::new(strings_of(alloc, defines)?);
+    let defines = texts_of(alloc, defines)?;
     if !fits_command(defines.as_slice()) {
         return Err(Fail::new("too long definitions"));
     }

@@ -1,6 +1,6 @@
 //! Tests of reading a list, and of the output of a unit with a known result.
 use ppserve::{Contents, List, ListFault, deps, dump, read_list};
-use pptext::{Fault, Hashing, Place, Profile, Spelling};
+use pptext::{Fault, Hashing, Place, Profile, Sequence, Spelling};
 use ppunit::{Items, Rows, UnitOut};
 use std::alloc::{AllocError, Global};
 use std::process::Abort;
@@ -88,14 +88,14 @@ fn reads_a_list_and_prints_its_unit(rt: HostRuntime) -> Result<(), Fail> {
 }
 
 /// Returns whether the contents are those of one file, `x`.
-fn are_x(contents: &[Vec<u8>]) -> bool {
+fn are_x(contents: &[Sequence<u8>]) -> bool {
     matches!(contents, [text] if text.as_slice() == b"x".as_slice())
 }
 
 #[test]
 fn contents_are_given_back(rt: HostRuntime) -> Result<(), Fail> {
     let mut texts = Vec::new(rt.alloc());
-    texts.push(Vec::from_slice(rt.alloc(), b"x")?)?;
+    texts.push(Sequence::new(Vec::from_slice(rt.alloc(), b"x")?))?;
     let contents = Contents::new(texts);
     assert!(rt; are_x(contents.as_slice()));
     assert!(rt; are_x(contents.into_vec().as_slice()));

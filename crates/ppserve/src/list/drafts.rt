@@ -371,7 +371,7 @@ fn texts_from(alloc: Global, items: &[Value]) -> Result<OwnedTexts, ListFault>
     let mut texts = Vec::new(alloc);
     for item in items {
         let text = text_of(item)?;
-        texts.push(String::from_str(alloc, text)?)?;
+        texts.push(OwnedText::new(String::from_str(alloc, text)?))?;
     }
     Ok(OwnedTexts::new(texts))
 }

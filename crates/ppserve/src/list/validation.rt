@@ -10,8 +10,8 @@ ghost use Rattle.ppserve.specs.Listing.{RefusedFor, validated, validated_texts, 
 ghost use Rattle.ppserve.specs.declared.list.ListFault.TheVariants.{Bad, Memory as OutOfMemory};
 
 use crate::list::drafts::{Draft, DraftBudget, DraftFile, DraftSetting, DraftUnit, WrittenBudget};
-use crate::list::{Contents, List, ListFault, Units};
-use ppshelf::{Index, LONGEST, MOST_ROWS, is_directory, is_file_name};
+use crate::list::{List, ListFault, Units};
+use ppshelf::{Contents, Index, LONGEST, MOST_ROWS, is_directory, is_file_name};
 use pptext::{Hashing, Memory, Profile, Sequence};
 use ppunit::{
     CommandMacros, OwnedTexts, Setting, Unit, fits_command, is_date, is_one_line, is_time,
@@ -314,9 +314,9 @@ fn split_files(
     let mut contents = Vec::new(alloc);
     for file in files.into_vec() {
         let DraftFile { name, content } = file;
-        names.push(name.into_string())?;
+        names.push(name)?;
         if inline {
-            contents.push(content.into_vec())?;
+            contents.push(content)?;
         }
     }
     Ok((OwnedTexts::new(names), Contents::new(contents)))
@@ -343,7 +343,7 @@ fn are_lines(texts: &OwnedTexts) -> bool
     texts
         .as_slice()
         .iter()
-        .all(|text| is_one_line(text.as_bytes()))
+        .all(|text| is_one_line(text.as_str().as_bytes()))
 }
 
 /// Returns whether all search paths are directory names.
@@ -367,5 +367,5 @@ fn are_directories(texts: &OwnedTexts) -> bool
     texts
         .as_slice()
         .iter()
-        .all(|text| is_directory(text.as_bytes()))
+        .all(|text| is_directory(text.as_str().as_bytes()))
 }

@@ -4,8 +4,8 @@ ghost use Rattle.ppshelf.specs.Content.{longest};
 ghost use Rattle.ppshelf.specs.Files.{bytes_at};
 
 use super::{Counting, assert_lines, assert_new, named, refusing};
-use ppshelf::{LONGEST, Shelf};
-use pptext::Memory;
+use ppshelf::{Contents, LONGEST, Shelf};
+use pptext::{Memory, Sequence};
 use std::alloc::Global;
 use std::process::Abort;
 use std::sync::atomic::Ordering::SeqCst;
@@ -33,11 +33,11 @@ fn a_fill_reads_a_cached_row(rt: HostRuntime) -> Result<(), Fail> {
 }
 
 /// Returns whether each content is short enough for a row.
-fn are_short(contents: &[Vec<u8>]) -> bool
+fn are_short(contents: &[Sequence<u8>]) -> bool
     ensures { result ≡ true → (row : ℕ) → row < length contents.now → length (bytes_at contents.now row) ≤ longest }
 {
     for bytes in contents {
-        if bytes.len() > LONGEST {
+        if bytes.as_slice().len() > LONGEST {
             return false;
         }
     }
@@ -48,12 +48,12 @@ fn are_short(contents: &[Vec<u8>]) -> bool
 fn fill_with_texts(alloc: Global, shelf: &mut Shelf<Counting>, texts: &[&str]) -> Result<(), Fail> {
     let mut contents = Vec::new(alloc);
     for text in texts {
-        contents.push(Vec::from_slice(alloc, text.as_bytes())?)?;
+        contents.push(Sequence::new(Vec::from_slice(alloc, text.as_bytes())?))?;
     }
     if contents.len() != shelf.len() || !are_short(contents.as_slice()) {
         return Err(Fail::new("no such contents"));
     }
-    Ok(shelf.fill_with(contents)?)
+    Ok(shelf.fill_with(Contents::new(contents))?)
 }
 
 /// Asserts that the rows have the texts of the first fill, the second of which has a fault.

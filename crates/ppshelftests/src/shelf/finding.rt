@@ -1,5 +1,5 @@
 //! Searches for included files: the rows that they find, and the numbers of the directories.
-use super::{named, texts};
+use super::{named, owned};
 use ppshelf::{Directories, Form, MemoryDisk, Shelf, resolve, resolve_next};
 use pptext::Memory;
 use std::alloc::Global;
@@ -48,7 +48,7 @@ fn assert_finds(
 fn searches_number_their_directories(rt: HostRuntime) -> Result<(), Fail> {
     let alloc = rt.alloc();
     let shelf = named(alloc, NAMES)?;
-    let (unit, setting) = (texts(alloc, &["one"])?, texts(alloc, &["two", "three"])?);
+    let (unit, setting) = (owned(alloc, &["one"])?, owned(alloc, &["two", "three"])?);
     let directories = Directories {
         unit: unit.as_slice(),
         setting: setting.as_slice(),

@@ -2,11 +2,11 @@
 ghost use Rattle.std.specs.Prelude.{◌≤◌, length};
 ghost use Rattle.ppshelf.specs.Files.{most_rows};
 
-use super::texts;
+use super::{owned, texts};
 use ppshelf::{
     Directories, Form, Index, MemoryDisk, Shelf, ShelfFault, is_directory, is_file_name, resolve,
 };
-use pptext::{Hashing, Memory, Profile};
+use pptext::{Hashing, Memory, OwnedText, Profile};
 use std::alloc::Global;
 use std::hash::RandomState;
 use std::process::Abort;
@@ -82,7 +82,7 @@ fn assert_finds(
     rt: &impl Abort,
     alloc: Global,
     shelf: &Shelf<MemoryDisk>,
-    setting: &[String],
+    setting: &[OwnedText],
 ) -> Result<Hashing, Memory> {
     for &(name, row) in NUMBERED {
         assert!(rt; shelf.row_of(name.as_bytes()) == row, "{name}");
@@ -97,7 +97,7 @@ fn assert_finds(
 
 #[test]
 fn a_shelf_by_a_key_finds_its_rows(rt: HostRuntime) -> Result<(), Fail> {
-    let (alloc, setting) = (rt.alloc(), texts(rt.alloc(), &["inc"])?);
+    let (alloc, setting) = (rt.alloc(), owned(rt.alloc(), &["inc"])?);
     let shelf = keyed(alloc, drawn(&rt)?)?;
     let hashing = assert_finds(&rt, alloc, &shelf, setting.as_slice())?;
     let again = keyed(alloc, hashing)?;

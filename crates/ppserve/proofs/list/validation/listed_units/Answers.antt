@@ -4,8 +4,6 @@ use Rattle.std.specs.Result.{is_ok}
 use Rattle.std.proofs.lemmas.Iterator.Adapters.{YieldsList-from_vec}
 use Rattle.std.proofs.lemmas.Iterator.Consumers.{YieldsList-turn}
 use Rattle.std.proofs.lemmas.List.{length_push, get_or-map, map-append}
-use Rattle.pptext.specs.declared.sources.Profile.{Profile}
-use Rattle.ppunit.specs.declared.units.Unit.{Unit}
 use Rattle.ppserve.specs.declared.list.drafts.DraftUnit.{DraftUnit}
 use Rattle.ppserve.specs.Listing.{file_row, listed_unit, unit_in}
 use Rattle.ppserve.proofs.list.validation.listed_units.Goals as goal

@@ -1,4 +1,4 @@
-use Rattle.std.proofs.Common.{rules, ◌≡◌, ◌∙◌, ◌<◌, ◌≤◌, length, set, sym, subst, arith}
+use Rattle.std.proofs.Common.{rules, ◌≡◌, ◌∙◌, ◌<◌, ◌≤◌, length, set, sym, ap, subst, List, ℕ, arith}
 use Rattle.std.proofs.lemmas.Iterator.Adapters.{YieldsList-from_vec}
 use Rattle.std.proofs.lemmas.Iterator.Consumers.{YieldsList-turn, YieldsList-end}
 use Rattle.std.proofs.lemmas.List.{length_push}
@@ -13,14 +13,17 @@ use Rattle.ppshelf.proofs.shelf.Shelf.fill_with.Goals.{In-Some, After-put}
 
 -- the shelf has the row whose turn it is, and the bytes are those of that row
 here : (g : Over) (c : In-Some g)
-    → (c.loop-bytes.row < length c.args.self.now.names) × (c.loop-bytes.row < length c.self.inside.rows.items) × (c.in-Some.bytes.items ≡ bytes_at c.args.contents.items c.loop-bytes.row)
+    → (c.loop-bytes.row < length c.args.self.now.names) × (c.loop-bytes.row < length c.self.inside.rows.items) × (c.in-Some.bytes ≡ bytes_at c.args.contents c.loop-bytes.row)
 here g c =
-    let contents = c.args.contents.items in
+    let moved = c.into_vec-bytes-items.result in
+    let row = c.loop-bytes.row in
+    let bytes = c.in-Some.bytes in
     let gives = c.into_iter-bytes-iterator.ensures.into_iter_gives in
-    let yields = YieldsList-from_vec {s = c.into_iter-bytes-iterator.result} contents gives.0 (gives.1 ∙ c.args.contents.ok.0) in
-    let turn = bytes_here contents c.loop-bytes.row (length c.loop-bytes.yielded) c.in-Some.bytes c.loop-bytes.invariant.row_is
-    (YieldsList-turn yields c.loop-bytes.yielded c.loop-bytes.bytes-iterator c.loop-bytes.yielded_by c.next.result c.next.new.self c.in-Some.bytes c.in-Some.is
-    c.next.ensures.steps) in
+    let yields = YieldsList-from_vec {s = c.into_iter-bytes-iterator.result} moved.items gives.0 (gives.1 ∙ moved.ok.0) in
+    let P : List (List ℕ) → Type 0 = λ contents. (row < length contents) × (bytes ≡ bytes_at contents row) in
+    let turn = subst P c.into_vec-bytes-items.ensures (bytes_here moved.items row (length c.loop-bytes.yielded) bytes c.loop-bytes.invariant.row_is
+    (YieldsList-turn yields c.loop-bytes.yielded c.loop-bytes.bytes-iterator c.loop-bytes.yielded_by c.next.result c.next.new.self bytes c.in-Some.is
+    c.next.ensures.steps)) in
     let below = turn.0 in
     let count = c.requires.count in
     let rows = rows_counted c.self.inside.profile c.self.inside.index.hashing c.self.inside.rows.items c.self.view_is in
@@ -28,39 +31,39 @@ here g c =
 
 -- what the put makes of that row, and of the rows, whether or not it succeeds
 module _ (g : Over) (c : After-put g) where
-  put : c.in-Some.bytes.items ≡ bytes_at c.args.contents.items c.loop-bytes.row
-      → FilledRow (given c.args.contents.items c.loop-bytes.row) c.self.inside.profile c.loop-bytes.row c.index_mut.result.now c.put.new.self
-  put same = given_row c.args.contents.items c.self.inside.profile c.loop-bytes.row c.in-Some.bytes.items c.index_mut.result.now c.put.new.self same c.put.ensures.turned
+  put : c.into_vec.result.items ≡ bytes_at c.args.contents c.loop-bytes.row
+      → FilledRow (given c.args.contents c.loop-bytes.row) c.self.inside.profile c.loop-bytes.row c.index_mut.result.now c.put.new.self
+  put same = given_row c.args.contents c.self.inside.profile c.loop-bytes.row c.into_vec.result.items c.index_mut.result.now c.put.new.self same c.put.ensures.turned
 
   turned : c.loop-bytes.row < length c.self.inside.rows.items
-      → c.in-Some.bytes.items ≡ bytes_at c.args.contents.items c.loop-bytes.row
-      → Turned c.self.inside.profile (given c.args.contents.items) c.self.inside.rows.items (set c.loop-bytes.self-inside.rows.items c.loop-bytes.row c.put.new.self)
+      → c.into_vec.result.items ≡ bytes_at c.args.contents c.loop-bytes.row
+      → Turned c.self.inside.profile (given c.args.contents) c.self.inside.rows.items (set c.loop-bytes.self-inside.rows.items c.loop-bytes.row c.put.new.self)
   turned within same =
-      turned_set c.self.inside.profile (given c.args.contents.items) _ _ c.loop-bytes.row c.index_mut.result.now c.put.new.self c.loop-bytes.invariant.filling within c.index_mut.ensures.value (put same)
+      turned_set c.self.inside.profile (given c.args.contents) _ _ c.loop-bytes.row c.index_mut.result.now c.put.new.self c.loop-bytes.invariant.filling within c.index_mut.ensures.value (put same)
 
 pub invariant_of-self : goal.invariant_of-self
 invariant_of-self g c = shelf_kept c.loop-bytes.invariant.profile_is c.loop-bytes.invariant.index_is c.self.invariant c.loop-bytes.invariant.filling.turned
 
 pub put-requires-clause-contents_permitted : goal.put-requires-clause-contents_permitted
 put-requires-clause-contents_permitted g c =
-    let contents = c.args.contents.items in
+    let contents = c.args.contents in
     let row = c.loop-bytes.row in
     let turn = here g (goal.at.put-requires-clause-contents_permitted g c).In-Some in
     let P : TableView → Type 0 = λ stock. IsPermitted g.D.Disk.may (name_in stock.names row) (readable (bytes_at contents row)) in
-    lawful_here c.self.inside.profile g.D.Disk.may (given contents) _ _ row c.index_mut.result.now c.in-Some.bytes.items (bytes_at contents row)
-    c.loop-bytes.invariant.filling turn.1 c.index_mut.ensures.value turn.2 (subst P (sym c.self.view_is) (c.requires.contents_permitted row turn.0))
+    lawful_here c.self.inside.profile g.D.Disk.may (given contents) _ _ row c.index_mut.result.now c.into_vec.result.items (bytes_at contents row)
+    c.loop-bytes.invariant.filling turn.1 c.index_mut.ensures.value (c.into_vec.ensures ∙ turn.2) (subst P (sym c.self.view_is) (c.requires.contents_permitted row turn.0))
 
 pub invariant_of-self-in_err-put : goal.invariant_of-self-in_err-put
 invariant_of-self-in_err-put g c =
     let at = goal.at.invariant_of-self-in_err-put g c in
     let turn = here g at.In-Some in
-    shelf_kept c.loop-bytes.invariant.profile_is c.loop-bytes.invariant.index_is c.self.invariant (turned g at.After-put turn.1 turn.2)
+    shelf_kept c.loop-bytes.invariant.profile_is c.loop-bytes.invariant.index_is c.self.invariant (turned g at.After-put turn.1 (c.into_vec.ensures ∙ turn.2))
 
 pub returns-in_err-put : goal.returns-in_err-put
 returns-in_err-put g c =
     let at = goal.at.returns-in_err-put g c in
     let turn = here g at.In-Some in
-    let fills = fills_kept c.loop-bytes.invariant.profile_is c.loop-bytes.invariant.index_is c.self.view_is (turned g at.After-put turn.1 turn.2) in
+    let fills = fills_kept c.loop-bytes.invariant.profile_is c.loop-bytes.invariant.index_is c.self.view_is (turned g at.After-put turn.1 (c.into_vec.ensures ∙ turn.2)) in
     record { shelf = fills.shelf; hashing = fills.hashing; base = fills.base; len = fills.len; full = search rules }
 
 pub loop-bytes-preserved : goal.loop-bytes-preserved
@@ -71,17 +74,18 @@ loop-bytes-preserved g c =
       row_is = let r = c.loop-bytes.invariant.row_is in let l = length_push c.loop-bytes.yielded c.in-Some.bytes in omega arith;
       profile_is = c.loop-bytes.invariant.profile_is;
       index_is = c.loop-bytes.invariant.index_is;
-      filling = filling_more c.self.inside.profile (given c.args.contents.items) _ _ c.loop-bytes.row c.index_mut.result.now c.put.new.self
-          c.loop-bytes.invariant.filling turn.1 c.index_mut.ensures.value (put g at.After-put turn.2) c.in_ok-put.ensures.full;
+      filling = filling_more c.self.inside.profile (given c.args.contents) _ _ c.loop-bytes.row c.index_mut.result.now c.put.new.self
+          c.loop-bytes.invariant.filling turn.1 c.index_mut.ensures.value (put g at.After-put (c.into_vec.ensures ∙ turn.2)) c.in_ok-put.ensures.full;
     }
 
 pub returns : goal.returns
 returns g c =
-    let contents = c.args.contents.items in
+    let moved = c.into_vec-bytes-items.result in
     let gives = c.into_iter-bytes-iterator.ensures.into_iter_gives in
-    let yields = YieldsList-from_vec {s = c.into_iter-bytes-iterator.result} contents gives.0 (gives.1 ∙ c.args.contents.ok.0) in
-    let all : length c.loop-bytes.yielded ≡ length contents = (YieldsList-end yields c.loop-bytes.yielded c.loop-bytes.bytes-iterator c.loop-bytes.yielded_by c.next.result c.next.new.self c.in-None.is c.next.ensures.steps).1 in
+    let yields = YieldsList-from_vec {s = c.into_iter-bytes-iterator.result} moved.items gives.0 (gives.1 ∙ moved.ok.0) in
+    let all : length c.loop-bytes.yielded ≡ length moved.items = (YieldsList-end yields c.loop-bytes.yielded c.loop-bytes.bytes-iterator c.loop-bytes.yielded_by c.next.result c.next.new.self c.in-None.is c.next.ensures.steps).1 in
     let rows = rows_counted c.self.inside.profile c.self.inside.index.hashing c.self.inside.rows.items c.self.view_is in
+    let same = ap length c.into_vec-bytes-items.ensures in
     let done : length c.self.inside.rows.items ≤ c.loop-bytes.row = let m = c.requires.count in let r = c.loop-bytes.invariant.row_is in omega arith in
     let fills = fills_kept c.loop-bytes.invariant.profile_is c.loop-bytes.invariant.index_is c.self.view_is c.loop-bytes.invariant.filling.turned in
-    record { shelf = fills.shelf; hashing = fills.hashing; base = fills.base; len = fills.len; full = full_turned c.self.inside.profile c.self.inside.index.hashing (given contents) _ _ c.loop-bytes.row done c.loop-bytes.invariant.filling }
+    record { shelf = fills.shelf; hashing = fills.hashing; base = fills.base; len = fills.len; full = full_turned c.self.inside.profile c.self.inside.index.hashing (given c.args.contents) _ _ c.loop-bytes.row done c.loop-bytes.invariant.filling }

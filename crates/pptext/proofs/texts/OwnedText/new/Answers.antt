@@ -1,5 +1,5 @@
 use Rattle.std.proofs.Common.{rules}
-use Rattle.ppunit.proofs.collections.OwnedText.as_str.Goals as goal
+use Rattle.pptext.proofs.texts.OwnedText.new.Goals as goal
 
 pub returns : goal.returns
 returns c = search rules

@@ -1,5 +1,5 @@
 use Rattle.std.proofs.Common.{rules}
-use Rattle.ppunit.proofs.collections.OwnedTexts.as_slice.Goals as goal
+use Rattle.pptext.proofs.texts.OwnedText.into_string.Goals as goal
 
 pub returns : goal.returns
 returns c = search rules

@@ -1,5 +1,0 @@
-use Rattle.std.proofs.Common.{rules}
-use Rattle.ppunit.proofs.collections.OwnedText.into_string.Goals as goal
-
-pub returns : goal.returns
-returns c = search rules
