@@ -44,6 +44,8 @@ pub mod ControlLines
 pub mod RunEnd
 -- A file whose lines are walked, from its first line to its end.
 pub mod WholeFile
+-- What the preprocessor of a unit keeps over two calls.
+pub mod Continuing
 -- Options that are none, or are not.
 pub mod Options
 -- What the code decides by tokens and a directive, of a line.

@@ -17,6 +17,7 @@ mod line_walk;
 mod open_file;
 mod operand_expansion;
 mod preprocessing;
+mod preprocessor;
 mod probing;
 mod states;
 mod units;

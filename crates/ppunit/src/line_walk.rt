@@ -9,10 +9,11 @@ ghost use Rattle.pptext.specs.Errors.{UnlessOutOfMemory};
 ghost use Rattle.pptext.specs.Tree.{Parts, Branches, branch_lines, AreBranches};
 ghost use Rattle.pptext.specs.Classes.{opens_section, ends_group};
 ghost use Rattle.pptext.specs.declared.sources.Directive.{Directive};
-ghost use Rattle.ppshelf.specs.Files.{Files, Extends};
+ghost use Rattle.ppshelf.specs.Files.{Files};
 ghost use Rattle.ppunit.specs.Group.{Controls, Includes};
 ghost use Rattle.ppunit.specs.States.{Context, Reached, context_over, search_in_unit, with_left};
 ghost use Rattle.ppunit.specs.DirectiveLines.{directed};
+ghost use Rattle.ppunit.specs.code.Preprocessor.{Continues};
 ghost use Rattle.ppunit.specs.code.Walk.{line_at, IsTextLine, IsRest, Outer, BranchesAt, Enters, FindsBranch, Advances, Leads, Steps, Walks};
 
 use crate::conditions::decide;
@@ -21,9 +22,10 @@ use crate::directives::{control, emit_run, error};
 use crate::include_stack::Stack;
 use crate::including::read_include_name;
 use crate::line_access::{count, line, tokens_at, tokens_between};
-use crate::open_file::{Entered, OpenFile, Opening, UnitContext, open, resolve_in};
+use crate::open_file::{Entered, OpenFile, Opening, UnitContext, resolve_in};
+use crate::preprocessor::Preprocessor;
 use crate::states::State;
-use ppshelf::{Disk, Pass};
+use ppshelf::Disk;
 use pptext::{Class, Directive, Error, Source, Token};
 use std::alloc::Global;
 use std::marker::Model;
@@ -155,89 +157,12 @@ fn execute_run<'x>(
     Ok(end)
 }
 
-/// Executes an include line: opens the file that it names, one level deeper. The search begins after the directory
-/// `from.directory`, or at the first if there is none.
-fn include<'x, 'a: 'x, D: Disk>(
-    context: &UnitContext<'a, '_, D>,
-    pass: &mut Pass<'a, D>,
-    state: &mut State<'x>,
-    depth: u32,
-    from: Opening,
-    line: &DirectiveTokens<'x>,
-) -> Result<Option<Entered<'a>>, Error>
-    requires shelf { pass.old.shelf ≡ context.now.shelf }
-    requires rows { 0 < length context.now.shelf.names }
-    requires depth { depth ≤ 200 }
-    ensures shelf { pass.new.shelf ≡ context.now.shelf }
-    ensures grows { Extends pass.new.files pass.old.files }
-    ensures includes { UnlessOutOfMemory result (λ leads.
-        (directive : Directive) (number : ℕ)
-        → Leads (context_over context.now) pass.new.files (suc depth)
-        (λ (more : Files) (m : Reached). Includes (context_over context.now more) depth from.row from.directory state.old (directed directive line.now number) m)
-        state.new leads) }
-{
-    let include_name = read_include_name(context.alloc, state, line)?;
-    let Some((row, directory)) = resolve_in(context, from, &include_name)? else {
-        let name = include_name.name.as_bytes();
-        return Err(Error::Fault(line_fault(context.alloc, 31, line, name)?));
-    };
-    let opening = Opening {
-        row,
-        directory: Some(directory),
-    };
-    open(context, pass, state, depth + 1, line.hash_place(), opening)
-}
-
 /// For `#include_next`, returns the number of the directory in which the current file was found: the search begins after it.
 /// Otherwise returns `None`: the search begins at the first directory.
 fn directory_before(next: bool, state: &State) -> Option<usize>
     ensures { result ≡ (if next then state.now.directory else None) }
 {
     if next { state.directory } else { None }
-}
-
-/// Executes a control line. Returns the file that it opens, if it opens one.
-fn execute_line<'x, 'a: 'x, D: Disk>(
-    context: &UnitContext<'a, '_, D>,
-    pass: &mut Pass<'a, D>,
-    state: &mut State<'x>,
-    depth: u32,
-    line: DirectiveLine<'x>,
-) -> Result<Option<Entered<'a>>, Error>
-    requires shelf { pass.old.shelf ≡ context.now.shelf }
-    requires rows { 0 < length context.now.shelf.names }
-    requires depth { depth ≤ 200 }
-    requires opens { opens_section line.directive ≡ false }
-    requires ends { ends_group line.directive ≡ false }
-    ensures shelf { pass.new.shelf ≡ context.now.shelf }
-    ensures grows { Extends pass.new.files pass.old.files }
-    ensures control { UnlessOutOfMemory result (λ leads.
-        Leads (context_over context.now) pass.new.files (suc depth)
-        (λ (more : Files) (m : Reached). Controls (context_over context.now more) depth line.entry.row state.old (directed line.entry.directive line.entry.tokens line.entry.number) m)
-        state.new leads) }
-{
-    match line.directive.class() {
-        Class::Error => Err(Error::Fault(error(context.alloc, &line.tokens)?)),
-        Class::Ignored => Ok(None),
-        Class::Includes(next) => {
-            refuse_unmatched_quote(&line.tokens)?;
-            let row = line.row;
-            let directory = directory_before(next, state);
-            include(
-                context,
-                pass,
-                state,
-                depth,
-                Opening { row, directory },
-                &line.tokens,
-            )
-        }
-        _ => {
-            refuse_unmatched_quote(&line.tokens)?;
-            control(context.alloc, state, context.profile(), line)?;
-            Ok(None)
-        }
-    }
 }
 
 /// The next line to process: the first of a file that was just opened, if there is one, and then the line at index
@@ -267,89 +192,139 @@ fn next_line<'a>(line: usize) -> NextLine<'a>
     }
 }
 
-/// Processes one run of text lines or one directive line. Returns what comes next, or the fault.
-fn step<'x, 'a: 'x, D: Disk>(
-    context: &UnitContext<'a, '_, D>,
-    pass: &mut Pass<'a, D>,
-    state: &mut State<'x>,
-    depth: u32,
-    file: &OpenFile<'x>,
-) -> Result<NextLine<'a>, Error>
-    requires shelf { pass.old.shelf ≡ context.now.shelf }
-    requires rows { 0 < length context.now.shelf.names }
-    requires depth { depth ≤ 200 }
-    requires index { file.now.index < length file.now.lines }
-    ensures shelf { pass.new.shelf ≡ context.now.shelf }
-    ensures grows { Extends pass.new.files pass.old.files }
-    ensures further { IfOk result (λ next. file.now.index < next.0) }
-    ensures step { UnlessOutOfMemory result (λ found.
-        Steps (context_over context.now) pass.new.files depth file.now.row file.now.lines file.now.index state.old state.new found) }
-{
-    let OpenFile { row, source, index } = *file;
-    let Some(directive) = line(source, index).directive else {
-        return Ok(next_line(execute_run(context.alloc, state, source, index)?));
-    };
-    if directive.opens_section() {
-        return Ok(next_line(enter_section(context, state, row, source, directive, index)?));
+impl<'x, 'a: 'x, D: Disk> Preprocessor<'_, 'x, 'a, D> {
+    /// Executes an include line: opens the file that it names, one level deeper. The search begins after the directory
+    /// `from.directory`, or at the first if there is none.
+    fn include(
+        &mut self,
+        depth: u32,
+        from: Opening,
+        line: &DirectiveTokens<'x>,
+    ) -> Result<Option<Entered<'a>>, Error>
+        requires depth { depth ≤ 200 }
+        ensures continues { Continues self.old self.new }
+        ensures includes { UnlessOutOfMemory result (λ leads.
+            (directive : Directive) (number : ℕ)
+            → Leads (context_over self.old.context.now) self.new.pass.now.files (suc depth)
+            (λ (more : Files) (m : Reached). Includes (context_over self.old.context.now more) depth from.row from.directory self.old.state (directed directive line.now number) m)
+            self.new.state leads) }
+    {
+        let context = self.context;
+        let include_name = read_include_name(context.alloc, &mut self.state, line)?;
+        let Some((row, directory)) = resolve_in(context, from, &include_name)? else {
+            let name = include_name.name.as_bytes();
+            return Err(Error::Fault(line_fault(context.alloc, 31, line, name)?));
+        };
+        let opening = Opening {
+            row,
+            directory: Some(directory),
+        };
+        self.open(depth + 1, line.hash_place(), opening)
     }
-    if directive.ends_group() {
-        return Ok(next_line(section_end(source, index)));
-    }
-    let tokens = tokens_at(source, index);
-    let number = line(source, index).number;
-    let at = DirectiveLine {
-        row,
-        directive,
-        tokens,
-        number,
-    };
-    let entered = execute_line(context, pass, state, depth, at)?;
-    Ok(NextLine {
-        line: index + 1,
-        entered,
-    })
-}
 
-/// Executes phase 4 on the lines of a file and of all files that they include, up to the first fault.
-pub(crate) fn walk<'s, 'a: 's, D: Disk>(
-    context: &UnitContext<'a, '_, D>,
-    pass: &mut Pass<'a, D>,
-    state: &mut State<'s>,
-    first: OpenFile<'s>,
-) -> Result<(), Error>
-    requires shelf { pass.old.shelf ≡ context.now.shelf }
-    requires rows { 0 < length context.now.shelf.names }
-    requires begins { first.index ≡ 0 }
-    ensures shelf { pass.new.shelf ≡ context.now.shelf }
-    ensures grows { Extends pass.new.files pass.old.files }
-    ensures walk { UnlessOutOfMemory result (λ r.
-        Walks (context_over context.now) pass.new.files 0 first.entry.row first.entry.lines state.old
-        (record { state = state.new; fault = result_err r })) }
-{
-    let mut suspended = Stack::new(context.alloc);
-    let mut file = first;
-    loop {
-        if file.index < count(file.source) {
-            match step(context, pass, state, suspended.depth(), &file) {
-                Ok(next) => {
-                    let NextLine { line, entered } = next;
-                    file.index = line;
-                    // Most lines open no file. Saves 3 % of the instructions of `deps` on Redis.
-                    if let Some(entered) = entered {
-                        file = suspended.enter(file, entered)?;
+    /// Executes a control line. Returns the file that it opens, if it opens one.
+    fn execute_line(
+        &mut self,
+        depth: u32,
+        line: DirectiveLine<'x>,
+    ) -> Result<Option<Entered<'a>>, Error>
+        requires depth { depth ≤ 200 }
+        requires opens { opens_section line.directive ≡ false }
+        requires ends { ends_group line.directive ≡ false }
+        ensures continues { Continues self.old self.new }
+        ensures control { UnlessOutOfMemory result (λ leads.
+            Leads (context_over self.old.context.now) self.new.pass.now.files (suc depth)
+            (λ (more : Files) (m : Reached). Controls (context_over self.old.context.now more) depth line.entry.row self.old.state (directed line.entry.directive line.entry.tokens line.entry.number) m)
+            self.new.state leads) }
+    {
+        let context = self.context;
+        match line.directive.class() {
+            Class::Error => Err(Error::Fault(error(context.alloc, &line.tokens)?)),
+            Class::Ignored => Ok(None),
+            Class::Includes(next) => {
+                refuse_unmatched_quote(&line.tokens)?;
+                let row = line.row;
+                let directory = directory_before(next, &self.state);
+                self.include(depth, Opening { row, directory }, &line.tokens)
+            }
+            _ => {
+                refuse_unmatched_quote(&line.tokens)?;
+                control(context.alloc, &mut self.state, context.profile(), line)?;
+                Ok(None)
+            }
+        }
+    }
+
+    /// Processes one run of text lines or one directive line. Returns what comes next, or the fault.
+    fn step(&mut self, depth: u32, file: &OpenFile<'x>) -> Result<NextLine<'a>, Error>
+        requires depth { depth ≤ 200 }
+        requires index { file.now.index < length file.now.lines }
+        ensures continues { Continues self.old self.new }
+        ensures further { IfOk result (λ next. file.now.index < next.0) }
+        ensures step { UnlessOutOfMemory result (λ found.
+            Steps (context_over self.old.context.now) self.new.pass.now.files depth file.now.row file.now.lines file.now.index self.old.state self.new.state found) }
+    {
+        let OpenFile { row, source, index } = *file;
+        let context = self.context;
+        let Some(directive) = line(source, index).directive else {
+            return Ok(next_line(execute_run(context.alloc, &mut self.state, source, index)?));
+        };
+        if directive.opens_section() {
+            let next = enter_section(context, &mut self.state, row, source, directive, index)?;
+            return Ok(next_line(next));
+        }
+        if directive.ends_group() {
+            return Ok(next_line(section_end(source, index)));
+        }
+        let tokens = tokens_at(source, index);
+        let number = line(source, index).number;
+        let at = DirectiveLine {
+            row,
+            directive,
+            tokens,
+            number,
+        };
+        let entered = self.execute_line(depth, at)?;
+        Ok(NextLine {
+            line: index + 1,
+            entered,
+        })
+    }
+
+    /// Executes phase 4 on the lines of a file and of all files that they include, up to the first fault.
+    pub(crate) fn walk(&mut self, first: OpenFile<'x>) -> Result<(), Error>
+        requires begins { first.index ≡ 0 }
+        ensures continues { Continues self.old self.new }
+        ensures walk { UnlessOutOfMemory result (λ r.
+            Walks (context_over self.old.context.now) self.new.pass.now.files 0 first.entry.row first.entry.lines self.old.state
+            (record { state = self.new.state; fault = result_err r })) }
+    {
+        let context = self.context;
+        let mut suspended = Stack::new(context.alloc);
+        let mut file = first;
+        loop {
+            if file.index < count(file.source) {
+                match self.step(suspended.depth(), &file) {
+                    Ok(next) => {
+                        let NextLine { line, entered } = next;
+                        file.index = line;
+                        // Most lines open no file. Saves 3 % of the instructions of `deps` on Redis.
+                        if let Some(entered) = entered {
+                            file = suspended.enter(file, entered)?;
+                        }
+                    }
+                    Err(stop) => {
+                        suspended.stop(&mut self.state);
+                        return Err(stop);
                     }
                 }
-                Err(stop) => {
-                    suspended.stop(state);
-                    return Err(stop);
-                }
+            } else {
+                let Some(outer) = suspended.pop() else {
+                    return Ok(());
+                };
+                self.state.restore_context(outer.file_context);
+                file = outer.file;
             }
-        } else {
-            let Some(outer) = suspended.pop() else {
-                return Ok(());
-            };
-            state.restore_context(outer.file_context);
-            file = outer.file;
         }
     }
 }

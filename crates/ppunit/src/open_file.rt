@@ -2,11 +2,12 @@
 ghost use Rattle.std.specs.Prelude.{◌≡◌, ◌<◌, ◌^◌, pos, length, IfOk, OnOk, IfErr, IfSome};
 ghost use Rattle.std.specs.Result.{result_err};
 ghost use Rattle.pptext.specs.Errors.{UnlessOutOfMemory};
-ghost use Rattle.ppshelf.specs.Files.{Files, Extends};
+ghost use Rattle.ppshelf.specs.Files.{Files};
 ghost use Rattle.ppshelf.specs.Names.{name_in};
 ghost use Rattle.ppunit.specs.Dependencies.{has_row};
 ghost use Rattle.ppunit.specs.Directives.{FindsFile};
 ghost use Rattle.ppunit.specs.Group.{Opened};
+ghost use Rattle.ppunit.specs.code.Preprocessor.{Continues};
 ghost use Rattle.ppunit.specs.code.Opening.{SpendsOpening, HasLines, HasFault, Begins};
 ghost use Rattle.ppunit.specs.States.{Reached, with_dependency, literal, context_over};
 ghost use Rattle.ppunit.specs.code.Walk.{Leads};
@@ -14,9 +15,10 @@ ghost use Rattle.ppunit.specs.code.Walk.{Leads};
 use crate::guards::is_left_out;
 use crate::including::IncludeName;
 use crate::line_access::count;
+use crate::preprocessor::Preprocessor;
 use crate::states::{FileContext, State, literal};
 use ppexpand::Env;
-use ppshelf::{Directories, Disk, Form, Pass, Shelf, resolve, resolve_next};
+use ppshelf::{Directories, Disk, Form, Shelf, resolve, resolve_next};
 use pptext::{Error, Fault, Memory, Place, Profile, Source};
 use std::alloc::{AllocError, Global};
 use std::marker::Model;
@@ -233,34 +235,6 @@ fn record_dependency(state: &mut State, row: usize) -> Result<bool, AllocError>
     Ok(known)
 }
 
-/// Returns the lines of the file at index `row`. Fault 6 if it can't be read, or the fault of its own lines.
-fn source_of<'a, D: Disk>(
-    context: &UnitContext<'a, '_, D>,
-    pass: &mut Pass<'a, D>,
-    at: Place,
-    row: usize,
-) -> Result<&'a Source, Error>
-    requires shelf { pass.old.shelf ≡ context.now.shelf }
-    requires row { row < length context.now.shelf.names }
-    ensures shelf { pass.new.shelf ≡ context.now.shelf }
-    ensures grows { Extends pass.new.files pass.old.files }
-    ensures lines { IfOk result (λ source. HasLines context.now.shelf pass.new.files row source.now) }
-    ensures fault { UnlessOutOfMemory result (λ r. IfErr r (λ f. HasFault context.now.shelf pass.new.files row at f)) }
-{
-    let shelf = context.shelf();
-    let Ok(loaded) = shelf.look(pass, row, context.disk) else {
-        return Err(Error::Memory);
-    };
-    match loaded.lines() {
-        Some(Ok(source)) => Ok(source),
-        Some(Err(fault)) => Err(Error::Fault(fault.clone()?)),
-        None => {
-            let name = shelf.name(row).as_bytes();
-            Err(Error::Fault(Fault::new(context.alloc, 6, at, name)?))
-        }
-    }
-}
-
 /// Enters a file with this name and these lines, before its first line. Returns nothing if its include guard is
 /// defined: then its lines have no effect.
 fn begin<'a>(
@@ -282,32 +256,54 @@ fn begin<'a>(
     Ok(Some(Entered { file, outer }))
 }
 
-/// Opens a file for the line at location `at`. Returns nothing if the file is skipped: if it is marked by `#pragma
-/// once` or its include guard is defined. Each opening spends one of the budget. Fails with fault 32, 35 if the budget
-/// is exhausted, 6, or a fault of the file's own lines.
-pub(crate) fn open<'a, D: Disk>(
-    context: &UnitContext<'a, '_, D>,
-    pass: &mut Pass<'a, D>,
-    state: &mut State,
-    depth: u32,
-    at: Place,
-    opening: Opening,
-) -> Result<Option<Entered<'a>>, Error>
-    requires shelf { pass.old.shelf ≡ context.now.shelf }
-    requires row { opening.row < length context.now.shelf.names }
-    ensures shelf { pass.new.shelf ≡ context.now.shelf }
-    ensures grows { Extends pass.new.files pass.old.files }
-    ensures opened { UnlessOutOfMemory result (λ leads.
-        Leads (context_over context.now) pass.new.files depth
-        (λ (more : Files) (m : Reached). Opened (context_over context.now more) depth at state.old opening.row opening.directory m)
-        state.new leads) }
-{
-    let row = opening.row;
-    spend_opening(context, state, depth, at, row)?;
-    if record_dependency(state, row)? {
-        return Ok(None);
+impl<'a, D: Disk> Preprocessor<'_, '_, 'a, D> {
+    /// Returns the lines of the file at index `row`. Fault 6 if it can't be read, or the fault of its own lines.
+    fn source_of(&mut self, at: Place, row: usize) -> Result<&'a Source, Error>
+        requires { row < length self.old.context.now.shelf.names }
+        ensures continues { Continues self.old self.new }
+        ensures state { self.new.state ≡ self.old.state }
+        ensures lines { IfOk result (λ source. HasLines self.old.context.now.shelf self.new.pass.now.files row source.now) }
+        ensures fault { UnlessOutOfMemory result (λ r. IfErr r (λ f. HasFault self.old.context.now.shelf self.new.pass.now.files row at f)) }
+    {
+        let context = self.context;
+        let shelf = context.shelf();
+        let Ok(loaded) = shelf.look(self.pass, row, context.disk) else {
+            return Err(Error::Memory);
+        };
+        match loaded.lines() {
+            Some(Ok(source)) => Ok(source),
+            Some(Err(fault)) => Err(Error::Fault(fault.clone()?)),
+            None => {
+                let name = shelf.name(row).as_bytes();
+                Err(Error::Fault(Fault::new(context.alloc, 6, at, name)?))
+            }
+        }
     }
-    let source = source_of(context, pass, at, row)?;
-    let name = context.shelf().name(row);
-    Ok(begin(context.alloc, state, opening, name, source)?)
+
+    /// Opens a file for the line at location `at`. Returns nothing if the file is skipped: if it is marked by `#pragma
+    /// once` or its include guard is defined. Each opening spends one of the budget. Fails with fault 32, 35 if the
+    /// budget is exhausted, 6, or a fault of the file's own lines.
+    pub(crate) fn open(
+        &mut self,
+        depth: u32,
+        at: Place,
+        opening: Opening,
+    ) -> Result<Option<Entered<'a>>, Error>
+        requires { opening.row < length self.old.context.now.shelf.names }
+        ensures continues { Continues self.old self.new }
+        ensures opened { UnlessOutOfMemory result (λ leads.
+            Leads (context_over self.old.context.now) self.new.pass.now.files depth
+            (λ (more : Files) (m : Reached). Opened (context_over self.old.context.now more) depth at self.old.state opening.row opening.directory m)
+            self.new.state leads) }
+    {
+        let context = self.context;
+        let row = opening.row;
+        spend_opening(context, &mut self.state, depth, at, row)?;
+        if record_dependency(&mut self.state, row)? {
+            return Ok(None);
+        }
+        let source = self.source_of(at, row)?;
+        let name = context.shelf().name(row);
+        Ok(begin(context.alloc, &mut self.state, opening, name, source)?)
+    }
 }

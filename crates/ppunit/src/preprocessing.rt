@@ -8,118 +8,91 @@ ghost use Rattle.ppunit.specs.States.{Reached, context_over, output};
 ghost use Rattle.ppunit.specs.Group.{Opened};
 ghost use Rattle.ppunit.specs.Unit.{IsUnit, IsUnitOf, Translates, initial_state, first_place};
 ghost use Rattle.ppunit.specs.Capped.{IsInBudget, IsCappedOver};
+ghost use Rattle.ppunit.specs.code.Preprocessor.{Continues};
 ghost use Rattle.ppunit.specs.code.Walk.{DefinesOver};
 
 use crate::collections::{Items, Rows};
 use crate::command_macros::{COMMAND_FILE, CommandMacros};
 use crate::laws::{budget_caps_units, stays_in_budget};
-use crate::line_walk::walk;
-use crate::open_file::{OpenFile, Opening, UnitContext, open};
+use crate::open_file::{OpenFile, Opening, UnitContext};
+use crate::preprocessor::Preprocessor;
 use crate::states::State;
 use crate::units::{Setting, Unit, UnitOut};
 use ppshelf::{Directories, Disk, Pass, Shelf};
 use pptext::{Error, Fault, Memory, Place, split_memory, tree_unless_fault};
 use std::alloc::Global;
 
-/// Executes the unit's definitions.
-fn define_all<'x, 'a: 'x, D: Disk>(
-    context: &UnitContext<'a, '_, D>,
-    pass: &mut Pass<'a, D>,
-    state: &mut State<'x>,
-    defines: &'x CommandMacros,
-) -> Result<(), Error>
-    requires shelf { pass.old.shelf ≡ context.now.shelf }
-    requires rows { 0 < length context.now.shelf.names }
-    requires profile { defines.now.profile ≡ context.now.shelf.profile }
-    ensures shelf { pass.new.shelf ≡ context.now.shelf }
-    ensures grows { Extends pass.new.files pass.old.files }
-    ensures defined { UnlessOutOfMemory result (λ r.
-        DefinesOver (context_over context.now) pass.new.files defines.now.texts state.old
-        (record { state = state.new; fault = result_err r })) }
-{
-    let source = match defines.lines() {
-        Ok(source) => source,
-        Err(fault) => return Err(Error::Fault(fault.clone()?)),
-    };
-    tree_unless_fault();
-    let file = OpenFile::new(COMMAND_FILE as usize, source);
-    walk(context, pass, state, file)
-}
+impl<'x, 'a: 'x, D: Disk> Preprocessor<'_, 'x, 'a, D> {
+    /// Executes the unit's definitions.
+    fn define_all(&mut self, defines: &'x CommandMacros) -> Result<(), Error>
+        requires profile { defines.now.profile ≡ self.old.context.now.shelf.profile }
+        ensures continues { Continues self.old self.new }
+        ensures defined { UnlessOutOfMemory result (λ r.
+            DefinesOver (context_over self.old.context.now) self.new.pass.now.files defines.now.texts self.old.state
+            (record { state = self.new.state; fault = result_err r })) }
+    {
+        let source = match defines.lines() {
+            Ok(source) => source,
+            Err(fault) => return Err(Error::Fault(fault.clone()?)),
+        };
+        tree_unless_fault();
+        let file = OpenFile::new(COMMAND_FILE as usize, source);
+        self.walk(file)
+    }
 
-/// Processes the file at index `row`, with all that it includes.
-fn process<'x, 'a: 'x, D: Disk>(
-    context: &UnitContext<'a, '_, D>,
-    pass: &mut Pass<'a, D>,
-    state: &mut State<'x>,
-    row: usize,
-) -> Result<(), Error>
-    requires shelf { pass.old.shelf ≡ context.now.shelf }
-    requires row { row < length context.now.shelf.names }
-    ensures shelf { pass.new.shelf ≡ context.now.shelf }
-    ensures grows { Extends pass.new.files pass.old.files }
-    ensures opened { UnlessOutOfMemory result (λ r.
-        (more : Files)
-        → Extends more pass.new.files
-        → Opened (context_over context.now more) 0 (first_place row) state.old row None (record { state = state.new; fault = result_err r })) }
-{
-    // A file index fits into a location, since a file table has at most `MOST_ROWS` files.
-    let _count = context.shelf().len();
-    let at = Place {
-        file: row as u32,
-        line: 1,
-        col: 1,
-    };
-    let opening = Opening {
-        row,
-        directory: None,
-    };
-    let Some(entered) = open(context, pass, state, 0, at, opening)? else {
-        return Ok(());
-    };
-    let walked = walk(context, pass, state, entered.file);
-    state.restore_context(entered.outer);
-    walked
-}
+    /// Processes the file at index `row`, with all that it includes.
+    fn process(&mut self, row: usize) -> Result<(), Error>
+        requires row { row < length self.old.context.now.shelf.names }
+        ensures continues { Continues self.old self.new }
+        ensures opened { UnlessOutOfMemory result (λ r.
+            (more : Files)
+            → Extends more self.new.pass.now.files
+            → Opened (context_over self.old.context.now more) 0 (first_place row) self.old.state row None (record { state = self.new.state; fault = result_err r })) }
+    {
+        // A file index fits into a location, since a file table has at most `MOST_ROWS` files.
+        let _count = self.context.shelf().len();
+        let at = Place {
+            file: row as u32,
+            line: 1,
+            col: 1,
+        };
+        let opening = Opening {
+            row,
+            directory: None,
+        };
+        let Some(entered) = self.open(0, at, opening)? else {
+            return Ok(());
+        };
+        let walked = self.walk(entered.file);
+        self.state.restore_context(entered.outer);
+        walked
+    }
 
-/// Executes the definitions, and then processes the file at index `row`.
-fn translate<'x, 'a: 'x, D: Disk>(
-    context: &UnitContext<'a, '_, D>,
-    pass: &mut Pass<'a, D>,
-    state: &mut State<'x>,
-    defines: &'x CommandMacros,
-    row: usize,
-) -> Result<(), Error>
-    requires shelf { pass.old.shelf ≡ context.now.shelf }
-    requires row { row < length context.now.shelf.names }
-    requires profile { defines.now.profile ≡ context.now.shelf.profile }
-    ensures shelf { pass.new.shelf ≡ context.now.shelf }
-    ensures grows { Extends pass.new.files pass.old.files }
-    ensures translated { UnlessOutOfMemory result (λ r.
-        Translates (context_over context.now pass.new.files) defines.now.texts row state.old
-        (record { state = state.new; fault = result_err r })) }
-{
-    define_all(context, pass, state, defines)?;
-    process(context, pass, state, row)
-}
+    /// Executes the definitions, and then processes the file at index `row`.
+    fn translate(&mut self, defines: &'x CommandMacros, row: usize) -> Result<(), Error>
+        requires row { row < length self.old.context.now.shelf.names }
+        requires profile { defines.now.profile ≡ self.old.context.now.shelf.profile }
+        ensures continues { Continues self.old self.new }
+        ensures translated { UnlessOutOfMemory result (λ r.
+            Translates (context_over self.old.context.now self.new.pass.now.files) defines.now.texts row self.old.state
+            (record { state = self.new.state; fault = result_err r })) }
+    {
+        self.define_all(defines)?;
+        self.process(row)
+    }
 
-/// Returns the first fault of a unit, if it has one.
-fn first_fault<'x, 'a: 'x, D: Disk>(
-    context: &UnitContext<'a, '_, D>,
-    pass: &mut Pass<'a, D>,
-    state: &mut State<'x>,
-    unit: &'x Unit,
-) -> Result<Option<Fault>, Memory>
-    requires shelf { pass.old.shelf ≡ context.now.shelf }
-    requires row { unit.now.file < length context.now.shelf.names }
-    requires profile { unit.now.defines.profile ≡ context.now.shelf.profile }
-    ensures shelf { pass.new.shelf ≡ context.now.shelf }
-    ensures grows { Extends pass.new.files pass.old.files }
-    ensures translated { IfOk result (λ fault.
-        Translates (context_over context.now pass.new.files) unit.now.defines.texts unit.now.file state.old
-        (record { state = state.new; fault = fault })) }
-{
-    let translated = translate(context, pass, state, &unit.defines, unit.file);
-    Ok(split_memory(translated)?.err())
+    /// Returns the first fault of a unit, if it has one.
+    fn first_fault(&mut self, unit: &'x Unit) -> Result<Option<Fault>, Memory>
+        requires row { unit.now.file < length self.old.context.now.shelf.names }
+        requires profile { unit.now.defines.profile ≡ self.old.context.now.shelf.profile }
+        ensures continues { Continues self.old self.new }
+        ensures translated { IfOk result (λ fault.
+            Translates (context_over self.old.context.now self.new.pass.now.files) unit.now.defines.texts unit.now.file self.old.state
+            (record { state = self.new.state; fault = fault })) }
+    {
+        let translated = self.translate(&unit.defines, unit.file);
+        Ok(split_memory(translated)?.err())
+    }
 }
 
 /// Returns the output with these items and dependencies, and the fault of the unit if it has one. Fails if an
@@ -177,8 +150,20 @@ fn run_unit<'x, 'a: 'x, D: Disk>(
         × Translates (context_over context.now pass.new.files) unit.now.defines.texts unit.now.file (initial_state setting.now) reached
         × (out ≡ output reached)) }
 {
-    let mut state = State::new(context.alloc, setting, context.shelf().hashing())?;
-    let ended = first_fault(context, pass, &mut state, unit);
+    let state = State::new(context.alloc, setting, context.shelf().hashing())?;
+    let mut preprocessor = Preprocessor {
+        context,
+        pass,
+        state,
+    };
+    let ended = preprocessor.first_fault(unit);
+    let Preprocessor {
+        context: _,
+        pass: lent,
+        state,
+    } = preprocessor;
+    // For proofs: the pass is read once more, so that its last value is known.
+    let _lent = &*lent;
     into_output(state, ended)
 }
 

@@ -4,54 +4,54 @@ use Rattle.ppunit.specs.States.{context_over}
 use Rattle.ppunit.proofs.SectionEnds.{end_advances}
 use Rattle.ppunit.proofs.Leading.{steps_line, steps_control, stops_control}
 use Rattle.ppunit.proofs.Options.{none_of}
-use Rattle.ppunit.proofs.line_walk.step.Goals as goal
+use Rattle.ppunit.proofs.preprocessor.Preprocessor.step.Goals as goal
 
 pub returns-in_err-execute_run-clause-step : goal.returns-in_err-execute_run-clause-step
 returns-in_err-execute_run-clause-step g c =
     rw (← c.file.view_is) (stopped _ _ _ _ c.from_residual.ensures.1
-    (c.in_err-execute_run.ensures.run (context_over c.args.context.now) c.args.pass.now.files c.args.depth c.file.inside.row)
+    (c.in_err-execute_run.ensures.run (context_over c.args.self.now.context.now) c.args.self.now.pass.now.files c.args.depth c.file.inside.row)
     (λ fault advances. advances))
 
 pub returns-in_default-clause-step : goal.returns-in_default-clause-step
 returns-in_default-clause-step g c =
-    rw (← c.file.view_is) (steps_line (context_over c.args.context.now) c.args.pass.now.files c.args.depth c.file.inside.row c.file.inside.source.now
-    c.file.inside.index c.args.state.now c.execute_run.new.state c.in_ok-execute_run.field-0 c.next_line.result c.next_line.ensures
-    (c.in_ok-execute_run.ensures.run (context_over c.args.context.now) c.args.pass.now.files c.args.depth c.file.inside.row))
+    rw (← c.file.view_is) (steps_line (context_over c.args.self.now.context.now) c.args.self.now.pass.now.files c.args.depth c.file.inside.row c.file.inside.source.now
+    c.file.inside.index c.args.self.now.state c.execute_run.new.state c.in_ok-execute_run.field-0 c.next_line.result c.next_line.ensures
+    (c.in_ok-execute_run.ensures.run (context_over c.args.self.now.context.now) c.args.self.now.pass.now.files c.args.depth c.file.inside.row))
 
-pub returns-in_err-enter_section-clause-step : goal.returns-in_err-enter_section-clause-step
-returns-in_err-enter_section-clause-step g c =
-    rw (← c.file.view_is) (stopped _ _ _ _ c.from_residual-in_err-enter_section.ensures.1
-    (c.in_err-enter_section.ensures.entered c.args.pass.now.files c.args.depth)
+pub returns-in_err-next-clause-step : goal.returns-in_err-next-clause-step
+returns-in_err-next-clause-step g c =
+    rw (← c.file.view_is) (stopped _ _ _ _ c.from_residual-in_err-next.ensures.1
+    (c.in_err-next.ensures.entered c.args.self.now.pass.now.files c.args.depth)
     (λ fault advances. advances))
 
 pub returns-then-opens_section-clause-step : goal.returns-then-opens_section-clause-step
 returns-then-opens_section-clause-step g c =
-    rw (← c.file.view_is) (steps_line (context_over c.args.context.now) c.args.pass.now.files c.args.depth c.file.inside.row c.file.inside.source.now
-    c.file.inside.index c.args.state.now c.enter_section.new.state c.in_ok-enter_section.field-0 c.next_line-then-opens_section.result
+    rw (← c.file.view_is) (steps_line (context_over c.args.self.now.context.now) c.args.self.now.pass.now.files c.args.depth c.file.inside.row c.file.inside.source.now
+    c.file.inside.index c.args.self.now.state c.enter_section.new.state c.in_ok-next.next c.next_line-then-opens_section.result
     c.next_line-then-opens_section.ensures
-    (c.in_ok-enter_section.ensures.entered c.args.pass.now.files c.args.depth))
+    (c.in_ok-next.ensures.entered c.args.self.now.pass.now.files c.args.depth))
 
 pub returns-then-ends_group-clause-step : goal.returns-then-ends_group-clause-step
 returns-then-ends_group-clause-step g c =
-    rw (← c.file.view_is) (steps_line (context_over c.args.context.now) c.args.pass.now.files c.args.depth c.file.inside.row c.file.inside.source.now
-    c.file.inside.index c.args.state.now c.args.state.now c.section_end.result c.next_line-then-ends_group.result
+    rw (← c.file.view_is) (steps_line (context_over c.args.self.now.context.now) c.args.self.now.pass.now.files c.args.depth c.file.inside.row c.file.inside.source.now
+    c.file.inside.index c.args.self.now.state c.args.self.now.state c.section_end.result c.next_line-then-ends_group.result
     c.next_line-then-ends_group.ensures
-    (end_advances (context_over c.args.context.now) c.args.pass.now.files c.args.depth c.file.inside.row c.file.inside.source.now
-    c.file.inside.index c.section_end.result c.args.state.now c.in-Some.directive (rw (← c.file.view_is) at c.requires.index) (sym c.line.ensures.directive ∙ c.in-Some.is)
+    (end_advances (context_over c.args.self.now.context.now) c.args.self.now.pass.now.files c.args.depth c.file.inside.row c.file.inside.source.now
+    c.file.inside.index c.section_end.result c.args.self.now.state c.in-Some.directive (rw (← c.file.view_is) at c.requires.index) (sym c.line.ensures.directive ∙ c.in-Some.is)
     (sym c.ends_group.ensures ∙ c.if-ends_group.true) c.section_end.ensures.end))
 
 pub returns-in_err-entered-clause-step : goal.returns-in_err-entered-clause-step
 returns-in_err-entered-clause-step g c =
     rw (← c.file.view_is) (stopped _ _ _ _ c.from_residual-in_err-entered.ensures.1 c.in_err-entered.ensures.control
-    (stops_control (context_over c.args.context.now) c.execute_line.new.pass.files c.args.depth c.file.inside.row c.file.inside.source.now
-    c.file.inside.index c.args.state.now c.execute_line.new.state c.in-Some.directive c.tokens_at-tokens.result c.line-2.result.now.number
+    (stops_control (context_over c.args.self.now.context.now) c.execute_line.new.self.pass.now.files c.args.depth c.file.inside.row c.file.inside.source.now
+    c.file.inside.index c.args.self.now.state c.execute_line.new.self.state c.in-Some.directive c.tokens_at-tokens.result c.line-2.result.now.number
     (rw (← c.file.view_is) at c.requires.index) (sym c.line.ensures.directive ∙ c.in-Some.is) (sym c.opens_section.ensures ∙ c.if-opens_section.false)
     (sym c.ends_group.ensures ∙ c.if-ends_group.false) c.tokens_at-tokens.ensures.tokens c.line-2.ensures.number))
 
 pub returns-clause-step : goal.returns-clause-step
 returns-clause-step g c =
-    rw (← c.file.view_is) (steps_control (context_over c.args.context.now) c.execute_line.new.pass.files c.args.depth c.file.inside.row c.file.inside.source.now
-    c.file.inside.index c.args.state.now c.execute_line.new.state c.in-Some.directive c.tokens_at-tokens.result c.line-2.result.now.number
+    rw (← c.file.view_is) (steps_control (context_over c.args.self.now.context.now) c.execute_line.new.self.pass.now.files c.args.depth c.file.inside.row c.file.inside.source.now
+    c.file.inside.index c.args.self.now.state c.execute_line.new.self.state c.in-Some.directive c.tokens_at-tokens.result c.line-2.result.now.number
     (rw (← c.file.view_is) at c.requires.index) (sym c.line.ensures.directive ∙ c.in-Some.is) (sym c.opens_section.ensures ∙ c.if-opens_section.false)
     (sym c.ends_group.ensures ∙ c.if-ends_group.false) c.tokens_at-tokens.ensures.tokens c.line-2.ensures.number c.in_ok-entered.entered
     c.in_ok-entered.ensures.control)

@@ -1,4 +1,4 @@
-use Rattle.std.proofs.Common.{rules, ◌≡◌, None, Some, refl, sym, ap, ◌∙◌, subst}
+use Rattle.std.proofs.Common.{◌≡◌, None, Some, refl, sym, ap, ◌∙◌, subst}
 use Rattle.pptext.specs.declared.directives.Class.{Class}
 use Rattle.pptext.specs.declared.directives.Class.TheVariants as class
 use Rattle.pptext.specs.declared.tokens.Fault.{Fault}
@@ -11,15 +11,15 @@ use Rattle.ppunit.specs.Group.{Controls}
 use Rattle.ppunit.proofs.Leading.{other_control, leads_include}
 use Rattle.ppunit.proofs.ControlKinds.{other_is_control, other_looks}
 use Rattle.ppunit.proofs.Preprocessed.{on_settled}
-use Rattle.ppunit.proofs.line_walk.execute_line.Goals as goal
+use Rattle.ppunit.proofs.preprocessor.Preprocessor.execute_line.Goals as goal
 
 pub returns-in_ok-error-in-Error-clause-control : goal.returns-in_ok-error-in-Error-clause-control
 returns-in_ok-error-in-Error-clause-control g c more grows =
     let is : class_of c.args.line.directive ≡ class.Error = sym c.class.ensures ∙ c.in-Error.is in
     let fault = c.in_ok-error-in-Error.ensures in
     let line = directed c.args.line.directive c.args.line.tokens c.args.line.number in
-    subst (λ (z : Fault). Controls (context_over c.args.context.now more) c.args.depth c.args.line.row c.args.state.now line
-    (record { state = c.args.state.now; fault = Some z }))
+    subst (λ (z : Fault). Controls (context_over c.args.self.now.context.now more) c.args.depth c.args.line.row c.args.self.now.state line
+    (record { state = c.args.self.now.state; fault = Some z }))
     (sym fault) (Controls.error (ap (λ (z : Class). Some z) is))
 
 pub returns-in-Ignored-clause-control : goal.returns-in-Ignored-clause-control
@@ -38,15 +38,14 @@ returns-in_ok-refuse_unmatched_quote-in-Includes-clause-control g c =
     let is : class_of c.args.line.directive ≡ class.Includes c.in-Includes.next = sym c.class.ensures ∙ c.in-Includes.is in
     let alone = sym c.in_ok-refuse_unmatched_quote-in-Includes.ensures in
     on_settled c.include.result
-    (λ r leads. leads_include (context_over c.args.context.now) c.include.new.pass.files c.args.depth c.args.line.row c.in-Includes.next c.directory_before-directory.result
-    (directed c.args.line.directive c.args.line.tokens c.args.line.number) c.args.state.now c.include.new.state r
+    (λ r leads. leads_include (context_over c.args.self.now.context.now) c.include.new.self.pass.now.files c.args.depth c.args.line.row c.in-Includes.next c.directory_before-directory.result
+    (directed c.args.line.directive c.args.line.tokens c.args.line.number) c.args.self.now.state c.include.new.self.state r
     c.directory_before-directory.ensures (ap (λ (z : Class). Some z) is) alone (leads c.args.line.directive c.args.line.number))
     c.include.ensures.includes
 
 pub returns-in_err-refuse_unmatched_quote-in_default : goal.returns-in_err-refuse_unmatched_quote-in_default
 returns-in_err-refuse_unmatched_quote-in_default g c = record {
-  shelf = c.requires.shelf;
-  grows = search rules;
+  continues = record { context = refl; pass = refl; grows = λ row content known. known };
   control = stopped _ _ _ _ c.from_residual-in_err-refuse_unmatched_quote-in_default.ensures.1 c.in_err-refuse_unmatched_quote-in_default.ensures (λ fault quote more grows.
       Controls.quote
       (other_looks (class_of c.args.line.directive) (λ e. c.in_default.not-Error (c.class.ensures ∙ e)) (λ e. c.in_default.not-Ignored (c.class.ensures ∙ e)))
@@ -58,10 +57,9 @@ returns-in_err-control-in_default g c =
     let alone = sym c.in_ok-refuse_unmatched_quote-in_default.ensures in
     let line = directed c.args.line.directive c.args.line.tokens c.args.line.number in
     record {
-      shelf = c.requires.shelf;
-      grows = search rules;
+      continues = record { context = refl; pass = refl; grows = λ row content known. known };
       control = stopped _ _ _ _ c.from_residual-in_err-control-in_default.ensures.1 c.in_err-control-in_default.ensures (λ fault gives more grows.
-          other_control (context_over c.args.context.now more) c.args.depth c.args.line.row c.profile.result c.args.state.now c.control.new.state
+          other_control (context_over c.args.self.now.context.now more) c.args.depth c.args.line.row c.profile.result c.args.self.now.state c.control.new.state
           c.args.line.directive line (Some fault) c.profile.ensures refl alone gives);
     }
 
@@ -70,14 +68,10 @@ returns-in_ok-control-in_default g c =
     let alone = sym c.in_ok-refuse_unmatched_quote-in_default.ensures in
     let line = directed c.args.line.directive c.args.line.tokens c.args.line.number in
     record {
-      shelf = c.requires.shelf;
-      grows = search rules;
-      control = λ more grows. other_control (context_over c.args.context.now more) c.args.depth c.args.line.row c.profile.result c.args.state.now
+      continues = record { context = refl; pass = refl; grows = λ row content known. known };
+      control = λ more grows. other_control (context_over c.args.self.now.context.now more) c.args.depth c.args.line.row c.profile.result c.args.self.now.state
           c.control.new.state c.args.line.directive line None c.profile.ensures refl alone c.in_ok-control-in_default.ensures;
     }
-
-pub include-requires-clause-shelf : goal.include-requires-clause-shelf
-include-requires-clause-shelf g c = c.requires.shelf
 
 pub control-requires : goal.control-requires
 control-requires g c =

@@ -1,6 +1,6 @@
 use Rattle.std.proofs.Common.{sym}
 use Rattle.pptext.proofs.Stopping.{settles}
-use Rattle.ppunit.proofs.preprocessing.first_fault.Goals as goal
+use Rattle.ppunit.proofs.preprocessor.Preprocessor.first_fault.Goals as goal
 
 pub returns-clause-translated : goal.returns-clause-translated
 returns-clause-translated g c =

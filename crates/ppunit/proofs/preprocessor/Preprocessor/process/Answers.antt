@@ -7,7 +7,7 @@ use Rattle.ppunit.specs.Group.{Opened}
 use Rattle.ppunit.specs.Unit.{first_place}
 use Rattle.ppunit.specs.code.Walk.{Leads}
 use Rattle.ppunit.proofs.Preprocessed.{entered_file, on_settled}
-use Rattle.ppunit.proofs.preprocessing.process.Goals as goal
+use Rattle.ppunit.proofs.preprocessor.Preprocessor.process.Goals as goal
 
 pub returns-in_err-entered-clause-opened : goal.returns-in_err-entered-clause-opened
 returns-in_err-entered-clause-opened g c =
@@ -16,14 +16,14 @@ returns-in_err-entered-clause-opened g c =
 pub returns-clause-opened : goal.returns-clause-opened
 returns-clause-opened g c =
     let enters = subst
-    (λ (z : Option Entered). Leads (context_over c.args.context.now) c.open.new.pass.files 0
-    (λ more m. Opened (context_over c.args.context.now more) 0 (first_place c.args.row) c.args.state.now c.args.row None m) c.open.new.state (Ok z))
+    (λ (z : Option Entered). Leads (context_over c.args.self.now.context.now) c.open.new.self.pass.now.files 0
+    (λ more m. Opened (context_over c.args.self.now.context.now more) 0 (first_place c.args.row) c.args.self.now.state c.args.row None m) c.open.new.self.state (Ok z))
     (c.in-Some.is ∙ ap (λ (e : Entered). Some e) (sym c.entered.view_is)) c.in_ok-entered.ensures.opened in
     on_settled c.walk-walked.result
     (λ r walks more grows.
-    subst (λ (z : State). Opened (context_over c.args.context.now more) 0 (first_place c.args.row) c.args.state.now c.args.row None
+    subst (λ (z : State). Opened (context_over c.args.self.now.context.now more) 0 (first_place c.args.row) c.args.self.now.state c.args.row None
     (record { state = z; fault = result_err r })) (sym c.restore_context.ensures)
-    (entered_file (context_over c.args.context.now) c.open.new.pass.files c.walk-walked.new.pass.files 0
-    (λ more m. Opened (context_over c.args.context.now more) 0 (first_place c.args.row) c.args.state.now c.args.row None m) c.open.new.state
-    c.walk-walked.new.state _ (result_err r) c.walk-walked.ensures.grows enters walks more grows))
-    c.walk-walked.ensures.walk
+    (entered_file (context_over c.args.self.now.context.now) c.open.new.self.pass.now.files c.walk-walked.new.self.pass.now.files 0
+    (λ more m. Opened (context_over c.args.self.now.context.now more) 0 (first_place c.args.row) c.args.self.now.state c.args.row None m) c.open.new.self.state
+    c.walk-walked.new.self.state _ (result_err r) c.walk-walked.ensures.continues.grows enters walks more grows))
+    (rw c.open.ensures.continues.context at c.walk-walked.ensures.walk)

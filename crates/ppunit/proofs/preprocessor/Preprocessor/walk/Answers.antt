@@ -1,0 +1,145 @@
+use Rattle.std.proofs.Common.{◌≡◌, ◌<◌, ◌≤◌, List, [], ◌∷◌, length, Err, refl, sym, ap, subst, arith}
+use Rattle.pptext.proofs.Stopping.{stopped as halted}
+use Rattle.ppunit.specs.States.{State, stopped, context_over}
+use Rattle.ppunit.specs.code.Opening.{OpenFile}
+use Rattle.ppunit.specs.code.Walk.{SuspendedFile, Walks}
+use Rattle.ppunit.proofs.Continuing.{continues_on}
+use Rattle.ppunit.proofs.OpenFiles.{StackSoFar, stack_start, stack_next, next_depth, stack_leaves, stack_stops, stack_done}
+use Rattle.ppunit.proofs.Work.{work, work_next, work_leaving}
+use Rattle.ppunit.proofs.preprocessor.Preprocessor.walk.Goals as goal
+
+pub loop-file-init : goal.loop-file-init
+loop-file-init g c =
+    let none : c.new-suspended.result ≡ [] = c.new-suspended.ensures in
+    record {
+      continues = record { context = refl; pass = refl; grows = λ row content known. known };
+      depth = omega (arith, ap length none);
+      walked =
+          subst (λ (z : List SuspendedFile). StackSoFar (context_over c.args.self.now.context.now) c.args.self.now.pass.now.files c.args.first.row c.args.first.lines
+          c.args.self.now.state z c.args.first c.args.self.now.state) (sym none)
+          (stack_start (context_over c.args.self.now.context.now) c.args.self.now.pass.now.files c.args.self.now.state c.args.first c.requires.begins);
+    }
+
+pub returns-in_default-pop-clause-walk : goal.returns-in_default-pop-clause-walk
+returns-in_default-pop-clause-walk g c =
+    let none : c.loop-file.suspended ≡ [] = c.in_default-pop.ensures.0 in
+    let over = subst (λ (z : OpenFile). length z.lines ≤ z.index) c.file.view_is (omega (arith, c.count.ensures, c.if-file-count.false)) in
+    stack_done (context_over c.args.self.now.context.now) c.loop-file.self.pass.now.files c.args.first.row c.args.first.lines c.args.self.now.state c.loop-file.self.state
+    c.loop-file.file
+    (subst (λ (z : List SuspendedFile). StackSoFar (context_over c.args.self.now.context.now) c.loop-file.self.pass.now.files c.args.first.row c.args.first.lines
+    c.args.self.now.state z c.loop-file.file c.loop-file.self.state) none c.loop-file.invariant.walked) over
+
+pub loop-file-smaller : goal.loop-file-smaller
+loop-file-smaller g c =
+    let outer : SuspendedFile = record { file = c.outer.inside.file; file_context = c.outer.inside.file_context } in
+    let there : c.loop-file.suspended ≡ outer ∷ c.pop.new.self = rw (← c.outer.view_is) at c.in-Some-pop.ensures in
+    subst (λ (z : List SuspendedFile). work outer.file c.pop.new.self < work c.loop-file.file z) (sym there) (work_leaving c.loop-file.file outer c.pop.new.self)
+
+pub loop-file-preserved : goal.loop-file-preserved
+loop-file-preserved g c =
+    let outer : SuspendedFile = record { file = c.outer.inside.file; file_context = c.outer.inside.file_context } in
+    let there : c.loop-file.suspended ≡ outer ∷ c.pop.new.self = rw (← c.outer.view_is) at c.in-Some-pop.ensures in
+    let over = subst (λ (z : OpenFile). length z.lines ≤ z.index) c.file.view_is (omega (arith, c.count.ensures, c.if-file-count.false)) in
+    record {
+      continues = record {
+        context = c.loop-file.invariant.continues.context;
+        pass = c.loop-file.invariant.continues.pass;
+        grows = c.loop-file.invariant.continues.grows;
+      };
+      depth = omega (arith, ap length there, c.loop-file.invariant.depth);
+      walked =
+          subst (λ (z : State). StackSoFar (context_over c.args.self.now.context.now) c.loop-file.self.pass.now.files c.args.first.row c.args.first.lines
+          c.args.self.now.state c.pop.new.self outer.file z) (sym c.restore_context.ensures)
+          (stack_leaves (context_over c.args.self.now.context.now) c.loop-file.self.pass.now.files c.args.first.row c.args.first.lines c.args.self.now.state
+          c.loop-file.self.state outer c.pop.new.self c.loop-file.file
+          (subst (λ (z : List SuspendedFile). StackSoFar (context_over c.args.self.now.context.now) c.loop-file.self.pass.now.files c.args.first.row c.args.first.lines
+          c.args.self.now.state z c.loop-file.file c.loop-file.self.state) there c.loop-file.invariant.walked) over);
+    }
+
+pub loop-file-smaller-in-Some : goal.loop-file-smaller-in-Some
+loop-file-smaller-in-Some g c =
+    let step = rw (c.in-Ok.is, c.depth.ensures, ← c.next.view_is, c.loop-file.invariant.continues.context) at c.step.ensures.step in
+    let further = rw (c.in-Ok.is, ← c.next.view_is) at c.step.ensures.further in
+    let within = subst (λ (z : OpenFile). z.index < length z.lines) c.file.view_is (omega (arith, c.count.ensures, c.if-file-count.true)) in
+    let less = work_next (context_over c.args.self.now.context.now) c.step.new.self.pass.now.files c.loop-file.file.row c.loop-file.file.lines
+    c.loop-file.file.index c.next.inside.line c.loop-file.self.state c.step.new.self.state c.loop-file.file c.next.inside.entered c.loop-file.suspended within
+    further step in
+    let moved = ap (λ (z : OpenFile). record z { index = c.next.inside.line }) c.file.view_is in
+    rw (c.in_ok-file-in-Ok.ensures.file, c.in_ok-file-in-Ok.ensures.suspended, moved) (rw c.in-Some.is at less)
+
+pub loop-file-preserved-in-Some : goal.loop-file-preserved-in-Some
+loop-file-preserved-in-Some g c =
+    let step = rw (c.in-Ok.is, c.depth.ensures, ← c.next.view_is, c.loop-file.invariant.continues.context) at c.step.ensures.step in
+    let moved = ap (λ (z : OpenFile). record z { index = c.next.inside.line }) c.file.view_is in
+    record {
+      continues = continues_on c.args.self.now c.loop-file.self c.step.new.self c.loop-file.invariant.continues c.step.ensures.continues;
+      depth =
+          rw c.in_ok-file-in-Ok.ensures.suspended (rw c.in-Some.is at
+          (next_depth (context_over c.args.self.now.context.now) c.step.new.self.pass.now.files c.loop-file.file.row c.loop-file.file.lines
+          c.loop-file.file.index c.next.inside.line c.loop-file.self.state c.step.new.self.state c.loop-file.suspended
+          c.loop-file.file c.next.inside.entered c.loop-file.invariant.depth step));
+      walked =
+          rw (c.in_ok-file-in-Ok.ensures.file, c.in_ok-file-in-Ok.ensures.suspended, moved) (rw c.in-Some.is at
+          (stack_next (context_over c.args.self.now.context.now) c.loop-file.self.pass.now.files c.step.new.self.pass.now.files c.args.first.row c.args.first.lines
+          c.args.self.now.state c.loop-file.self.state c.step.new.self.state c.loop-file.suspended c.loop-file.file c.next.inside.line c.next.inside.entered c.loop-file.invariant.walked
+          c.step.ensures.continues.grows step));
+    }
+
+pub loop-file-smaller-in_default : goal.loop-file-smaller-in_default
+loop-file-smaller-in_default g c =
+    let step = rw (c.in-Ok.is, c.depth.ensures, ← c.next.view_is, c.loop-file.invariant.continues.context) at c.step.ensures.step in
+    let further = rw (c.in-Ok.is, ← c.next.view_is) at c.step.ensures.further in
+    let within = subst (λ (z : OpenFile). z.index < length z.lines) c.file.view_is (omega (arith, c.count.ensures, c.if-file-count.true)) in
+    let less = work_next (context_over c.args.self.now.context.now) c.step.new.self.pass.now.files c.loop-file.file.row c.loop-file.file.lines
+    c.loop-file.file.index c.next.inside.line c.loop-file.self.state c.step.new.self.state c.loop-file.file c.next.inside.entered c.loop-file.suspended within
+    further step in
+    let moved = ap (λ (z : OpenFile). record z { index = c.next.inside.line }) c.file.view_is in
+    rw moved (rw c.in_default.is at less)
+
+pub loop-file-preserved-in_default : goal.loop-file-preserved-in_default
+loop-file-preserved-in_default g c =
+    let step = rw (c.in-Ok.is, c.depth.ensures, ← c.next.view_is, c.loop-file.invariant.continues.context) at c.step.ensures.step in
+    let moved = ap (λ (z : OpenFile). record z { index = c.next.inside.line }) c.file.view_is in
+    record {
+      continues = continues_on c.args.self.now c.loop-file.self c.step.new.self c.loop-file.invariant.continues c.step.ensures.continues;
+      depth =
+          rw c.in_default.is at
+          (next_depth (context_over c.args.self.now.context.now) c.step.new.self.pass.now.files c.loop-file.file.row c.loop-file.file.lines
+          c.loop-file.file.index c.next.inside.line c.loop-file.self.state c.step.new.self.state c.loop-file.suspended
+          c.loop-file.file c.next.inside.entered c.loop-file.invariant.depth step);
+      walked =
+          rw moved (rw c.in_default.is at
+          (stack_next (context_over c.args.self.now.context.now) c.loop-file.self.pass.now.files c.step.new.self.pass.now.files c.args.first.row c.args.first.lines
+          c.args.self.now.state c.loop-file.self.state c.step.new.self.state c.loop-file.suspended c.loop-file.file c.next.inside.line c.next.inside.entered c.loop-file.invariant.walked
+          c.step.ensures.continues.grows step));
+    }
+
+pub returns-in-Err-clause-walk : goal.returns-in-Err-clause-walk
+returns-in-Err-clause-walk g c =
+    let step = rw (c.in-Err.is, c.depth.ensures, c.loop-file.invariant.continues.context) at c.step.ensures.step in
+    halted (Err c.in-Err.stop) c.in-Err.stop _ _ refl step (λ fault steps.
+    subst (λ (z : State). Walks (context_over c.args.self.now.context.now) c.step.new.self.pass.now.files 0 c.args.first.row c.args.first.lines c.args.self.now.state
+    (stopped z fault)) (sym c.stop.ensures)
+    (stack_stops (context_over c.args.self.now.context.now) c.loop-file.self.pass.now.files c.step.new.self.pass.now.files c.args.first.row c.args.first.lines
+    c.args.self.now.state c.loop-file.self.state c.step.new.self.state fault c.loop-file.suspended c.loop-file.file c.loop-file.invariant.walked
+    c.step.ensures.continues.grows steps))
+
+pub depth-requires : goal.depth-requires
+depth-requires g c = c.loop-file.invariant.depth
+
+pub step-requires-clause-depth : goal.step-requires-clause-depth
+step-requires-clause-depth g c = omega (arith, c.depth.ensures, c.loop-file.invariant.depth)
+
+pub step-requires-clause-index : goal.step-requires-clause-index
+step-requires-clause-index g c = subst (λ (z : OpenFile). z.index < length z.lines) c.file.view_is (omega (arith, c.count.ensures, c.if-file-count.true))
+
+pub returns-in-Err-clause-continues : goal.returns-in-Err-clause-continues
+returns-in-Err-clause-continues g c =
+    let k = continues_on c.args.self.now c.loop-file.self c.step.new.self c.loop-file.invariant.continues c.step.ensures.continues in
+    record { context = k.context; pass = k.pass; grows = k.grows }
+
+pub returns-in_err-file-in-Ok-clause-continues : goal.returns-in_err-file-in-Ok-clause-continues
+returns-in_err-file-in-Ok-clause-continues g c = continues_on c.args.self.now c.loop-file.self c.step.new.self c.loop-file.invariant.continues c.step.ensures.continues
+
+pub returns-in_default-pop-clause-continues : goal.returns-in_default-pop-clause-continues
+returns-in_default-pop-clause-continues g c = c.loop-file.invariant.continues
