@@ -13,8 +13,8 @@ use Rattle.ppmacro.specs.Chains.{parameter_names, chains_of}
 use Rattle.ppmacro.specs.Substituting.{lists_of, ListsKnown, option_of}
 use Rattle.ppmacro.specs.Substitution.{argument_at}
 use Rattle.std.specs.Option.{option_map}
-use Rattle.ppmacro.specs.declared.hidden_token.Expansion.{Expansion}
-use Rattle.ppmacro.specs.declared.hidden_token.Expansion.TheVariants.{Unused}
+use Rattle.ppmacro.specs.declared.hidden_token.ArgumentExpansion.{ArgumentExpansion}
+use Rattle.ppmacro.specs.declared.hidden_token.ArgumentExpansion.TheVariants.{Unused}
 use Rattle.ppmacro.specs.declared.hidden_token.Hidden.{Hidden}
 use Rattle.ppmacro.specs.declared.macros.Chain.{Chain}
 use Rattle.ppexpand.specs.declared.env.Env.{Env}
@@ -27,20 +27,20 @@ use Rattle.ppexpand.specs.code.ProgramValues.{given_in, expanded_in, ExpansionsK
 use Rattle.ppexpand.proofs.Follows.{ArgumentsFollow, arguments_start, arguments_unused, arguments_used, arguments_refused, arguments_end}
 use Rattle.ppexpand.proofs.Keeping.{expanded-keeps, expanded_in-push, arguments_known}
 
-pub arguments_first : (macros : Macros) (env : Env) (level : ℕ) (call : Call) (left : Option ℕ) → ArgumentsFollow macros env level call left (wanted call) [] left (to_expand 0 (chains_of call.macro) (parameter_names call.macro.kind) call.arguments)
+pub arguments_first : (macros : Macros) (env : Env) (level : ℕ) (call : Call) (remaining : Option ℕ) → ArgumentsFollow macros env level call remaining (wanted call) [] remaining (to_expand 0 (chains_of call.macro) (parameter_names call.macro.kind) call.arguments)
 unfolding wanted
-arguments_first macros env level call left = arguments_start macros env level call left (wanted call)
+arguments_first macros env level call remaining = arguments_start macros env level call remaining (wanted call)
 
 -- an argument's expansion, or its fault, from the outcome of its list
-module _ (macros : Macros) (env : Env) (level : ℕ) (head : Token) (left after : Option ℕ) (list tokens : List Hiding) where
-  at_level : (o : Option Fault) (one : ExpandsTo macros env (level + 1) left list (record { tokens = tokens; fault = o; left = after }))
-      → Expands macros env (suc level) left one.0 list (record { tokens = tokens; fault = o; left = after })
-  at_level o one = subst (λ n. Expands macros env n left one.0 list (record { tokens = tokens; fault = o; left = after })) (add-one level) one.1
+module _ (macros : Macros) (env : Env) (level : ℕ) (head : Token) (remaining remaining_after : Option ℕ) (list tokens : List Hiding) where
+  at_level : (o : Option Fault) (one : ExpandsTo macros env (level + 1) remaining list (record { tokens = tokens; fault = o; remaining = remaining_after }))
+      → Expands macros env (suc level) remaining one.0 list (record { tokens = tokens; fault = o; remaining = remaining_after })
+  at_level o one = subst (λ n. Expands macros env n remaining one.0 list (record { tokens = tokens; fault = o; remaining = remaining_after })) (add-one level) one.1
 
-  pub argument_expands : level < 256 → ExpandsTo macros env (level + 1) left list (record { tokens = tokens; fault = None; left = after }) → ExpandsArgument macros env level head left list after (Ok tokens)
+  pub argument_expands : level < 256 → ExpandsTo macros env (level + 1) remaining list (record { tokens = tokens; fault = None; remaining = remaining_after }) → ExpandsArgument macros env level head remaining list remaining_after (Ok tokens)
   argument_expands low one = expands low (at_level None one)
 
-  pub argument_raises : (f : Fault) → level < 256 → ExpandsTo macros env (level + 1) left list (record { tokens = tokens; fault = Some f; left = after }) → ExpandsArgument macros env level head left list after (Err f)
+  pub argument_raises : (f : Fault) → level < 256 → ExpandsTo macros env (level + 1) remaining list (record { tokens = tokens; fault = Some f; remaining = remaining_after }) → ExpandsArgument macros env level head remaining list remaining_after (Err f)
   argument_raises f low one = raises low (at_level (Some f) one)
 
 -- a call that raises a fault, unless it fails, has no value
@@ -82,10 +82,10 @@ rest-end cs (n ∷ names) given i zero h = absurd (omega arith)
 rest-end cs (n ∷ names) given i (suc j) h = rest-end cs names given i j (omega arith)
 
 -- the argument of the next parameter, which is appended to the expansions of the others, and the rest of the budget after it
-module _ (macros : Macros) (env : Env) (level : ℕ) (first left between : Option ℕ) (s u w : HideSetPool) (vs : List (Vec Hidden Global)) (cs : List Chain) (names : List Name) (i : ℕ)
-    (done items : List Expansion) (call : Call) (all : List (Option (List Hiding))) where
+module _ (macros : Macros) (env : Env) (level : ℕ) (first remaining between : Option ℕ) (s u w : HideSetPool) (vs : List (Vec Hidden Global)) (cs : List Chain) (names : List Name) (i : ℕ)
+    (done items : List ArgumentExpansion) (call : Call) (all : List (Option (List Hiding))) where
   abbrev Here : Type 0
-  Here = ArgumentsFollow macros env level call first all (expanded_in u vs done) left (to_expand i cs (drop i names) (given_in s vs))
+  Here = ArgumentsFollow macros env level call first all (expanded_in u vs done) remaining (to_expand i cs (drop i names) (given_in s vs))
 
   abbrev Behind : List (Option (List Hiding))
   Behind = to_expand (i + 1) cs (drop (i + 1) names) (given_in s vs)
@@ -93,63 +93,63 @@ module _ (macros : Macros) (env : Env) (level : ℕ) (first left between : Optio
   abbrev argument : List Hidden
   argument = argument_at (lists_of vs) i
 
-  pushed : (x : HideSetPool) (e : Expansion) → length done ≡ i → items ≡ done ++ e ∷ [] → expanded_in x vs items ≡ expanded_in x vs done ++ option_map (hidings x) (option_of argument e) ∷ []
+  pushed : (x : HideSetPool) (e : ArgumentExpansion) → length done ≡ i → items ≡ done ++ e ∷ [] → expanded_in x vs items ≡ expanded_in x vs done ++ option_map (hidings x) (option_of argument e) ∷ []
   pushed x e count appended =
       ap (expanded_in x vs) appended ∙ expanded_in-push x vs done e ∙ ap (λ n. expanded_in x vs done ++ option_map (hidings x) (option_of (argument_at (lists_of vs) n) e) ∷ []) count
 
   pub follows_unused : i < length names → length done ≡ i → pre_expands i cs ≡ false → items ≡ done ++ Unused ∷ [] → Here
-      → ArgumentsFollow macros env level call first all (expanded_in u vs items) left Behind
+      → ArgumentsFollow macros env level call first all (expanded_in u vs items) remaining Behind
   follows_unused less count unused appended here =
-      let next : ArgumentsFollow macros env level call first all (expanded_in u vs done) left (None ∷ Behind) =
-      subst (ArgumentsFollow macros env level call first all (expanded_in u vs done) left) (rest-is cs names (given_in s vs) i false less unused) here in
-      subst (λ xs. ArgumentsFollow macros env level call first all xs left Behind) (sym (pushed u Unused count appended))
-      (arguments_unused macros env level call first all (expanded_in u vs done) left Behind next)
+      let next : ArgumentsFollow macros env level call first all (expanded_in u vs done) remaining (None ∷ Behind) =
+      subst (ArgumentsFollow macros env level call first all (expanded_in u vs done) remaining) (rest-is cs names (given_in s vs) i false less unused) here in
+      subst (λ xs. ArgumentsFollow macros env level call first all xs remaining Behind) (sym (pushed u Unused count appended))
+      (arguments_unused macros env level call first all (expanded_in u vs done) remaining Behind next)
 
-  is_next : i < length names → pre_expands i cs ≡ true → Here → ArgumentsFollow macros env level call first all (expanded_in u vs done) left (Some (hidings s argument) ∷ Behind)
+  is_next : i < length names → pre_expands i cs ≡ true → Here → ArgumentsFollow macros env level call first all (expanded_in u vs done) remaining (Some (hidings s argument) ∷ Behind)
   is_next less is_used here =
-      subst (ArgumentsFollow macros env level call first all (expanded_in u vs done) left)
+      subst (ArgumentsFollow macros env level call first all (expanded_in u vs done) remaining)
       (rest-is cs names (given_in s vs) i true less is_used ∙ ap (λ a. Some a ∷ Behind) (argument-in s vs i)) here
 
-  pub follows_used : (e : Expansion) (tokens : List Hiding) → i < length names → length done ≡ i → pre_expands i cs ≡ true → items ≡ done ++ e ∷ []
+  pub follows_used : (e : ArgumentExpansion) (tokens : List Hiding) → i < length names → length done ≡ i → pre_expands i cs ≡ true → items ≡ done ++ e ∷ []
       → KeepsSets u w
       → ListsKnown u vs
       → ExpansionsKnown u done
       → option_map (hidings w) (option_of argument e) ≡ Some tokens
-      → ExpandsArgument macros env level call.head.token left (hidings s argument) between (Ok tokens)
+      → ExpandsArgument macros env level call.head.token remaining (hidings s argument) between (Ok tokens)
       → Here
       → ArgumentsFollow macros env level call first all (expanded_in w vs items) between Behind
   follows_used e tokens less count is_used appended keeps known done_known here_is one here =
       let same : expanded_in w vs done ≡ expanded_in u vs done = expanded-keeps vs done keeps known done_known in
       let shown : expanded_in w vs items ≡ expanded_in u vs done ++ Some tokens ∷ [] = pushed w e count appended ∙ (λ j. same j ++ here_is j ∷ []) in
       subst (λ xs. ArgumentsFollow macros env level call first all xs between Behind) (sym shown)
-      (arguments_used macros env level call first all (expanded_in u vs done) left between Behind (hidings s argument) tokens (is_next less is_used here) one)
+      (arguments_used macros env level call first all (expanded_in u vs done) remaining between Behind (hidings s argument) tokens (is_next less is_used here) one)
 
   pub follows_refused : (f : Fault) → i < length names → pre_expands i cs ≡ true
-      → ExpandsArgument macros env level call.head.token left (hidings s argument) between (Err f)
+      → ExpandsArgument macros env level call.head.token remaining (hidings s argument) between (Err f)
       → Here
       → ExpandsArguments macros env level call first all between (Err f)
   follows_refused f less is_used one here =
-      arguments_refused macros env level call first all (expanded_in u vs done) left between Behind (hidings s argument) f (is_next less is_used here) one
+      arguments_refused macros env level call first all (expanded_in u vs done) remaining between Behind (hidings s argument) f (is_next less is_used here) one
 
-pub follows_all : (macros : Macros) (env : Env) (level : ℕ) (first left : Option ℕ) (s u : HideSetPool) (vs : List (Vec Hidden Global)) (cs : List Chain) (names : List Name) (i : ℕ) (done : List Expansion)
+pub follows_all : (macros : Macros) (env : Env) (level : ℕ) (first remaining : Option ℕ) (s u : HideSetPool) (vs : List (Vec Hidden Global)) (cs : List Chain) (names : List Name) (i : ℕ) (done : List ArgumentExpansion)
     (call : Call) (all : List (Option (List Hiding)))
     → length names ≤ i
-    → ArgumentsFollow macros env level call first all (expanded_in u vs done) left (to_expand i cs (drop i names) (given_in s vs))
-    → ExpandsArguments macros env level call first all left (Ok (expanded_in u vs done))
-follows_all macros env level first left s u vs cs names i done call all end here = arguments_end macros env level call first all (expanded_in u vs done) left
-    (subst (ArgumentsFollow macros env level call first all (expanded_in u vs done) left) (rest-end cs names (given_in s vs) i i end) here)
+    → ArgumentsFollow macros env level call first all (expanded_in u vs done) remaining (to_expand i cs (drop i names) (given_in s vs))
+    → ExpandsArguments macros env level call first all remaining (Ok (expanded_in u vs done))
+follows_all macros env level first remaining s u vs cs names i done call all end here = arguments_end macros env level call first all (expanded_in u vs done) remaining
+    (subst (ArgumentsFollow macros env level call first all (expanded_in u vs done) remaining) (rest-end cs names (given_in s vs) i i end) here)
 
 -- the entry of a parameter says whether it is pre-expanded
-pub marked-alone : (used shown : List Bool) (count i : ℕ) (cs ds : List Chain) (flag : Bool)
-    → shown ≡ used
+pub pre_expanded-alone : (pre_expanded shown : List Bool) (count i : ℕ) (cs ds : List Chain) (space : Bool)
+    → shown ≡ pre_expanded
     → cs ≡ ds
-    → ((j : ℕ) → j < count → get_or used j false ≡ pre_expands j cs)
+    → ((j : ℕ) → j < count → get_or pre_expanded j false ≡ pre_expands j cs)
     → i < count
-    → get_or shown i false ≡ flag
-    → pre_expands i ds ≡ flag
-marked-alone used shown count i cs ds flag same chains marks less is = ap (pre_expands i) (sym chains) ∙ sym (marks i less) ∙ ap (λ xs. get_or xs i false) (sym same) ∙ is
+    → get_or shown i false ≡ space
+    → pre_expands i ds ≡ space
+pre_expanded-alone pre_expanded shown count i cs ds space same chains marks less is = ap (pre_expands i) (sym chains) ∙ sym (marks i less) ∙ ap (λ xs. get_or xs i false) (sym same) ∙ is
 
 -- a parameter is among the chains of entries if it is one of them
-pub used-by-entries : (i : ℕ) (es : List Entry) → pre_expands i (map entry_chain es) ≡ list_any (λ e. is_lone_parameter i (entry_chain e).operands) es
-used-by-entries i [] = refl
-used-by-entries i (e ∷ es) = ap (λ b. is_lone_parameter i (entry_chain e).operands || b) (used-by-entries i es)
+pub pre_expanded-by-entries : (i : ℕ) (es : List Entry) → pre_expands i (map entry_chain es) ≡ list_any (λ e. is_lone_parameter i (entry_chain e).operands) es
+pre_expanded-by-entries i [] = refl
+pre_expanded-by-entries i (e ∷ es) = ap (λ b. is_lone_parameter i (entry_chain e).operands || b) (pre_expanded-by-entries i es)

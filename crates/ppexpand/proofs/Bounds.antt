@@ -12,22 +12,22 @@ use Rattle.ppexpand.proofs.Unique.{same_outcome}
 module _ (macros : Macros) (env : Env) (level : ℕ) where
   -- an outcome that takes at least this number of steps
   Takes : ℕ → Option ℕ → List Hiding → Type 0
-  Takes n left list = (m : ℕ) × (out : Outcome) × (n ≤ m) × Expands macros env level left m list out
+  Takes n remaining list = (m : ℕ) × (out : Outcome) × (n ≤ m) × Expands macros env level remaining m list out
 
-  before_turn : {left after : Option ℕ} {list next : List Hiding} (n : ℕ) → Leads macros env level left list after next → Takes n after next → Takes (suc n) left list
+  before_turn : {remaining remaining_after : Option ℕ} {list next : List Hiding} (n : ℕ) → Leads macros env level remaining list remaining_after next → Takes n remaining_after next → Takes (suc n) remaining list
   unfolding Takes
-  before_turn n (by_emitting {t = t} e) h = (suc h.0, record { tokens = t ∷ h.1.tokens; fault = h.1.fault; left = h.1.left }, omega (arith, h.2), emits e h.3)
+  before_turn n (by_emitting {t = t} e) h = (suc h.0, record { tokens = t ∷ h.1.tokens; fault = h.1.fault; remaining = h.1.remaining }, omega (arith, h.2), emits e h.3)
   before_turn n (by_replacing e) h = (suc h.0, h.1, omega (arith, h.2), replaced e h.3)
   before_turn n (by_invoking e a f) h = (suc h.0, h.1, omega (arith, h.2), call_replaced e a f h.3)
 
-  before_turns : {n : ℕ} {left after : Option ℕ} {list last : List Hiding} → LeadsOn macros env level n left list after last → Takes n left list
+  before_turns : {n : ℕ} {remaining remaining_after : Option ℕ} {list last : List Hiding} → LeadsOn macros env level n remaining list remaining_after last → Takes n remaining list
   unfolding Takes
-  before_turns {left = left} {list = list} stays = let one : HasOutcome macros env level left list = total macros env level left list in (one.0, one.1, omega arith, one.2)
+  before_turns {remaining = remaining} {list = list} stays = let one : HasOutcome macros env level remaining list = total macros env level remaining list in (one.0, one.1, omega arith, one.2)
   before_turns (steps {n = n} step more) = before_turn n step (before_turns more)
 
-  pub ends_within : (left : Option ℕ) (list : List Hiding) → EndsWithin macros env level (total macros env level left list).0 left list
+  pub ends_within : (remaining : Option ℕ) (list : List Hiding) → EndsWithin macros env level (total macros env level remaining list).0 remaining list
   unfolding Takes
-  ends_within left list n after last on =
-      let one : HasOutcome macros env level left list = total macros env level left list in
-      let here : Takes n left list = before_turns on in
+  ends_within remaining list n remaining_after last on =
+      let one : HasOutcome macros env level remaining list = total macros env level remaining list in
+      let here : Takes n remaining list = before_turns on in
       subst (λ k. n ≤ k) (same_outcome macros env here.3 one.0 one.1 one.2).0 here.2

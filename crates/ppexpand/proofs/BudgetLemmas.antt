@@ -8,8 +8,8 @@ use Rattle.ppmacro.specs.Names.{Macros}
 use Rattle.ppmacro.specs.Hiding.{Hiding}
 use Rattle.ppexpand.specs.declared.env.Env.{Env}
 use Rattle.ppexpand.specs.ExpansionStep.{Call, ExpansionStep, Done, Refused, Emits, Failed, Replaced, Called, expansion_step, wanted, fault_at_expansion, ExpandedArguments}
-use Rattle.ppexpand.specs.Budget.{in_budget, over, spend_one}
-use Rattle.ppexpand.specs.Expansion.{Outcome, step_in_budget, Expands, done, refused, emits, failed, replaced, argument_refused, call_failed, call_replaced, ExpandsArguments, none, unused, too_deep, used, used_refused}
+use Rattle.ppexpand.specs.Budget.{in_budget, exhausted_step, spend_one}
+use Rattle.ppexpand.specs.Expansion.{Outcome, step_in_budget, Expands, done, refused, emits, failed, replaced, argument_refused, call_failed, call_replaced, ExpandsArguments, none, unused, too_deep, pre_expanded, pre_expansion_refused}
 use Rattle.ppexpand.specs.Expansion.{count, count_arguments, IsExpansion, count_expansion}
 use Rattle.ppexpand.specs.Laws.{plus, IsPrefix, IsOver, IsCapped}
 use Rattle.ppexpand.proofs.Unique.{same_outcome}
@@ -29,7 +29,7 @@ IsFree (Refused f) = Unit {0}
 IsFree (Emits t rest) = Unit {0}
 IsFree _ = ⊥
 
-over_is_free : (list : List Hiding) → IsFree (over list)
+over_is_free : (list : List Hiding) → IsFree (exhausted_step list)
 over_is_free [] = tt
 over_is_free (t ∷ rest) = tt
 
@@ -50,7 +50,7 @@ nothing_is_free list (Replaced next) = over_is_free list
 nothing_is_free list (Called call) = over_is_free list
 
 -- a step that costs nothing is the same with any budget
-pub free_within : (left : Option ℕ) (list : List Hiding) (t : ExpansionStep) → IsFree t → in_budget left list t ≡ t
+pub free_within : (remaining : Option ℕ) (list : List Hiding) (t : ExpansionStep) → IsFree t → in_budget remaining list t ≡ t
 free_within None list t h = refl
 free_within (Some (suc n)) list t h = refl
 free_within (Some zero) list Done h = refl
@@ -60,7 +60,7 @@ free_within (Some zero) list (Failed f) h = absurd h
 free_within (Some zero) list (Replaced next) h = absurd h
 free_within (Some zero) list (Called call) h = absurd h
 
-over_within : (list : List Hiding) (t : ExpansionStep) → Costs t → in_budget (Some zero) list t ≡ over list
+over_within : (list : List Hiding) (t : ExpansionStep) → Costs t → in_budget (Some zero) list t ≡ exhausted_step list
 over_within list Done h = absurd h
 over_within list (Refused f) h = absurd h
 over_within list (Emits t rest) h = absurd h
@@ -69,15 +69,15 @@ over_within list (Replaced next) h = refl
 over_within list (Called call) h = refl
 
 -- this much was spent
-pub plus-plus : (m n : ℕ) (left : Option ℕ) → plus m (plus n left) ≡ plus (m + n) left
+pub plus-plus : (m n : ℕ) (remaining : Option ℕ) → plus m (plus n remaining) ≡ plus (m + n) remaining
 plus-plus m n None = refl
 plus-plus m n (Some k) = ap Some (omega arith)
 
-pub plus-nothing : (left : Option ℕ) → left ≡ plus 0 left
+pub plus-nothing : (remaining : Option ℕ) → remaining ≡ plus 0 remaining
 plus-nothing None = refl
 plus-nothing (Some n) = ap Some (omega arith)
 
-pub plus-none : (n : ℕ) (left : Option ℕ) → None ≡ plus n left → left ≡ None
+pub plus-none : (n : ℕ) (remaining : Option ℕ) → None ≡ plus n remaining → remaining ≡ None
 plus-none n None e = refl
 plus-none n (Some k) e = absurd (cc)
 
@@ -88,13 +88,13 @@ pub data Covers : Option ℕ → ℕ → Type 0 where
   without : {b : ℕ} → Covers None b
   larger : {b c : ℕ} → b ≤ c → Covers (Some c) b
 
-pub covers_less : {left : Option ℕ} {b : ℕ} → Covers left (suc b) → Covers (spend_one left) b
+pub covers_less : {remaining : Option ℕ} {b : ℕ} → Covers remaining (suc b) → Covers (spend_one remaining) b
 covers_less without = without
 covers_less (larger {c = zero} h) = absurd (omega arith)
 covers_less (larger {c = suc c} h) = larger (omega arith)
 
 -- what is left covers the rest
-pub covers_rest : {left : Option ℕ} {b : ℕ} (after : Option ℕ) (n m : ℕ) → Covers left b → left ≡ plus n after → b ≡ n + m → Covers after m
+pub covers_rest : {remaining : Option ℕ} {b : ℕ} (remaining_after : Option ℕ) (n m : ℕ) → Covers remaining b → remaining ≡ plus n remaining_after → b ≡ n + m → Covers remaining_after m
 covers_rest None n m without e sum = without
 covers_rest (Some k) n m without e sum = absurd (cc)
 covers_rest None n m (larger {c = c} h) e sum = absurd (cc)
@@ -103,99 +103,99 @@ covers_rest (Some k) n m (larger {c = c} h) e sum = let all : c ≡ n + k = cc i
 -- ---- expansion steps
 
 -- a step that costs nothing is the same with a smaller budget
-pub free_less : {left : Option ℕ} (b : ℕ) (list : List Hiding) (u t : ExpansionStep) → Covers left b → in_budget left list u ≡ t → IsFree t → in_budget (Some b) list u ≡ t
+pub free_less : {remaining : Option ℕ} (b : ℕ) (list : List Hiding) (u t : ExpansionStep) → Covers remaining b → in_budget remaining list u ≡ t → IsFree t → in_budget (Some b) list u ≡ t
 free_less b list u t without e h = free_within (Some b) list u (subst IsFree (sym e) h) ∙ e
 free_less zero list u t (larger {c = zero} low) e h = e
 free_less (suc b) list u t (larger {c = zero} low) e h = absurd (omega arith)
 free_less b list u t (larger {c = suc c} low) e h = free_within (Some b) list u (subst IsFree (sym e) h) ∙ e
 
 -- a replacement is that without a budget
-pub paid_whole : (left : Option ℕ) (list : List Hiding) (u t : ExpansionStep) → in_budget left list u ≡ t → Costs t → u ≡ t
+pub paid_whole : (remaining : Option ℕ) (list : List Hiding) (u t : ExpansionStep) → in_budget remaining list u ≡ t → Costs t → u ≡ t
 paid_whole None list u t e h = e
 paid_whole (Some (suc n)) list u t e h = e
 paid_whole (Some zero) list u t e h = absurd (never_both t (subst IsFree e (nothing_is_free list u)) h)
 
 module _ (macros : Macros) (env : Env) where
   -- a replacement is paid
-  pays : (left : Option ℕ) (list : List Hiding) (t : ExpansionStep) → Costs t → step_in_budget macros env left list ≡ t → left ≡ plus 1 (spend_one left)
+  pays : (remaining : Option ℕ) (list : List Hiding) (t : ExpansionStep) → Costs t → step_in_budget macros env remaining list ≡ t → remaining ≡ plus 1 (spend_one remaining)
   pays None list t c e = refl
   pays (Some (suc n)) list t c e = ap Some (omega arith)
   pays (Some zero) list t c e = absurd (never_both t (subst IsFree e (nothing_is_free list (expansion_step macros env list))) c)
 
-  paid_then : (left : Option ℕ) (list : List Hiding) (t : ExpansionStep) → Costs t → step_in_budget macros env left list ≡ t → (n : ℕ) (after : Option ℕ) → spend_one left ≡ plus n after → left ≡ plus (suc n) after
-  paid_then left list t c e n after more = pays left list t c e ∙ ap (plus 1) more ∙ plus-plus 1 n after ∙ ap (λ k. plus k after) (omega arith)
+  paid_then : (remaining : Option ℕ) (list : List Hiding) (t : ExpansionStep) → Costs t → step_in_budget macros env remaining list ≡ t → (n : ℕ) (remaining_after : Option ℕ) → spend_one remaining ≡ plus n remaining_after → remaining ≡ plus (suc n) remaining_after
+  paid_then remaining list t c e n remaining_after more = pays remaining list t c e ∙ ap (plus 1) more ∙ plus-plus 1 n remaining_after ∙ ap (λ k. plus k remaining_after) (omega arith)
 
   mutual
     -- what is spent and what is left are the budget
-    pub spends : {level steps : ℕ} {left : Option ℕ} {list : List Hiding} {out : Outcome} (d : Expands macros env level left steps list out) → left ≡ plus (count macros env d) out.left
-    spends {left = left} (done e) = plus-nothing left
-    spends {left = left} (refused e) = plus-nothing left
+    pub spends : {level steps : ℕ} {remaining : Option ℕ} {list : List Hiding} {out : Outcome} (d : Expands macros env level remaining steps list out) → remaining ≡ plus (count macros env d) out.remaining
+    spends {remaining = remaining} (done e) = plus-nothing remaining
+    spends {remaining = remaining} (refused e) = plus-nothing remaining
     spends (emits e more) = spends more
-    spends {left = left} {list = list} (failed {f = f} e) = pays left list (Failed f) tt e
-    spends {left = left} {list = list} {out = out} (replaced {next = next} e more) = paid_then left list (Replaced next) tt e (count macros env more) out.left (spends more)
-    spends {left = left} {list = list} (argument_refused {after = after} {call = call} e a) = paid_then left list (Called call) tt e (count_arguments macros env a) after (spends_arguments a)
-    spends {left = left} {list = list} (call_failed {after = after} {call = call} e a f) = paid_then left list (Called call) tt e (count_arguments macros env a) after (spends_arguments a)
-    spends {left = left} {list = list} {out = out} (call_replaced {call = call} e a f more) =
-        paid_then left list (Called call) tt e (count_arguments macros env a + count macros env more) out.left
-        (spends_arguments a ∙ ap (plus (count_arguments macros env a)) (spends more) ∙ plus-plus (count_arguments macros env a) (count macros env more) out.left)
+    spends {remaining = remaining} {list = list} (failed {f = f} e) = pays remaining list (Failed f) tt e
+    spends {remaining = remaining} {list = list} {out = out} (replaced {next = next} e more) = paid_then remaining list (Replaced next) tt e (count macros env more) out.remaining (spends more)
+    spends {remaining = remaining} {list = list} (argument_refused {remaining_after = remaining_after} {call = call} e a) = paid_then remaining list (Called call) tt e (count_arguments macros env a) remaining_after (spends_arguments a)
+    spends {remaining = remaining} {list = list} (call_failed {remaining_after = remaining_after} {call = call} e a f) = paid_then remaining list (Called call) tt e (count_arguments macros env a) remaining_after (spends_arguments a)
+    spends {remaining = remaining} {list = list} {out = out} (call_replaced {call = call} e a f more) =
+        paid_then remaining list (Called call) tt e (count_arguments macros env a + count macros env more) out.remaining
+        (spends_arguments a ∙ ap (plus (count_arguments macros env a)) (spends more) ∙ plus-plus (count_arguments macros env a) (count macros env more) out.remaining)
 
-    pub spends_arguments : {level : ℕ} {call : Call} {left after : Option ℕ} {as' : List (Option (List Hiding))} {r : ExpandedArguments} (a : ExpandsArguments macros env level call left as' after r)
-        → left ≡ plus (count_arguments macros env a) after
-    spends_arguments {left = left} none = plus-nothing left
+    pub spends_arguments : {level : ℕ} {call : Call} {remaining remaining_after : Option ℕ} {as' : List (Option (List Hiding))} {r : ExpandedArguments} (a : ExpandsArguments macros env level call remaining as' remaining_after r)
+        → remaining ≡ plus (count_arguments macros env a) remaining_after
+    spends_arguments {remaining = remaining} none = plus-nothing remaining
     spends_arguments (unused more) = spends_arguments more
-    spends_arguments {left = left} (too_deep h) = plus-nothing left
-    spends_arguments {after = after} (used h one more) = spends one ∙ ap (plus (count macros env one)) (spends_arguments more) ∙ plus-plus (count macros env one) (count_arguments macros env more) after
-    spends_arguments (used_refused h one) = spends one
+    spends_arguments {remaining = remaining} (too_deep h) = plus-nothing remaining
+    spends_arguments {remaining_after = remaining_after} (pre_expanded h one more) = spends one ∙ ap (plus (count macros env one)) (spends_arguments more) ∙ plus-plus (count macros env one) (count_arguments macros env more) remaining_after
+    spends_arguments (pre_expansion_refused h one) = spends one
 
   -- ---- with enough
 
-  free_turn : {left : Option ℕ} {b : ℕ} (list : List Hiding) {t : ExpansionStep} → Covers left b → step_in_budget macros env left list ≡ t → IsFree t → step_in_budget macros env (Some b) list ≡ t
+  free_turn : {remaining : Option ℕ} {b : ℕ} (list : List Hiding) {t : ExpansionStep} → Covers remaining b → step_in_budget macros env remaining list ≡ t → IsFree t → step_in_budget macros env (Some b) list ≡ t
   free_turn {b = b} list {t = t} is e h = free_less b list (expansion_step macros env list) t is e h
 
-  paid : {left : Option ℕ} {b : ℕ} (list : List Hiding) → Covers left b → (t : ExpansionStep) → step_in_budget macros env left list ≡ t → Costs t → expansion_step macros env list ≡ t
-  paid {left = left} list is t e h = paid_whole left list (expansion_step macros env list) t e h
+  paid : {remaining : Option ℕ} {b : ℕ} (list : List Hiding) → Covers remaining b → (t : ExpansionStep) → step_in_budget macros env remaining list ≡ t → Costs t → expansion_step macros env list ≡ t
+  paid {remaining = remaining} list is t e h = paid_whole remaining list (expansion_step macros env list) t e h
 
-  pub left_none : {level steps : ℕ} {left after : Option ℕ} {list tokens : List Hiding} {fault : Option Fault}
-      → left ≡ None
-      → Expands macros env level left steps list (record { tokens = tokens; fault = fault; left = after })
-      → after ≡ None
-  left_none {after = after} is d = plus-none (count macros env d) after (sym is ∙ spends d)
+  pub remaining_none : {level steps : ℕ} {remaining remaining_after : Option ℕ} {list tokens : List Hiding} {fault : Option Fault}
+      → remaining ≡ None
+      → Expands macros env level remaining steps list (record { tokens = tokens; fault = fault; remaining = remaining_after })
+      → remaining_after ≡ None
+  remaining_none {remaining_after = remaining_after} is d = plus-none (count macros env d) remaining_after (sym is ∙ spends d)
 
-  pub arguments_none : {level : ℕ} {call : Call} {left after : Option ℕ} {as' : List (Option (List Hiding))} {r : ExpandedArguments} → left ≡ None → ExpandsArguments macros env level call left as' after r → after ≡ None
-  arguments_none {after = after} is a = plus-none (count_arguments macros env a) after (sym is ∙ spends_arguments a)
+  pub arguments_none : {level : ℕ} {call : Call} {remaining remaining_after : Option ℕ} {as' : List (Option (List Hiding))} {r : ExpandedArguments} → remaining ≡ None → ExpandsArguments macros env level call remaining as' remaining_after r → remaining_after ≡ None
+  arguments_none {remaining_after = remaining_after} is a = plus-none (count_arguments macros env a) remaining_after (sym is ∙ spends_arguments a)
 
-  left_rest : {level steps : ℕ} {left after : Option ℕ} {list tokens : List Hiding} {fault : Option Fault} (b m : ℕ) → Covers left b
-      → (d : Expands macros env level left steps list (record { tokens = tokens; fault = fault; left = after }))
+  remaining_rest : {level steps : ℕ} {remaining remaining_after : Option ℕ} {list tokens : List Hiding} {fault : Option Fault} (b m : ℕ) → Covers remaining b
+      → (d : Expands macros env level remaining steps list (record { tokens = tokens; fault = fault; remaining = remaining_after }))
       → b ≡ count macros env d + m
-      → Covers after m
-  left_rest {after = after} b m is d sum = covers_rest after (count macros env d) m is (spends d) sum
+      → Covers remaining_after m
+  remaining_rest {remaining_after = remaining_after} b m is d sum = covers_rest remaining_after (count macros env d) m is (spends d) sum
 
-  arguments_rest : {level : ℕ} {call : Call} {left after : Option ℕ} {as' : List (Option (List Hiding))} {r : ExpandedArguments} (b m : ℕ) → Covers left b
-      → (a : ExpandsArguments macros env level call left as' after r)
+  arguments_rest : {level : ℕ} {call : Call} {remaining remaining_after : Option ℕ} {as' : List (Option (List Hiding))} {r : ExpandedArguments} (b m : ℕ) → Covers remaining b
+      → (a : ExpandsArguments macros env level call remaining as' remaining_after r)
       → b ≡ count_arguments macros env a + m
-      → Covers after m
-  arguments_rest {after = after} b m is a sum = covers_rest after (count_arguments macros env a) m is (spends_arguments a) sum
+      → Covers remaining_after m
+  arguments_rest {remaining_after = remaining_after} b m is a sum = covers_rest remaining_after (count_arguments macros env a) m is (spends_arguments a) sum
 
   abbrev leaving : ℕ → Outcome → Outcome
-  leaving n out = record { tokens = out.tokens; fault = out.fault; left = Some n }
+  leaving n out = record { tokens = out.tokens; fault = out.fault; remaining = Some n }
 
   mutual
     -- with as much as an expansion costs, and more, it is the same, and the rest is left
-    pub enough : {level steps : ℕ} {left : Option ℕ} {list : List Hiding} {out : Outcome} (b : ℕ) → Covers left b
-        → (d : Expands macros env level left steps list out) (n : ℕ)
+    pub enough : {level steps : ℕ} {remaining : Option ℕ} {list : List Hiding} {out : Outcome} (b : ℕ) → Covers remaining b
+        → (d : Expands macros env level remaining steps list out) (n : ℕ)
         → b ≡ count macros env d + n
         → Expands macros env level (Some b) steps list (leaving n out)
     enough {level = level} {list = list} b is (done e) n sum =
         let same : b ≡ n = omega arith in
-        subst (λ x. Expands macros env level (Some b) 0 list (record { tokens = []; fault = None; left = Some x })) same (done (free_turn list is e tt))
+        subst (λ x. Expands macros env level (Some b) 0 list (record { tokens = []; fault = None; remaining = Some x })) same (done (free_turn list is e tt))
     enough {level = level} {list = list} b is (refused {f = f} e) n sum =
         let same : b ≡ n = omega arith in
-        subst (λ x. Expands macros env level (Some b) 0 list (record { tokens = []; fault = Some f; left = Some x })) same (refused (free_turn list is e tt))
+        subst (λ x. Expands macros env level (Some b) 0 list (record { tokens = []; fault = Some f; remaining = Some x })) same (refused (free_turn list is e tt))
     enough {list = list} b is (emits e more) n sum = emits (free_turn list is e tt) (enough b is more n sum)
     enough zero is (failed {f = f} e) n sum = absurd (omega arith)
     enough {level = level} {list = list} (suc b) is (failed {f = f} e) n sum =
         let same : b ≡ n = omega arith in
-        subst (λ x. Expands macros env level (Some (suc b)) 0 list (record { tokens = []; fault = Some f; left = Some x })) same (failed (paid list is (Failed f) e tt))
+        subst (λ x. Expands macros env level (Some (suc b)) 0 list (record { tokens = []; fault = Some f; remaining = Some x })) same (failed (paid list is (Failed f) e tt))
     enough zero is (replaced {next = next} e more) n sum = absurd (omega arith)
     enough {list = list} (suc b) is (replaced {next = next} e more) n sum = replaced (paid list is (Replaced next) e tt) (enough b (covers_less is) more n (omega arith))
     enough zero is (argument_refused {call = call} e a) n sum = absurd (omega arith)
@@ -207,8 +207,8 @@ module _ (macros : Macros) (env : Env) where
         let k = count macros env more in
         call_replaced (paid list is (Called call) e tt) (enough_arguments b (covers_less is) a (k + n) (omega arith)) f (enough (k + n) (arguments_rest b (k + n) (covers_less is) a (omega arith)) more n refl)
 
-    pub enough_arguments : {level : ℕ} {call : Call} {left after : Option ℕ} {as' : List (Option (List Hiding))} {r : ExpandedArguments} (b : ℕ) → Covers left b
-        → (a : ExpandsArguments macros env level call left as' after r) (n : ℕ)
+    pub enough_arguments : {level : ℕ} {call : Call} {remaining remaining_after : Option ℕ} {as' : List (Option (List Hiding))} {r : ExpandedArguments} (b : ℕ) → Covers remaining b
+        → (a : ExpandsArguments macros env level call remaining as' remaining_after r) (n : ℕ)
         → b ≡ count_arguments macros env a + n
         → ExpandsArguments macros env level call (Some b) as' (Some n) r
     enough_arguments {level = level} {call = call} b is none n sum =
@@ -218,10 +218,10 @@ module _ (macros : Macros) (env : Env) where
     enough_arguments {level = level} {call = call} {as' = as'} b is (too_deep h) n sum =
         let same : b ≡ n = omega arith in
         subst (λ x. ExpandsArguments macros env level call (Some b) as' (Some x) (Err (fault_at_expansion 21 call.head))) same (too_deep h)
-    enough_arguments b is (used h one more) n sum =
+    enough_arguments b is (pre_expanded h one more) n sum =
         let k = count_arguments macros env more in
-        used h (enough b is one (k + n) (omega arith)) (enough_arguments (k + n) (left_rest b (k + n) is one (omega arith)) more n refl)
-    enough_arguments b is (used_refused h one) n sum = used_refused h (enough b is one n sum)
+        pre_expanded h (enough b is one (k + n) (omega arith)) (enough_arguments (k + n) (remaining_rest b (k + n) is one (omega arith)) more n refl)
+    enough_arguments b is (pre_expansion_refused h one) n sum = pre_expansion_refused h (enough b is one n sum)
 
   -- ---- with less
 
@@ -236,31 +236,31 @@ module _ (macros : Macros) (env : Env) where
   stops_here [] whole t e c = absurd (never_both t (subst IsFree e tt) c)
   stops_here (x ∷ rest) whole t e c = (
     0,
-    record { tokens = []; fault = Some (record { number = 35; at = x.token.used; text = [] }); left = Some 0 },
+    record { tokens = []; fault = Some (record { number = 35; at = x.token.used; text = [] }); remaining = Some 0 },
     refused (over_within (x ∷ rest) (expansion_step macros env (x ∷ rest)) (subst Costs (sym e) c)),
     (whole.tokens, refl),
-    record { fault = record { number = 35; at = x.token.used; text = [] }; is = refl; number = refl; left = refl },
+    record { fault = record { number = 35; at = x.token.used; text = [] }; is = refl; number = refl; remaining = refl },
   )
 
   pub stops_passed : {level b : ℕ} {list rest : List Hiding} {t : Hiding} (whole : Outcome)
       → step_in_budget macros env (Some b) list ≡ Emits t rest
       → Stops level b rest whole
-      → Stops level b list (record { tokens = t ∷ whole.tokens; fault = whole.fault; left = whole.left })
+      → Stops level b list (record { tokens = t ∷ whole.tokens; fault = whole.fault; remaining = whole.remaining })
   stops_passed {t = t} whole e s =
-      (suc s.0, record { tokens = t ∷ s.1.tokens; fault = s.1.fault; left = s.1.left }, emits e s.2, (s.3.0, ap (λ xs. t ∷ xs) s.3.1), record { fault = s.4.fault; is = s.4.is; number = s.4.number; left = s.4.left })
+      (suc s.0, record { tokens = t ∷ s.1.tokens; fault = s.1.fault; remaining = s.1.remaining }, emits e s.2, (s.3.0, ap (λ xs. t ∷ xs) s.3.1), record { fault = s.4.fault; is = s.4.is; number = s.4.number; remaining = s.4.remaining })
 
   pub stops_argument : {level b : ℕ} {list : List Hiding} {call : Call} (whole : Outcome) → expansion_step macros env list ≡ Called call → ArgumentsStop level call b (wanted call) → Stops level (suc b) list whole
   stops_argument whole e s =
-      (0, record { tokens = []; fault = Some s.0; left = Some 0 }, argument_refused e s.2, (whole.tokens, refl), record { fault = s.0; is = refl; number = s.1; left = refl })
+      (0, record { tokens = []; fault = Some s.0; remaining = Some 0 }, argument_refused e s.2, (whole.tokens, refl), record { fault = s.0; is = refl; number = s.1; remaining = refl })
 
   pub stops_used : {level b : ℕ} {call : Call} {list : List Hiding} {rest : List (Option (List Hiding))} (whole : Outcome) → level < 256 → Stops (suc level) b list whole → ArgumentsStop level call b (Some list ∷ rest)
   stops_used {level = level} {b = b} {list = list} whole h s =
       let o = s.4 in
-      (o.fault, o.number, used_refused h (subst (λ x. Expands macros env (suc level) (Some b) s.0 list x) (λ i. record { tokens = s.1.tokens; fault = o.is i; left = o.left i }) s.2))
+      (o.fault, o.number, pre_expansion_refused h (subst (λ x. Expands macros env (suc level) (Some b) s.0 list x) (λ i. record { tokens = s.1.tokens; fault = o.is i; remaining = o.remaining i }) s.2))
 
   mutual
-    pub short : {level steps : ℕ} {left : Option ℕ} {list : List Hiding} {out : Outcome} (b : ℕ) → Covers left b
-        → (d : Expands macros env level left steps list out)
+    pub short : {level steps : ℕ} {remaining : Option ℕ} {list : List Hiding} {out : Outcome} (b : ℕ) → Covers remaining b
+        → (d : Expands macros env level remaining steps list out)
         → b < count macros env d
         → Stops level b list out
     short b is (done e) h = absurd (omega arith)
@@ -288,8 +288,8 @@ module _ (macros : Macros) (env : Env) where
               (suc s.0, s.1, call_replaced {steps = s.0} {out = s.1} (paid list is (Called call) e tt) (enough_arguments b (covers_less is) a n (sym sum)) f s.2, s.3, s.4))
         ]
 
-    pub short_arguments : {level : ℕ} {call : Call} {left after : Option ℕ} {as' : List (Option (List Hiding))} {r : ExpandedArguments} (b : ℕ) → Covers left b
-        → (a : ExpandsArguments macros env level call left as' after r)
+    pub short_arguments : {level : ℕ} {call : Call} {remaining remaining_after : Option ℕ} {as' : List (Option (List Hiding))} {r : ExpandedArguments} (b : ℕ) → Covers remaining b
+        → (a : ExpandsArguments macros env level call remaining as' remaining_after r)
         → b < count_arguments macros env a
         → ArgumentsStop level call b as'
     short_arguments b is none h = absurd (omega arith)
@@ -297,17 +297,17 @@ module _ (macros : Macros) (env : Env) where
         let s = short_arguments b is more h in
         (s.0, s.1, unused s.2)
     short_arguments b is (too_deep deep) h = absurd (omega arith)
-    short_arguments {level = level} {call = call} {as' = as'} b is (used {between = between} {tokens = tokens} low one more) h =
+    short_arguments {level = level} {call = call} {as' = as'} b is (pre_expanded {between = between} {tokens = tokens} low one more) h =
         elim (dec_lt b (count macros env one)) [
-          | yes less ↦ stops_used (record { tokens = tokens; fault = None; left = between }) low (short b is one less)
+          | yes less ↦ stops_used (record { tokens = tokens; fault = None; remaining = between }) low (short b is one less)
           | no not_less ↦
               (let m = count macros env one in
               let n = b - m in
               let sum : m + n ≡ b = omega arith in
-              let s = short_arguments n (left_rest b n is one (sym sum)) more (omega arith) in
-              (s.0, s.1, used {out = Err s.0} low (enough b is one n (sym sum)) s.2))
+              let s = short_arguments n (remaining_rest b n is one (sym sum)) more (omega arith) in
+              (s.0, s.1, pre_expanded {out = Err s.0} low (enough b is one n (sym sum)) s.2))
         ]
-    short_arguments b is (used_refused {after = after} {tokens = tokens} {f = f} low one) h = stops_used (record { tokens = tokens; fault = Some f; left = after }) low (short b is one h)
+    short_arguments b is (pre_expansion_refused {remaining_after = remaining_after} {tokens = tokens} {f = f} low one) h = stops_used (record { tokens = tokens; fault = Some f; remaining = remaining_after }) low (short b is one h)
 
   -- an expansion within a budget, compared with the one without
   pub capped : {level steps : ℕ} {list : List Hiding} {whole : Outcome} (d : Expands macros env level None steps list whole) (b n : ℕ) (out : Outcome)
@@ -332,15 +332,15 @@ module _ (macros : Macros) (env : Env) where
 
   -- ---- expansions of tokens
 
-  pub expansion_spends : {left : Option ℕ} {tokens : List Token} {e : Expanded} (x : IsExpansion macros env left tokens e) → left ≡ plus (count_expansion x) e.left
-  expansion_spends x = spends x.expands.1 ∙ ap (plus (count_expansion x)) (sym x.left_over)
+  pub expansion_spends : {remaining : Option ℕ} {tokens : List Token} {e : Expanded} (x : IsExpansion macros env remaining tokens e) → remaining ≡ plus (count_expansion x) e.remaining
+  expansion_spends x = spends x.expands.1 ∙ ap (plus (count_expansion x)) (sym x.remains)
 
   -- a budget that suffices gives the same, and leaves the rest
-  pub expansion_enough : {left : Option ℕ} {tokens : List Token} {e : Expanded} (b : ℕ) → Covers left b
-      → (x : IsExpansion macros env left tokens e) (n : ℕ)
+  pub expansion_enough : {remaining : Option ℕ} {tokens : List Token} {e : Expanded} (b : ℕ) → Covers remaining b
+      → (x : IsExpansion macros env remaining tokens e) (n : ℕ)
       → b ≡ count_expansion x + n
-      → IsExpansion macros env (Some b) tokens (record e { left = Some n })
-  expansion_enough b is x n sum = record { outcome = leaving n x.outcome; expands = (x.expands.0, enough b is x.expands.1 n sum); emitted = x.emitted; ended = x.ended; left_over = refl }
+      → IsExpansion macros env (Some b) tokens (record e { remaining = Some n })
+  expansion_enough b is x n sum = record { outcome = leaving n x.outcome; expands = (x.expands.0, enough b is x.expands.1 n sum); emitted = x.emitted; ended = x.ended; remains = refl }
 
   -- a list of tokens that stops by fault 35
   pub record StopsEarly (b : ℕ) (tokens : List Token) (whole : Expanded) : Type 0 where
@@ -350,24 +350,24 @@ module _ (macros : Macros) (env : Env) where
     pub fault : Fault
     pub stopped : expanded.fault ≡ Some fault
     pub number : fault.number ≡ 35
-    pub nothing : expanded.left ≡ Some 0
+    pub nothing : expanded.remaining ≡ Some 0
 
   -- a smaller one is used up
-  pub expansion_short : {left : Option ℕ} {tokens : List Token} {e : Expanded} (b : ℕ) → Covers left b
-      → (x : IsExpansion macros env left tokens e)
+  pub expansion_short : {remaining : Option ℕ} {tokens : List Token} {e : Expanded} (b : ℕ) → Covers remaining b
+      → (x : IsExpansion macros env remaining tokens e)
       → b < count_expansion x
       → StopsEarly b tokens e
   expansion_short {e = e} b is x less =
       let s = short b is x.expands.1 less in
       let text : Hiding → Token = λ t. t.token in
       record {
-        expanded = record { tokens = map text s.1.tokens; fault = s.1.fault; left = s.1.left };
-        is = record { outcome = s.1; expands = (s.0, s.2); emitted = refl; ended = refl; left_over = refl };
+        expanded = record { tokens = map text s.1.tokens; fault = s.1.fault; remaining = s.1.remaining };
+        is = record { outcome = s.1; expands = (s.0, s.2); emitted = refl; ended = refl; remains = refl };
         begins = (map text s.3.0, x.emitted ∙ ap (map text) s.3.1 ∙ map-append text s.1.tokens s.3.0);
         fault = s.4.fault;
         stopped = s.4.is;
         number = s.4.number;
-        nothing = s.4.left;
+        nothing = s.4.remaining;
       }
 
   -- a list without a budget has one count
@@ -376,6 +376,6 @@ module _ (macros : Macros) (env : Env) where
       let j = count macros env d in
       let k = count macros env e in
       let same : leaving k o ≡ leaving j p = (same_outcome macros env (enough (j + k) without d k refl) n (leaving j p) (enough (j + k) without e j (omega arith))).1 in
-      let lefts : Some k ≡ Some j = ap (λ x. x.left) same in
+      let remainders : Some k ≡ Some j = ap (λ x. x.remaining) same in
       let counts : k ≡ j = cc in
       sym counts

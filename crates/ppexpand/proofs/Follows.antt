@@ -10,7 +10,7 @@ use Rattle.ppexpand.specs.declared.env.Env.{Env}
 use Rattle.ppexpand.specs.declared.expand_step.Invocation.{Invocation}
 use Rattle.ppexpand.specs.ExpansionStep.{Call, ExpansionStep, Failed, Replaced, Called, wanted, ExpandedArguments, with_expanded}
 use Rattle.ppexpand.specs.Budget.{spend_one}
-use Rattle.ppexpand.specs.Expansion.{Outcome, step_in_budget, Expands, ExpandsTo, ExpandsArguments, argument_refused, call_failed, call_replaced, none, unused, too_deep, used, used_refused}
+use Rattle.ppexpand.specs.Expansion.{Outcome, step_in_budget, Expands, ExpandsTo, ExpandsArguments, argument_refused, call_failed, call_replaced, none, unused, too_deep, pre_expanded, pre_expansion_refused}
 use Rattle.ppexpand.specs.code.ProgramValues.{Advances, EndsWith, HasAdvanced, HasEnded, HasTaken, HasCalled, CallStepsTo, refuses, finishes, ExpandsArgument, expands, raises, deep}
 use Rattle.ppexpand.proofs.Total.{total}
 use Rattle.ppexpand.proofs.Unique.{same_outcome}
@@ -18,90 +18,90 @@ use Rattle.ppexpand.proofs.Unique.{same_outcome}
 module _ (macros : Macros) (env : Env) (level : ℕ) where
   -- how many expansion steps a list takes
   abbrev pub turns_left : Option ℕ → List Hiding → ℕ
-  turns_left left list = (total macros env level left list).0
+  turns_left remaining list = (total macros env level remaining list).0
 
   -- the rest of the list and of the budget decides the outcome of the whole: these tokens were emitted before it
   abbrev pub Follows : Option ℕ → List Hiding → List Hiding → Option ℕ → List Hiding → Type 0
-  Follows first start tokens left list = (n : ℕ) (out : Outcome) → Expands macros env level left n list out → ExpandsTo macros env level first start (record { tokens = tokens ++ out.tokens; fault = out.fault; left = out.left })
+  Follows first start tokens remaining list = (n : ℕ) (out : Outcome) → Expands macros env level remaining n list out → ExpandsTo macros env level first start (record { tokens = tokens ++ out.tokens; fault = out.fault; remaining = out.remaining })
 
-  pub follows_start : (left : Option ℕ) (start : List Hiding) → Follows left start [] left start
-  follows_start left start n out d = (n, d)
+  pub follows_start : (remaining : Option ℕ) (start : List Hiding) → Follows remaining start [] remaining start
+  follows_start remaining start n out d = (n, d)
 
-  pub advances_falls : (left : Option ℕ) (list : List Hiding) (after : Option ℕ) (next tokens : List Hiding) → Advances macros env level left list after next tokens → turns_left after next < turns_left left list
-  advances_falls left list after next tokens step =
-      let here = total macros env level left list in
-      let there = total macros env level after next in
+  pub advances_falls : (remaining : Option ℕ) (list : List Hiding) (remaining_after : Option ℕ) (next tokens : List Hiding) → Advances macros env level remaining list remaining_after next tokens → turns_left remaining_after next < turns_left remaining list
+  advances_falls remaining list remaining_after next tokens step =
+      let here = total macros env level remaining list in
+      let there = total macros env level remaining_after next in
       let more = step.expansion_step there.0 there.1 there.2 in
       let same = (same_outcome macros env more here.0 here.1 here.2).0 in
       rw (← same) (omega arith)
 
-  pub follows_on : (first : Option ℕ) (start emitted : List Hiding) (left : Option ℕ) (list : List Hiding) (after : Option ℕ) (next tokens : List Hiding)
-      → Follows first start emitted left list
-      → Advances macros env level left list after next tokens
-      → Follows first start (emitted ++ tokens) after next
-  follows_on first start emitted left list after next tokens so_far step n out d =
+  pub follows_on : (first : Option ℕ) (start emitted : List Hiding) (remaining : Option ℕ) (list : List Hiding) (remaining_after : Option ℕ) (next tokens : List Hiding)
+      → Follows first start emitted remaining list
+      → Advances macros env level remaining list remaining_after next tokens
+      → Follows first start (emitted ++ tokens) remaining_after next
+  follows_on first start emitted remaining list remaining_after next tokens so_far step n out d =
       let whole = so_far (suc n) _ (step.expansion_step n out d) in
       (whole.0, rw append_assoc whole.1)
 
-  pub follows_end : (first : Option ℕ) (start emitted : List Hiding) (left : Option ℕ) (list : List Hiding) (fault : Option Fault) (after : Option ℕ)
-      → Follows first start emitted left list
-      → EndsWith macros env level left list fault after
-      → ExpandsTo macros env level first start (record { tokens = emitted; fault = fault; left = after })
-  follows_end first start emitted left list fault after so_far d =
+  pub follows_end : (first : Option ℕ) (start emitted : List Hiding) (remaining : Option ℕ) (list : List Hiding) (fault : Option Fault) (remaining_after : Option ℕ)
+      → Follows first start emitted remaining list
+      → EndsWith macros env level remaining list fault remaining_after
+      → ExpandsTo macros env level first start (record { tokens = emitted; fault = fault; remaining = remaining_after })
+  follows_end first start emitted remaining list fault remaining_after so_far d =
       let whole = so_far 0 _ d in
       (whole.0, rw (append-nil emitted) at whole.1)
 
   -- a step was made, after which the list goes on or ends
-  pub more_follows : (first : Option ℕ) (start emitted : List Hiding) (left : Option ℕ) (list : List Hiding) (after : Option ℕ) (next more : List Hiding)
-      → Follows first start emitted left list
-      → HasAdvanced macros env level left list emitted after next more
-      → Follows first start more after next
-  more_follows first start emitted left list after next more so_far step =
-      subst (λ ts. Follows first start ts after next) (sym step.1) (follows_on first start emitted left list after next step.0 so_far step.2)
+  pub more_follows : (first : Option ℕ) (start emitted : List Hiding) (remaining : Option ℕ) (list : List Hiding) (remaining_after : Option ℕ) (next more : List Hiding)
+      → Follows first start emitted remaining list
+      → HasAdvanced macros env level remaining list emitted remaining_after next more
+      → Follows first start more remaining_after next
+  more_follows first start emitted remaining list remaining_after next more so_far step =
+      subst (λ ts. Follows first start ts remaining_after next) (sym step.1) (follows_on first start emitted remaining list remaining_after next step.0 so_far step.2)
 
-  pub more_falls : (left : Option ℕ) (list emitted : List Hiding) (after : Option ℕ) (next more : List Hiding)
-      → HasAdvanced macros env level left list emitted after next more
-      → turns_left after next < turns_left left list
-  more_falls left list emitted after next more step = advances_falls left list after next step.0 step.2
+  pub more_falls : (remaining : Option ℕ) (list emitted : List Hiding) (remaining_after : Option ℕ) (next more : List Hiding)
+      → HasAdvanced macros env level remaining list emitted remaining_after next more
+      → turns_left remaining_after next < turns_left remaining list
+  more_falls remaining list emitted remaining_after next more step = advances_falls remaining list remaining_after next step.0 step.2
 
-  pub end_follows : (first : Option ℕ) (start emitted : List Hiding) (left : Option ℕ) (list : List Hiding) (fault : Option Fault) (after : Option ℕ) (more : List Hiding)
-      → Follows first start emitted left list
-      → HasEnded macros env level left list emitted fault after more
-      → ExpandsTo macros env level first start (record { tokens = more; fault = fault; left = after })
-  end_follows first start emitted left list fault after more so_far end =
-      subst (λ ts. ExpandsTo macros env level first start (record { tokens = ts; fault = fault; left = after })) (sym end.1)
-      (follows_end first start emitted left list fault after so_far end.0)
+  pub end_follows : (first : Option ℕ) (start emitted : List Hiding) (remaining : Option ℕ) (list : List Hiding) (fault : Option Fault) (remaining_after : Option ℕ) (more : List Hiding)
+      → Follows first start emitted remaining list
+      → HasEnded macros env level remaining list emitted fault remaining_after more
+      → ExpandsTo macros env level first start (record { tokens = more; fault = fault; remaining = remaining_after })
+  end_follows first start emitted remaining list fault remaining_after more so_far end =
+      subst (λ ts. ExpandsTo macros env level first start (record { tokens = ts; fault = fault; remaining = remaining_after })) (sym end.1)
+      (follows_end first start emitted remaining list fault remaining_after so_far end.0)
 
 -- ---- the step of an invocation
 
-module _ (macros : Macros) (env : Env) (level : ℕ) (left : Option ℕ) (list : List Hiding) (call : Call) (found : step_in_budget macros env left list ≡ Called call) where
-  call_ends : {after : Option ℕ} {t : ExpansionStep} → CallStepsTo macros env level call (spend_one left) after t → (f : Fault) → t ≡ Failed f → EndsWith macros env level left list (Some f) after
-  call_ends {after} (refuses args) f e =
-      argument_refused found (subst (λ g. ExpandsArguments macros env level call (spend_one left) (wanted call) after (Err g)) (let same : _ ≡ f = cc e in same) args)
+module _ (macros : Macros) (env : Env) (level : ℕ) (remaining : Option ℕ) (list : List Hiding) (call : Call) (found : step_in_budget macros env remaining list ≡ Called call) where
+  call_ends : {remaining_after : Option ℕ} {t : ExpansionStep} → CallStepsTo macros env level call (spend_one remaining) remaining_after t → (f : Fault) → t ≡ Failed f → EndsWith macros env level remaining list (Some f) remaining_after
+  call_ends {remaining_after} (refuses args) f e =
+      argument_refused found (subst (λ g. ExpandsArguments macros env level call (spend_one remaining) (wanted call) remaining_after (Err g)) (let same : _ ≡ f = cc e in same) args)
   call_ends (finishes args) f e = call_failed found args e
 
-  call_goes_on : {after : Option ℕ} {t : ExpansionStep} → CallStepsTo macros env level call (spend_one left) after t → (next : List Hiding) → t ≡ Replaced next → Advances macros env level left list after next []
+  call_goes_on : {remaining_after : Option ℕ} {t : ExpansionStep} → CallStepsTo macros env level call (spend_one remaining) remaining_after t → (next : List Hiding) → t ≡ Replaced next → Advances macros env level remaining list remaining_after next []
   call_goes_on (refuses args) next e = absurd (cc e)
   call_goes_on (finishes args) next e = record { expansion_step = λ n out d. call_replaced found args e d }
 
   -- the call is replaced, and the list goes on
-  pub call_taken : (s : HideSetPool) (hs : List Hidden) (emitted more : List Hiding) (after : Option ℕ) → more ≡ emitted
-      → CallStepsTo macros env level call (spend_one left) after (Replaced (hidings s hs))
-      → HasAdvanced macros env level left list emitted after (hidings s hs) more
-  call_taken s hs emitted more after same h = ([], same ∙ sym (append-nil emitted), call_goes_on h (hidings s hs) refl)
+  pub call_taken : (s : HideSetPool) (hs : List Hidden) (emitted more : List Hiding) (remaining_after : Option ℕ) → more ≡ emitted
+      → CallStepsTo macros env level call (spend_one remaining) remaining_after (Replaced (hidings s hs))
+      → HasAdvanced macros env level remaining list emitted remaining_after (hidings s hs) more
+  call_taken s hs emitted more remaining_after same h = ([], same ∙ sym (append-nil emitted), call_goes_on h (hidings s hs) refl)
 
   -- the call fails, and the list ends
-  pub call_raises : (emitted more : List Hiding) (f : Fault) (after : Option ℕ) → more ≡ emitted
-      → CallStepsTo macros env level call (spend_one left) after (Failed f)
-      → HasEnded macros env level left list emitted (Some f) after more
-  call_raises emitted more f after same h = (call_ends h f refl, same)
+  pub call_raises : (emitted more : List Hiding) (f : Fault) (remaining_after : Option ℕ) → more ≡ emitted
+      → CallStepsTo macros env level call (spend_one remaining) remaining_after (Failed f)
+      → HasEnded macros env level remaining list emitted (Some f) remaining_after more
+  call_raises emitted more f remaining_after same h = (call_ends h f refl, same)
 
 -- a step that raises a fault is no invocation
-pub begun_raises : (macros : Macros) (env : Env) (level : ℕ) (left : Option ℕ) (list emitted : List Hiding) (found : Option Invocation) (call : Invocation → Call) (f : Fault) (after : Option ℕ) (next more : List Hiding)
-    → MatchOption found ((level : ℕ) → HasTaken macros env level left list emitted (Err f) after next more) (λ c. HasCalled macros env left list emitted (call c) (Err f) after more)
-    → HasTaken macros env level left list emitted (Err f) after next more
-begun_raises macros env level left list emitted None call f after next more h = h level
-begun_raises macros env level left list emitted (Some c) call f after next more h = absurd (cc h.1)
+pub begun_raises : (macros : Macros) (env : Env) (level : ℕ) (remaining : Option ℕ) (list emitted : List Hiding) (found : Option Invocation) (call : Invocation → Call) (f : Fault) (remaining_after : Option ℕ) (next more : List Hiding)
+    → MatchOption found ((level : ℕ) → HasTaken macros env level remaining list emitted (Err f) remaining_after next more) (λ c. HasCalled macros env remaining list emitted (call c) (Err f) remaining_after more)
+    → HasTaken macros env level remaining list emitted (Err f) remaining_after next more
+begun_raises macros env level remaining list emitted None call f remaining_after next more h = h level
+begun_raises macros env level remaining list emitted (Some c) call f remaining_after next more h = absurd (cc h.1)
 
 -- what is done of the arguments, before the rest
 abbrev pub before_rest : List (Option (List Hiding)) → ExpandedArguments → ExpandedArguments
@@ -115,30 +115,30 @@ before_rest-more so_far a (Err fault) = refl
 module _ (macros : Macros) (env : Env) (level : ℕ) (call : Call) where
   -- the rest of the arguments decides the whole
   abbrev pub ArgumentsFollow : Option ℕ → List (Option (List Hiding)) → List (Option (List Hiding)) → Option ℕ → List (Option (List Hiding)) → Type 0
-  ArgumentsFollow first all so_far left rest = (after : Option ℕ) (r : ExpandedArguments) → ExpandsArguments macros env level call left rest after r → ExpandsArguments macros env level call first all after (before_rest so_far r)
+  ArgumentsFollow first all so_far remaining rest = (remaining_after : Option ℕ) (r : ExpandedArguments) → ExpandsArguments macros env level call remaining rest remaining_after r → ExpandsArguments macros env level call first all remaining_after (before_rest so_far r)
 
-  pub arguments_start : (left : Option ℕ) (all : List (Option (List Hiding))) → ArgumentsFollow left all [] left all
-  arguments_start left all after (Ok as') d = d
-  arguments_start left all after (Err f) d = d
+  pub arguments_start : (remaining : Option ℕ) (all : List (Option (List Hiding))) → ArgumentsFollow remaining all [] remaining all
+  arguments_start remaining all remaining_after (Ok as') d = d
+  arguments_start remaining all remaining_after (Err f) d = d
 
-  pub arguments_unused : (first : Option ℕ) (all so_far : List (Option (List Hiding))) (left : Option ℕ) (rest : List (Option (List Hiding)))
-      → ArgumentsFollow first all so_far left (None ∷ rest)
-      → ArgumentsFollow first all (so_far ++ None ∷ []) left rest
-  arguments_unused first all so_far left rest h after r d = subst (ExpandsArguments macros env level call first all after) (before_rest-more so_far None r) (h after (with_expanded None r) (unused d))
+  pub arguments_unused : (first : Option ℕ) (all so_far : List (Option (List Hiding))) (remaining : Option ℕ) (rest : List (Option (List Hiding)))
+      → ArgumentsFollow first all so_far remaining (None ∷ rest)
+      → ArgumentsFollow first all (so_far ++ None ∷ []) remaining rest
+  arguments_unused first all so_far remaining rest h remaining_after r d = subst (ExpandsArguments macros env level call first all remaining_after) (before_rest-more so_far None r) (h remaining_after (with_expanded None r) (unused d))
 
-  pub arguments_used : (first : Option ℕ) (all so_far : List (Option (List Hiding))) (left between : Option ℕ) (rest : List (Option (List Hiding))) (list tokens : List Hiding)
-      → ArgumentsFollow first all so_far left (Some list ∷ rest)
-      → ExpandsArgument macros env level call.head.token left list between (Ok tokens)
+  pub arguments_used : (first : Option ℕ) (all so_far : List (Option (List Hiding))) (remaining between : Option ℕ) (rest : List (Option (List Hiding))) (list tokens : List Hiding)
+      → ArgumentsFollow first all so_far remaining (Some list ∷ rest)
+      → ExpandsArgument macros env level call.head.token remaining list between (Ok tokens)
       → ArgumentsFollow first all (so_far ++ Some tokens ∷ []) between rest
-  arguments_used first all so_far left between rest list tokens h (expands low one) after r d =
-      subst (ExpandsArguments macros env level call first all after) (before_rest-more so_far (Some tokens) r) (h after (with_expanded (Some tokens) r) (used low one d))
+  arguments_used first all so_far remaining between rest list tokens h (expands low one) remaining_after r d =
+      subst (ExpandsArguments macros env level call first all remaining_after) (before_rest-more so_far (Some tokens) r) (h remaining_after (with_expanded (Some tokens) r) (pre_expanded low one d))
 
-  pub arguments_refused : (first : Option ℕ) (all so_far : List (Option (List Hiding))) (left after : Option ℕ) (rest : List (Option (List Hiding))) (list : List Hiding) (f : Fault)
-      → ArgumentsFollow first all so_far left (Some list ∷ rest)
-      → ExpandsArgument macros env level call.head.token left list after (Err f)
-      → ExpandsArguments macros env level call first all after (Err f)
-  arguments_refused first all so_far left after rest list f h (raises low one) = h after (Err f) (used_refused low one)
-  arguments_refused first all so_far left after rest list f h (deep high) = h left (Err f) (too_deep high)
+  pub arguments_refused : (first : Option ℕ) (all so_far : List (Option (List Hiding))) (remaining remaining_after : Option ℕ) (rest : List (Option (List Hiding))) (list : List Hiding) (f : Fault)
+      → ArgumentsFollow first all so_far remaining (Some list ∷ rest)
+      → ExpandsArgument macros env level call.head.token remaining list remaining_after (Err f)
+      → ExpandsArguments macros env level call first all remaining_after (Err f)
+  arguments_refused first all so_far remaining remaining_after rest list f h (raises low one) = h remaining_after (Err f) (pre_expansion_refused low one)
+  arguments_refused first all so_far remaining remaining_after rest list f h (deep high) = h remaining (Err f) (too_deep high)
 
-  pub arguments_end : (first : Option ℕ) (all so_far : List (Option (List Hiding))) (left : Option ℕ) → ArgumentsFollow first all so_far left [] → ExpandsArguments macros env level call first all left (Ok so_far)
-  arguments_end first all so_far left h = rw (append-nil so_far) at (h left (Ok []) none)
+  pub arguments_end : (first : Option ℕ) (all so_far : List (Option (List Hiding))) (remaining : Option ℕ) → ArgumentsFollow first all so_far remaining [] → ExpandsArguments macros env level call first all remaining (Ok so_far)
+  arguments_end first all so_far remaining h = rw (append-nil so_far) at (h remaining (Ok []) none)

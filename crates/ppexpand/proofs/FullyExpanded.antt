@@ -17,7 +17,7 @@ use Rattle.ppmacro.specs.declared.macros.MacroKind.TheVariants.{Predefined, Obje
 use Rattle.ppexpand.specs.declared.env.Env.{Env}
 use Rattle.ppexpand.specs.Arguments.{is_open, Gathered, Closed, UnmatchedQuote, Unclosed, gather, separators, fit_arguments}
 use Rattle.ppexpand.specs.ExpansionStep.{ExpansionStep, Done, Refused, Emits, Failed, Replaced, Called, expansion_step, macro_of, quote_fault, named_step, macro_step, function_step, invocation_step, call_step, replaced_by}
-use Rattle.ppexpand.specs.Budget.{over, in_budget}
+use Rattle.ppexpand.specs.Budget.{exhausted_step, in_budget}
 use Rattle.ppexpand.specs.Expansion.{Outcome, Expands, done, refused, emits, failed, replaced, argument_refused, call_failed, call_replaced}
 use Rattle.ppexpand.specs.Laws.{is_fully_expanded, is_always_replaced}
 
@@ -73,11 +73,11 @@ module _ (macros : Macros) (env : Env) where
         ] refl
       ] refl
 
-  over_settles : (list : List Hiding) → Settles (over list)
+  over_settles : (list : List Hiding) → Settles (exhausted_step list)
   over_settles [] = tt
   over_settles (t ∷ rest) = tt
 
-  within_settles : (left : Option ℕ) (list : List Hiding) (t : ExpansionStep) → Settles t → Settles (in_budget left list t)
+  within_settles : (remaining : Option ℕ) (list : List Hiding) (t : ExpansionStep) → Settles t → Settles (in_budget remaining list t)
   within_settles None list t h = h
   within_settles (Some (suc n)) list t h = h
   within_settles (Some zero) list Done h = h
@@ -87,11 +87,11 @@ module _ (macros : Macros) (env : Env) where
   within_settles (Some zero) list (Replaced next) h = over_settles list
   within_settles (Some zero) list (Called call) h = over_settles list
 
-  pub all_settled : {level n : ℕ} {left : Option ℕ} {list : List Hiding} {out : Outcome} → Expands macros env level left n list out → AllPass (is_fully_expanded macros) out.tokens
+  pub all_settled : {level n : ℕ} {remaining : Option ℕ} {list : List Hiding} {out : Outcome} → Expands macros env level remaining n list out → AllPass (is_fully_expanded macros) out.tokens
   all_settled (done e) = All-nil (λ x. is_fully_expanded macros x ≡ true)
   all_settled (refused e) = All-nil (λ x. is_fully_expanded macros x ≡ true)
-  all_settled (emits {left = left} {list = list} {t = t} {rest = rest} {out = out} e d) =
-      let hide_set_of : Settles (Emits t rest) = subst (λ x. Settles x) e (within_settles left list (expansion_step macros env list) (turn_settles list)) in
+  all_settled (emits {remaining = remaining} {list = list} {t = t} {rest = rest} {out = out} e d) =
+      let hide_set_of : Settles (Emits t rest) = subst (λ x. Settles x) e (within_settles remaining list (expansion_step macros env list) (turn_settles list)) in
       All-cons (λ x. is_fully_expanded macros x ≡ true) t out.tokens hide_set_of (all_settled d)
   all_settled (failed e) = All-nil (λ x. is_fully_expanded macros x ≡ true)
   all_settled (replaced e d) = all_settled d

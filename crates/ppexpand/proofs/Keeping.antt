@@ -8,8 +8,8 @@ use Rattle.ppmacro.specs.HideSets.{set_at, hiding, hidings, HasSets, AllKnown, K
 use Rattle.ppmacro.specs.Substitution.{argument_at, expanded_at}
 use Rattle.ppmacro.specs.Substituting.{lists_of, option_of, options_of, ListsKnown, ArgumentsKnown}
 use Rattle.ppmacro.specs.declared.hidden_token.Hidden.{Hidden}
-use Rattle.ppmacro.specs.declared.hidden_token.Expansion.{Expansion}
-use Rattle.ppmacro.specs.declared.hidden_token.Expansion.TheVariants.{Unused, AsGiven, Made}
+use Rattle.ppmacro.specs.declared.hidden_token.ArgumentExpansion.{ArgumentExpansion}
+use Rattle.ppmacro.specs.declared.hidden_token.ArgumentExpansion.TheVariants.{Unused, AsGiven, Made}
 use Rattle.ppmacro.proofs.ArgumentLemmas.{all-known}
 use Rattle.ppmacro.proofs.KeepLemmas.{set-keeps, hiding-keeps, hidings-keeps, known-keeps, known-set, known-sets}
 use Rattle.ppexpand.specs.declared.expand_step.Invocation.{Invocation}
@@ -26,49 +26,49 @@ given_known-keeps (v ∷ vs) k h =
     let rest = given_known-keeps vs k (record { each = h.each.1 }) in
     record { each = (known-keeps v.items k h.each.0, rest.each) }
 
-option-keeps : {s t : HideSetPool} (given : List Hidden) (e : Expansion) → KeepsSets s t → AllKnown s given → AllKnown s (owned_tokens e) → option_map (hidings t) (option_of given e) ≡ option_map (hidings s) (option_of given e)
+option-keeps : {s t : HideSetPool} (given : List Hidden) (e : ArgumentExpansion) → KeepsSets s t → AllKnown s given → AllKnown s (owned_tokens e) → option_map (hidings t) (option_of given e) ≡ option_map (hidings s) (option_of given e)
 option-keeps given Unused k g h = refl
 option-keeps given AsGiven k g h = ap Some (hidings-keeps given k g)
 option-keeps given (Made v) k g h = ap Some (hidings-keeps v.items k h)
 
-pub expanded-keeps : {s t : HideSetPool} (vs : List (Vec Hidden Global)) (es : List Expansion) → KeepsSets s t → ListsKnown s vs → ExpansionsKnown s es → expanded_in t vs es ≡ expanded_in s vs es
+pub expanded-keeps : {s t : HideSetPool} (vs : List (Vec Hidden Global)) (es : List ArgumentExpansion) → KeepsSets s t → ListsKnown s vs → ExpansionsKnown s es → expanded_in t vs es ≡ expanded_in s vs es
 expanded-keeps vs [] k g h = refl
 expanded-keeps [] (e ∷ es) k g h = λ i. option-keeps [] e k (record { each = tt }) h.each.0 i ∷ expanded-keeps [] es k g (record { each = h.each.1 }) i
 expanded-keeps (v ∷ vs) (e ∷ es) k g h = λ i. option-keeps v.items e k g.each.0 h.each.0 i ∷ expanded-keeps vs es k (record { each = g.each.1 }) (record { each = h.each.1 }) i
 
-pub expanded_known-keeps : {s t : HideSetPool} (es : List Expansion) → KeepsSets s t → ExpansionsKnown s es → ExpansionsKnown t es
+pub expanded_known-keeps : {s t : HideSetPool} (es : List ArgumentExpansion) → KeepsSets s t → ExpansionsKnown s es → ExpansionsKnown t es
 expanded_known-keeps [] k h = record { each = tt }
 expanded_known-keeps (e ∷ es) k h =
     let rest = expanded_known-keeps es k (record { each = h.each.1 }) in
     record { each = (known-keeps (owned_tokens e) k h.each.0, rest.each) }
 
-pub expanded_known-push : {s : HideSetPool} (es : List Expansion) (e : Expansion) → ExpansionsKnown s es → AllKnown s (owned_tokens e) → ExpansionsKnown s (es ++ e ∷ [])
+pub expanded_known-push : {s : HideSetPool} (es : List ArgumentExpansion) (e : ArgumentExpansion) → ExpansionsKnown s es → AllKnown s (owned_tokens e) → ExpansionsKnown s (es ++ e ∷ [])
 expanded_known-push [] e h here = record { each = (here, tt) }
 expanded_known-push (x ∷ es) e h here =
     let rest = expanded_known-push es e (record { each = h.each.1 }) here in
     record { each = (h.each.0, rest.each) }
 
 -- one more, of the argument that is next, or of one that is absent
-pub expanded_in-push : (s : HideSetPool) (vs : List (Vec Hidden Global)) (es : List Expansion) (e : Expansion)
+pub expanded_in-push : (s : HideSetPool) (vs : List (Vec Hidden Global)) (es : List ArgumentExpansion) (e : ArgumentExpansion)
     → expanded_in s vs (es ++ e ∷ []) ≡ expanded_in s vs es ++ option_map (hidings s) (option_of (argument_at (lists_of vs) (length es)) e) ∷ []
 expanded_in-push s [] [] e = refl
 expanded_in-push s (v ∷ vs) [] e = refl
 expanded_in-push s [] (x ∷ es) e = ap (λ xs. option_map (hidings s) (option_of [] x) ∷ xs) (expanded_in-push s [] es e)
 expanded_in-push s (v ∷ vs) (x ∷ es) e = ap (λ xs. option_map (hidings s) (option_of v.items x) ∷ xs) (expanded_in-push s vs es e)
 
-option-at : {s : HideSetPool} (given : List Hidden) (e : Expansion) → AllKnown s given → AllKnown s (owned_tokens e) → AllKnown s (unwrap_or (option_of given e) [])
+option-at : {s : HideSetPool} (given : List Hidden) (e : ArgumentExpansion) → AllKnown s given → AllKnown s (owned_tokens e) → AllKnown s (unwrap_or (option_of given e) [])
 option-at given Unused g h = h
 option-at given AsGiven g h = g
 option-at given (Made v) g h = h
 
-expanded-at : {s : HideSetPool} (vs : List (Vec Hidden Global)) (es : List Expansion) → ListsKnown s vs → ExpansionsKnown s es → (i : ℕ) → AllKnown s (expanded_at (options_of vs es) i)
+expanded-at : {s : HideSetPool} (vs : List (Vec Hidden Global)) (es : List ArgumentExpansion) → ListsKnown s vs → ExpansionsKnown s es → (i : ℕ) → AllKnown s (expanded_at (options_of vs es) i)
 expanded-at vs [] g h i = record { each = tt }
 expanded-at [] (e ∷ es) g h zero = option-at [] e (record { each = tt }) h.each.0
 expanded-at (v ∷ vs) (e ∷ es) g h zero = option-at v.items e g.each.0 h.each.0
 expanded-at [] (e ∷ es) g h (suc i) = expanded-at [] es g (record { each = h.each.1 }) i
 expanded-at (v ∷ vs) (e ∷ es) g h (suc i) = expanded-at vs es (record { each = g.each.1 }) (record { each = h.each.1 }) i
 
-pub arguments_known : {s : HideSetPool} (vs : List (Vec Hidden Global)) (es : List Expansion) → ListsKnown s vs → ExpansionsKnown s es → ArgumentsKnown s vs es
+pub arguments_known : {s : HideSetPool} (vs : List (Vec Hidden Global)) (es : List ArgumentExpansion) → ListsKnown s vs → ExpansionsKnown s es → ArgumentsKnown s vs es
 arguments_known vs es h k = record { given_known = (all-known vs [] vs [] refl refl h (record { each = tt })).given_known; expanded_known = expanded-at vs es h k }
 
 pub no_arguments_known : (s : HideSetPool) → ArgumentsKnown s [] []
@@ -76,22 +76,22 @@ no_arguments_known s = arguments_known [] [] (record { each = tt }) (record { ea
 
 -- an invocation of the code, with the tokens after its `)`
 abbrev pub call_of : HideSetPool → Invocation → List Hidden → Call
-call_of sets c following = call_in sets c.head c.replaced.now c.arguments.items c.both following
+call_of sets c following = call_in sets c.head c.definition.now c.arguments.items c.base following
 
 -- its hide sets exist
 abbrev IsCallKnown : HideSetPool → Invocation → Type 0
-IsCallKnown sets c = CallKnown sets c.head c.arguments.items c.both
+IsCallKnown sets c = CallKnown sets c.head c.arguments.items c.base
 
 pub call_known-keeps : {s t : HideSetPool} (c : Invocation) → KeepsSets s t → IsCallKnown s c → IsCallKnown t c
-call_known-keeps c k h = record { head = known-sets c.head k h.head; arguments = given_known-keeps c.arguments.items k h.arguments; both = known-set c.both k h.both }
+call_known-keeps c k h = record { head = known-sets c.head k h.head; arguments = given_known-keeps c.arguments.items k h.arguments; base_known = known-set c.base k h.base_known }
 
 pub call_of-keeps : {s t : HideSetPool} (c : Invocation) (following : List Hidden) → KeepsSets s t → IsCallKnown s c → AllKnown s following → call_of t c following ≡ call_of s c following
 call_of-keeps {s} {t} c following k h rest =
-    let sets : set_at t c.both ≡ set_at s c.both = set-keeps c.both k h.both in
+    let sets : set_at t c.base ≡ set_at s c.base = set-keeps c.base k h.base_known in
     let heads : hiding t c.head ≡ hiding s c.head = hiding-keeps c.head k h.head in
     let lists : given_in t c.arguments.items ≡ given_in s c.arguments.items = given-keeps c.arguments.items k h.arguments in
     let rests : hidings t following ≡ hidings s following = hidings-keeps following k rest in
-    λ i. record { head = heads i; macro = c.replaced.now; arguments = lists i; gain = set.insert (sets i) c.head.token.text; following = rests i }
+    λ i. record { head = heads i; macro = c.definition.now; arguments = lists i; gain = set.insert (sets i) c.head.token.text; following = rests i }
 
 -- an invocation that was made while sets were added
 pub call_made : {s t : HideSetPool} (c : Invocation) (following : List Hidden) (gain : HideSet)
@@ -99,10 +99,10 @@ pub call_made : {s t : HideSetPool} (c : Invocation) (following : List Hidden) (
     → HasSets s c.head
     → ListsKnown s c.arguments.items
     → AllKnown s following
-    → set.insert (set_at t c.both) c.head.token.text ≡ gain
-    → call_of t c following ≡ record { head = hiding s c.head; macro = c.replaced.now; arguments = given_in s c.arguments.items; gain = gain; following = hidings s following }
+    → set.insert (set_at t c.base) c.head.token.text ≡ gain
+    → call_of t c following ≡ record { head = hiding s c.head; macro = c.definition.now; arguments = given_in s c.arguments.items; gain = gain; following = hidings s following }
 call_made {s} {t} c following gain k head lists rest gains =
     let heads : hiding t c.head ≡ hiding s c.head = hiding-keeps c.head k head in
     let arguments : given_in t c.arguments.items ≡ given_in s c.arguments.items = given-keeps c.arguments.items k lists in
     let rests : hidings t following ≡ hidings s following = hidings-keeps following k rest in
-    λ i. record { head = heads i; macro = c.replaced.now; arguments = arguments i; gain = gains i; following = rests i }
+    λ i. record { head = heads i; macro = c.definition.now; arguments = arguments i; gain = gains i; following = rests i }

@@ -12,17 +12,17 @@ use Rattle.ppexpand.proofs.Steps.{StepsTo, FinishesTo, turn_within_steps, finish
 use Rattle.ppexpand.proofs.Termination.{extended}
 
 module _ (macros : Macros) (env : Env) (level : ℕ) where
-  by_turn : (left : Option ℕ) (list : List Hiding) (t : ExpansionStep) → step_in_budget macros env left list ≡ t → StepsTo macros env list t
-  by_turn left list t e = subst (StepsTo macros env list) e (turn_within_steps macros env left list)
+  by_turn : (remaining : Option ℕ) (list : List Hiding) (t : ExpansionStep) → step_in_budget macros env remaining list ≡ t → StepsTo macros env list t
+  by_turn remaining list t e = subst (StepsTo macros env list) e (turn_within_steps macros env remaining list)
 
   passing : (list next : List Hiding) (t : Hiding) → list ≡ t ∷ next → Step macros (hides list) (hides next)
   passing list next t e = subst (λ xs. Step macros (hides xs) (hides next)) (sym e) emits
 
-  pub leads_step : {left after : Option ℕ} {list next : List Hiding} → Leads macros env level left list after next → Step macros (hides list) (hides next)
-  leads_step {left = left} {list = list} {next = next} (by_emitting {t = t} e) = passing list next t (by_turn left list (Emits t next) e)
-  leads_step {left = left} {list = list} {next = next} (by_replacing e) = by_turn left list (Replaced next) e
-  leads_step {left = left} {list = list} {next = next} (by_invoking {call = call} {expanded = expanded} e a f) =
-      subst (FinishesTo macros env list) f (finished_steps macros env list call expanded (by_turn left list (Called call) e))
+  pub leads_step : {remaining remaining_after : Option ℕ} {list next : List Hiding} → Leads macros env level remaining list remaining_after next → Step macros (hides list) (hides next)
+  leads_step {remaining = remaining} {list = list} {next = next} (by_emitting {t = t} e) = passing list next t (by_turn remaining list (Emits t next) e)
+  leads_step {remaining = remaining} {list = list} {next = next} (by_replacing e) = by_turn remaining list (Replaced next) e
+  leads_step {remaining = remaining} {list = list} {next = next} (by_invoking {call = call} {expanded = expanded} e a f) =
+      subst (FinishesTo macros env list) f (finished_steps macros env list call expanded (by_turn remaining list (Called call) e))
 
 pub gained_more : (hidden one two whole : HideSet) (name : Name) → Holds hidden one → Holds hidden two → Gains one two name whole → Holds (set.insert hidden name) whole
 gained_more hidden one two whole name first second g = extended hidden name whole (λ q h. g.common q (first q h) (second q h)) g.own

@@ -16,8 +16,8 @@ use Rattle.ppmacro.specs.declared.macros.MacroKind.TheVariants.{Predefined, Obje
 use Rattle.ppmacro.specs.declared.macros.Macro.{Macro}
 use Rattle.ppmacro.specs.declared.macros.Chain.{Chain}
 use Rattle.ppmacro.specs.declared.macros.Operand.{Operand}
-use Rattle.ppmacro.specs.declared.macros.Operand.TheVariants.{Tok, Param, Str, Rest}
-use Rattle.ppmacro.specs.Substitution.{string_text, string_token, is_string_literal, stringized, pasted_as, pasted, after_ok, join, join_all, Arguments, argument_at, operand_tokens, operands_tokens, is_joined, before_rest, chain_tokens, Replacement}
+use Rattle.ppmacro.specs.declared.macros.Operand.TheVariants.{Tok, Param, Str, VariadicAfterComma}
+use Rattle.ppmacro.specs.Substitution.{string_text, string_token, is_string_literal, stringized, pasted_as, pasted, after_ok, join, join_all, Arguments, argument_at, operand_tokens, operands_tokens, is_joined, before_variadic, chain_tokens, Replacement}
 use Rattle.ppmacro.specs.Substitution.{chains_tokens, macro_replacement}
 use Rattle.ppexpand.specs.declared.env.Env.{Env}
 use Rattle.ppexpand.specs.declared.expansion.Expanded.{Expanded}
@@ -25,7 +25,7 @@ use Rattle.ppexpand.specs.Arguments.{is_open, Gathered, Closed, UnmatchedQuote, 
 use Rattle.ppexpand.specs.ExpansionStep.{Call, ExpansionStep, Refused, Emits, Failed, replaced_by, quote_fault, call_step, invocation_step, function_step, no_arguments, macro_step, named_step, macro_of, expansion_step, finish_call, ExpandedArguments, with_expanded}
 use Rattle.ppexpand.specs.Budget.{spend_one}
 use Rattle.ppexpand.specs.Expansion.{Outcome, step_in_budget, Expands, done, refused, emits, failed, replaced, argument_refused, call_failed, call_replaced, ExpandsArguments, none, unused, too_deep}
-use Rattle.ppexpand.specs.Expansion.{used as was_used, used_refused, count, count_arguments, ExpandsTo, IsExpansion}
+use Rattle.ppexpand.specs.Expansion.{pre_expanded, pre_expansion_refused, count, count_arguments, ExpandsTo, IsExpansion}
 use Rattle.ppexpand.proofs.BudgetLemmas.{plus-none, spends, spends_arguments}
 
 -- the fault of a result, if it is one, has a smaller number
@@ -57,15 +57,15 @@ below_join (l ∷ ls) [] used = tt
 below_join (l ∷ []) (r ∷ rs) used = below_after (pasted l r used) _ (below_pasted_as (kind_of (l.token.text ++ r.token.text)) l r used) (λ t. tt)
 below_join (l ∷ (m ∷ ls)) (r ∷ rs) used = below_after (join (m ∷ ls) (r ∷ rs) used) _ (below_join (m ∷ ls) (r ∷ rs) used) (λ ts. tt)
 
-below_join_all : (left : List Hiding) (lists : List (List Hiding)) (used : Place) → IsBelow (join_all left lists used)
-below_join_all left [] used = tt
+below_join_all : (remaining : List Hiding) (lists : List (List Hiding)) (used : Place) → IsBelow (join_all remaining lists used)
+below_join_all remaining [] used = tt
 below_join_all left (right ∷ rest) used = below_after (join left right used) _ (below_join left right used) (λ ts. below_join_all ts rest used)
 
 below_operand : (beside : Bool) (args : Arguments) (used : Place) (o : Operand) → IsBelow (operand_tokens beside args used o)
 below_operand beside args used (Tok t) = tt
 below_operand true args used (Param i) = tt
 below_operand false args used (Param i) = tt
-below_operand beside args used (Rest i) = tt
+below_operand beside args used (VariadicAfterComma i) = tt
 below_operand beside args used (Str i at) =
     let argument : List Token = map (λ t. t.token) (argument_at args.given i) in
     below_after {B = List Hiding} (stringized argument at used) (λ t. Ok (t ∷ [])) (below_stringized argument at used) (λ t. tt)
@@ -77,7 +77,7 @@ below_operands beside args used (o ∷ os) =
 
 below_chain : (args : Arguments) (used : Place) (c : Chain) → IsBelow (chain_tokens args used c)
 below_chain args used c =
-    let os = before_rest c.operands in
+    let os = before_variadic c.operands in
     below_after (operands_tokens (is_joined c.operands) args used os) _ (below_operands (is_joined c.operands) args used os) (λ lists. below_after (join_all [] lists used) _ (below_join_all [] lists used) (λ ts. tt))
 
 below_chains : (args : Arguments) (used : Place) (pending first : Bool) (cs : List Chain) → IsBelow (chains_tokens args used pending first cs)
@@ -148,11 +148,11 @@ below_expanded a (Ok as') h = tt
 below_expanded a (Err f) h = h
 
 module _ (macros : Macros) (env : Env) where
-  of_turn : {left : Option ℕ} (list : List Hiding) {t : ExpansionStep} → left ≡ None → step_in_budget macros env left list ≡ t → IsTurnBelow t
+  of_turn : {remaining : Option ℕ} (list : List Hiding) {t : ExpansionStep} → remaining ≡ None → step_in_budget macros env remaining list ≡ t → IsTurnBelow t
   of_turn list {t = t} is e = subst IsTurnBelow (subst (λ l. step_in_budget macros env l list ≡ t) is e) (below_turn macros env list)
 
   mutual
-    below : {level steps : ℕ} {left : Option ℕ} {list : List Hiding} {out : Outcome} → left ≡ None → Expands macros env level left steps list out → IsFaultBelow out.fault
+    below : {level steps : ℕ} {remaining : Option ℕ} {list : List Hiding} {out : Outcome} → remaining ≡ None → Expands macros env level remaining steps list out → IsFaultBelow out.fault
     below is (done e) = tt
     below {list = list} is (refused e) = of_turn list is e
     below is (emits e more) = below is more
@@ -160,15 +160,15 @@ module _ (macros : Macros) (env : Env) where
     below is (replaced e more) = below (ap spend_one is) more
     below is (argument_refused e a) = below_arguments (ap spend_one is) a
     below is (call_failed {call = call} {expanded = expanded} e a f) = subst IsTurnBelow f (below_finished call expanded)
-    below is (call_replaced {after = after} e a f more) = below (plus-none (count_arguments macros env a) after (sym (ap spend_one is) ∙ spends_arguments macros env a)) more
+    below is (call_replaced {remaining_after = remaining_after} e a f more) = below (plus-none (count_arguments macros env a) remaining_after (sym (ap spend_one is) ∙ spends_arguments macros env a)) more
 
-    below_arguments : {level : ℕ} {call : Call} {left after : Option ℕ} {as' : List (Option (List Hiding))} {r : ExpandedArguments} → left ≡ None → ExpandsArguments macros env level call left as' after r → IsBelow r
+    below_arguments : {level : ℕ} {call : Call} {remaining remaining_after : Option ℕ} {as' : List (Option (List Hiding))} {r : ExpandedArguments} → remaining ≡ None → ExpandsArguments macros env level call remaining as' remaining_after r → IsBelow r
     below_arguments is none = tt
     below_arguments is (unused {out = out} more) = below_expanded None out (below_arguments is more)
     below_arguments is (too_deep h) = omega arith
-    below_arguments is (was_used {between = between} {tokens = tokens} {out = out} h one more) =
+    below_arguments is (pre_expanded {between = between} {tokens = tokens} {out = out} h one more) =
         below_expanded (Some tokens) out (below_arguments (plus-none (count macros env one) between (sym is ∙ spends macros env one)) more)
-    below_arguments is (used_refused h one) = below is one
+    below_arguments is (pre_expansion_refused h one) = below is one
 
   never : (o : Option Fault) (f : Fault) → o ≡ Some f → IsFaultBelow o → f.number ≢ 35
   never o f is h e = let less : f.number < 35 = subst IsFaultBelow is h in absurd (omega arith)

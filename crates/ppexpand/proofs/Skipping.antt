@@ -39,17 +39,17 @@ pub none_by : {A : Type 0} (o : Option A) → is_some o ≡ false → o ≡ None
 none_by None h = refl
 none_by (Some a) h = absurd (true≢false h)
 
-expansion_step-plain : (macros : Macros) (env : Env) (left : Option ℕ) (t : Hiding) (rest : List Hiding) → never_expands macros t.token ≡ true → step_in_budget macros env left (t ∷ rest) ≡ Emits t rest
-expansion_step-plain macros env left t rest h =
+expansion_step-plain : (macros : Macros) (env : Env) (remaining : Option ℕ) (t : Hiding) (rest : List Hiding) → never_expands macros t.token ≡ true → step_in_budget macros env remaining (t ∷ rest) ≡ Emits t rest
+expansion_step-plain macros env remaining t rest h =
     let parts = both_false (is_unmatched_quote t.token) (is_some (macro_of macros t.token)) h in
     let none : macro_of macros t.token ≡ None = none_by (macro_of macros t.token) parts.1 in
-    ap (in_budget left (t ∷ rest)) (expansion_step-unnamed macros env t rest parts.0 none) ∙ emits-in_budget left (t ∷ rest) t rest
+    ap (in_budget remaining (t ∷ rest)) (expansion_step-unnamed macros env t rest parts.0 none) ∙ emits-in_budget remaining (t ∷ rest) t rest
 
 -- a list has this outcome in no fewer steps
-pub record Takes (macros : Macros) (env : Env) (level : ℕ) (left : Option ℕ) (n : ℕ) (list : List Hiding) (out : Outcome) : Type 0 where
+pub record Takes (macros : Macros) (env : Env) (level : ℕ) (remaining : Option ℕ) (n : ℕ) (list : List Hiding) (out : Outcome) : Type 0 where
   pub steps : ℕ
   pub more : n ≤ steps
-  pub is : Expands macros env level left steps list out
+  pub is : Expands macros env level remaining steps list out
 
 -- ---- more tokens in a row
 
@@ -71,39 +71,39 @@ skipped-on macros list emitted next more last all h k = record {
 pub skipped-one : (macros : Macros) (h : Hidden) (list next emitted : List Hidden) → list ≡ h ∷ next → never_expands macros h.token ≡ true → HasSkipped macros list emitted next (emitted ++ h ∷ [])
 skipped-one macros h list next emitted is plain = record { skipped = h ∷ []; laid_out = is; emits = refl; plain = record { each = (plain, tt) } }
 
-module _ (macros : Macros) (env : Env) (level : ℕ) (left : Option ℕ) (s : HideSetPool) where
-  skips : (hs rest : List Hidden) → NeverExpand macros hs → (n : ℕ) (out : Outcome) → Expands macros env level left n (hidings s rest) out
-      → Takes macros env level left n (hidings s (hs ++ rest)) (record { tokens = hidings s hs ++ out.tokens; fault = out.fault; left = out.left })
+module _ (macros : Macros) (env : Env) (level : ℕ) (remaining : Option ℕ) (s : HideSetPool) where
+  skips : (hs rest : List Hidden) → NeverExpand macros hs → (n : ℕ) (out : Outcome) → Expands macros env level remaining n (hidings s rest) out
+      → Takes macros env level remaining n (hidings s (hs ++ rest)) (record { tokens = hidings s hs ++ out.tokens; fault = out.fault; remaining = out.remaining })
   skips [] rest h n out d = record { steps = n; more = omega arith; is = d }
   skips (t ∷ ts) rest h n out d =
-      let after = skips ts rest (record { each = h.each.1 }) n out d in
-      let more = after.more in
-      record { steps = suc after.steps; more = omega arith; is = emits (expansion_step-plain macros env left (hiding s t) (hidings s (ts ++ rest)) h.each.0) after.is }
+      let remaining_after = skips ts rest (record { each = h.each.1 }) n out d in
+      let more = remaining_after.more in
+      record { steps = suc remaining_after.steps; more = omega arith; is = emits (expansion_step-plain macros env remaining (hiding s t) (hidings s (ts ++ rest)) h.each.0) remaining_after.is }
 
-  pub skipped_after : (list emitted next more : List Hidden) (k : HasSkipped macros list emitted next more) → (n : ℕ) (out : Outcome) → Expands macros env level left n (hidings s next) out
-      → Takes macros env level left n (hidings s list) (record { tokens = hidings s k.skipped ++ out.tokens; fault = out.fault; left = out.left })
+  pub skipped_after : (list emitted next more : List Hidden) (k : HasSkipped macros list emitted next more) → (n : ℕ) (out : Outcome) → Expands macros env level remaining n (hidings s next) out
+      → Takes macros env level remaining n (hidings s list) (record { tokens = hidings s k.skipped ++ out.tokens; fault = out.fault; remaining = out.remaining })
   skipped_after list emitted next more k n out d =
-      subst (λ l. Takes macros env level left n (hidings s l) (record { tokens = hidings s k.skipped ++ out.tokens; fault = out.fault; left = out.left })) (sym k.laid_out) (skips k.skipped next k.plain n out d)
+      subst (λ l. Takes macros env level remaining n (hidings s l) (record { tokens = hidings s k.skipped ++ out.tokens; fault = out.fault; remaining = out.remaining })) (sym k.laid_out) (skips k.skipped next k.plain n out d)
 
   -- the tokens after them are the rest of the list
   pub follows_skip : (first : Option ℕ) (start : List Hiding) (list emitted next more : List Hidden) → HasSkipped macros list emitted next more
-      → Follows macros env level first start (hidings s emitted) left (hidings s list)
-      → Follows macros env level first start (hidings s more) left (hidings s next)
+      → Follows macros env level first start (hidings s emitted) remaining (hidings s list)
+      → Follows macros env level first start (hidings s more) remaining (hidings s next)
   follows_skip first start list emitted next more k so_far n out d =
-      let after = skipped_after list emitted next more k n out d in
-      let whole = so_far after.steps _ after.is in
+      let remaining_after = skipped_after list emitted next more k n out d in
+      let whole = so_far remaining_after.steps _ remaining_after.is in
       let tokens : hidings s emitted ++ (hidings s k.skipped ++ out.tokens) ≡ hidings s more ++ out.tokens =
       sym (append_assoc (hidings s emitted) (hidings s k.skipped) out.tokens) ∙ ap (λ hs. hs ++ out.tokens) (sym (ap (hidings s) k.emits ∙ map-append (hiding s) emitted k.skipped)) in
-      (whole.0, subst (λ ts. Expands macros env level first whole.0 start (record { tokens = ts; fault = out.fault; left = out.left })) tokens whole.1)
+      (whole.0, subst (λ ts. Expands macros env level first whole.0 start (record { tokens = ts; fault = out.fault; remaining = out.remaining })) tokens whole.1)
 
   -- no more steps remain after them
-  pub skip_falls : (list emitted next more : List Hidden) → HasSkipped macros list emitted next more → turns_left macros env level left (hidings s next) ≤ turns_left macros env level left (hidings s list)
+  pub skip_falls : (list emitted next more : List Hidden) → HasSkipped macros list emitted next more → turns_left macros env level remaining (hidings s next) ≤ turns_left macros env level remaining (hidings s list)
   skip_falls list emitted next more k =
-      let here = total macros env level left (hidings s list) in
-      let there = total macros env level left (hidings s next) in
-      let after = skipped_after list emitted next more k there.0 there.1 there.2 in
-      let same = (same_outcome macros env after.is here.0 here.1 here.2).0 in
-      let more = after.more in
+      let here = total macros env level remaining (hidings s list) in
+      let there = total macros env level remaining (hidings s next) in
+      let remaining_after = skipped_after list emitted next more k there.0 there.1 there.2 in
+      let same = (same_outcome macros env remaining_after.is here.0 here.1 here.2).0 in
+      let more = remaining_after.more in
       rw (← same) (omega arith)
 
 pub next-known : {macros : Macros} (s : HideSetPool) (list emitted next more : List Hidden) → HasSkipped macros list emitted next more → AllKnown s list → AllKnown s next
@@ -126,17 +126,17 @@ tokens-with_set n [] = refl
 tokens-with_set n (t ∷ ts) = ap (λ us. t ∷ us) (tokens-with_set n ts)
 
 -- tokens that are emitted unchanged, before a list
-pub expands-prefix : (macros : Macros) (env : Env) (level : ℕ) (left : Option ℕ) (prefix : List Token) (rest : List Hiding) (out : Outcome)
+pub expands-prefix : (macros : Macros) (env : Env) (level : ℕ) (remaining : Option ℕ) (prefix : List Token) (rest : List Hiding) (out : Outcome)
     → AllByRecursion (λ t. never_expands macros t ≡ true) prefix
-    → ExpandsTo macros env level left rest out
-    → ExpandsTo macros env level left (map plain prefix ++ rest) (record { tokens = map plain prefix ++ out.tokens; fault = out.fault; left = out.left })
-expands-prefix macros env level left [] rest out h d = d
-expands-prefix macros env level left (t ∷ ts) rest out h d =
-    let after = expands-prefix macros env level left ts rest out h.1 d in
-    (suc after.0, emits (expansion_step-plain macros env left (plain t) (map plain ts ++ rest) h.0) after.1)
+    → ExpandsTo macros env level remaining rest out
+    → ExpandsTo macros env level remaining (map plain prefix ++ rest) (record { tokens = map plain prefix ++ out.tokens; fault = out.fault; remaining = out.remaining })
+expands-prefix macros env level remaining [] rest out h d = d
+expands-prefix macros env level remaining (t ∷ ts) rest out h d =
+    let remaining_after = expands-prefix macros env level remaining ts rest out h.1 d in
+    (suc remaining_after.0, emits (expansion_step-plain macros env remaining (plain t) (map plain ts ++ rest) h.0) remaining_after.1)
 
 -- the empty list
-pub expands-nothing : (macros : Macros) (env : Env) (level : ℕ) (left : Option ℕ) → ExpandsTo macros env level left [] (ended left None)
+pub expands-nothing : (macros : Macros) (env : Env) (level : ℕ) (remaining : Option ℕ) → ExpandsTo macros env level remaining [] (ended remaining None)
 unfolding expansion_step
 expands-nothing macros env level None = (0, done refl)
 expands-nothing macros env level (Some zero) = (0, done refl)
@@ -147,32 +147,32 @@ tokens-plain [] = refl
 tokens-plain (t ∷ ts) = ap (λ us. t ∷ us) (tokens-plain ts)
 
 -- tokens that are emitted unchanged, before the expansion of the rest
-pub expansion-following : (macros : Macros) (env : Env) (left : Option ℕ) (tokens prefix rest : List Token) (e : Expanded) (out : Outcome)
+pub expansion-following : (macros : Macros) (env : Env) (remaining : Option ℕ) (tokens prefix rest : List Token) (e : Expanded) (out : Outcome)
     → tokens ≡ prefix ++ rest
     → AllByRecursion (λ t. never_expands macros t ≡ true) prefix
-    → ExpandsTo macros env 0 left (map plain rest) out
+    → ExpandsTo macros env 0 remaining (map plain rest) out
     → e.tokens ≡ prefix ++ map (λ t. t.token) out.tokens
     → e.fault ≡ out.fault
-    → e.left ≡ out.left
-    → IsExpansion macros env left tokens e
-expansion-following macros env left tokens prefix rest e out laid_out h d is ends leaves =
-    let whole : Outcome = record { tokens = map plain prefix ++ out.tokens; fault = out.fault; left = out.left } in
+    → e.remaining ≡ out.remaining
+    → IsExpansion macros env remaining tokens e
+expansion-following macros env remaining tokens prefix rest e out laid_out h d is ends leaves =
+    let whole : Outcome = record { tokens = map plain prefix ++ out.tokens; fault = out.fault; remaining = out.remaining } in
     record {
       outcome = whole;
-      expands = subst (λ ts. ExpandsTo macros env 0 left ts whole) (sym (ap (map plain) laid_out ∙ map-append plain prefix rest)) (expands-prefix macros env 0 left prefix (map plain rest) out h d);
+      expands = subst (λ ts. ExpandsTo macros env 0 remaining ts whole) (sym (ap (map plain) laid_out ∙ map-append plain prefix rest)) (expands-prefix macros env 0 remaining prefix (map plain rest) out h d);
       emitted = is ∙ (λ i. sym (tokens-plain prefix) i ++ map (λ t. t.token) out.tokens) ∙ sym (map-append (λ t. t.token) (map plain prefix) out.tokens);
       ended = ends;
-      left_over = leaves;
+      remains = leaves;
     }
 
 -- tokens that are all emitted unchanged expand to themselves
-pub plain-expands : (macros : Macros) (env : Env) (level : ℕ) (left : Option ℕ) (s : HideSetPool) (hs : List Hidden)
+pub plain-expands : (macros : Macros) (env : Env) (level : ℕ) (remaining : Option ℕ) (s : HideSetPool) (hs : List Hidden)
     → NeverExpand macros hs
-    → ExpandsTo macros env level left (hidings s hs) (record { tokens = hidings s hs; fault = None; left = left })
-plain-expands macros env level left s [] h = expands-nothing macros env level left
-plain-expands macros env level left s (t ∷ ts) h =
-    let after = plain-expands macros env level left s ts (record { each = h.each.1 }) in
-    (suc after.0, emits (expansion_step-plain macros env left (hiding s t) (hidings s ts) h.each.0) after.1)
+    → ExpandsTo macros env level remaining (hidings s hs) (record { tokens = hidings s hs; fault = None; remaining = remaining })
+plain-expands macros env level remaining s [] h = expands-nothing macros env level remaining
+plain-expands macros env level remaining s (t ∷ ts) h =
+    let remaining_after = plain-expands macros env level remaining s ts (record { each = h.each.1 }) in
+    (suc remaining_after.0, emits (expansion_step-plain macros env remaining (hiding s t) (hidings s ts) h.each.0) remaining_after.1)
 
 pub plain-more : (macros : Macros) (hs : List Hidden) (h : Hidden) → NeverExpand macros hs → never_expands macros h.token ≡ true → NeverExpand macros (hs ++ h ∷ [])
 plain-more macros hs h p k = plain-append macros hs (h ∷ []) p (record { each = (k, tt) })

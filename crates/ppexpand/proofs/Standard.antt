@@ -22,7 +22,7 @@ use Rattle.ppexpand.specs.Expansion.{Outcome, step_in_budget, Expands, ExpandsTo
 use Rattle.ppexpand.specs.Expansion as in_budget
 use Rattle.ppexpand.specs.Standard.{NamesMacro, Opens, Invokes, opens_next, object_result, invocation_result, StandardExpands, StandardExpandsArguments, IsStandardExpansion}
 use Rattle.ppexpand.proofs.StepLemmas.{expansion_step-quote, expansion_step-hidden, expansion_step-named, expansion_step-unnamed}
-use Rattle.ppexpand.proofs.BudgetLemmas.{left_none, arguments_none}
+use Rattle.ppexpand.proofs.BudgetLemmas.{remaining_none, arguments_none}
 
 expansion_step-nothing : (macros : Macros) (env : Env) → expansion_step macros env [] ≡ Done
 unfolding expansion_step
@@ -206,11 +206,11 @@ module _ (macros : Macros) (env : Env) where
 
   -- ---- without a budget, by the standard's rules
 
-  by_rule : {left : Option ℕ} (list : List Hiding) {x : ExpansionStep} → left ≡ None → step_in_budget macros env left list ≡ x → Means list x
+  by_rule : {remaining : Option ℕ} (list : List Hiding) {x : ExpansionStep} → remaining ≡ None → step_in_budget macros env remaining list ≡ x → Means list x
   by_rule list {x = x} is e = subst (Means list) (subst (λ l. step_in_budget macros env l list ≡ x) is e) (means list)
 
   mutual
-    standard : {level steps : ℕ} {left : Option ℕ} {list : List Hiding} {out : Outcome} → left ≡ None → Expands macros env level left steps list out → StandardExpands macros env level list out.tokens out.fault
+    standard : {level steps : ℕ} {remaining : Option ℕ} {list : List Hiding} {out : Outcome} → remaining ≡ None → Expands macros env level remaining steps list out → StandardExpands macros env level list out.tokens out.fault
     standard {list = list} is (in_budget.done e) = at_done (by_rule list is e)
     standard {list = list} is (in_budget.refused e) = at_refused (by_rule list is e)
     standard {list = list} is (in_budget.emits e more) = at_passes (by_rule list is e) (standard is more)
@@ -222,20 +222,20 @@ module _ (macros : Macros) (env : Env) where
     standard {list = list} is (in_budget.call_replaced e a h more) =
         at_next (at_called (by_rule list is e)) (standard_arguments (ap spend_one is) a) h (standard (arguments_none macros env (ap spend_one is) a) more)
 
-    standard_arguments : {level : ℕ} {call : Call} {left after : Option ℕ} {as' : List (Option (List Hiding))} {r : ExpandedArguments}
-        → left ≡ None
-        → ExpandsArguments macros env level call left as' after r
+    standard_arguments : {level : ℕ} {call : Call} {remaining remaining_after : Option ℕ} {as' : List (Option (List Hiding))} {r : ExpandedArguments}
+        → remaining ≡ None
+        → ExpandsArguments macros env level call remaining as' remaining_after r
         → StandardExpandsArguments macros env level call as' r
     standard_arguments is in_budget.none = StandardExpandsArguments.none
     standard_arguments is (in_budget.unused more) = StandardExpandsArguments.unused (standard_arguments is more)
     standard_arguments is (in_budget.too_deep h) = StandardExpandsArguments.too_deep h
-    standard_arguments is (in_budget.used h one more) = StandardExpandsArguments.used h (standard is one) (standard_arguments (left_none macros env is one) more)
-    standard_arguments is (in_budget.used_refused h one) = StandardExpandsArguments.used_refused h (standard is one)
+    standard_arguments is (in_budget.pre_expanded h one more) = StandardExpandsArguments.pre_expanded h (standard is one) (standard_arguments (remaining_none macros env is one) more)
+    standard_arguments is (in_budget.pre_expansion_refused h one) = StandardExpandsArguments.pre_expansion_refused h (standard is one)
 
   -- ---- by the standard's rules, without a budget
 
   abbrev Unbudgeted : ℕ → List Hiding → List Hiding → Option Fault → Type 0
-  Unbudgeted level list tokens fault = ExpandsTo macros env level None list (record { tokens = tokens; fault = fault; left = None })
+  Unbudgeted level list tokens fault = ExpandsTo macros env level None list (record { tokens = tokens; fault = fault; remaining = None })
 
   passing : {level : ℕ} {t : Hiding} {list rest tokens : List Hiding} {fault : Option Fault} → Means list (Emits t rest) → Unbudgeted level rest tokens fault → Unbudgeted level list (t ∷ tokens) fault
   passing m more = (suc more.0, in_budget.emits (meant m) more.1)
@@ -270,26 +270,26 @@ module _ (macros : Macros) (env : Env) where
     unbudgeted_arguments StandardExpandsArguments.none = in_budget.none
     unbudgeted_arguments (StandardExpandsArguments.unused more) = in_budget.unused (unbudgeted_arguments more)
     unbudgeted_arguments (StandardExpandsArguments.too_deep h) = in_budget.too_deep h
-    unbudgeted_arguments (StandardExpandsArguments.used h one more) = in_budget.used h (unbudgeted one).1 (unbudgeted_arguments more)
-    unbudgeted_arguments (StandardExpandsArguments.used_refused h one) = in_budget.used_refused h (unbudgeted one).1
+    unbudgeted_arguments (StandardExpandsArguments.pre_expanded h one more) = in_budget.pre_expanded h (unbudgeted one).1 (unbudgeted_arguments more)
+    unbudgeted_arguments (StandardExpandsArguments.pre_expansion_refused h one) = in_budget.pre_expansion_refused h (unbudgeted one).1
 
   -- ---- both ways
 
-  pub list_standard : (level : ℕ) (list : List Hiding) (out : Outcome) → ExpandsTo macros env level None list out ↔ ((out.left ≡ None) × StandardExpands macros env level list out.tokens out.fault)
+  pub list_standard : (level : ℕ) (list : List Hiding) (out : Outcome) → ExpandsTo macros env level None list out ↔ ((out.remaining ≡ None) × StandardExpands macros env level list out.tokens out.fault)
   list_standard level list out = (
-    λ d. (left_none macros env refl d.1, standard refl d.1),
-    λ s. subst (ExpandsTo macros env level None list) (λ i. record { tokens = out.tokens; fault = out.fault; left = (sym s.0) i }) (unbudgeted s.1),
+    λ d. (remaining_none macros env refl d.1, standard refl d.1),
+    λ s. subst (ExpandsTo macros env level None list) (λ i. record { tokens = out.tokens; fault = out.fault; remaining = (sym s.0) i }) (unbudgeted s.1),
   )
 
-  tokens_left : {tokens : List Token} {e : Expanded} → IsExpansion macros env None tokens e → e.left ≡ None
-  tokens_left x = x.left_over ∙ left_none macros env refl x.expands.1
+  tokens_left : {tokens : List Token} {e : Expanded} → IsExpansion macros env None tokens e → e.remaining ≡ None
+  tokens_left x = x.remains ∙ remaining_none macros env refl x.expands.1
 
   tokens_standard : {tokens : List Token} {e : Expanded} → IsExpansion macros env None tokens e → IsStandardExpansion macros env tokens e.tokens e.fault
   tokens_standard x =
       record { emitted = x.outcome.tokens; expands = subst (λ f. StandardExpands macros env 0 _ x.outcome.tokens f) (sym x.ended) (standard refl x.expands.1); is = x.emitted }
 
-  tokens_unbudgeted : {tokens : List Token} {e : Expanded} → e.left ≡ None → IsStandardExpansion macros env tokens e.tokens e.fault → IsExpansion macros env None tokens e
-  tokens_unbudgeted {e = e} none s = record { outcome = record { tokens = s.emitted; fault = e.fault; left = None }; expands = unbudgeted s.expands; emitted = s.is; ended = refl; left_over = none }
+  tokens_unbudgeted : {tokens : List Token} {e : Expanded} → e.remaining ≡ None → IsStandardExpansion macros env tokens e.tokens e.fault → IsExpansion macros env None tokens e
+  tokens_unbudgeted {e = e} none s = record { outcome = record { tokens = s.emitted; fault = e.fault; remaining = None }; expands = unbudgeted s.expands; emitted = s.is; ended = refl; remains = none }
 
-  pub expansion_standard : (tokens : List Token) (e : Expanded) → IsExpansion macros env None tokens e ↔ ((e.left ≡ None) × IsStandardExpansion macros env tokens e.tokens e.fault)
+  pub expansion_standard : (tokens : List Token) (e : Expanded) → IsExpansion macros env None tokens e ↔ ((e.remaining ≡ None) × IsStandardExpansion macros env tokens e.tokens e.fault)
   expansion_standard tokens e = (λ x. (tokens_left x, tokens_standard x), λ s. tokens_unbudgeted s.0 s.1)

@@ -37,32 +37,32 @@ expansion_step-unnamed macros env t rest quote none = elim (set.contains t.hide 
 
 -- ---- a step that costs nothing is the same with any budget
 
-pub done-in_budget : (left : Option ℕ) (list : List Hiding) → in_budget left list Done ≡ Done
+pub done-in_budget : (remaining : Option ℕ) (list : List Hiding) → in_budget remaining list Done ≡ Done
 done-in_budget None list = refl
 done-in_budget (Some zero) list = refl
 done-in_budget (Some (suc n)) list = refl
 
-pub refused-in_budget : (left : Option ℕ) (list : List Hiding) (f : Fault) → in_budget left list (Refused f) ≡ Refused f
+pub refused-in_budget : (remaining : Option ℕ) (list : List Hiding) (f : Fault) → in_budget remaining list (Refused f) ≡ Refused f
 refused-in_budget None list f = refl
 refused-in_budget (Some zero) list f = refl
 refused-in_budget (Some (suc n)) list f = refl
 
-pub emits-in_budget : (left : Option ℕ) (list : List Hiding) (t : Hiding) (rest : List Hiding) → in_budget left list (Emits t rest) ≡ Emits t rest
+pub emits-in_budget : (remaining : Option ℕ) (list : List Hiding) (t : Hiding) (rest : List Hiding) → in_budget remaining list (Emits t rest) ≡ Emits t rest
 emits-in_budget None list t rest = refl
 emits-in_budget (Some zero) list t rest = refl
 emits-in_budget (Some (suc n)) list t rest = refl
 
-pub free-in_budget : (left : Option ℕ) (list : List Hiding) (t : ExpansionStep) → is_exhausted left ≡ false → in_budget left list t ≡ t
+pub free-in_budget : (remaining : Option ℕ) (list : List Hiding) (t : ExpansionStep) → is_exhausted remaining ≡ false → in_budget remaining list t ≡ t
 free-in_budget None list t h = refl
 free-in_budget (Some zero) list t h = absurd (true≢false h)
 free-in_budget (Some (suc n)) list t h = refl
 
-pub nothing_left : (left : Option ℕ) → is_exhausted left ≡ true → left ≡ Some 0
+pub nothing_left : (remaining : Option ℕ) → is_exhausted remaining ≡ true → remaining ≡ Some 0
 nothing_left None h = absurd (true≢false (sym h))
 nothing_left (Some zero) h = refl
 nothing_left (Some (suc n)) h = absurd (true≢false (sym h))
 
 -- ---- what is to be done for the next token
 
-pub stepped : (n : Inside) {v : Action} {s : ActionKind} → view n ≡ v → n.step ≡ s → v ≡ view (record { step = s })
-stepped n shows is = sym shows ∙ ap (λ s. view (record { step = s })) is
+pub stepped : (n : Inside) {v : Action} {s : ActionKind} → view n ≡ v → n.kind ≡ s → v ≡ view (record { kind = s })
+stepped n shows is = sym shows ∙ ap (λ s. view (record { kind = s })) is

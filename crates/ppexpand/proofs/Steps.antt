@@ -21,8 +21,8 @@ use Rattle.ppmacro.specs.Chains.{chains_of}
 use Rattle.ppmacro.specs.Substitution.{Arguments, Replacement, macro_replacement, after_ok, chains_tokens, hsadd}
 use Rattle.ppexpand.specs.Arguments.{Gathered, Closed, UnmatchedQuote, Unclosed, argument_role, gather, separators, fit_arguments, separates, fewer, with_token, with_argument, is_open, Quote, Open, Close, Comma, Inner}
 use Rattle.ppexpand.specs.declared.env.Env.{Env}
-use Rattle.ppexpand.specs.ExpansionStep.{Call, ExpansionStep, Done, Refused, Emits, Failed, Replaced, Called, expansion_step, finish_call, mark_next, followed_by, replaced_by, gain_of, quote_fault, call_step, invocation_step, function_step, macro_step, named_step}
-use Rattle.ppexpand.specs.Budget.{over, in_budget}
+use Rattle.ppexpand.specs.ExpansionStep.{Call, ExpansionStep, Done, Refused, Emits, Failed, Replaced, Called, expansion_step, finish_call, space_next, followed_by, replaced_by, gain_of, quote_fault, call_step, invocation_step, function_step, macro_step, named_step}
+use Rattle.ppexpand.specs.Budget.{exhausted_step, in_budget}
 use Rattle.ppexpand.specs.ExpansionStep.{macro_of}
 use Rattle.ppexpand.specs.Expansion.{step_in_budget}
 use Rattle.ppexpand.specs.Termination.{hides, Holds, Gains, IsOutside, Step}
@@ -32,10 +32,10 @@ pub hides-append : (xs ys : List Hiding) → hides (xs ++ ys) ≡ hides xs ++ hi
 hides-append [] ys = refl
 hides-append (x ∷ xs) ys = ap (λ hs. x.hide ∷ hs) (hides-append xs ys)
 
-pub hides-mark_next : (b : Bool) (xs : List Hiding) → hides (mark_next b xs) ≡ hides xs
-hides-mark_next true [] = refl
-hides-mark_next true (x ∷ xs) = refl
-hides-mark_next false xs = refl
+pub hides-space_next : (b : Bool) (xs : List Hiding) → hides (space_next b xs) ≡ hides xs
+hides-space_next true [] = refl
+hides-space_next true (x ∷ xs) = refl
+hides-space_next false xs = refl
 
 -- what the gain is contained in
 abbrev pub HasGain : HideSet → Hiding → Type 0
@@ -157,7 +157,7 @@ module _ (macros : Macros) (env : Env) where
   )
 
   hides-followed_by : (following : List Hiding) (m : Replacement) → hides (followed_by following m) ≡ hides m.tokens ++ hides following
-  hides-followed_by following m = hides-append m.tokens (mark_next m.pending following) ∙ ap (λ hs. hides m.tokens ++ hs) (hides-mark_next m.pending following)
+  hides-followed_by following m = hides-append m.tokens (space_next m.pending following) ∙ ap (λ hs. hides m.tokens ++ hs) (hides-space_next m.pending following)
 
   object_steps : (t : Hiding) (rest : List Hiding)
       → IsOutside macros t.token.text t.hide
@@ -218,11 +218,11 @@ module _ (macros : Macros) (env : Env) where
         ] refl
       ]
 
-  over_steps : (list : List Hiding) → StepsTo list (over list)
+  over_steps : (list : List Hiding) → StepsTo list (exhausted_step list)
   over_steps [] = tt
   over_steps (t ∷ rest) = tt
 
-  within_steps : (left : Option ℕ) (list : List Hiding) (t : ExpansionStep) → StepsTo list t → StepsTo list (in_budget left list t)
+  within_steps : (remaining : Option ℕ) (list : List Hiding) (t : ExpansionStep) → StepsTo list t → StepsTo list (in_budget remaining list t)
   within_steps None list t h = h
   within_steps (Some (suc n)) list t h = h
   within_steps (Some zero) list Done h = h
@@ -232,8 +232,8 @@ module _ (macros : Macros) (env : Env) where
   within_steps (Some zero) list (Replaced next) h = over_steps list
   within_steps (Some zero) list (Called call) h = over_steps list
 
-  pub turn_within_steps : (left : Option ℕ) (list : List Hiding) → StepsTo list (step_in_budget macros env left list)
-  turn_within_steps left list = within_steps left list (expansion_step macros env list) (turn_steps list)
+  pub turn_within_steps : (remaining : Option ℕ) (list : List Hiding) → StepsTo list (step_in_budget macros env remaining list)
+  turn_within_steps remaining list = within_steps remaining list (expansion_step macros env list) (turn_steps list)
 
   -- the step after the arguments of an invocation are expanded
   abbrev pub FinishesTo : List Hiding → ExpansionStep → Type 0

@@ -138,9 +138,9 @@ module _ (macros : Macros) where
   by_step P (invocation_step k out inside close following e result gains e') p o f = rw e' (f k out inside close following e result gains)
 
   result_step : (n k : ℕ) → ((j : ℕ) → FrontsEnd n j) → FrontsEnd (suc n) k → ((j : ℕ) → j < k → ResultsEnd (suc n) j) → ResultsEnd (suc n) k
-  result_step n k lower front_k below S small name out result hsadd prefix short above following ends_behind after =
+  result_step n k lower front_k below S small name out result hsadd prefix short above following ends_behind remaining_after =
       let fewer : names_left macros (set.insert S name) < names_left macros S = fewer_left S name out in
-      lower (length result) (set.insert S name) (omega arith) result (omega arith) hsadd (prefix ++ following) (front_k S small prefix short above following ends_behind after)
+      lower (length result) (set.insert S name) (omega arith) result (omega arith) hsadd (prefix ++ following) (front_k S small prefix short above following ends_behind remaining_after)
       (λ k2 out2 inside close rest e result2 reached.
       let out2' : IsOutside macros k2 S = outside_part S (set.insert S name) k2 (in_insert S name) out2 in
       elim (split prefix following inside close rest e) [
@@ -150,21 +150,21 @@ module _ (macros : Macros) where
             rw at_rest
             (below (length rest') (omega arith) S small k2 out2' result2
             (all-map (Gains (set.insert S name) close k2) (Holds (set.insert S k2)) (λ r g. extended S k2 r (λ q s. g.common q (in_insert S name q s) (parts.0 q s)) g.own) result2 reached)
-            rest' (omega arith) parts.1 following ends_behind after))
+            rest' (omega arith) parts.1 following ends_behind remaining_after))
         | in_second p' at_behind ↦
-            after k2 out2' p' close rest at_behind result2
+            remaining_after k2 out2' p' close rest at_behind result2
             (all-map (Gains (set.insert S name) close k2) (Gains S close k2) (λ r g. record { common = λ q s c. g.common q (in_insert S name q s) c; own = g.own }) result2 reached)
       ])
 
   front_step : (n k : ℕ) → ((j : ℕ) → j < k → FrontsEnd (suc n) j × ResultsEnd (suc n) j) → FrontsEnd (suc n) k
-  front_step n k below S small [] short above following ends_behind after = ends_behind
-  front_step n k below S small (h ∷ prefix) short above following ends_behind after =
+  front_step n k below S small [] short above following ends_behind remaining_after = ends_behind
+  front_step n k below S small (h ∷ prefix) short above following ends_behind remaining_after =
       ends (λ next step. by_step (Ends macros) step
-      ((below (length prefix) short).0 S small prefix (omega arith) above.1 following ends_behind after)
+      ((below (length prefix) short).0 S small prefix (omega arith) above.1 following ends_behind remaining_after)
       (λ k2 out2 result gains.
       (below (length prefix) short).1 S small k2 (outside_part S h k2 above.0 out2) result
       (all-map (Gains h h k2) (Holds (set.insert S k2)) (λ r g. extended S k2 r (λ q s. g.common q (above.0 q s) (above.0 q s)) g.own) result gains)
-      prefix (omega arith) above.1 following ends_behind after)
+      prefix (omega arith) above.1 following ends_behind remaining_after)
       (λ k2 out2 inside close rest e result gains.
       let out2' : IsOutside macros k2 S = outside_part S h k2 above.0 out2 in
       elim (split prefix following inside close rest e) [
@@ -174,9 +174,9 @@ module _ (macros : Macros) where
             rw at_rest
             ((below (length rest') (omega arith)).1 S small k2 out2' result
             (all-map (Gains h close k2) (Holds (set.insert S k2)) (λ r g. extended S k2 r (λ q s. g.common q (above.0 q s) (parts.0 q s)) g.own) result gains)
-            rest' (omega arith) parts.1 following ends_behind after))
+            rest' (omega arith) parts.1 following ends_behind remaining_after))
         | in_second p' at_behind ↦
-            after k2 out2' p' close rest at_behind result
+            remaining_after k2 out2' p' close rest at_behind result
             (all-map (Gains h close k2) (Gains S close k2) (λ r g. record { common = λ q s c. g.common q (above.0 q s) c; own = g.own }) result gains)
       ]))
 
@@ -194,7 +194,7 @@ module _ (macros : Macros) where
   prefixes_terminate S prefix = fronts_below (suc (names_left macros S)) (length prefix) S (omega arith) prefix (omega arith)
 
   nothing_ends : Ends macros []
-  nothing_ends = ends (λ after step. elim step [ ])
+  nothing_ends = ends (λ remaining_after step. elim step [ ])
 
   -- the whole list is a prefix before the empty list: replacement terminates
   pub all_end : (list : List HideSet) → Ends macros list

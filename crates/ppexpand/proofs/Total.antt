@@ -6,8 +6,8 @@ use Rattle.ppmacro.specs.Hiding.{Hiding}
 use Rattle.ppexpand.specs.declared.env.Env.{Env}
 use Rattle.ppexpand.specs.ExpansionStep.{Call, ExpansionStep, Done, Refused, Emits, Failed, Replaced, Called, wanted, finish_call, fault_at_expansion, ExpandedArguments, with_expanded}
 use Rattle.ppexpand.specs.Budget.{spend_one}
-use Rattle.ppexpand.specs.Expansion.{Outcome, step_in_budget, Expands, done, refused, emits, failed, replaced, argument_refused, call_failed, call_replaced, ExpandsArguments, none, unused, too_deep, used}
-use Rattle.ppexpand.specs.Expansion.{used_refused}
+use Rattle.ppexpand.specs.Expansion.{Outcome, step_in_budget, Expands, done, refused, emits, failed, replaced, argument_refused, call_failed, call_replaced, ExpandsArguments, none, unused, too_deep, pre_expanded}
+use Rattle.ppexpand.specs.Expansion.{pre_expansion_refused}
 use Rattle.ppexpand.specs.Termination as ending
 use Rattle.ppexpand.proofs.Termination as fronts
 use Rattle.ppexpand.proofs.Steps as step_lemmas
@@ -16,91 +16,91 @@ use native.Mathlib.Decide.{dec_lt}
 module _ (macros : Macros) (env : Env) where
   -- a list has some outcome, after some number of steps
   abbrev pub HasOutcome : ℕ → Option ℕ → List Hiding → Type 0
-  HasOutcome level left list = (n : ℕ) × (out : Outcome) × Expands macros env level left n list out
+  HasOutcome level remaining list = (n : ℕ) × (out : Outcome) × Expands macros env level remaining n list out
 
   abbrev pub HasExpanded : ℕ → Call → Option ℕ → List (Option (List Hiding)) → Type 0
-  HasExpanded level call left as' = (after : Option ℕ) × (r : ExpandedArguments) × ExpandsArguments macros env level call left as' after r
+  HasExpanded level call remaining as' = (remaining_after : Option ℕ) × (r : ExpandedArguments) × ExpandsArguments macros env level call remaining as' remaining_after r
 
   abbrev Deeper : ℕ → Type 0
-  Deeper level = level < 256 → (left : Option ℕ) (list : List Hiding) → HasOutcome (suc level) left list
+  Deeper level = level < 256 → (remaining : Option ℕ) (list : List Hiding) → HasOutcome (suc level) remaining list
 
-  by_outcome : (level : ℕ) (call : Call) (left : Option ℕ) (list : List Hiding) (rest : List (Option (List Hiding)))
+  by_outcome : (level : ℕ) (call : Call) (remaining : Option ℕ) (list : List Hiding) (rest : List (Option (List Hiding)))
       → level < 256
       → ((between : Option ℕ) → HasExpanded level call between rest)
       → (n : ℕ) (tokens : List Hiding) (fault : Option Fault) (between : Option ℕ)
-      → Expands macros env (suc level) left n list (record { tokens = tokens; fault = fault; left = between })
-      → HasExpanded level call left (Some list ∷ rest)
-  by_outcome level call left list rest h more n tokens None between d = let m = more between in (m.0, with_expanded (Some tokens) m.1, used h d m.2)
-  by_outcome level call left list rest h more n tokens (Some f) between d = (between, Err f, used_refused h d)
+      → Expands macros env (suc level) remaining n list (record { tokens = tokens; fault = fault; remaining = between })
+      → HasExpanded level call remaining (Some list ∷ rest)
+  by_outcome level call remaining list rest h more n tokens None between d = let m = more between in (m.0, with_expanded (Some tokens) m.1, pre_expanded h d m.2)
+  by_outcome level call remaining list rest h more n tokens (Some f) between d = (between, Err f, pre_expansion_refused h d)
 
-  arguments_total : (level : ℕ) → Deeper level → (call : Call) (left : Option ℕ) (as' : List (Option (List Hiding))) → HasExpanded level call left as'
-  arguments_total level deeper call left [] = (left, Ok [], none)
-  arguments_total level deeper call left (None ∷ rest) =
-      let more : HasExpanded level call left rest = arguments_total level deeper call left rest in
+  arguments_total : (level : ℕ) → Deeper level → (call : Call) (remaining : Option ℕ) (as' : List (Option (List Hiding))) → HasExpanded level call remaining as'
+  arguments_total level deeper call remaining [] = (remaining, Ok [], none)
+  arguments_total level deeper call remaining (None ∷ rest) =
+      let more : HasExpanded level call remaining rest = arguments_total level deeper call remaining rest in
       (more.0, with_expanded None more.1, unused more.2)
-  arguments_total level deeper call left (Some list ∷ rest) =
+  arguments_total level deeper call remaining (Some list ∷ rest) =
       elim (dec_lt level 256) [
-        | yes h ↦ (let one : HasOutcome (suc level) left list = deeper h left list in by_outcome level call left list rest h (λ between. arguments_total level deeper call between rest) one.0 one.1.tokens one.1.fault one.1.left one.2)
-        | no h ↦ (left, Err (fault_at_expansion 21 call.head), too_deep (omega arith))
+        | yes h ↦ (let one : HasOutcome (suc level) remaining list = deeper h remaining list in by_outcome level call remaining list rest h (λ between. arguments_total level deeper call between rest) one.0 one.1.tokens one.1.fault one.1.remaining one.2)
+        | no h ↦ (remaining, Err (fault_at_expansion 21 call.head), too_deep (omega arith))
       ]
 
   Ends : List HideSet → Type 0
   Ends = ending.Ends macros
 
   abbrev Later : ℕ → List Hiding → Type 0
-  Later level list = (left : Option ℕ) (next : List Hiding) → ending.Step macros (ending.hides list) (ending.hides next) → HasOutcome level left next
+  Later level list = (remaining : Option ℕ) (next : List Hiding) → ending.Step macros (ending.hides list) (ending.hides next) → HasOutcome level remaining next
 
-  after_call : (level : ℕ) (left : Option ℕ) (list : List Hiding)
+  after_call : (level : ℕ) (remaining : Option ℕ) (list : List Hiding)
       → Later level list
       → (call : Call)
-      → step_in_budget macros env left list ≡ Called call
-      → (after : Option ℕ) (r : ExpandedArguments)
-      → ExpandsArguments macros env level call (spend_one left) (wanted call) after r
+      → step_in_budget macros env remaining list ≡ Called call
+      → (remaining_after : Option ℕ) (r : ExpandedArguments)
+      → ExpandsArguments macros env level call (spend_one remaining) (wanted call) remaining_after r
       → ((as' : List (Option (List Hiding))) → step_lemmas.FinishesTo macros env list (finish_call call as'))
-      → HasOutcome level left list
-  after_call level left list later call e after (Err fault) a ends = (0, record { tokens = []; fault = Some fault; left = after }, argument_refused e a)
-  after_call level left list later call e after (Ok as') a ends = by_end (finish_call call as') refl (ends as')
+      → HasOutcome level remaining list
+  after_call level remaining list later call e remaining_after (Err fault) a ends = (0, record { tokens = []; fault = Some fault; remaining = remaining_after }, argument_refused e a)
+  after_call level remaining list later call e remaining_after (Ok as') a ends = by_end (finish_call call as') refl (ends as')
     where
-      by_end : (t : ExpansionStep) → finish_call call as' ≡ t → step_lemmas.FinishesTo macros env list t → HasOutcome level left list
+      by_end : (t : ExpansionStep) → finish_call call as' ≡ t → step_lemmas.FinishesTo macros env list t → HasOutcome level remaining list
       by_end Done f h = absurd h
       by_end (Refused fault) f h = absurd h
-      by_end (Failed fault) f h = (0, record { tokens = []; fault = Some fault; left = after }, call_failed e a f)
+      by_end (Failed fault) f h = (0, record { tokens = []; fault = Some fault; remaining = remaining_after }, call_failed e a f)
       by_end (Emits t rest) f h = absurd h
       by_end (Replaced next) f h =
-          let rest : HasOutcome level after next = later after next h in
+          let rest : HasOutcome level remaining_after next = later remaining_after next h in
           (suc rest.0, rest.1, call_replaced e a f rest.2)
       by_end (Called c) f h = absurd h
 
-  by_turn : (level : ℕ) → Deeper level → (left : Option ℕ) (list : List Hiding) → Later level list → (t : ExpansionStep) → step_in_budget macros env left list ≡ t → step_lemmas.StepsTo macros env list t → HasOutcome level left list
-  by_turn level deeper left list later Done e h = (0, record { tokens = []; fault = None; left = left }, done e)
-  by_turn level deeper left list later (Refused fault) e h = (0, record { tokens = []; fault = Some fault; left = left }, refused e)
-  by_turn level deeper left list later (Emits t rest) e h =
+  by_turn : (level : ℕ) → Deeper level → (remaining : Option ℕ) (list : List Hiding) → Later level list → (t : ExpansionStep) → step_in_budget macros env remaining list ≡ t → step_lemmas.StepsTo macros env list t → HasOutcome level remaining list
+  by_turn level deeper remaining list later Done e h = (0, record { tokens = []; fault = None; remaining = remaining }, done e)
+  by_turn level deeper remaining list later (Refused fault) e h = (0, record { tokens = []; fault = Some fault; remaining = remaining }, refused e)
+  by_turn level deeper remaining list later (Emits t rest) e h =
       let step : ending.Step macros (ending.hides list) (ending.hides rest) = rw h ending.emits in
-      let more : HasOutcome level left rest = later left rest step in
-      (suc more.0, record { tokens = t ∷ more.1.tokens; fault = more.1.fault; left = more.1.left }, emits e more.2)
-  by_turn level deeper left list later (Failed fault) e h = (0, record { tokens = []; fault = Some fault; left = spend_one left }, failed e)
-  by_turn level deeper left list later (Replaced next) e h =
-      let more : HasOutcome level (spend_one left) next = later (spend_one left) next h in
+      let more : HasOutcome level remaining rest = later remaining rest step in
+      (suc more.0, record { tokens = t ∷ more.1.tokens; fault = more.1.fault; remaining = more.1.remaining }, emits e more.2)
+  by_turn level deeper remaining list later (Failed fault) e h = (0, record { tokens = []; fault = Some fault; remaining = spend_one remaining }, failed e)
+  by_turn level deeper remaining list later (Replaced next) e h =
+      let more : HasOutcome level (spend_one remaining) next = later (spend_one remaining) next h in
       (suc more.0, more.1, replaced e more.2)
-  by_turn level deeper left list later (Called call) e h =
-      let as' : HasExpanded level call (spend_one left) (wanted call) = arguments_total level deeper call (spend_one left) (wanted call) in
-      after_call level left list later call e as'.0 as'.1 as'.2 (λ bs. step_lemmas.finished_steps macros env list call bs h)
+  by_turn level deeper remaining list later (Called call) e h =
+      let as' : HasExpanded level call (spend_one remaining) (wanted call) = arguments_total level deeper call (spend_one remaining) (wanted call) in
+      after_call level remaining list later call e as'.0 as'.1 as'.2 (λ bs. step_lemmas.finished_steps macros env list call bs h)
 
-  list_total : (level : ℕ) → Deeper level → (hs : List HideSet) → Ends hs → (left : Option ℕ) (list : List Hiding) → ending.hides list ≡ hs → HasOutcome level left list
+  list_total : (level : ℕ) → Deeper level → (hs : List HideSet) → Ends hs → (remaining : Option ℕ) (list : List Hiding) → ending.hides list ≡ hs → HasOutcome level remaining list
   unfolding Ends
-  list_total level deeper hs (ending.ends more) left list e =
-      by_turn level deeper left list
-      (λ after next step. list_total level deeper (ending.hides next)
-      (more (ending.hides next) (subst (λ x. ending.Step macros x (ending.hides next)) e step)) after next refl)
-      (step_in_budget macros env left list) refl (step_lemmas.turn_within_steps macros env left list)
+  list_total level deeper hs (ending.ends more) remaining list e =
+      by_turn level deeper remaining list
+      (λ remaining_after next step. list_total level deeper (ending.hides next)
+      (more (ending.hides next) (subst (λ x. ending.Step macros x (ending.hides next)) e step)) remaining_after next refl)
+      (step_in_budget macros env remaining list) refl (step_lemmas.turn_within_steps macros env remaining list)
 
   all_end : (xs : List Hiding) → Ends (ending.hides xs)
   unfolding Ends
   all_end xs = fronts.all_end macros (ending.hides xs)
 
-  by_levels : (room level : ℕ) → 256 ≤ level + room → (left : Option ℕ) (list : List Hiding) → HasOutcome level left list
-  by_levels zero level h left list = list_total level (λ low. absurd (omega arith)) (ending.hides list) (all_end list) left list refl
-  by_levels (suc room) level h left list = list_total level (λ low. by_levels room (suc level) (omega arith)) (ending.hides list) (all_end list) left list refl
+  by_levels : (room level : ℕ) → 256 ≤ level + room → (remaining : Option ℕ) (list : List Hiding) → HasOutcome level remaining list
+  by_levels zero level h remaining list = list_total level (λ low. absurd (omega arith)) (ending.hides list) (all_end list) remaining list refl
+  by_levels (suc room) level h remaining list = list_total level (λ low. by_levels room (suc level) (omega arith)) (ending.hides list) (all_end list) remaining list refl
 
-  pub total : (level : ℕ) (left : Option ℕ) (list : List Hiding) → HasOutcome level left list
-  total level left list = by_levels 256 level (omega arith) left list
+  pub total : (level : ℕ) (remaining : Option ℕ) (list : List Hiding) → HasOutcome level remaining list
+  total level remaining list = by_levels 256 level (omega arith) remaining list

@@ -7,19 +7,19 @@ use Rattle.ppexpand.specs.ExpansionStep.{ExpansionStep, Done, Refused, Failed, R
 -- there is a budget, and nothing is left of it
 abbrev pub is_exhausted : Option ℕ → Bool
 is_exhausted (Some zero) = true
-is_exhausted left = false
+is_exhausted remaining = false
 
 -- the step of a replacement for which nothing is left: fault 35 at the expansion location of the name
-abbrev pub over : List Hiding → ExpansionStep
-over [] = Done
-over (t ∷ rest) = Refused (fault 35 t.token.used [])
+abbrev pub exhausted_step : List Hiding → ExpansionStep
+exhausted_step [] = Done
+exhausted_step (t ∷ rest) = Refused (fault 35 t.token.used [])
 
 -- the step within what is left of a budget: if nothing is left, no macro's name is replaced
 abbrev pub in_budget : Option ℕ → List Hiding → ExpansionStep → ExpansionStep
-in_budget (Some zero) list (Failed f) = over list
-in_budget (Some zero) list (Replaced next) = over list
-in_budget (Some zero) list (Called call) = over list
-in_budget left list other = other
+in_budget (Some zero) list (Failed f) = exhausted_step list
+in_budget (Some zero) list (Replaced next) = exhausted_step list
+in_budget (Some zero) list (Called call) = exhausted_step list
+in_budget remaining list other = other
 
 -- the rest of a budget after one replacement
 abbrev pub spend_one : Option ℕ → Option ℕ

@@ -14,7 +14,7 @@ use Rattle.pptext.specs.Tokens.{is_identifier, is_unmatched_quote, fault}
 use Rattle.ppmacro.specs.Names.{Name, HideSet, Macros}
 use Rattle.ppmacro.specs.Hiding.{Hiding}
 use Rattle.ppmacro.specs.Chains.{parameter_names, chains_of}
-use Rattle.ppmacro.specs.Substitution.{Arguments, argument_at, Replacement, with_flag, macro_replacement}
+use Rattle.ppmacro.specs.Substitution.{Arguments, argument_at, Replacement, with_space, macro_replacement}
 use Rattle.ppmacro.specs.declared.macros.PredefinedMacro.{PredefinedMacro}
 use Rattle.ppmacro.specs.declared.macros.PredefinedMacro.TheVariants.{File, Line, Date, Time, Stdc, StdcHosted, StdcVersion}
 use Rattle.ppmacro.specs.declared.macros.Variadic.{Variadic}
@@ -81,14 +81,14 @@ pub data ExpansionStep : Type 0 where
   Called : Call → ExpansionStep
 
 -- the next token gets the leading-space flag if a space is pending
-abbrev pub mark_next : Bool → List Hiding → List Hiding
-mark_next true (t ∷ ts) = with_flag true t ∷ ts
-mark_next true [] = []
-mark_next false ts = ts
+abbrev pub space_next : Bool → List Hiding → List Hiding
+space_next true (t ∷ ts) = with_space true t ∷ ts
+space_next true [] = []
+space_next false ts = ts
 
 -- a replacement before the rest of the list (6.10.3.4)
 abbrev pub followed_by : List Hiding → Replacement → List Hiding
-followed_by following m = m.tokens ++ mark_next m.pending following
+followed_by following m = m.tokens ++ space_next m.pending following
 
 abbrev pub replaced_by : Result Replacement Fault → List Hiding → ExpansionStep
 replaced_by (Ok m) following = Replaced (followed_by following m)

@@ -18,44 +18,44 @@ use Rattle.ppexpand.specs.Expansion.{Outcome, step_in_budget, ExpandsTo, Expands
 -- ---- exactly one expansion, and termination
 
 -- a list has exactly one outcome
-pub record HasOneOutcome (macros : Macros) (env : Env) (level : ℕ) (left : Option ℕ) (list : List Hiding) : Type 0 where
+pub record HasOneOutcome (macros : Macros) (env : Env) (level : ℕ) (remaining : Option ℕ) (list : List Hiding) : Type 0 where
   pub outcome : Outcome
-  pub is : ExpandsTo macros env level left list outcome
-  pub only : (other : Outcome) → ExpandsTo macros env level left list other → other ≡ outcome
+  pub is : ExpandsTo macros env level remaining list outcome
+  pub only : (other : Outcome) → ExpandsTo macros env level remaining list other → other ≡ outcome
 
 -- a list of tokens has exactly one expansion
-pub record HasOneExpansion (macros : Macros) (env : Env) (left : Option ℕ) (tokens : List Token) : Type 0 where
+pub record HasOneExpansion (macros : Macros) (env : Env) (remaining : Option ℕ) (tokens : List Token) : Type 0 where
   pub expanded : Expanded
-  pub is : IsExpansion macros env left tokens expanded
-  pub only : (other : Expanded) → IsExpansion macros env left tokens other → other ≡ expanded
+  pub is : IsExpansion macros env remaining tokens expanded
+  pub only : (other : Expanded) → IsExpansion macros env remaining tokens other → other ≡ expanded
 
 -- one expansion step leads from a list to the next
 pub data Leads (macros : Macros) (env : Env) (level : ℕ) : Option ℕ → List Hiding → Option ℕ → List Hiding → Type 0 where
-  by_emitting : {left : Option ℕ} {list next : List Hiding} {t : Hiding}
-      → step_in_budget macros env left list ≡ Emits t next
-      → Leads macros env level left list left next
-  by_replacing : {left : Option ℕ} {list next : List Hiding}
-      → step_in_budget macros env left list ≡ Replaced next
-      → Leads macros env level left list (spend_one left) next
-  by_invoking : {left after : Option ℕ} {list next : List Hiding} {call : Call} {expanded : List (Option (List Hiding))}
-      → step_in_budget macros env left list ≡ Called call
-      → ExpandsArguments macros env level call (spend_one left) (wanted call) after (Ok expanded)
+  by_emitting : {remaining : Option ℕ} {list next : List Hiding} {t : Hiding}
+      → step_in_budget macros env remaining list ≡ Emits t next
+      → Leads macros env level remaining list remaining next
+  by_replacing : {remaining : Option ℕ} {list next : List Hiding}
+      → step_in_budget macros env remaining list ≡ Replaced next
+      → Leads macros env level remaining list (spend_one remaining) next
+  by_invoking : {remaining remaining_after : Option ℕ} {list next : List Hiding} {call : Call} {expanded : List (Option (List Hiding))}
+      → step_in_budget macros env remaining list ≡ Called call
+      → ExpandsArguments macros env level call (spend_one remaining) (wanted call) remaining_after (Ok expanded)
       → finish_call call expanded ≡ Replaced next
-      → Leads macros env level left list after next
+      → Leads macros env level remaining list remaining_after next
 
 -- this number of expansion steps leads from a list to another
 pub data LeadsOn (macros : Macros) (env : Env) (level : ℕ) : ℕ → Option ℕ → List Hiding → Option ℕ → List Hiding → Type 0 where
-  stays : {left : Option ℕ} {list : List Hiding} → LeadsOn macros env level 0 left list left list
-  steps : {n : ℕ} {left between after : Option ℕ} {list next last : List Hiding}
-      → Leads macros env level left list between next
-      → LeadsOn macros env level n between next after last
-      → LeadsOn macros env level (suc n) left list after last
+  stays : {remaining : Option ℕ} {list : List Hiding} → LeadsOn macros env level 0 remaining list remaining list
+  steps : {n : ℕ} {remaining between remaining_after : Option ℕ} {list next last : List Hiding}
+      → Leads macros env level remaining list between next
+      → LeadsOn macros env level n between next remaining_after last
+      → LeadsOn macros env level (suc n) remaining list remaining_after last
 
 -- a list takes at most this number of expansion steps
 abbrev pub EndsWithin : Macros → Env → ℕ → ℕ → Option ℕ → List Hiding → Type 0
-EndsWithin macros env level most left list =
-    (n : ℕ) (after : Option ℕ) (last : List Hiding)
-    → LeadsOn macros env level n left list after last
+EndsWithin macros env level most remaining list =
+    (n : ℕ) (remaining_after : Option ℕ) (last : List Hiding)
+    → LeadsOn macros env level n remaining list remaining_after last
     → n ≤ most
 
 -- ---- the budget
@@ -63,7 +63,7 @@ EndsWithin macros env level most left list =
 -- a budget that is larger by this number
 abbrev pub plus : ℕ → Option ℕ → Option ℕ
 plus n None = None
-plus n (Some left) = Some (n + left)
+plus n (Some remaining) = Some (n + remaining)
 
 -- a list is a prefix of another
 abbrev pub IsPrefix : {A : Type 0} → List A → List A → Type 0
@@ -74,12 +74,12 @@ pub record IsOver (out : Outcome) : Type 0 where
   pub fault : Fault
   pub is : out.fault ≡ Some fault
   pub number : fault.number ≡ 35
-  pub left : out.left ≡ Some 0
+  pub remaining : out.remaining ≡ Some 0
 
 -- an expansion with the budget b, compared with one without a budget that makes this number of replacements
 pub record IsCapped (b replacements : ℕ) (whole out : Outcome) : Type 0 where
   pub tokens : IsPrefix out.tokens whole.tokens
-  pub enough : replacements ≤ b → (out.tokens ≡ whole.tokens) × (out.fault ≡ whole.fault) × (out.left ≡ Some (b - replacements))
+  pub enough : replacements ≤ b → (out.tokens ≡ whole.tokens) × (out.fault ≡ whole.fault) × (out.remaining ≡ Some (b - replacements))
   pub short : b < replacements → IsOver out
 
 -- without a budget no expansion ends in fault 35

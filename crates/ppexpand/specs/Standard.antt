@@ -139,12 +139,12 @@ mutual
     too_deep : {level : ℕ} {call : Call} {list : List Hiding} {rest : List (Option (List Hiding))}
         → 256 ≤ level
         → StandardExpandsArguments macros env level call (Some list ∷ rest) (Err (fault_at_expansion 21 call.head))
-    used : {level : ℕ} {call : Call} {list tokens : List Hiding} {rest : List (Option (List Hiding))} {out : ExpandedArguments}
+    pre_expanded : {level : ℕ} {call : Call} {list tokens : List Hiding} {rest : List (Option (List Hiding))} {out : ExpandedArguments}
         → level < 256
         → StandardExpands macros env (suc level) list tokens None
         → StandardExpandsArguments macros env level call rest out
         → StandardExpandsArguments macros env level call (Some list ∷ rest) (with_expanded (Some tokens) out)
-    used_refused : {level : ℕ} {call : Call} {list tokens : List Hiding} {rest : List (Option (List Hiding))} {f : Fault}
+    pre_expansion_refused : {level : ℕ} {call : Call} {list tokens : List Hiding} {rest : List (Option (List Hiding))} {f : Fault}
         → level < 256
         → StandardExpands macros env (suc level) list tokens (Some f)
         → StandardExpandsArguments macros env level call (Some list ∷ rest) (Err f)

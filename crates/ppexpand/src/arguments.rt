@@ -64,7 +64,7 @@ fn fewer(commas: Option<usize>) -> Option<usize>
     ensures { result ≡ fewer commas }
 {
     match commas {
-        Some(left) => Some(left.saturating_sub(1)),
+        Some(remaining) => Some(remaining.saturating_sub(1)),
         None => None,
     }
 }

@@ -9,7 +9,7 @@ ghost use Rattle.ppmacro.specs.Substituting.{ArgumentsKnown, arguments_in, token
 ghost use Rattle.ppmacro.specs.Chains.{chains_of};
 ghost use Rattle.ppmacro.specs.PasteFree.{lone_chain};
 ghost use Rattle.ppmacro.specs.Patterns.{listed};
-ghost use Rattle.ppmacro.specs.Substitution.{Arguments as ArgumentTokens, plain, with_flag, hsadd, macro_replacement, chains_replacement};
+ghost use Rattle.ppmacro.specs.Substitution.{Arguments as ArgumentTokens, plain, with_space, hsadd, macro_replacement, chains_replacement};
 ghost use Rattle.ppexpand.specs.Arguments.{gather, separators};
 ghost use Rattle.ppexpand.specs.declared.env.Env.{Env};
 ghost use Rattle.ppexpand.specs.ExpansionStep.{Replaced, macro_of, replaced_by, no_arguments, predefined_value, call_step, invocation_step, function_step, macro_step};
@@ -31,8 +31,8 @@ use crate::token_roles::{fault_at_expansion, is_open, is_quote, over_budget, unm
 use crate::token_stack::TokenStack;
 use crate::vec_pool::VecPool;
 use ppmacro::{
-    Arguments, Expansion, Hidden, HideSets, Macro, MacroKind, MacroName, Pattern, PredefinedMacro,
-    Set, Table, Variadic, substitute_pattern,
+    ArgumentExpansion, Arguments, Hidden, HideSets, Macro, MacroKind, MacroName, Pattern,
+    PredefinedMacro, Set, Table, Variadic, substitute_pattern,
 };
 use pptext::{Error, Fault, Memory, Place, Spelling, Token};
 use std::alloc::AllocError;
@@ -44,11 +44,11 @@ pub(crate) struct Invocation<'t, 'x, 'a> {
     /// The macro name token.
     pub(crate) head: Hidden<'x>,
     /// The macro.
-    pub(crate) replaced: &'t Macro<'a>,
+    pub(crate) definition: &'t Macro<'a>,
     /// An argument for each parameter. An absent variable argument has no entry.
     pub(crate) arguments: Vec<Vec<Hidden<'x>>>,
     /// The intersection of the hide sets of the name and the `)`. Each token of the replacement hides these names and the macro's name.
-    pub(crate) both: Set,
+    pub(crate) base: Set,
 }
 
 /// The kind of the action for the next token of a list.
@@ -71,7 +71,7 @@ pub(crate) enum ActionKind<'t, 'x, 'a> {
 /// The action for the next token of a list, which is removed from the list with what belongs to it.
 #[derive(Drop)]
 pub(crate) struct Action<'t, 'x, 'a> {
-    pub(crate) step: ActionKind<'t, 'x, 'a>,
+    pub(crate) kind: ActionKind<'t, 'x, 'a>,
 }
 
 impl<'t, 'x, 'a> Model for Action<'t, 'x, 'a> {
@@ -80,13 +80,13 @@ impl<'t, 'x, 'a> Model for Action<'t, 'x, 'a> {
 
     ghost Value = { next.Action };
 
-    ghost view = { λ n. elim n.step [
+    ghost view = { λ n. elim n.kind [
       | Done ↦ next.Done
       | Refused f ↦ next.Refused f
       | Failed f ↦ next.Failed f
       | Emits h ↦ next.Emits h
       | Replaced ↦ next.Replaced
-      | Called c ↦ next.Called c.head c.replaced.now c.arguments.items c.both
+      | Called c ↦ next.Called c.head c.definition.now c.arguments.items c.base
     ] };
 }
 
@@ -111,12 +111,12 @@ pub(crate) fn macro_at<'t, 'a>(table: &'t Table<'a>, token: &Token) -> Option<&'
 }
 
 /// Returns a token of a replacement list with this leading-space flag, these names to hide, and this expansion location.
-fn gained_token<'a>(token: &'a Token, flag: bool, gain: Set, used: Place) -> Hidden<'a>
-    ensures is { (sets : HideSetPool) → hiding sets result ≡ hsadd (set_at sets gain) used (with_flag flag (plain token.now)) }
+fn gained_token<'a>(token: &'a Token, space: bool, gain: Set, used: Place) -> Hidden<'a>
+    ensures is { (sets : HideSetPool) → hiding sets result ≡ hsadd (set_at sets gain) used (with_space space (plain token.now)) }
     ensures known { (sets : HideSetPool) → IsKnown sets gain → HasSets sets result }
 {
     let mut hidden = Hidden::new(token, gain);
-    hidden.flag(flag);
+    hidden.set_space(space);
     hidden.set_use(used, gain);
     hidden
 }
@@ -158,7 +158,7 @@ fn replace_by<'x, 'a: 'x>(
     ensures keeps { KeepsSets sets.old sets.new }
 {
     let Some((first, others)) = body.split_first() else {
-        list.mark_next(head.space());
+        list.space_next(head.space());
         return Ok(());
     };
     let gain = sets.with(base, head.text())?;
@@ -172,7 +172,7 @@ fn failed_at<'t, 'x, 'a>(number: u8, head: &Hidden) -> Result<Action<'t, 'x, 'a>
     ensures { IfOk result (λ n. n ≡ next.Failed (fault_at number head.now.token.used head.now.token.text)) }
 {
     Ok(Action {
-        step: ActionKind::Failed(fault_at_expansion(number, head)?),
+        kind: ActionKind::Failed(fault_at_expansion(number, head)?),
     })
 }
 
@@ -180,7 +180,7 @@ fn failed_at<'t, 'x, 'a>(number: u8, head: &Hidden) -> Result<Action<'t, 'x, 'a>
 fn call_step<'t, 'x, 'a: 'x>(
     sets: &mut HideSets,
     head: Hidden<'x>,
-    replaced: &'t Macro<'a>,
+    definition: &'t Macro<'a>,
     arguments: Option<Vec<Vec<Hidden<'x>>>>,
     close: &Hidden,
 ) -> Result<Action<'t, 'x, 'a>, Memory>
@@ -188,7 +188,7 @@ fn call_step<'t, 'x, 'a: 'x>(
     requires arguments { FittingKnown sets.old arguments }
     requires close { HasSets sets.old close.now }
     ensures is { IfOk result (λ n. (rest : List Hidden) → AllKnown sets.old rest → step_in sets.new rest n
-        ≡ call_step (hiding sets.old head.entry) replaced.now (fitting_in sets.old arguments.entry) (hiding sets.old close.now)
+        ≡ call_step (hiding sets.old head.entry) definition.now (fitting_in sets.old arguments.entry) (hiding sets.old close.now)
         (hidings sets.old rest)) }
     ensures known { IfOk result (λ n. (rest : List Hidden) → AllKnown sets.old rest → ActionKnown sets.new rest n) }
     ensures keeps { KeepsSets sets.old sets.new }
@@ -196,13 +196,13 @@ fn call_step<'t, 'x, 'a: 'x>(
     let Some(arguments) = arguments else {
         return failed_at(18, &head);
     };
-    let both = sets.common_hide_set(&head, close)?;
+    let base = sets.common_hide_set(&head, close)?;
     Ok(Action {
-        step: ActionKind::Called(Invocation {
+        kind: ActionKind::Called(Invocation {
             head,
-            replaced,
+            definition,
             arguments,
-            both,
+            base,
         }),
     })
 }
@@ -212,37 +212,37 @@ fn failed_quote<'t, 'x, 'a>(quote: &Hidden) -> Result<Action<'t, 'x, 'a>, Memory
     ensures { IfOk result (λ n. n ≡ next.Failed (fault_at 7 quote.now.token.at quote.now.token.text)) }
 {
     Ok(Action {
-        step: ActionKind::Failed(unmatched_quote(quote)?),
+        kind: ActionKind::Failed(unmatched_quote(quote)?),
     })
 }
 
 /// Returns the action for a macro's name if nothing is left of the budget: a name that is to be replaced is refused.
 fn exhausted_step<'t, 'x, 'a: 'x>(
     head: Hidden<'x>,
-    replaced: &Macro<'a>,
+    definition: &Macro<'a>,
     list: &mut TokenStack<'x>,
 ) -> Result<Action<'t, 'x, 'a>, Memory>
     ensures is { IfOk result (λ n.
         (sets : HideSetPool) (env : Env) → step_in sets list.new n
         ≡ in_budget (Some 0) (hiding sets head.entry ∷ hidings sets list.old)
-        (macro_step env (hiding sets head.entry) (hidings sets list.old) replaced.now replaced.now.kind)) }
+        (macro_step env (hiding sets head.entry) (hidings sets list.old) definition.now definition.now.kind)) }
     ensures known { IfOk result (λ n. (sets : HideSetPool) → HasSets sets head.entry → AllKnown sets list.old → ActionKnown sets list.new n) }
 {
-    if matches!(replaced.kind, MacroKind::FunctionLike { .. }) {
+    if matches!(definition.kind, MacroKind::FunctionLike { .. }) {
         let Some(following) = list.next() else {
             return Ok(Action {
-                step: ActionKind::Emits(head),
+                kind: ActionKind::Emits(head),
             });
         };
         if !is_open(&following) {
             list.push(following)?;
             return Ok(Action {
-                step: ActionKind::Emits(head),
+                kind: ActionKind::Emits(head),
             });
         }
     }
     Ok(Action {
-        step: ActionKind::Refused(over_budget(&head)),
+        kind: ActionKind::Refused(over_budget(&head)),
     })
 }
 
@@ -251,7 +251,7 @@ fn refused_quote<'t, 'x, 'a>(quote: &Hidden) -> Result<Action<'t, 'x, 'a>, Memor
     ensures { IfOk result (λ n. n ≡ next.Refused (fault_at 7 quote.now.token.at quote.now.token.text)) }
 {
     Ok(Action {
-        step: ActionKind::Refused(unmatched_quote(quote)?),
+        kind: ActionKind::Refused(unmatched_quote(quote)?),
     })
 }
 
@@ -286,7 +286,7 @@ impl<'x> Replacer<'x> {
         };
         match substitute_pattern(alloc, pattern, arguments, &name, &mut self.sets)? {
             Ok((tokens, pending)) => {
-                list.mark_next(pending);
+                list.space_next(pending);
                 list.push_all(tokens)?;
                 Ok(Ok(()))
             }
@@ -299,22 +299,22 @@ impl<'x> Replacer<'x> {
         &mut self,
         env: &Env,
         head: &Hidden<'x>,
-        builtin: PredefinedMacro,
+        predefined: PredefinedMacro,
         list: &mut TokenStack<'x>,
     ) -> Result<Action<'t, 'x, 'a>, Memory>
         requires head { HasSets self.old.sets head.now }
         requires list { AllKnown self.old.sets list.old }
         ensures is { IfOk result (λ n. step_in self.new.sets list.new n
-            ≡ Replaced (predefined_value builtin env.now (hiding self.old.sets head.now)
+            ≡ Replaced (predefined_value predefined env.now (hiding self.old.sets head.now)
             (set.insert (hide_of self.old.sets head.now) head.now.token.text) ∷ hidings self.old.sets list.old)) }
         ensures known { IfOk result (λ n. ActionKnown self.new.sets list.new n) }
         ensures keeps { KeepsSets self.old.sets self.new.sets }
     {
         let gain = self.sets.with_own_name(head)?;
         let alloc = self.pool.alloc();
-        list.push(predefined_value(alloc, builtin, env, head, gain)?)?;
+        list.push(predefined_value(alloc, predefined, env, head, gain)?)?;
         Ok(Action {
-            step: ActionKind::Replaced,
+            kind: ActionKind::Replaced,
         })
     }
 
@@ -325,24 +325,24 @@ impl<'x> Replacer<'x> {
         &mut self,
         base: Set,
         head: &Hidden<'x>,
-        replaced: &Macro<'a>,
+        definition: &Macro<'a>,
         list: &mut TokenStack<'x>,
     ) -> Result<Result<(), Fault>, Memory>
         requires base { IsKnown self.old.sets base }
         requires list { AllKnown self.old.sets list.old }
         ensures is { IfOk result (λ r. replaced_in self.new.sets list.new r
-            ≡ replaced_by (macro_replacement replaced.now no_arguments
+            ≡ replaced_by (macro_replacement definition.now no_arguments
             (set.insert (set_at self.old.sets base) head.now.token.text) head.now.token.used head.now.token.space)
             (hidings self.old.sets list.old)) }
         ensures known { IfOk result (λ r. OnOk r (AllKnown self.new.sets list.new)) }
         ensures keeps { KeepsSets self.old.sets self.new.sets }
     {
         // Fast path: most object-like macros have no `##`.
-        if let Some(body) = replaced.lone_tokens() {
+        if let Some(body) = definition.lone_tokens() {
             replace_by(&mut self.sets, body, base, head, list)?;
             return Ok(Ok(()));
         }
-        let chains = replaced.chains(self.pool.alloc())?;
+        let chains = definition.chains(self.pool.alloc())?;
         let pattern = Pattern::Pasted(chains);
         let none = Arguments {
             given: &[],
@@ -355,25 +355,25 @@ impl<'x> Replacer<'x> {
     fn object_step<'t, 'a: 'x>(
         &mut self,
         head: &Hidden<'x>,
-        replaced: &Macro<'a>,
+        definition: &Macro<'a>,
         list: &mut TokenStack<'x>,
     ) -> Result<Action<'t, 'x, 'a>, Memory>
         requires head { HasSets self.old.sets head.now }
         requires list { AllKnown self.old.sets list.old }
         ensures is { IfOk result (λ n. step_in self.new.sets list.new n
-            ≡ replaced_by (macro_replacement replaced.now no_arguments
+            ≡ replaced_by (macro_replacement definition.now no_arguments
             (set.insert (hide_of self.old.sets head.now) head.now.token.text) head.now.token.used head.now.token.space)
             (hidings self.old.sets list.old)) }
         ensures known { IfOk result (λ n. ActionKnown self.new.sets list.new n) }
         ensures keeps { KeepsSets self.old.sets self.new.sets }
     {
         let base = self.sets.hide_set_of(head)?;
-        match self.replace_object(base, head, replaced, list)? {
+        match self.replace_object(base, head, definition, list)? {
             Ok(()) => Ok(Action {
-                step: ActionKind::Replaced,
+                kind: ActionKind::Replaced,
             }),
             Err(fault) => Ok(Action {
-                step: ActionKind::Failed(fault),
+                kind: ActionKind::Failed(fault),
             }),
         }
     }
@@ -382,7 +382,7 @@ impl<'x> Replacer<'x> {
     fn invocation_step<'t, 'a: 'x>(
         &mut self,
         head: Hidden<'x>,
-        replaced: &'t Macro<'a>,
+        definition: &'t Macro<'a>,
         names: &[Spelling],
         variadic: Variadic,
         list: &mut TokenStack<'x>,
@@ -390,7 +390,7 @@ impl<'x> Replacer<'x> {
         requires head { HasSets self.old.sets head }
         requires list { AllKnown self.old.sets list.old }
         ensures is { IfOk result (λ n. step_in self.new.sets list.new n
-            ≡ invocation_step (hiding self.old.sets head.entry) replaced.now names.now variadic
+            ≡ invocation_step (hiding self.old.sets head.entry) definition.now names.now variadic
             (gather 0 (separators names.now variadic) (hidings self.old.sets list.old))) }
         ensures known { IfOk result (λ n. ActionKnown self.new.sets list.new n) }
         ensures keeps { KeepsSets self.old.sets self.new.sets }
@@ -398,7 +398,7 @@ impl<'x> Replacer<'x> {
         match gather(&mut self.pool, list, separators(names, variadic))? {
             Gathered::Closed(arguments, close) => {
                 let fitting = fit_arguments(self.pool.alloc(), arguments, names, variadic);
-                call_step(&mut self.sets, head, replaced, fitting, &close)
+                call_step(&mut self.sets, head, definition, fitting, &close)
             }
             Gathered::UnmatchedQuote(quote) => failed_quote(&quote),
             Gathered::Unclosed => failed_at(17, &head),
@@ -409,7 +409,7 @@ impl<'x> Replacer<'x> {
     fn function_step<'t, 'a: 'x>(
         &mut self,
         head: Hidden<'x>,
-        replaced: &'t Macro<'a>,
+        definition: &'t Macro<'a>,
         names: &[Spelling],
         variadic: Variadic,
         list: &mut TokenStack<'x>,
@@ -417,24 +417,24 @@ impl<'x> Replacer<'x> {
         requires head { HasSets self.old.sets head }
         requires list { AllKnown self.old.sets list.old }
         ensures is { IfOk result (λ n. step_in self.new.sets list.new n
-            ≡ function_step (hiding self.old.sets head.entry) replaced.now names.now variadic (hidings self.old.sets list.old)) }
+            ≡ function_step (hiding self.old.sets head.entry) definition.now names.now variadic (hidings self.old.sets list.old)) }
         ensures known { IfOk result (λ n. ActionKnown self.new.sets list.new n) }
         ensures keeps { KeepsSets self.old.sets self.new.sets }
     {
         let Some(next) = list.next() else {
             return Ok(Action {
-                step: ActionKind::Emits(head),
+                kind: ActionKind::Emits(head),
             });
         };
         if !is_open(&next) {
             list.push(next)?;
             return Ok(Action {
-                step: ActionKind::Emits(head),
+                kind: ActionKind::Emits(head),
             });
         }
         // The `(` is dropped before the step.
         drop(next);
-        self.invocation_step(head, replaced, names, variadic, list)
+        self.invocation_step(head, definition, names, variadic, list)
     }
 
     /// Makes the step of a macro's name.
@@ -442,25 +442,27 @@ impl<'x> Replacer<'x> {
         &mut self,
         env: &Env,
         head: Hidden<'x>,
-        replaced: &'t Macro<'a>,
+        definition: &'t Macro<'a>,
         list: &mut TokenStack<'x>,
     ) -> Result<Action<'t, 'x, 'a>, Memory>
         requires head { HasSets self.old.sets head }
         requires list { AllKnown self.old.sets list.old }
         ensures is { IfOk result (λ n. step_in self.new.sets list.new n
-            ≡ macro_step env.now (hiding self.old.sets head.entry) (hidings self.old.sets list.old) replaced.now replaced.now.kind) }
+            ≡ macro_step env.now (hiding self.old.sets head.entry) (hidings self.old.sets list.old) definition.now definition.now.kind) }
         ensures known { IfOk result (λ n. ActionKnown self.new.sets list.new n) }
         ensures keeps { KeepsSets self.old.sets self.new.sets }
     {
-        match &replaced.kind {
-            MacroKind::Predefined(builtin) => { self.predefined_step(env, &head, *builtin, list) }
-            MacroKind::ObjectLike => self.object_step(&head, replaced, list),
+        match &definition.kind {
+            MacroKind::Predefined(predefined) => {
+                self.predefined_step(env, &head, *predefined, list)
+            }
+            MacroKind::ObjectLike => self.object_step(&head, definition, list),
             MacroKind::FunctionLike {
                 parameters,
                 variadic,
             } => {
                 let names = parameters.as_slice();
-                self.function_step(head, replaced, names, *variadic, list)
+                self.function_step(head, definition, names, *variadic, list)
             }
         }
     }
@@ -471,38 +473,38 @@ impl<'x> Replacer<'x> {
     pub(crate) fn next_step<'t, 'a: 'x>(
         &mut self,
         context: &Context<'_, 'a>,
-        left: Option<u64>,
+        remaining: Option<u64>,
         named: Option<&'t Macro<'a>>,
         list: &mut TokenStack<'x>,
     ) -> Result<Action<'t, 'x, 'a>, Memory>
         requires named { option_copied named ≡ next_macro context.now.table.now.macros (tokens_of list.old) }
         requires known { AllKnown self.old.sets list.old }
-        ensures is { IfOk result (λ n. step_in self.new.sets list.new n ≡ step_in_budget context.now.table.now.macros context.now.env.now left (hidings self.old.sets list.old)) }
+        ensures is { IfOk result (λ n. step_in self.new.sets list.new n ≡ step_in_budget context.now.table.now.macros context.now.env.now remaining (hidings self.old.sets list.old)) }
         ensures known { IfOk result (λ n. ActionKnown self.new.sets list.new n) }
         ensures keeps { KeepsSets self.old.sets self.new.sets }
     {
         let Some(head) = list.next() else {
             return Ok(Action {
-                step: ActionKind::Done,
+                kind: ActionKind::Done,
             });
         };
         if is_quote(&head) {
             return refused_quote(&head);
         }
-        let Some(replaced) = named else {
+        let Some(definition) = named else {
             return Ok(Action {
-                step: ActionKind::Emits(head),
+                kind: ActionKind::Emits(head),
             });
         };
         if self.sets.hides(&head) {
             return Ok(Action {
-                step: ActionKind::Emits(head),
+                kind: ActionKind::Emits(head),
             });
         }
-        if is_exhausted(left) {
-            return exhausted_step(head, replaced, list);
+        if is_exhausted(remaining) {
+            return exhausted_step(head, definition, list);
         }
-        self.macro_step(context.env, head, replaced, list)
+        self.macro_step(context.env, head, definition, list)
     }
 
     /// Pushes the replacement of an invocation whose arguments are expanded, or returns fault 19 or 20.
@@ -513,15 +515,15 @@ impl<'x> Replacer<'x> {
         &mut self,
         call: &Invocation<'_, 'x, 'a>,
         pattern: &Pattern<'a>,
-        expanded: &[Expansion<'x>],
+        expanded: &[ArgumentExpansion<'x>],
         list: &mut TokenStack<'x>,
     ) -> Result<(), Error>
-        requires call { CallKnown self.old.sets call.now.head call.now.arguments.items call.now.both }
-        requires chains { listed pattern.now ≡ chains_of call.now.replaced.now }
+        requires call { CallKnown self.old.sets call.now.head call.now.arguments.items call.now.base }
+        requires chains { listed pattern.now ≡ chains_of call.now.definition.now }
         requires expanded { ExpansionsKnown self.old.sets expanded.now }
         requires list { AllKnown self.old.sets list.old }
         ensures is { UnlessOutOfMemory result (λ r. replaced_in self.new.sets list.new r
-            ≡ finish_call (call_in self.old.sets call.now.head call.now.replaced.now call.now.arguments.items call.now.both list.old)
+            ≡ finish_call (call_in self.old.sets call.now.head call.now.definition.now call.now.arguments.items call.now.base list.old)
             (expanded_in self.old.sets call.now.arguments.items expanded.now)) }
         ensures known { OnOk result (AllKnown self.new.sets list.new) }
         ensures keeps { KeepsSets self.old.sets self.new.sets }
@@ -530,7 +532,7 @@ impl<'x> Replacer<'x> {
             given: call.arguments.as_slice(),
             expanded,
         };
-        match self.replace(pattern, arguments, call.both, &call.head, list)? {
+        match self.replace(pattern, arguments, call.base, &call.head, list)? {
             Ok(()) => Ok(()),
             Err(fault) => Err(Error::Fault(fault)),
         }

@@ -29,7 +29,7 @@ use crate::token_roles::fault_at_expansion;
 use crate::token_span::{never_expands, split_unexpanded};
 use crate::token_stack::{Lookahead, TokenStack};
 use crate::vec_pool::VecPool;
-use ppmacro::{Expansion, Hidden, HideSets, Macro, Pattern, Table};
+use ppmacro::{ArgumentExpansion, Hidden, HideSets, Macro, Pattern, Table};
 use pptext::{Error, Fault, Memory, Token, split_memory};
 use std::alloc::{AllocError, Global};
 
@@ -94,7 +94,7 @@ fn none_expands(table: &Table, tokens: &[Hidden]) -> bool
 
 /// Returns fault 21 at a macro's name: the argument is nested too deep. There is no expansion.
 #[inline(never)]
-fn raise_depth<'x>(head: &Hidden) -> Result<Expansion<'x>, Error>
+fn raise_depth<'x>(head: &Hidden) -> Result<ArgumentExpansion<'x>, Error>
     ensures { UnlessOutOfMemory result (λ r. r ≡ Err (fault_at 21 head.now.token.used head.now.token.text)) }
 {
     Err(Error::Fault(fault_at_expansion(21, head)?))
@@ -129,7 +129,7 @@ struct Expander<'x> {
     /// The state of replacement.
     replacer: Replacer<'x>,
     /// The rest of the budget; `None` means no limit.
-    left: Option<u64>,
+    remaining: Option<u64>,
 }
 
 impl<'x> Expander<'x> {
@@ -149,22 +149,24 @@ impl<'x> Expander<'x> {
     ) -> Result<bool, Error>
         requires named { option_copied named ≡ next_macro context.now.table.now.macros (tokens_of list.old) }
         requires list_known { AllKnown self.old.replacer.sets list.old }
-        requires passed_known { AllKnown self.old.replacer.sets emitted.old }
+        requires emitted_known { AllKnown self.old.replacer.sets emitted.old }
         ensures on { UnlessOutOfMemory result (λ r. MatchOption call.new
-            ((level : ℕ) → HasTaken context.now.table.now.macros context.now.env.now level self.old.left (hidings self.old.replacer.sets list.old)
-            (hidings self.old.replacer.sets emitted.old) r self.new.left (hidings self.new.replacer.sets list.new) (hidings self.new.replacer.sets emitted.new))
-            (λ c. HasCalled context.now.table.now.macros context.now.env.now self.old.left (hidings self.old.replacer.sets list.old)
-            (hidings self.old.replacer.sets emitted.old) (call_in self.new.replacer.sets c.head c.replaced.now c.arguments.items c.both list.new)
-            r self.new.left (hidings self.new.replacer.sets emitted.new))) }
-        ensures call_known { OnOk result (IfSome call.new (λ c. CallKnown self.new.replacer.sets c.head c.arguments.items c.both × AllKnown self.new.replacer.sets list.new)) }
+            ((level : ℕ) → HasTaken context.now.table.now.macros context.now.env.now level self.old.remaining (hidings self.old.replacer.sets list.old)
+            (hidings self.old.replacer.sets emitted.old) r self.new.remaining (hidings self.new.replacer.sets list.new) (hidings self.new.replacer.sets emitted.new))
+            (λ c. HasCalled context.now.table.now.macros context.now.env.now self.old.remaining (hidings self.old.replacer.sets list.old)
+            (hidings self.old.replacer.sets emitted.old) (call_in self.new.replacer.sets c.head c.definition.now c.arguments.items c.base list.new)
+            r self.new.remaining (hidings self.new.replacer.sets emitted.new))) }
+        ensures call_known { OnOk result (IfSome call.new (λ c. CallKnown self.new.replacer.sets c.head c.arguments.items c.base × AllKnown self.new.replacer.sets list.new)) }
         ensures list_known { IfOk result (λ goes. goes ≡ true → AllKnown self.new.replacer.sets list.new) }
-        ensures passed_known { OnOk result (AllKnown self.new.replacer.sets emitted.new) }
+        ensures emitted_known { OnOk result (AllKnown self.new.replacer.sets emitted.new) }
         ensures keeps { KeepsSets self.old.replacer.sets self.new.replacer.sets }
     {
         *call = None;
-        let next = self.replacer.next_step(context, self.left, named, list)?;
-        let step = next.step;
-        match step {
+        let next = self
+            .replacer
+            .next_step(context, self.remaining, named, list)?;
+        let kind = next.kind;
+        match kind {
             ActionKind::Done => Ok(false),
             ActionKind::Refused(fault) => Err(Error::Fault(fault)),
             ActionKind::Emits(head) => {
@@ -172,15 +174,15 @@ impl<'x> Expander<'x> {
                 Ok(true)
             }
             ActionKind::Failed(fault) => {
-                self.left = spend_one(self.left);
+                self.remaining = spend_one(self.remaining);
                 Err(Error::Fault(fault))
             }
             ActionKind::Replaced => {
-                self.left = spend_one(self.left);
+                self.remaining = spend_one(self.remaining);
                 Ok(true)
             }
             ActionKind::Called(found) => {
-                self.left = spend_one(self.left);
+                self.remaining = spend_one(self.remaining);
                 *call = Some(found);
                 Ok(true)
             }
@@ -194,11 +196,11 @@ impl<'x> Expander<'x> {
         context: &Context<'_, 'a>,
         head: &Hidden<'x>,
         argument: &[Hidden<'x>],
-    ) -> Result<Expansion<'x>, Error>
+    ) -> Result<ArgumentExpansion<'x>, Error>
         requires level { context.now.level ≤ 256 }
         requires known { AllKnown self.old.replacer.sets argument.now }
         ensures is { UnlessOutOfMemory result (HasExpanded context.now.table.now.macros context.now.env.now context.now.level head.now.token
-            self.old.left self.new.left self.old.replacer.sets self.new.replacer.sets argument.now) }
+            self.old.remaining self.new.remaining self.old.replacer.sets self.new.replacer.sets argument.now) }
         ensures known { IfOk result (λ e. AllKnown self.new.replacer.sets (owned_tokens e)) }
         ensures keeps { KeepsSets self.old.replacer.sets self.new.replacer.sets }
     {
@@ -207,7 +209,7 @@ impl<'x> Expander<'x> {
         }
         // Fast path: most arguments name no macro, and expand to themselves.
         if none_expands(context.table, argument) {
-            return Ok(Expansion::AsGiven);
+            return Ok(ArgumentExpansion::AsGiven);
         }
         let mut list = TokenStack::of_clones(
             self.replacer.pool.alloc(),
@@ -223,7 +225,7 @@ impl<'x> Expander<'x> {
         };
         self.expand_list(&deeper, &mut list, &mut emitted)?;
         let tokens = emitted.into_vec(self.replacer.pool.alloc())?;
-        Ok(Expansion::Made(tokens))
+        Ok(ArgumentExpansion::Made(tokens))
     }
 
     /// Pre-expands the arguments that the replacement list uses without `#` and `##`, and appends the expansions to `expanded` by parameter.
@@ -235,22 +237,26 @@ impl<'x> Expander<'x> {
         context: &Context<'_, 'a>,
         call: &Invocation<'_, 'x, 'a>,
         pattern: &Pattern<'a>,
-        expanded: &mut Vec<Expansion<'x>>,
+        expanded: &mut Vec<ArgumentExpansion<'x>>,
     ) -> Result<(), Error>
         requires level { context.now.level ≤ 256 }
-        requires known { CallKnown self.old.replacer.sets call.now.head call.now.arguments.items call.now.both }
-        requires chains { listed pattern.now ≡ chains_of call.now.replaced.now }
+        requires known { CallKnown self.old.replacer.sets call.now.head call.now.arguments.items call.now.base }
+        requires chains { listed pattern.now ≡ chains_of call.now.definition.now }
         requires none { expanded.old.items ≡ [] }
         ensures is { UnlessOutOfMemory result (λ r. (following : List Hidden) → ExpandsWanted context.now.table.now.macros context.now.env.now context.now.level
-            (call_in self.old.replacer.sets call.now.head call.now.replaced.now call.now.arguments.items call.now.both following) self.old.left self.new.left
+            (call_in self.old.replacer.sets call.now.head call.now.definition.now call.now.arguments.items call.now.base following) self.old.remaining self.new.remaining
             (result_and r (Ok (expanded_in self.new.replacer.sets call.now.arguments.items expanded.new.items)))) }
         ensures known { OnOk result (ExpansionsKnown self.new.replacer.sets expanded.new.items) }
         ensures keeps { KeepsSets self.old.replacer.sets self.new.replacer.sets }
     {
-        let used = pre_expanded_parameters(self.replacer.pool.alloc(), call.replaced, pattern)?;
-        for (parameter, alone) in used.iter().enumerate() {
-            if !*alone {
-                put(expanded, Expansion::Unused)?;
+        let pre_expanded = pre_expanded_parameters(
+            self.replacer.pool.alloc(),
+            call.definition,
+            pattern,
+        )?;
+        for (parameter, is_pre_expanded) in pre_expanded.iter().enumerate() {
+            if !*is_pre_expanded {
+                put(expanded, ArgumentExpansion::Unused)?;
                 continue;
             }
             let head = &call.head;
@@ -270,20 +276,20 @@ impl<'x> Expander<'x> {
         list: &mut TokenStack<'x>,
     ) -> Result<(), Error>
         requires level { context.now.level ≤ 256 }
-        requires call_known { CallKnown self.old.replacer.sets call.now.head call.now.arguments.items call.now.both }
+        requires call_known { CallKnown self.old.replacer.sets call.now.head call.now.arguments.items call.now.base }
         requires list_known { AllKnown self.old.replacer.sets list.old }
         ensures is { UnlessOutOfMemory result (λ r. CallStepsTo context.now.table.now.macros context.now.env.now context.now.level
-            (call_in self.old.replacer.sets call.now.head call.now.replaced.now call.now.arguments.items call.now.both list.old) self.old.left self.new.left
+            (call_in self.old.replacer.sets call.now.head call.now.definition.now call.now.arguments.items call.now.base list.old) self.old.remaining self.new.remaining
             (replaced_in self.new.replacer.sets list.new r)) }
         ensures known { OnOk result (AllKnown self.new.replacer.sets list.new) }
         ensures keeps { KeepsSets self.old.replacer.sets self.new.replacer.sets }
     {
         let pattern = call
-            .replaced
+            .definition
             .pattern(self.replacer.pool.alloc(), context.table.hashing())?;
         let mut expanded = Vec::with_capacity(
             self.replacer.pool.alloc(),
-            parameter_count(call.replaced),
+            parameter_count(call.definition),
         )?;
         self.expand_arguments(context, call, &pattern, &mut expanded)?;
         self.replacer
@@ -307,12 +313,12 @@ impl<'x> Expander<'x> {
         requires level { context.now.level ≤ 256 }
         requires named { option_copied named ≡ next_macro context.now.table.now.macros (tokens_of list.old) }
         requires list_known { AllKnown self.old.replacer.sets list.old }
-        requires passed_known { AllKnown self.old.replacer.sets emitted.old }
+        requires emitted_known { AllKnown self.old.replacer.sets emitted.old }
         ensures on { UnlessOutOfMemory result (λ r.
-            HasTaken context.now.table.now.macros context.now.env.now context.now.level self.old.left (hidings self.old.replacer.sets list.old)
-            (hidings self.old.replacer.sets emitted.old) r self.new.left (hidings self.new.replacer.sets list.new) (hidings self.new.replacer.sets emitted.new)) }
+            HasTaken context.now.table.now.macros context.now.env.now context.now.level self.old.remaining (hidings self.old.replacer.sets list.old)
+            (hidings self.old.replacer.sets emitted.old) r self.new.remaining (hidings self.new.replacer.sets list.new) (hidings self.new.replacer.sets emitted.new)) }
         ensures list_known { IfOk result (λ goes. goes ≡ true → AllKnown self.new.replacer.sets list.new) }
-        ensures passed_known { OnOk result (AllKnown self.new.replacer.sets emitted.new) }
+        ensures emitted_known { OnOk result (AllKnown self.new.replacer.sets emitted.new) }
         ensures keeps { KeepsSets self.old.replacer.sets self.new.replacer.sets }
     {
         let goes = self.begin_step(context, named, list, emitted, call)?;
@@ -335,8 +341,8 @@ impl<'x> Expander<'x> {
         requires level { context.now.level ≤ 256 }
         requires known { AllKnown self.old.replacer.sets list.old }
         requires none { emitted.old ≡ [] }
-        ensures outcome { UnlessOutOfMemory result (λ r. ExpandsTo context.now.table.now.macros context.now.env.now context.now.level self.old.left (hidings self.old.replacer.sets list.old)
-            (record { tokens = hidings self.new.replacer.sets emitted.new; fault = result_err r; left = self.new.left })) }
+        ensures outcome { UnlessOutOfMemory result (λ r. ExpandsTo context.now.table.now.macros context.now.env.now context.now.level self.old.remaining (hidings self.old.replacer.sets list.old)
+            (record { tokens = hidings self.new.replacer.sets emitted.new; fault = result_err r; remaining = self.new.remaining })) }
         ensures known { OnOk result (AllKnown self.new.replacer.sets emitted.new) }
         ensures keeps { KeepsSets self.old.replacer.sets self.new.replacer.sets }
     {
@@ -363,7 +369,7 @@ pub struct Expanded<'a> {
     /// The fault that ended the list, if any.
     pub fault: Option<Fault>,
     /// The rest of the budget of replacements and file openings; `None` means no limit.
-    pub left: Option<u64>,
+    pub remaining: Option<u64>,
 }
 
 /// Expands tokens of a file, with empty hide sets at first, and appends the emitted tokens to `emitted`.
@@ -372,14 +378,14 @@ pub struct Expanded<'a> {
 fn expand_tokens<'x, 'a: 'x>(
     alloc: Global,
     context: &Context<'_, 'a>,
-    left: Option<u64>,
+    remaining: Option<u64>,
     tokens: &'x [Token],
     emitted: &mut Emitted<'x>,
 ) -> Result<(Option<u64>, Option<Fault>), Memory>
     requires level { context.now.level ≡ 0 }
     requires none { emitted.old ≡ [] }
-    ensures { IfOk result (λ r. (sets : HideSetPool) × ExpandsTo context.now.table.now.macros context.now.env.now 0 left (map plain tokens.now)
-        (record { tokens = hidings sets emitted.new; fault = r.1; left = r.0 })) }
+    ensures { IfOk result (λ r. (sets : HideSetPool) × ExpandsTo context.now.table.now.macros context.now.env.now 0 remaining (map plain tokens.now)
+        (record { tokens = hidings sets emitted.new; fault = r.1; remaining = r.0 })) }
 {
     let sets = HideSets::with_hasher(alloc, context.table.hashing())?;
     let mut list = TokenStack::over(alloc, tokens, sets.empty());
@@ -388,10 +394,10 @@ fn expand_tokens<'x, 'a: 'x>(
             pool: VecPool::new(alloc),
             sets,
         },
-        left,
+        remaining,
     };
     let ended = expander.expand_list(context, &mut list, emitted);
-    Ok((expander.left, split_memory(ended)?.err()))
+    Ok((expander.remaining, split_memory(ended)?.err()))
 }
 
 /// Expands `prefix` and `rest`, where the tokens of `prefix` are emitted unchanged.
@@ -400,12 +406,12 @@ fn expand_rest<'x, 'a: 'x>(
     alloc: Global,
     table: &Table<'a>,
     env: &Env,
-    left: Option<u64>,
+    remaining: Option<u64>,
     prefix: &'x [Token],
     rest: &'x [Token],
 ) -> Result<Expanded<'x>, Memory>
     requires plain { AllByRecursion (λ t. never_expands table.now.macros t ≡ true) prefix.now }
-    ensures { IfOk result (λ e. IsExpansion table.now.macros env.now left (prefix.now ++ rest.now) e) }
+    ensures { IfOk result (λ e. IsExpansion table.now.macros env.now remaining (prefix.now ++ rest.now) e) }
 {
     let context = Context {
         table,
@@ -413,12 +419,12 @@ fn expand_rest<'x, 'a: 'x>(
         level: 0,
     };
     let mut emitted = Emitted::with_capacity(alloc, CAPACITY)?;
-    let (left, fault) = expand_tokens(alloc, &context, left, rest, &mut emitted)?;
+    let (remaining, fault) = expand_tokens(alloc, &context, remaining, rest, &mut emitted)?;
     emitted.free_unused()?;
     Ok(Expanded {
         tokens: TokenRope::new(prefix, emitted),
         fault,
-        left,
+        remaining,
     })
 }
 
@@ -445,18 +451,18 @@ pub fn expand<'x, 'a: 'x>(
     alloc: Global,
     table: &Table<'a>,
     env: &Env,
-    left: Option<u64>,
+    remaining: Option<u64>,
     tokens: &'x [Token],
 ) -> Result<Expanded<'x>, Memory>
-    ensures { IfOk result (λ e. IsExpansion table.now.macros env.now left tokens.now e) }
+    ensures { IfOk result (λ e. IsExpansion table.now.macros env.now remaining tokens.now e) }
 {
     let (prefix, rest) = split_unexpanded(table, tokens);
     if rest.is_empty() {
         return Ok(Expanded {
             tokens: TokenRope::new(prefix, Emitted::new(alloc)),
             fault: None,
-            left,
+            remaining,
         });
     }
-    expand_rest(alloc, table, env, left, prefix, rest)
+    expand_rest(alloc, table, env, remaining, prefix, rest)
 }

@@ -17,26 +17,26 @@ ghost use Rattle.ppexpand.specs.Termination.{hides, Holds, Gains, names_left, Is
 
 /// Each list of tokens with hide sets has exactly one outcome, for all macros and at each level of arguments.
 pub fn one_outcome()
-    ensures { (macros : Macros) (env : Env) (level : ℕ) (left : Option ℕ) (list : List Hiding) → HasOneOutcome macros env level left list }
+    ensures { (macros : Macros) (env : Env) (level : ℕ) (remaining : Option ℕ) (list : List Hiding) → HasOneOutcome macros env level remaining list }
 {}
 
 /// Each list of tokens has exactly one expansion, for all macros (6.10.3.4).
 pub fn one_expansion()
-    ensures { (macros : Macros) (env : Env) (left : Option ℕ) (tokens : List Token) → HasOneExpansion macros env left tokens }
+    ensures { (macros : Macros) (env : Env) (remaining : Option ℕ) (tokens : List Token) → HasOneExpansion macros env remaining tokens }
 {}
 
 /// Expansion terminates: for all macros and each list, the number of expansion steps has a bound.
 pub fn expansion_terminates()
-    ensures { (macros : Macros) (env : Env) (level : ℕ) (left : Option ℕ) (list : List Hiding)
-        → (most : ℕ) × EndsWithin macros env level most left list }
+    ensures { (macros : Macros) (env : Env) (level : ℕ) (remaining : Option ℕ) (list : List Hiding)
+        → (most : ℕ) × EndsWithin macros env level most remaining list }
 {}
 
 /// Why expansion terminates (6.10.3.4). Each expansion step is a step on the hide sets of the list alone. What it puts into a prefix whose
 /// tokens hide some names hides one name more, so fewer macro names are left to replace there. Hence each prefix terminates before a rest
 /// that terminates, and each list is such a prefix.
 pub fn prefixes_terminate()
-    ensures steps { (macros : Macros) (env : Env) (level : ℕ) (left after : Option ℕ) (list next : List Hiding)
-        → Leads macros env level left list after next
+    ensures steps { (macros : Macros) (env : Env) (level : ℕ) (remaining remaining_after : Option ℕ) (list next : List Hiding)
+        → Leads macros env level remaining list remaining_after next
         → Step macros (hides list) (hides next) }
     ensures gains { (hidden one two whole : HideSet) (name : Name) → Holds hidden one → Holds hidden two → Gains one two name whole → Holds (set.insert hidden name) whole }
     ensures fewer { (macros : Macros) (hidden : HideSet) (name : Name) → IsOutside macros name hidden → names_left macros (set.insert hidden name) < names_left macros hidden }
@@ -46,8 +46,8 @@ pub fn prefixes_terminate()
 
 /// An expanded token is no unmatched quote, and no name of an object-like or predefined macro unless its hide set has the name (6.10.3.4).
 pub fn leaves_fully_expanded_tokens()
-    ensures { (macros : Macros) (env : Env) (level : ℕ) (left : Option ℕ) (list : List Hiding) (out : Outcome)
-        → ExpandsTo macros env level left list out
+    ensures { (macros : Macros) (env : Env) (level : ℕ) (remaining : Option ℕ) (list : List Hiding) (out : Outcome)
+        → ExpandsTo macros env level remaining list out
         → AllPass (is_fully_expanded macros) out.tokens }
 {}
 
@@ -68,20 +68,20 @@ pub fn finds_no_arguments()
 /// 6.10.3.4). There is no budget after an expansion either. A list expands to what it expands to by the standard's rules, which have no budget.
 pub fn without_a_budget()
     ensures steps { (macros : Macros) (env : Env) (list : List Hiding) → step_in_budget macros env None list ≡ expansion_step macros env list }
-    ensures left { (macros : Macros) (env : Env) (level : ℕ) (list : List Hiding) (out : Outcome)
+    ensures remaining { (macros : Macros) (env : Env) (level : ℕ) (list : List Hiding) (out : Outcome)
         → ExpandsTo macros env level None list out
-        → out.left ≡ None }
+        → out.remaining ≡ None }
     ensures rules { (macros : Macros) (env : Env) (level : ℕ) (list : List Hiding) (out : Outcome)
-        → ExpandsTo macros env level None list out ↔ ((out.left ≡ None) × StandardExpands macros env level list out.tokens out.fault) }
+        → ExpandsTo macros env level None list out ↔ ((out.remaining ≡ None) × StandardExpands macros env level list out.tokens out.fault) }
     ensures expansions { (macros : Macros) (env : Env) (tokens : List Token) (e : Expanded)
-        → IsExpansion macros env None tokens e ↔ ((e.left ≡ None) × IsStandardExpansion macros env tokens e.tokens e.fault) }
+        → IsExpansion macros env None tokens e ↔ ((e.remaining ≡ None) × IsStandardExpansion macros env tokens e.tokens e.fault) }
 {}
 
 /// The cost of an expansion and the rest of the budget add up to the budget.
 pub fn budget_is_spent()
-    ensures { (macros : Macros) (env : Env) (level steps : ℕ) (left : Option ℕ) (list : List Hiding) (out : Outcome)
-        → (d : Expands macros env level left steps list out)
-        → left ≡ plus (count macros env d) out.left }
+    ensures { (macros : Macros) (env : Env) (level steps : ℕ) (remaining : Option ℕ) (list : List Hiding) (out : Outcome)
+        → (d : Expands macros env level remaining steps list out)
+        → remaining ≡ plus (count macros env d) out.remaining }
 {}
 
 /// An expansion within a budget equals the one without if that costs no more. Otherwise it ends in fault 35, nothing is left of the budget,

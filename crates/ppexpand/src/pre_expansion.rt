@@ -8,37 +8,37 @@ use ppmacro::{Chain, Entry, Macro, MacroKind, Operand, Pattern};
 use std::alloc::{AllocError, Global};
 
 /// Returns the number of parameters of a macro.
-pub(crate) fn parameter_count(replaced: &Macro) -> usize
-    ensures { result ≡ length (parameter_names replaced.now.kind) }
+pub(crate) fn parameter_count(definition: &Macro) -> usize
+    ensures { result ≡ length (parameter_names definition.now.kind) }
 {
-    match &replaced.kind {
+    match &definition.kind {
         MacroKind::FunctionLike { parameters, .. } => parameters.as_slice().len(),
         _ => 0,
     }
 }
 
 /// Sets the entry of a parameter if the chain consists of that parameter alone.
-fn set_used(used: &mut Vec<bool>, operands: &[Operand])
-    ensures len { length used.new.items ≡ length used.old.items }
-    ensures marks { (i : ℕ) → i < length used.old.items → get_or used.new.items i false ≡ get_or used.old.items i false || is_lone_parameter i operands.now }
+fn set_pre_expanded(pre_expanded: &mut Vec<bool>, operands: &[Operand])
+    ensures len { length pre_expanded.new.items ≡ length pre_expanded.old.items }
+    ensures marks { (i : ℕ) → i < length pre_expanded.old.items → get_or pre_expanded.new.items i false ≡ get_or pre_expanded.old.items i false || is_lone_parameter i operands.now }
 {
     if let [operand] = operands {
         if let Operand::Param(index) = operand {
-            if *index < used.len() {
-                used[*index] = true;
+            if *index < pre_expanded.len() {
+                pre_expanded[*index] = true;
             }
         }
     }
 }
 
 /// Sets the entry of a parameter if the list entry is that parameter.
-fn set_entry_used(used: &mut Vec<bool>, entry: &Entry)
-    ensures len { length used.new.items ≡ length used.old.items }
-    ensures marks { (i : ℕ) → i < length used.old.items → get_or used.new.items i false ≡ get_or used.old.items i false || is_lone_parameter i (entry_chain entry.now).operands }
+fn set_entry_pre_expanded(pre_expanded: &mut Vec<bool>, entry: &Entry)
+    ensures len { length pre_expanded.new.items ≡ length pre_expanded.old.items }
+    ensures marks { (i : ℕ) → i < length pre_expanded.old.items → get_or pre_expanded.new.items i false ≡ get_or pre_expanded.old.items i false || is_lone_parameter i (entry_chain entry.now).operands }
 {
     if let Entry::Param(_, index) = entry {
-        if *index < used.len() {
-            used[*index] = true;
+        if *index < pre_expanded.len() {
+            pre_expanded[*index] = true;
         }
     }
 }
@@ -50,13 +50,13 @@ fn parameters_in_entries(
     entries: &[Entry],
 ) -> Result<Vec<bool>, AllocError>
     ensures len { IfOk result (λ v. length v.items ≡ parameters) }
-    ensures used { IfOk result (λ v. (i : ℕ) → i < parameters → get_or v.items i false ≡ pre_expands i (map entry_chain entries.now)) }
+    ensures pre_expanded { IfOk result (λ v. (i : ℕ) → i < parameters → get_or v.items i false ≡ pre_expands i (map entry_chain entries.now)) }
 {
-    let mut used = vec![in alloc; false; parameters]?;
+    let mut pre_expanded = vec![in alloc; false; parameters]?;
     for entry in entries {
-        set_entry_used(&mut used, entry);
+        set_entry_pre_expanded(&mut pre_expanded, entry);
     }
-    Ok(used)
+    Ok(pre_expanded)
 }
 
 /// Returns, for each parameter of a macro, whether its replacement list uses it without `#` and `##`.
@@ -65,13 +65,13 @@ fn parameters_in_entries(
 #[inline(never)]
 pub(crate) fn pre_expanded_parameters(
     alloc: Global,
-    replaced: &Macro,
+    definition: &Macro,
     pattern: &Pattern,
 ) -> Result<Vec<bool>, AllocError>
-    ensures len { IfOk result (λ v. length v.items ≡ length (parameter_names replaced.now.kind)) }
-    ensures used { IfOk result (λ v. (i : ℕ) → i < length (parameter_names replaced.now.kind) → get_or v.items i false ≡ pre_expands i (listed pattern.now)) }
+    ensures len { IfOk result (λ v. length v.items ≡ length (parameter_names definition.now.kind)) }
+    ensures pre_expanded { IfOk result (λ v. (i : ℕ) → i < length (parameter_names definition.now.kind) → get_or v.items i false ≡ pre_expands i (listed pattern.now)) }
 {
-    let parameters = parameter_count(replaced);
+    let parameters = parameter_count(definition);
     match pattern {
         Pattern::Plain(entries) => parameters_in_entries(alloc, parameters, entries.as_slice()),
         Pattern::Pasted(chains) => parameters_in_chains(alloc, parameters, chains.as_slice()),
@@ -85,11 +85,11 @@ fn parameters_in_chains(
     chains: &[Chain],
 ) -> Result<Vec<bool>, AllocError>
     ensures len { IfOk result (λ v. length v.items ≡ parameters) }
-    ensures used { IfOk result (λ v. (i : ℕ) → i < parameters → get_or v.items i false ≡ pre_expands i chains.now) }
+    ensures pre_expanded { IfOk result (λ v. (i : ℕ) → i < parameters → get_or v.items i false ≡ pre_expands i chains.now) }
 {
-    let mut used = vec![in alloc; false; parameters]?;
+    let mut pre_expanded = vec![in alloc; false; parameters]?;
     for chain in chains {
-        set_used(&mut used, chain.operands.as_slice());
+        set_pre_expanded(&mut pre_expanded, chain.operands.as_slice());
     }
-    Ok(used)
+    Ok(pre_expanded)
 }

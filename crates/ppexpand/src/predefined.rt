@@ -12,10 +12,10 @@ use pptext::{Kind, Place, Spelling, Token};
 use std::alloc::{AllocError, Global};
 
 /// Returns the token kind of a predefined macro's replacement.
-fn predefined_kind(builtin: PredefinedMacro) -> Kind
-    ensures { result ≡ predefined_kind builtin }
+fn predefined_kind(predefined: PredefinedMacro) -> Kind
+    ensures { result ≡ predefined_kind predefined }
 {
-    match builtin {
+    match predefined {
         PredefinedMacro::File | PredefinedMacro::Date | PredefinedMacro::Time => Kind::Str,
         PredefinedMacro::Line
         | PredefinedMacro::Stdc
@@ -46,13 +46,13 @@ fn presumed_line(alloc: Global, env: &Env, used: Place) -> Result<Vec<u8>, Alloc
 /// Returns the spelling of a predefined macro's replacement. `used` is the expansion location of the name.
 fn predefined_text(
     alloc: Global,
-    builtin: PredefinedMacro,
+    predefined: PredefinedMacro,
     env: &Env,
     used: Place,
 ) -> Result<Vec<u8>, AllocError>
-    ensures { IfOk result (λ v. v.items ≡ predefined_text builtin env.now used) }
+    ensures { IfOk result (λ v. v.items ≡ predefined_text predefined env.now used) }
 {
-    match builtin {
+    match predefined {
         PredefinedMacro::File => Vec::from_slice(alloc, env.name.as_bytes()),
         PredefinedMacro::Line => presumed_line(alloc, env, used),
         PredefinedMacro::Date => string_literal(alloc, env.date.as_bytes()),
@@ -65,17 +65,17 @@ fn predefined_text(
 /// Returns the token that replaces the name of a predefined macro.
 pub(crate) fn predefined_value<'a>(
     alloc: Global,
-    builtin: PredefinedMacro,
+    predefined: PredefinedMacro,
     env: &Env,
     head: &Hidden,
     gain: Set,
 ) -> Result<Hidden<'a>, AllocError>
-    ensures is { IfOk result (λ h. (sets : HideSetPool) → hiding sets h ≡ predefined_value builtin env.now (hiding sets head.now) (set_at sets gain)) }
+    ensures is { IfOk result (λ h. (sets : HideSetPool) → hiding sets h ≡ predefined_value predefined env.now (hiding sets head.now) (set_at sets gain)) }
     ensures gain { IfOk result (λ h. (h.hide ≡ gain) × (h.extra ≡ None)) }
 {
-    let text = Spelling::new(predefined_text(alloc, builtin, env, head.used())?)?;
+    let text = Spelling::new(predefined_text(alloc, predefined, env, head.used())?)?;
     let token = Token {
-        kind: predefined_kind(builtin),
+        kind: predefined_kind(predefined),
         text,
         space: head.space(),
         at: head.at(),

@@ -177,7 +177,7 @@ impl<'r, 'a> PiecesIter<'r, 'a> {
 /// Iterates over the tokens of an expanded list in order, without allocation. Contracts see the list of the remaining tokens.
 #[derive(Drop)]
 pub struct RopeIter<'r, 'a> {
-    left: PiecesIter<'r, 'a>,
+    remaining: PiecesIter<'r, 'a>,
     singles: PieceIter<'r, 'a>,
 }
 
@@ -187,7 +187,7 @@ impl<'r, 'a> Model for RopeIter<'r, 'a> {
 
     ghost Value = { List Token };
 
-    ghost view = { λ i. i.left ++ i.singles };
+    ghost view = { λ i. i.remaining ++ i.singles };
 }
 
 impl<'r, 'a> Iterator for RopeIter<'r, 'a> {
@@ -198,7 +198,7 @@ impl<'r, 'a> Iterator for RopeIter<'r, 'a> {
     ghost remaining = { item_count (λ rest. rest) };
 
     fn next(&mut self) -> Option<TokenRef<'r, 'a>> {
-        if let Some(token) = self.left.next() {
+        if let Some(token) = self.remaining.next() {
             return Some(token);
         }
         self.singles.next()
@@ -212,7 +212,7 @@ impl<'a> TokenRope<'a> {
     {
         let (prefix, pieces, singles) = self.parts();
         RopeIter {
-            left: PiecesIter {
+            remaining: PiecesIter {
                 unread: PieceIter {
                     source: PieceTokens::Shared(prefix),
                 },
@@ -230,8 +230,8 @@ impl<'a> TokenRope<'a> {
     {
         let (prefix, _, _) = self.parts();
         let mut tokens = Vec::with_capacity(alloc, prefix.len())?;
-        let mut left = self.iter();
-        while let Some(token) = left.next() {
+        let mut remaining = self.iter();
+        while let Some(token) = remaining.next() {
             put(&mut tokens, token.to_token()?)?;
         }
         Ok(tokens)

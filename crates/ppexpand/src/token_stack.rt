@@ -2,7 +2,7 @@
 ghost use Rattle.std.specs.Prelude.{◌≡◌, ◌∷◌, [], ◌++◌, map, true, Some, MatchOption, IfOk, OnOk};
 ghost use Rattle.std.specs.Option.{option_copied};
 ghost use Rattle.ppmacro.specs.Substituting.{tokens_of};
-ghost use Rattle.ppexpand.specs.code.Lists.{marked, with_set, never_expands, next_macro, NeverExpand};
+ghost use Rattle.ppexpand.specs.code.Lists.{spaced, with_set, never_expands, next_macro, NeverExpand};
 
 use crate::expand_step::macro_at;
 use crate::lists::put;
@@ -29,9 +29,9 @@ impl<'a> Model for TokenStack<'a> {
 
     ghost Value = { List Hidden };
 
-    ghost use Rattle.ppexpand.specs.code.Lists.{marked};
+    ghost use Rattle.ppexpand.specs.code.Lists.{spaced};
 
-    ghost view = { λ c. reverse c.pushed.items ++ marked c.pending c.below };
+    ghost view = { λ c. reverse c.pushed.items ++ spaced c.pending c.below };
 }
 
 /// The next token of a stack, as far as a check without hide sets can tell.
@@ -86,7 +86,7 @@ impl<'a> TokenStack<'a> {
             return None;
         };
         if self.pending {
-            hidden.flag(true);
+            hidden.set_space(true);
         }
         self.pending = false;
         Some(hidden)
@@ -114,14 +114,14 @@ impl<'a> TokenStack<'a> {
     }
 
     /// Sets the leading-space flag of the next token, if there is one and a space is pending.
-    pub(crate) fn mark_next(&mut self, pending: bool)
-        ensures { self.new ≡ marked pending self.old }
+    pub(crate) fn space_next(&mut self, pending: bool)
+        ensures { self.new ≡ spaced pending self.old }
     {
         if !pending {
             return;
         }
         if let Some(last) = self.pushed.last_mut() {
-            last.flag(true);
+            last.set_space(true);
             return;
         }
         self.pending = true;

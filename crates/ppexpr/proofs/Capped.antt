@@ -20,14 +20,14 @@ use Rattle.ppexpr.specs.Conditions.{Condition, taken, EvaluatesShallow, no_expre
 -- ---- the budget
 
 -- the cost of a condition and the rest of the budget add up to the budget
-pub condition_spends : {macros : Macros} {env : Env} {at : Place} {tokens : List Token} {left after : Option ℕ} {c : Condition} (d : IsCondition macros env at tokens left c after) → left ≡ plus (count_condition d) after
-condition_spends {left = left} (ill_formed none) = plus-nothing left
+pub condition_spends : {macros : Macros} {env : Env} {at : Place} {tokens : List Token} {remaining remaining_after : Option ℕ} {c : Condition} (d : IsCondition macros env at tokens remaining c remaining_after) → remaining ≡ plus (count_condition d) remaining_after
+condition_spends {remaining = remaining} (ill_formed none) = plus-nothing remaining
 condition_spends {macros} {env} (not_replaced asks x leaves faulty) = expansion_spends macros env x ∙ ap (plus (count_expansion x)) leaves
 condition_spends {macros} {env} (replaced asks x leaves whole decides) = expansion_spends macros env x ∙ ap (plus (count_expansion x)) leaves
 
 -- a budget that suffices changes nothing, and the rest of it is left
-pub condition_enough : {macros : Macros} {env : Env} {at : Place} {tokens : List Token} {left after : Option ℕ} {c : Condition} (b : ℕ) → Covers left b
-    → (d : IsCondition macros env at tokens left c after) (n : ℕ)
+pub condition_enough : {macros : Macros} {env : Env} {at : Place} {tokens : List Token} {remaining remaining_after : Option ℕ} {c : Condition} (b : ℕ) → Covers remaining b
+    → (d : IsCondition macros env at tokens remaining c remaining_after) (n : ℕ)
     → b ≡ count_condition d + n
     → IsCondition macros env at tokens (Some b) c (Some n)
 condition_enough {macros} {env} {at} {tokens} b is (ill_formed bad) n sum =
@@ -37,8 +37,8 @@ condition_enough {macros} {env} b is (not_replaced asks x leaves faulty) n sum =
 condition_enough {macros} {env} b is (replaced asks x leaves whole decides) n sum = replaced asks (expansion_enough macros env b is x n sum) refl whole decides
 
 -- a smaller budget is used up, and the condition is fault 35
-pub condition_short : {macros : Macros} {env : Env} {at : Place} {tokens : List Token} {left after : Option ℕ} {c : Condition} (b : ℕ) → Covers left b
-    → (d : IsCondition macros env at tokens left c after)
+pub condition_short : {macros : Macros} {env : Env} {at : Place} {tokens : List Token} {remaining remaining_after : Option ℕ} {c : Condition} (b : ℕ) → Covers remaining b
+    → (d : IsCondition macros env at tokens remaining c remaining_after)
     → b < count_condition d
     → (f : Fault) × (f.number ≡ 35) × IsCondition macros env at tokens (Some b) (Err f) (Some 0)
 condition_short b is (ill_formed bad) less = absurd (omega arith)
@@ -50,9 +50,9 @@ condition_short {macros} {env} b is (replaced {without_defined = without_defined
     (s.fault, s.number, not_replaced asks s.is s.nothing s.stopped)
 
 -- a condition without a budget leaves none
-pub condition_leaves_none : {macros : Macros} {env : Env} {at : Place} {tokens : List Token} {after : Option ℕ} {c : Condition} → IsCondition macros env at tokens None c after → after ≡ None
-condition_leaves_none {after = None} d = refl
-condition_leaves_none {after = Some n} d = let e = condition_spends d in absurd (cc)
+pub condition_leaves_none : {macros : Macros} {env : Env} {at : Place} {tokens : List Token} {remaining_after : Option ℕ} {c : Condition} → IsCondition macros env at tokens None c remaining_after → remaining_after ≡ None
+condition_leaves_none {remaining_after = None} d = refl
+condition_leaves_none {remaining_after = Some n} d = let e = condition_spends d in absurd (cc)
 
 -- ---- without a budget no fault is 35
 
@@ -102,16 +102,16 @@ decides_other at ts c (made_defined e) = λ e. absurd (omega arith)
 decides_other at ts c (bad_constant e g) = subst IsOther g (symbols_other at ts)
 decides_other at ts c (constants {symbols = s} e g h) = judges_other at s c h
 
-condition_other : {macros : Macros} {env : Env} {at : Place} {tokens : List Token} {left after : Option ℕ} {c : Condition}
-    → left ≡ None
-    → IsCondition macros env at tokens left c after
+condition_other : {macros : Macros} {env : Env} {at : Place} {tokens : List Token} {remaining remaining_after : Option ℕ} {c : Condition}
+    → remaining ≡ None
+    → IsCondition macros env at tokens remaining c remaining_after
     → IsOther c
 condition_other is (ill_formed none) = λ e. absurd (omega arith)
 condition_other {macros} {env} is (not_replaced {without_defined = without_defined} {e = e} asks x leaves faulty) = expansion_never_refused macros env (subst (λ l. IsExpansion macros env l without_defined e) is x) faulty
 condition_other {at = at} {c = c} is (replaced {e = e} asks x leaves whole decides) = decides_other at e.tokens c decides
 
-pub condition_never_refused : {macros : Macros} {env : Env} {at : Place} {tokens : List Token} {left after : Option ℕ} {f : Fault}
-    → left ≡ None
-    → IsCondition macros env at tokens left (Err f) after
+pub condition_never_refused : {macros : Macros} {env : Env} {at : Place} {tokens : List Token} {remaining remaining_after : Option ℕ} {f : Fault}
+    → remaining ≡ None
+    → IsCondition macros env at tokens remaining (Err f) remaining_after
     → f.number ≢ 35
 condition_never_refused is d = condition_other is d

@@ -58,26 +58,26 @@ as_one t = record t { kind = Number; text = codes "1" }
 abbrev not_one : Token → Token → List Token
 not_one n f = punctuator (codes "!") n ∷ as_one f ∷ []
 
-not_one_expands : (macros : Macros) (env : Env) (left : Option ℕ) (n f : Token) → IsExpansion macros env left (not_one n f) (record { tokens = not_one n f; fault = None; left = left })
-not_one_expands macros env left n f =
-    expansion-following macros env left (not_one n f) (not_one n f) [] (record { tokens = not_one n f; fault = None; left = left }) (ended left None) refl (refl, (refl, tt)) (expands-nothing macros env 0 left) refl refl refl
+not_one_expands : (macros : Macros) (env : Env) (remaining : Option ℕ) (n f : Token) → IsExpansion macros env remaining (not_one n f) (record { tokens = not_one n f; fault = None; remaining = remaining })
+not_one_expands macros env remaining n f =
+    expansion-following macros env remaining (not_one n f) (not_one n f) [] (record { tokens = not_one n f; fault = None; remaining = remaining }) (ended remaining None) refl (refl, (refl, tt)) (expands-nothing macros env 0 remaining) refl refl refl
 
-asked_false : (macros : Macros) (env : Env) (at : Place) (tokens : List Token) (left : Option ℕ) (n f x : Token)
+asked_false : (macros : Macros) (env : Env) (at : Place) (tokens : List Token) (remaining : Option ℕ) (n f x : Token)
     → is_some (table.get macros x.text) ≡ true
     → ReplacesDefined macros tokens (punctuator (codes "!") n ∷ defined_value macros (as_defined f) (as_name x) ∷ [])
-    → IsCondition macros env at tokens left (Ok false) left
-asked_false macros env at tokens left n f x known asks =
+    → IsCondition macros env at tokens remaining (Ok false) remaining
+asked_false macros env at tokens remaining n f x known asks =
     let one = ap (λ (b : Bool). punctuator (codes "!") n ∷ record f { kind = Number; text = if b then codes "1" else codes "0" } ∷ []) known in
-    replaced (subst (ReplacesDefined macros tokens) one asks) (not_one_expands macros env left n f) refl refl (constants refl refl (not_nested shallow (is_false at)))
+    replaced (subst (ReplacesDefined macros tokens) one asks) (not_one_expands macros env remaining n f) refl refl (constants refl refl (not_nested shallow (is_false at)))
 
 -- ---- `! defined X` and `! defined ( X )`
 
-pub bare_false : (macros : Macros) (env : Env) (at : Place) (left : Option ℕ) (n f x : Token)
+pub bare_false : (macros : Macros) (env : Env) (at : Place) (remaining : Option ℕ) (n f x : Token)
     → is_some (table.get macros x.text) ≡ true
-    → IsCondition macros env at (punctuator (codes "!") n ∷ as_defined f ∷ as_name x ∷ []) left (Ok false) left
-bare_false macros env at left n f x known = asked_false macros env at _ left n f x known (other refl (defined_use refl refl nothing))
+    → IsCondition macros env at (punctuator (codes "!") n ∷ as_defined f ∷ as_name x ∷ []) remaining (Ok false) remaining
+bare_false macros env at remaining n f x known = asked_false macros env at _ remaining n f x known (other refl (defined_use refl refl nothing))
 
-pub parenthesized_false : (macros : Macros) (env : Env) (at : Place) (left : Option ℕ) (n f l x r : Token)
+pub parenthesized_false : (macros : Macros) (env : Env) (at : Place) (remaining : Option ℕ) (n f l x r : Token)
     → is_some (table.get macros x.text) ≡ true
-    → IsCondition macros env at (punctuator (codes "!") n ∷ as_defined f ∷ punctuator (codes "(") l ∷ as_name x ∷ punctuator (codes ")") r ∷ []) left (Ok false) left
-parenthesized_false macros env at left n f l x r known = asked_false macros env at _ left n f x known (other refl (defined_use refl refl nothing))
+    → IsCondition macros env at (punctuator (codes "!") n ∷ as_defined f ∷ punctuator (codes "(") l ∷ as_name x ∷ punctuator (codes ")") r ∷ []) remaining (Ok false) remaining
+parenthesized_false macros env at remaining n f l x r known = asked_false macros env at _ remaining n f x known (other refl (defined_use refl refl nothing))

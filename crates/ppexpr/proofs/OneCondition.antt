@@ -30,13 +30,13 @@ same_asks macros ts us vs (defined_use {d = d} {ts = ss} {us = xs} {o = o} e g a
     let b : Begins macros (defined_value macros d o.name) o.rest vs = begins_question macros d ss vs o e g h in
     ap (λ x. defined_value macros d o.name ∷ x) (same_asks macros o.rest xs b.us a b.asks) ∙ sym b.is
 
-same_expansion : (macros : Macros) (env : Env) (left : Option ℕ) (ts : List Token) (d e : Expanded) → IsExpansion macros env left ts d → IsExpansion macros env left ts e → d ≡ e
-same_expansion macros env left ts d e g h =
+same_expansion : (macros : Macros) (env : Env) (remaining : Option ℕ) (ts : List Token) (d e : Expanded) → IsExpansion macros env remaining ts d → IsExpansion macros env remaining ts e → d ≡ e
+same_expansion macros env remaining ts d e g h =
     let same : g.outcome ≡ h.outcome = (same_outcome macros env g.expands.1 h.expands.0 h.outcome h.expands.1).1 in
     let emitted : d.tokens ≡ e.tokens = g.emitted ∙ (ap (λ o. map (λ t. t.token) o.tokens) same ∙ sym h.emitted) in
     let ended : d.fault ≡ e.fault = g.ended ∙ (ap (λ o. o.fault) same ∙ sym h.ended) in
-    let lefts : d.left ≡ e.left = g.left_over ∙ (ap (λ o. o.left) same ∙ sym h.left_over) in
-    λ i. record { tokens = emitted i; fault = ended i; left = lefts i }
+    let lefts : d.remaining ≡ e.remaining = g.remains ∙ (ap (λ o. o.remaining) same ∙ sym h.remains) in
+    λ i. record { tokens = emitted i; fault = ended i; remaining = lefts i }
 
 same_outcomes : (s : List Symbol) (o p : Outcome) → Denotes s o → Denotes s p → o ≡ p
 same_outcomes s o p h k = sym h.2 ∙ (ap outcome_of (same_tree s h.0 k.0 h.1 k.1) ∙ k.2)
@@ -69,8 +69,8 @@ same_decision at ts c d (constants {symbols = s} e f j) (constants {symbols = r}
     same_judgement at r c d (subst (λ (x : List Symbol). EvaluatesSymbols at x c) (same_symbols at ts s r f h) j) k
 
 -- what the tokens with numbers in place of `defined` are expanded to
-same_replacement : (macros : Macros) (env : Env) (left : Option ℕ) (ts us vs : List Token) (d e : Expanded) → ReplacesDefined macros ts us → ReplacesDefined macros ts vs → IsExpansion macros env left us d → IsExpansion macros env left vs e → d ≡ e
-same_replacement macros env left ts us vs d e a b g h = same_expansion macros env left vs d e (subst (λ (x : List Token). IsExpansion macros env left x d) (same_asks macros ts us vs a b) g) h
+same_replacement : (macros : Macros) (env : Env) (remaining : Option ℕ) (ts us vs : List Token) (d e : Expanded) → ReplacesDefined macros ts us → ReplacesDefined macros ts vs → IsExpansion macros env remaining us d → IsExpansion macros env remaining vs e → d ≡ e
+same_replacement macros env remaining ts us vs d e a b g h = same_expansion macros env remaining vs d e (subst (λ (x : List Token). IsExpansion macros env remaining x d) (same_asks macros ts us vs a b) g) h
 
 same_fault : (d e : Expanded) (f q : Fault) → d ≡ e → d.fault ≡ Some f → e.fault ≡ Some q → f ≡ q
 same_fault d e f q s g h = let k : d.fault ≡ e.fault = ap (λ (x : Expanded). x.fault) s in cc
@@ -78,25 +78,25 @@ same_fault d e f q s g h = let k : d.fault ≡ e.fault = ap (λ (x : Expanded). 
 no_fault : (d e : Expanded) (f : Fault) → d ≡ e → d.fault ≡ Some f → e.fault ≡ None → ⊥
 no_fault d e f s g h = let k : d.fault ≡ e.fault = ap (λ (x : Expanded). x.fault) s in cc
 
-same_left : (d e : Expanded) (after following : Option ℕ) → d ≡ e → d.left ≡ after → e.left ≡ following → after ≡ following
-same_left d e after following s g h = sym g ∙ (ap (λ (x : Expanded). x.left) s ∙ h)
+same_remaining : (d e : Expanded) (remaining_after following : Option ℕ) → d ≡ e → d.remaining ≡ remaining_after → e.remaining ≡ following → remaining_after ≡ following
+same_remaining d e remaining_after following s g h = sym g ∙ (ap (λ (x : Expanded). x.remaining) s ∙ h)
 
-pub same_condition : (macros : Macros) (env : Env) (at : Place) (ts : List Token) (left after following : Option ℕ) (c d : Condition)
-    → IsCondition macros env at ts left c after
-    → IsCondition macros env at ts left d following
-    → (c ≡ d) × (after ≡ following)
-same_condition macros env at ts left after following c d (ill_formed n) (ill_formed m) = (refl, refl)
-same_condition macros env at ts left after following c d (ill_formed n) (not_replaced a g l h) = absurd (n _ a)
-same_condition macros env at ts left after following c d (ill_formed n) (replaced a g l h j) = absurd (n _ a)
-same_condition macros env at ts left after following c d (not_replaced a g l h) (ill_formed n) = absurd (n _ a)
-same_condition macros env at ts left after following c d (replaced a g l h j) (ill_formed n) = absurd (n _ a)
-same_condition macros env at ts left after following c d (not_replaced {without_defined = us} {e = x} {f = f} a g l h) (not_replaced {without_defined = vs} {e = y} {f = q} b k m i) =
-    let same : x ≡ y = same_replacement macros env left ts us vs x y a b g k in
-    (ap (λ (z : Fault). Err z) (same_fault x y f q same h i), same_left x y after following same l m)
-same_condition macros env at ts left after following c d (not_replaced {without_defined = us} {e = x} {f = f} a g l h) (replaced {without_defined = vs} {e = y} b k m i j) =
-    absurd (no_fault x y f (same_replacement macros env left ts us vs x y a b g k) h i)
-same_condition macros env at ts left after following c d (replaced {without_defined = vs} {e = y} b k m i j) (not_replaced {without_defined = us} {e = x} {f = f} a g l h) =
-    absurd (no_fault x y f (same_replacement macros env left ts us vs x y a b g k) h i)
-same_condition macros env at ts left after following c d (replaced {without_defined = us} {e = x} a g l h i) (replaced {without_defined = vs} {e = y} b k m n j) =
-    let same : x ≡ y = same_replacement macros env left ts us vs x y a b g k in
-    (same_decision at y.tokens c d (subst (λ (z : Expanded). EvaluatesTokens at z.tokens c) same i) j, same_left x y after following same l m)
+pub same_condition : (macros : Macros) (env : Env) (at : Place) (ts : List Token) (remaining remaining_after following : Option ℕ) (c d : Condition)
+    → IsCondition macros env at ts remaining c remaining_after
+    → IsCondition macros env at ts remaining d following
+    → (c ≡ d) × (remaining_after ≡ following)
+same_condition macros env at ts remaining remaining_after following c d (ill_formed n) (ill_formed m) = (refl, refl)
+same_condition macros env at ts remaining remaining_after following c d (ill_formed n) (not_replaced a g l h) = absurd (n _ a)
+same_condition macros env at ts remaining remaining_after following c d (ill_formed n) (replaced a g l h j) = absurd (n _ a)
+same_condition macros env at ts remaining remaining_after following c d (not_replaced a g l h) (ill_formed n) = absurd (n _ a)
+same_condition macros env at ts remaining remaining_after following c d (replaced a g l h j) (ill_formed n) = absurd (n _ a)
+same_condition macros env at ts remaining remaining_after following c d (not_replaced {without_defined = us} {e = x} {f = f} a g l h) (not_replaced {without_defined = vs} {e = y} {f = q} b k m i) =
+    let same : x ≡ y = same_replacement macros env remaining ts us vs x y a b g k in
+    (ap (λ (z : Fault). Err z) (same_fault x y f q same h i), same_remaining x y remaining_after following same l m)
+same_condition macros env at ts remaining remaining_after following c d (not_replaced {without_defined = us} {e = x} {f = f} a g l h) (replaced {without_defined = vs} {e = y} b k m i j) =
+    absurd (no_fault x y f (same_replacement macros env remaining ts us vs x y a b g k) h i)
+same_condition macros env at ts remaining remaining_after following c d (replaced {without_defined = vs} {e = y} b k m i j) (not_replaced {without_defined = us} {e = x} {f = f} a g l h) =
+    absurd (no_fault x y f (same_replacement macros env remaining ts us vs x y a b g k) h i)
+same_condition macros env at ts remaining remaining_after following c d (replaced {without_defined = us} {e = x} a g l h i) (replaced {without_defined = vs} {e = y} b k m n j) =
+    let same : x ≡ y = same_replacement macros env remaining ts us vs x y a b g k in
+    (same_decision at y.tokens c d (subst (λ (z : Expanded). EvaluatesTokens at z.tokens c) same i) j, same_remaining x y remaining_after following same l m)

@@ -116,21 +116,21 @@ some_decision : (at : Place) (ts : List Token) (b : Bool) → list_any is_define
 some_decision at ts true e = (Err (fault 22 at []), made_defined e)
 some_decision at ts false e = some_constants at ts (symbols_of at ts) e refl
 
-some_replacement : (macros : Macros) (env : Env) (at : Place) (ts us : List Token) (left : Option ℕ) (e : Expanded) (f : Option Fault)
+some_replacement : (macros : Macros) (env : Env) (at : Place) (ts us : List Token) (remaining : Option ℕ) (e : Expanded) (f : Option Fault)
     → ReplacesDefined macros ts us
-    → IsExpansion macros env left us e
+    → IsExpansion macros env remaining us e
     → e.fault ≡ f
-    → (c : Condition) × (after : Option ℕ) × IsCondition macros env at ts left c after
-some_replacement macros env at ts us left e (Some f) a x h = (Err f, e.left, not_replaced a x refl h)
-some_replacement macros env at ts us left e None a x h = let d = some_decision at e.tokens (list_any is_defined e.tokens) refl in (d.0, e.left, replaced a x refl h d.1)
+    → (c : Condition) × (remaining_after : Option ℕ) × IsCondition macros env at ts remaining c remaining_after
+some_replacement macros env at ts us remaining e (Some f) a x h = (Err f, e.remaining, not_replaced a x refl h)
+some_replacement macros env at ts us remaining e None a x h = let d = some_decision at e.tokens (list_any is_defined e.tokens) refl in (d.0, e.remaining, replaced a x refl h d.1)
 
-some_expansion : (macros : Macros) (env : Env) (left : Option ℕ) (ts : List Token) → (e : Expanded) × IsExpansion macros env left ts e
-some_expansion macros env left ts =
-    let one = total macros env 0 left (map plain ts) in
-    (record { tokens = map (λ t. t.token) one.1.tokens; fault = one.1.fault; left = one.1.left }, record { outcome = one.1; expands = (one.0, one.2); emitted = refl; ended = refl; left_over = refl })
+some_expansion : (macros : Macros) (env : Env) (remaining : Option ℕ) (ts : List Token) → (e : Expanded) × IsExpansion macros env remaining ts e
+some_expansion macros env remaining ts =
+    let one = total macros env 0 remaining (map plain ts) in
+    (record { tokens = map (λ t. t.token) one.1.tokens; fault = one.1.fault; remaining = one.1.remaining }, record { outcome = one.1; expands = (one.0, one.2); emitted = refl; ended = refl; remains = refl })
 
-pub some_condition : (macros : Macros) (env : Env) (at : Place) (ts : List Token) (left : Option ℕ) → (c : Condition) × (after : Option ℕ) × IsCondition macros env at ts left c after
-some_condition macros env at ts left = elim (answered (length ts) macros ts (omega arith)) [
-  | inl h ↦ let e = some_expansion macros env left h.0 in some_replacement macros env at ts h.0 left e.0 e.0.fault h.1 e.1 refl
-  | inr none ↦ (Err (fault 22 at []), left, ill_formed none)
+pub some_condition : (macros : Macros) (env : Env) (at : Place) (ts : List Token) (remaining : Option ℕ) → (c : Condition) × (remaining_after : Option ℕ) × IsCondition macros env at ts remaining c remaining_after
+some_condition macros env at ts remaining = elim (answered (length ts) macros ts (omega arith)) [
+  | inl h ↦ let e = some_expansion macros env remaining h.0 in some_replacement macros env at ts h.0 remaining e.0 e.0.fault h.1 e.1 refl
+  | inr none ↦ (Err (fault 22 at []), remaining, ill_formed none)
 ]

@@ -45,10 +45,10 @@ mark_plain macros t e = rw e refl
 begins_mark : (macros : Macros) (ts rest : List Token) (text : List ℕ) (s : Symbol) → punctuator_among operators text ≡ s → BeginsPunct text ts rest → BeginsWith macros ts s rest
 begins_mark macros ts rest text s e m =
     let parts = and_parts _ _ m.spelled in
-    let kind : m.mark.kind ≡ Punct = mark_kind m.mark.kind parts.0 in
-    let spelt : m.mark.text ≡ text = (bytes_eq-Decides m.mark.text text).0 parts.1 in
-    let is_symbol = λ (at : Place). ap (λ k. symbol_by at k m.mark.text) kind ∙ ap (λ x. Ok (punctuator_among operators x)) spelt ∙ ap (λ x. Ok x) e in
-    rw m.is (token (mark_undefined m.mark kind) (record { plain = mark_plain macros m.mark kind; symbol = is_symbol }))
+    let kind : m.punctuator.kind ≡ Punct = mark_kind m.punctuator.kind parts.0 in
+    let spelt : m.punctuator.text ≡ text = (bytes_eq-Decides m.punctuator.text text).0 parts.1 in
+    let is_symbol = λ (at : Place). ap (λ k. symbol_by at k m.punctuator.text) kind ∙ ap (λ x. Ok (punctuator_among operators x)) spelt ∙ ap (λ x. Ok x) e in
+    rw m.is (token (mark_undefined m.punctuator kind) (record { plain = mark_plain macros m.punctuator kind; symbol = is_symbol }))
 
 -- ---- values
 
@@ -170,10 +170,10 @@ none_left (t ∷ ts) e = absurd (omega arith)
 
 pub has_truth : (macros : Macros) (ts rest : List Token) (b : Bool) → length ts ≤ 256 → length rest ≡ 0 → BeginsTruth macros 2 ts b rest → HasTruth macros ts b
 has_truth macros ts rest b short e x =
-    let stands : StandFor macros ts x.symbols = rw (← append-nil x.symbols) (x.onward [] (rw (none_left rest e) nothing)) in
+    let stand_for : StandFor macros ts x.symbols = rw (← append-nil x.symbols) (x.onward [] (rw (none_left rest e) nothing)) in
     record {
       symbols = x.symbols;
-      stands = stands;
-      evaluated = λ at. not_nested (few_shallow x.symbols (omega (arith, short, few_symbols macros ts x.symbols stands)))
+      stand_for = stand_for;
+      evaluated = λ at. not_nested (few_shallow x.symbols (omega (arith, short, few_symbols macros ts x.symbols stand_for)))
           (subst (EvaluatesShallow at x.symbols) (taken_truth at b) (has_value (x.tree, tighter {k = 0} (tighter {k = 1} x.derives), x.value)));
     }

@@ -51,14 +51,14 @@ unreplaced : (macros : Macros) (ts : List Token) (ss : List Symbol) → StandFor
 unreplaced macros ts ss nothing = record { without_defined = []; asks = asks_nothing; plain = tt; undefined = refl; symbols = λ at. refl }
 unreplaced macros ts ss (more {rest = rest} {s = s} {ss = qs} b h) = unreplaced_more macros ts rest s qs b (unreplaced macros rest qs h)
 
-expands_as_is : (macros : Macros) (env : Env) (left : Option ℕ) (ts : List Token) → AllByRecursion (λ t. never_expands macros t ≡ true) ts → IsExpansion macros env left ts (record { tokens = ts; fault = None; left = left })
-expands_as_is macros env left ts h = expansion-following macros env left ts ts [] (record { tokens = ts; fault = None; left = left }) (ended left None) (sym (append-nil ts)) h (expands-nothing macros env 0 left) (sym (append-nil ts)) refl refl
+expands_as_is : (macros : Macros) (env : Env) (remaining : Option ℕ) (ts : List Token) → AllByRecursion (λ t. never_expands macros t ≡ true) ts → IsExpansion macros env remaining ts (record { tokens = ts; fault = None; remaining = remaining })
+expands_as_is macros env remaining ts h = expansion-following macros env remaining ts ts [] (record { tokens = ts; fault = None; remaining = remaining }) (ended remaining None) (sym (append-nil ts)) h (expands-nothing macros env 0 remaining) (sym (append-nil ts)) refl refl
 
 -- the condition of the symbols is the condition of the tokens, and nothing is spent
-pub direct_condition : (macros : Macros) (env : Env) (at : Place) (ts : List Token) (left : Option ℕ) (ss : List Symbol) (c : Condition) → StandFor macros ts ss → EvaluatesSymbols at ss c → IsCondition macros env at ts left c left
-direct_condition macros env at ts left ss c h j =
+pub direct_condition : (macros : Macros) (env : Env) (at : Place) (ts : List Token) (remaining : Option ℕ) (ss : List Symbol) (c : Condition) → StandFor macros ts ss → EvaluatesSymbols at ss c → IsCondition macros env at ts remaining c remaining
+direct_condition macros env at ts remaining ss c h j =
     let u : Unreplaced macros ts ss = unreplaced macros ts ss h in
-    replaced u.asks (expands_as_is macros env left u.without_defined u.plain) refl refl (constants u.undefined (u.symbols at) j)
+    replaced u.asks (expands_as_is macros env remaining u.without_defined u.plain) refl refl (constants u.undefined (u.symbols at) j)
 
 -- ---- the tokens after an operand and a symbol
 

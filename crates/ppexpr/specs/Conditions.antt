@@ -58,26 +58,26 @@ pub data EvaluatesTokens (at : Place) (tokens : List Token) : Condition → Type
 -- The budget before the condition, the result, and the rest of the budget. A use of `defined` without a name is fault 22. A fault of macro
 -- replacement is the result.
 pub data IsCondition (macros : Macros) (env : Env) (at : Place) (tokens : List Token) : Option ℕ → Condition → Option ℕ → Type 0 where
-  ill_formed : {left : Option ℕ}
+  ill_formed : {remaining : Option ℕ}
       → ((without_defined : List Token) → ¬ ReplacesDefined macros tokens without_defined)
-      → IsCondition macros env at tokens left (Err (fault 22 at [])) left
-  not_replaced : {left after : Option ℕ} {without_defined : List Token} {e : Expanded} {f : Fault}
+      → IsCondition macros env at tokens remaining (Err (fault 22 at [])) remaining
+  not_replaced : {remaining remaining_after : Option ℕ} {without_defined : List Token} {e : Expanded} {f : Fault}
       → ReplacesDefined macros tokens without_defined
-      → IsExpansion macros env left without_defined e
-      → e.left ≡ after
+      → IsExpansion macros env remaining without_defined e
+      → e.remaining ≡ remaining_after
       → e.fault ≡ Some f
-      → IsCondition macros env at tokens left (Err f) after
-  replaced : {left after : Option ℕ} {without_defined : List Token} {e : Expanded} {c : Condition}
+      → IsCondition macros env at tokens remaining (Err f) remaining_after
+  replaced : {remaining remaining_after : Option ℕ} {without_defined : List Token} {e : Expanded} {c : Condition}
       → ReplacesDefined macros tokens without_defined
-      → IsExpansion macros env left without_defined e
-      → e.left ≡ after
+      → IsExpansion macros env remaining without_defined e
+      → e.remaining ≡ remaining_after
       → e.fault ≡ None
       → EvaluatesTokens at e.tokens c
-      → IsCondition macros env at tokens left c after
+      → IsCondition macros env at tokens remaining c remaining_after
 
 -- the number of replacements in a condition
-abbrev pub count_condition : {macros : Macros} {env : Env} {at : Place} {tokens : List Token} {left after : Option ℕ} {c : Condition}
-    → IsCondition macros env at tokens left c after
+abbrev pub count_condition : {macros : Macros} {env : Env} {at : Place} {tokens : List Token} {remaining remaining_after : Option ℕ} {c : Condition}
+    → IsCondition macros env at tokens remaining c remaining_after
     → ℕ
 count_condition (ill_formed none) = 0
 count_condition (not_replaced asks expands leaves is) = count_expansion expands

@@ -88,13 +88,13 @@ fn evaluate_rope(alloc: Global, at: Place, run: &TokenRope) -> Result<bool, Erro
 }
 
 /// Returns the result together with the rest of the budget.
-fn with_rest(
+fn with_remaining(
     decided: Result<bool, Error>,
-    left: Option<u64>,
+    remaining: Option<u64>,
 ) -> Result<(Result<bool, Fault>, Option<u64>), Memory>
-    ensures { IfOk result (λ r. (Ok r.0 ≡ split_memory decided) × (r.1 ≡ left)) }
+    ensures { IfOk result (λ r. (Ok r.0 ≡ split_memory decided) × (r.1 ≡ remaining)) }
 {
-    Ok((split_memory(decided)?, left))
+    Ok((split_memory(decided)?, remaining))
 }
 
 /// Replaces macros and evaluates the result. Also returns the rest of the budget.
@@ -102,24 +102,24 @@ fn evaluate_replaced(
     alloc: Global,
     table: &Table,
     env: &Env,
-    left: Option<u64>,
+    remaining: Option<u64>,
     at: Place,
     tokens: &[Token],
 ) -> Result<(Result<bool, Fault>, Option<u64>), Memory>
-    ensures { IfOk result (λ r. IsCondition table.now.macros env.now at tokens.now left r.0 r.1) }
+    ensures { IfOk result (λ r. IsCondition table.now.macros env.now at tokens.now remaining r.0 r.1) }
 {
     let Some(without_defined) = without_defined(alloc, table, tokens)? else {
-        return Ok((Err(Fault::bare(22, at)), left));
+        return Ok((Err(Fault::bare(22, at)), remaining));
     };
     let without_defined = without_defined.as_slice();
     let Expanded {
         tokens,
         fault,
-        left: after,
-    } = expand(alloc, table, env, left, without_defined)?;
+        remaining: remaining_after,
+    } = expand(alloc, table, env, remaining, without_defined)?;
     match fault {
-        Some(fault) => Ok((Err(fault), after)),
-        None => with_rest(evaluate_rope(alloc, at, &tokens), after),
+        Some(fault) => Ok((Err(fault), remaining_after)),
+        None => with_remaining(evaluate_rope(alloc, at, &tokens), remaining_after),
     }
 }
 
@@ -145,15 +145,15 @@ pub fn evaluate(
     alloc: Global,
     table: &Table,
     env: &Env,
-    left: Option<u64>,
+    remaining: Option<u64>,
     at: Place,
     tokens: &[Token],
 ) -> Result<(Result<bool, Fault>, Option<u64>), Memory>
-    ensures { IfOk result (λ r. IsCondition table.now.macros env.now at tokens.now left r.0 r.1) }
+    ensures { IfOk result (λ r. IsCondition table.now.macros env.now at tokens.now remaining r.0 r.1) }
 {
     // Fast path: most conditions consist of uses of `defined` alone.
     if let Some(taken) = evaluate_defined_only(table, tokens) {
-        return Ok((Ok(taken), left));
+        return Ok((Ok(taken), remaining));
     }
-    evaluate_replaced(alloc, table, env, left, at, tokens)
+    evaluate_replaced(alloc, table, env, remaining, at, tokens)
 }

@@ -43,43 +43,43 @@ pub fn reads_constants()
 
 /// A condition has at most one result (true, false or one fault), and at most one rest of the budget.
 pub fn one_condition()
-    ensures { (macros : Macros) (env : Env) (at : Place) (tokens : List Token) (left after following : Option ℕ) (c d : Condition)
-        → IsCondition macros env at tokens left c after
-        → IsCondition macros env at tokens left d following
-        → (c ≡ d) × (after ≡ following) }
+    ensures { (macros : Macros) (env : Env) (at : Place) (tokens : List Token) (remaining remaining_after following : Option ℕ) (c d : Condition)
+        → IsCondition macros env at tokens remaining c remaining_after
+        → IsCondition macros env at tokens remaining d following
+        → (c ≡ d) × (remaining_after ≡ following) }
 {}
 
 /// Each list of tokens has a result, for all macros and all budgets.
 pub fn some_condition()
-    ensures { (macros : Macros) (env : Env) (at : Place) (tokens : List Token) (left : Option ℕ)
-        → (c : Condition) × (after : Option ℕ) × IsCondition macros env at tokens left c after }
+    ensures { (macros : Macros) (env : Env) (at : Place) (tokens : List Token) (remaining : Option ℕ)
+        → (c : Condition) × (remaining_after : Option ℕ) × IsCondition macros env at tokens remaining c remaining_after }
 {}
 
 /// Without a budget before a condition there is none after it.
 pub fn without_a_budget()
-    ensures { (macros : Macros) (env : Env) (at : Place) (tokens : List Token) (c : Condition) (after : Option ℕ)
-        → IsCondition macros env at tokens None c after
-        → after ≡ None }
+    ensures { (macros : Macros) (env : Env) (at : Place) (tokens : List Token) (c : Condition) (remaining_after : Option ℕ)
+        → IsCondition macros env at tokens None c remaining_after
+        → remaining_after ≡ None }
 {}
 
 /// The cost of a condition and the rest of the budget add up to the budget.
 pub fn budget_is_spent()
-    ensures { (macros : Macros) (env : Env) (at : Place) (tokens : List Token) (left after : Option ℕ) (c : Condition)
-        → (d : IsCondition macros env at tokens left c after)
-        → left ≡ plus (count_condition d) after }
+    ensures { (macros : Macros) (env : Env) (at : Place) (tokens : List Token) (remaining remaining_after : Option ℕ) (c : Condition)
+        → (d : IsCondition macros env at tokens remaining c remaining_after)
+        → remaining ≡ plus (count_condition d) remaining_after }
 {}
 
 /// A condition within a budget equals the one without if that costs no more. Otherwise it ends in fault 35, and nothing is left.
 pub fn budget_caps()
     ensures { (macros : Macros) (env : Env) (at : Place) (tokens : List Token) (whole : Condition) (rest : Option ℕ)
-        → (d : IsCondition macros env at tokens None whole rest) (b : ℕ) (c : Condition) (after : Option ℕ)
-        → IsCondition macros env at tokens (Some b) c after
-        → IsCapped b (count_condition d) whole c after }
+        → (d : IsCondition macros env at tokens None whole rest) (b : ℕ) (c : Condition) (remaining_after : Option ℕ)
+        → IsCondition macros env at tokens (Some b) c remaining_after
+        → IsCapped b (count_condition d) whole c remaining_after }
 {}
 
 /// Without a budget no condition ends in fault 35.
 pub fn only_budgets_refuse()
-    ensures { (macros : Macros) (env : Env) (at : Place) (tokens : List Token) (f : Fault) (after : Option ℕ)
-        → IsCondition macros env at tokens None (Err f) after
+    ensures { (macros : Macros) (env : Env) (at : Place) (tokens : List Token) (f : Fault) (remaining_after : Option ℕ)
+        → IsCondition macros env at tokens None (Err f) remaining_after
         → f.number ≢ 35 }
 {}

@@ -5,8 +5,8 @@ use Rattle.ppmacro.specs.HideSets.{AllKnown}
 use Rattle.ppmacro.specs.Substitution.{argument_at, expanded_at}
 use Rattle.ppmacro.specs.Substituting.{lists_of, options_of, ListsKnown, ArgumentsKnown}
 use Rattle.ppmacro.specs.declared.hidden_token.Hidden.{Hidden}
-use Rattle.ppmacro.specs.declared.hidden_token.Expansion.{Expansion}
-use Rattle.ppmacro.specs.declared.hidden_token.Expansion.TheVariants.{Made}
+use Rattle.ppmacro.specs.declared.hidden_token.ArgumentExpansion.{ArgumentExpansion}
+use Rattle.ppmacro.specs.declared.hidden_token.ArgumentExpansion.TheVariants.{Made}
 
 given-known : {s : HideSetPool} (vs : List (Vec Hidden Global)) → ListsKnown s vs → (i : ℕ) → AllKnown s (argument_at (lists_of vs) i)
 given-known [] k i = record { each = tt }
@@ -21,7 +21,7 @@ expanded-known [] (v ∷ vs) k (suc i) = expanded-known [] vs (record { each = k
 expanded-known (g ∷ gs) (v ∷ vs) k (suc i) = expanded-known gs vs (record { each = k.each.1 }) i
 
 -- Arguments, and either themselves or other lists as their expansions.
-pub all-known : {s : HideSetPool} (given others shown : List (Vec Hidden Global)) (expanded : List Expansion)
+pub all-known : {s : HideSetPool} (given others shown : List (Vec Hidden Global)) (expanded : List ArgumentExpansion)
     → shown ≡ given
     → expanded ≡ map (λ v. Made v) others
     → ListsKnown s given

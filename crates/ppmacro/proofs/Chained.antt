@@ -5,7 +5,7 @@ use Rattle.std.proofs.lemmas.Bool.{and_parts, and_right, or_parts, not-true}
 use Rattle.pptext.specs.declared.tokens.Token.{Token}
 use Rattle.pptext.specs.Tokens.{is_identifier, is_punct}
 use Rattle.ppmacro.specs.HashOperators.{is_hash, is_paste}
-use Rattle.ppmacro.specs.Chains.{ChainPart, Operates, Joins, parameter_named, parameter_of, is_function_like, is_operator_hash, parts_after, begins_joined, join_first, group_parts, lenient_parameter, with_rest, chains_of}
+use Rattle.ppmacro.specs.Chains.{ChainPart, Operates, Joins, parameter_named, parameter_of, is_function_like, is_operator_hash, parts_after, begins_joined, join_first, group_parts, lenient_parameter, with_variadic, chains_of}
 use Rattle.ppmacro.specs.Define.{is_empty, misplaces_paste, begins_with_parameter, misplaces_hash}
 use Rattle.ppmacro.specs.Laws.{IsOperand, token, parameter, stringized, AreJoined, last, pasted, AreChains, none, chain, places_operators}
 use Rattle.ppmacro.specs.declared.macros.MacroKind.{MacroKind}
@@ -73,7 +73,7 @@ module _ (kind : MacroKind) where
   abbrev items : List Token → List ChainPart
   items ts = parts_after kind None ts
 
-  operand_items : {flag : Bool} {ts : List Token} {o : Operand} → IsOperand kind flag ts o → (rest : List Token) → items (ts ++ rest) ≡ Operates flag o ∷ items rest
+  operand_items : {space : Bool} {ts : List Token} {o : Operand} → IsOperand kind space ts o → (rest : List Token) → items (ts ++ rest) ≡ Operates space o ∷ items rest
   operand_items (token {t = t} p h e) rest = at_token kind t rest p h e
   operand_items (parameter {t = t} {i = i} e) rest = at_parameter kind t i rest (parameter_no_paste kind t i e) (parameter_no_hash kind t i e) e
   operand_items (stringized {hash = hash} {t = t} {i = i} h e) rest = at_hash kind hash t i rest (hash_no_paste kind hash h) h e
@@ -81,7 +81,7 @@ module _ (kind : MacroKind) where
   paste_items : (p : Token) (ts : List Token) → is_paste p ≡ true → items (p ∷ ts) ≡ Joins ∷ items ts
   paste_items p ts e = at_paste kind p ts e
 
-  unjoined : {flag : Bool} {ts : List Token} {os : List Operand} → AreJoined kind flag ts os → (rest : List Token) → begins_joined (items (ts ++ rest)) ≡ false
+  unjoined : {space : Bool} {ts : List Token} {os : List Operand} → AreJoined kind space ts os → (rest : List Token) → begins_joined (items (ts ++ rest)) ≡ false
   unjoined (last o) rest = ap begins_joined (operand_items o rest)
   unjoined (pasted ts p more other o e j) rest = ap (λ xs. begins_joined (items xs)) (append_assoc ts (p ∷ more) rest) ∙ ap begins_joined (operand_items o (p ∷ (more ++ rest)))
 
@@ -89,28 +89,28 @@ module _ (kind : MacroKind) where
   unjoined_all none = refl
   unjoined_all (chain ts rest j more) = unjoined j rest
 
-  joined_grouped : {flag : Bool} {ts : List Token} {os : List Operand}
-      → AreJoined kind flag ts os
+  joined_grouped : {space : Bool} {ts : List Token} {os : List Operand}
+      → AreJoined kind space ts os
       → (rest : List Token) (cs : List Chain)
       → begins_joined (items rest) ≡ false
       → group_parts (items rest) ≡ cs
-      → group_parts (items (ts ++ rest)) ≡ record { flag = flag; operands = os } ∷ cs
-  joined_grouped (last {flag = flag} {o = o} is) rest cs b e = ap group_parts (operand_items is rest) ∙ group_parts-alone flag o (items rest) b ∙ ap (λ ds. record { flag = flag; operands = o ∷ [] } ∷ ds) e
-  joined_grouped (pasted {flag = flag} {o = o} ts p more other is s j) rest cs b e =
+      → group_parts (items (ts ++ rest)) ≡ record { space = space; operands = os } ∷ cs
+  joined_grouped (last {space = space} {o = o} is) rest cs b e = ap group_parts (operand_items is rest) ∙ group_parts-alone space o (items rest) b ∙ ap (λ ds. record { space = space; operands = o ∷ [] } ∷ ds) e
+  joined_grouped (pasted {space = space} {o = o} ts p more other is s j) rest cs b e =
       ap (λ xs. group_parts (items xs)) (append_assoc ts (p ∷ more) rest)
       ∙ ap group_parts (operand_items is (p ∷ (more ++ rest)))
-      ∙ ap (λ ys. group_parts (Operates flag o ∷ ys)) (paste_items p (more ++ rest) s)
-      ∙ ap (join_first flag o) (joined_grouped j rest cs b e)
+      ∙ ap (λ ys. group_parts (Operates space o ∷ ys)) (paste_items p (more ++ rest) s)
+      ∙ ap (join_first space o) (joined_grouped j rest cs b e)
 
   -- A chain whose last operand may be a rest.
   abbrev ended : Chain → Chain
-  ended = with_rest (lenient_parameter kind)
+  ended = with_variadic (lenient_parameter kind)
 
   pub laid : {ts : List Token} {cs : List Chain} → AreChains kind ts cs → map ended (group_parts (items ts)) ≡ cs
   laid none = refl
-  laid (chain {flag = flag} {os = os} ts rest j more) =
+  laid (chain {space = space} {os = os} ts rest j more) =
       ap (map ended) (joined_grouped j rest (group_parts (items rest)) (unjoined_all more) refl)
-      ∙ ap (λ ds. ended (record { flag = flag; operands = os }) ∷ ds) (laid more)
+      ∙ ap (λ ds. ended (record { space = space; operands = os }) ∷ ds) (laid more)
 
   -- ---- a list with valid operators has chains
 
@@ -128,11 +128,11 @@ module _ (kind : MacroKind) where
   hash_named false g b m h e = absurd (true≢false (sym h))
 
   record First (ts : List Token) : Type 0 where
-    flag : Bool
+    space : Bool
     operand : Operand
     front : List Token
     rest : List Token
-    is : IsOperand kind flag front operand
+    is : IsOperand kind space front operand
     laid_out : ts ≡ front ++ rest
     less : length rest < length ts
     pastes : misplaces_paste false rest ≡ false
@@ -144,7 +144,7 @@ module _ (kind : MacroKind) where
     | Some i ↦ λ e _.
         let next : misplaces_paste false (u ∷ us) ≡ misplaces_paste false us = rw (parameter_no_paste kind u i e) refl in
         record {
-          flag = t.space;
+          space = t.space;
           operand = _;
           front = t ∷ (u ∷ []);
           rest = us;
@@ -161,8 +161,8 @@ module _ (kind : MacroKind) where
   first_by t ts p m s = elim (is_operator_hash kind t) as (λ b. is_operator_hash kind t ≡ b → First (t ∷ ts)) [
     | true ↦ λ h. after_hash t ts h (hash_named (is_function_like kind) (is_hash t) (begins_with_parameter kind ts) (misplaces_hash kind ts) h s) m following
     | false ↦ λ h. elim (parameter_of kind t) as (λ o. parameter_of kind t ≡ o → First (t ∷ ts)) [
-      | Some i ↦ λ e. record { flag = t.space; operand = _; front = t ∷ []; rest = ts; is = parameter e; laid_out = refl; less = omega arith; pastes = m; hashes = following }
-      | None ↦ λ e. record { flag = t.space; operand = _; front = t ∷ []; rest = ts; is = token p h e; laid_out = refl; less = omega arith; pastes = m; hashes = following }
+      | Some i ↦ λ e. record { space = t.space; operand = _; front = t ∷ []; rest = ts; is = parameter e; laid_out = refl; less = omega arith; pastes = m; hashes = following }
+      | None ↦ λ e. record { space = t.space; operand = _; front = t ∷ []; rest = ts; is = token p h e; laid_out = refl; less = omega arith; pastes = m; hashes = following }
     ] refl
   ] refl
     where
@@ -182,24 +182,24 @@ module _ (kind : MacroKind) where
   Lays n = (ts : List Token) → length ts < n → misplaces_paste true ts ≡ false → HashesStand ts → Laid ts
 
   -- An operand and `##` before chains.
-  paste_before : {flag : Bool} {o : Operand} (front : List Token) (p : Token)
-      → IsOperand kind flag front o
+  paste_before : {space : Bool} {o : Operand} (front : List Token) (p : Token)
+      → IsOperand kind space front o
       → is_paste p ≡ true
       → {ts : List Token} {cs : List Chain}
       → AreChains kind ts cs
       → is_empty ts ≡ false
       → Laid (front ++ p ∷ ts)
   paste_before front p is e none filled = absurd (true≢false filled)
-  paste_before {flag = flag} {o = o} front p is e (chain {flag = other} {os = os} {cs = cs} ts rest j more) filled = (
-    ended (record { flag = flag; operands = o ∷ os }) ∷ cs,
-    subst (λ xs. AreChains kind xs (ended (record { flag = flag; operands = o ∷ os }) ∷ cs)) (append_assoc front (p ∷ ts) rest)
+  paste_before {space = space} {o = o} front p is e (chain {space = other} {os = os} {cs = cs} ts rest j more) filled = (
+    ended (record { space = space; operands = o ∷ os }) ∷ cs,
+    subst (λ xs. AreChains kind xs (ended (record { space = space; operands = o ∷ os }) ∷ cs)) (append_assoc front (p ∷ ts) rest)
         (chain (front ++ p ∷ ts) rest (pasted front p ts other is e j) more),
   )
 
-  operand_before : {flag : Bool} {o : Operand} (front rest : List Token) → IsOperand kind flag front o → Laid rest → Laid (front ++ rest)
-  operand_before {flag = flag} {o = o} front rest is m = (ended (record { flag = flag; operands = o ∷ [] }) ∷ m.0, chain front rest (last is) m.1)
+  operand_before : {space : Bool} {o : Operand} (front rest : List Token) → IsOperand kind space front o → Laid rest → Laid (front ++ rest)
+  operand_before {space = space} {o = o} front rest is m = (ended (record { space = space; operands = o ∷ [] }) ∷ m.0, chain front rest (last is) m.1)
 
-  lay_behind : {flag : Bool} {o : Operand} (front rest : List Token) → IsOperand kind flag front o → Lays (suc (length rest)) → misplaces_paste false rest ≡ false → HashesStand rest → Laid (front ++ rest)
+  lay_behind : {space : Bool} {o : Operand} (front rest : List Token) → IsOperand kind space front o → Lays (suc (length rest)) → misplaces_paste false rest ≡ false → HashesStand rest → Laid (front ++ rest)
   lay_behind front [] is on m s = operand_before front [] is ([], none)
   lay_behind front (p ∷ more) is on m s = elim (is_paste p) as (λ b. is_paste p ≡ b → (if b then (false || (is_empty more || misplaces_paste true more)) else misplaces_paste false more) ≡ false → Laid (front ++ p ∷ more)) [
     | true ↦ λ e m.

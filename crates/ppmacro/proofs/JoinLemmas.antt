@@ -11,7 +11,7 @@ use Rattle.ppmacro.specs.HideSets.{hiding, hidings, HasSets, AllKnown, KeepsSets
 use Rattle.ppmacro.specs.Substitution.{after_ok, pasted, join, join_all, argument_at, expanded_at}
 use Rattle.ppmacro.specs.Substituting.{tokens_of, lists_of, option_of, options_of}
 use Rattle.ppmacro.specs.declared.hidden_token.Hidden.{Hidden}
-use Rattle.ppmacro.specs.declared.hidden_token.Expansion.{Expansion}
+use Rattle.ppmacro.specs.declared.hidden_token.ArgumentExpansion.{ArgumentExpansion}
 use Rattle.ppmacro.proofs.KeepLemmas.{hidings-keeps, known-keeps, known-append, known-front, known-rest}
 
 -- ---- arguments
@@ -31,7 +31,7 @@ argument-absent (v ∷ vs) zero h = absurd (omega arith)
 argument-absent (v ∷ vs) (suc i) h = argument-absent vs i (omega arith)
 
 -- The expansion of a parameter, by the entry at its index.
-pub expansion-at : (given : List (Vec Hidden Global)) (es : List Expansion) (i : ℕ) (e : Expansion)
+pub expansion-at : (given : List (Vec Hidden Global)) (es : List ArgumentExpansion) (i : ℕ) (e : ArgumentExpansion)
     → i < length es
     → e ≡ get_or es i e
     → unwrap_or (option_of (argument_at (lists_of given) i) e) [] ≡ expanded_at (options_of given es) i
@@ -41,7 +41,7 @@ expansion-at (v ∷ vs) (x ∷ es) zero e h is = ap (λ y. unwrap_or (option_of 
 expansion-at [] (x ∷ es) (suc i) e h is = expansion-at [] es i e (omega arith) is
 expansion-at (v ∷ vs) (x ∷ es) (suc i) e h is = expansion-at vs es i e (omega arith) is
 
-pub expansion-following : (given : List (Vec Hidden Global)) (es : List Expansion) (i : ℕ) → length es ≤ i → [] ≡ expanded_at (options_of given es) i
+pub expansion-following : (given : List (Vec Hidden Global)) (es : List ArgumentExpansion) (i : ℕ) → length es ≤ i → [] ≡ expanded_at (options_of given es) i
 expansion-following given [] i h = refl
 expansion-following given (x ∷ es) zero h = absurd (omega arith)
 expansion-following [] (x ∷ es) (suc i) h = expansion-following [] es i (omega arith)

@@ -18,9 +18,9 @@ use Rattle.ppmacro.specs.declared.macros.MacroKind.TheVariants.{ObjectLike, Func
 use Rattle.ppmacro.specs.declared.macros.Macro.{Macro}
 use Rattle.ppmacro.specs.declared.macros.Chain.{Chain}
 use Rattle.ppmacro.specs.declared.macros.Operand.{Operand}
-use Rattle.ppmacro.specs.Chains.{HashSign, ChainPart, Operates, Joins, hash_sign, parameter_of, is_operator_hash, plain_part, stringized_part, parts_at, parts_after, begins_joined, join_first, group_parts, lenient_parameter, with_rest, chains_of}
+use Rattle.ppmacro.specs.Chains.{HashSign, ChainPart, Operates, Joins, hash_sign, parameter_of, is_operator_hash, plain_part, stringized_part, parts_at, parts_after, begins_joined, join_first, group_parts, lenient_parameter, with_variadic, chains_of}
 use Rattle.ppmacro.specs.Define.{Named, Refusal, ParameterList, Spacing, VariableArguments, repeats, has_variable_arguments, all_parameters, variadic_by, function_like, read_parameter_list, read_definition, refusal_of, unless_refused, check_body, with_macro_name, is_reserved, check_define}
-use Rattle.ppmacro.specs.Laws.{is_rest, holds_rest}
+use Rattle.ppmacro.specs.Laws.{is_variadic, holds_variadic}
 
 -- ---- definitions
 
@@ -93,28 +93,28 @@ strict p macros at line n g e = subst NamesStrict e (judged_strict p macros at l
 
 -- ---- chains
 
-abbrev is_rest_item : ChainPart → Bool
-is_rest_item (Operates flag o) = is_rest o
-is_rest_item Joins = false
+abbrev is_variadic_part : ChainPart → Bool
+is_variadic_part (Operates space o) = is_variadic o
+is_variadic_part Joins = false
 
-plain_whole : (o : Option ℕ) (t : Token) → is_rest_item (plain_part o t) ≡ false
+plain_whole : (o : Option ℕ) (t : Token) → is_variadic_part (plain_part o t) ≡ false
 plain_whole None t = refl
 plain_whole (Some i) t = refl
 
-stringized_whole : (o : Option ℕ) (hash : HashSign) (t : Token) → is_rest_item (stringized_part o hash t) ≡ false
+stringized_whole : (o : Option ℕ) (hash : HashSign) (t : Token) → is_variadic_part (stringized_part o hash t) ≡ false
 stringized_whole None hash t = refl
 stringized_whole (Some i) hash t = refl
 
 items_at_whole : (paste hash : Bool) (item : ChainPart) (is js : List ChainPart)
-    → is_rest_item item ≡ false
-    → list_any is_rest_item is ≡ false
-    → list_any is_rest_item js ≡ false
-    → list_any is_rest_item (parts_at paste hash item is js) ≡ false
+    → is_variadic_part item ≡ false
+    → list_any is_variadic_part is ≡ false
+    → list_any is_variadic_part js ≡ false
+    → list_any is_variadic_part (parts_at paste hash item is js) ≡ false
 items_at_whole true hash item is js e h k = h
 items_at_whole false true item is js e h k = k
 items_at_whole false false item is js e h k = rw e h
 
-items_whole : (kind : MacroKind) (hash : Option HashSign) (ts : List Token) → list_any is_rest_item (parts_after kind hash ts) ≡ false
+items_whole : (kind : MacroKind) (hash : Option HashSign) (ts : List Token) → list_any is_variadic_part (parts_after kind hash ts) ≡ false
 items_whole kind hash [] = refl
 items_whole kind (Some hash) (t ∷ ts) = rw (stringized_whole (parameter_of kind t) hash t) (items_whole kind None ts)
 items_whole kind None (t ∷ ts) =
@@ -123,31 +123,31 @@ items_whole kind None (t ∷ ts) =
     (parts_after kind (Some (hash_sign t)) ts)
     (plain_whole (parameter_of kind t) t) (items_whole kind None ts) (items_whole kind (Some (hash_sign t)) ts)
 
-joined_whole : (flag : Bool) (o : Operand) (cs : List Chain) → is_rest o ≡ false → list_any holds_rest cs ≡ false → list_any holds_rest (join_first flag o cs) ≡ false
-joined_whole flag o [] e h = rw e refl
-joined_whole flag o (c ∷ cs) e h = rw e h
+joined_whole : (space : Bool) (o : Operand) (cs : List Chain) → is_variadic o ≡ false → list_any holds_variadic cs ≡ false → list_any holds_variadic (join_first space o cs) ≡ false
+joined_whole space o [] e h = rw e refl
+joined_whole space o (c ∷ cs) e h = rw e h
 
-first_whole : (joined flag : Bool) (o : Operand) (cs : List Chain)
-    → is_rest o ≡ false
-    → list_any holds_rest cs ≡ false
-    → list_any holds_rest (elim joined [ true ↦ join_first flag o cs | false ↦ record { flag = flag; operands = o ∷ [] } ∷ cs ]) ≡ false
-first_whole true flag o cs e h = joined_whole flag o cs e h
-first_whole false flag o cs e h = rw e h
+first_whole : (joined space : Bool) (o : Operand) (cs : List Chain)
+    → is_variadic o ≡ false
+    → list_any holds_variadic cs ≡ false
+    → list_any holds_variadic (elim joined [ true ↦ join_first space o cs | false ↦ record { space = space; operands = o ∷ [] } ∷ cs ]) ≡ false
+first_whole true space o cs e h = joined_whole space o cs e h
+first_whole false space o cs e h = rw e h
 
-grouped_whole : (is : List ChainPart) → list_any is_rest_item is ≡ false → list_any holds_rest (group_parts is) ≡ false
+grouped_whole : (is : List ChainPart) → list_any is_variadic_part is ≡ false → list_any holds_variadic (group_parts is) ≡ false
 grouped_whole [] h = refl
 grouped_whole (Joins ∷ is) h = grouped_whole is h
-grouped_whole (Operates flag o ∷ is) h =
-    let both = or_parts (is_rest o) (list_any is_rest_item is) h in
-    first_whole (begins_joined is) flag o (group_parts is) both.0 (grouped_whole is both.1)
+grouped_whole (Operates space o ∷ is) h =
+    let both = or_parts (is_variadic o) (list_any is_variadic_part is) h in
+    first_whole (begins_joined is) space o (group_parts is) both.0 (grouped_whole is both.1)
 
-as_grouped : (cs : List Chain) → map (with_rest None) cs ≡ cs
+as_grouped : (cs : List Chain) → map (with_variadic None) cs ≡ cs
 as_grouped [] = refl
 as_grouped (c ∷ cs) = ap (λ ds. c ∷ ds) (as_grouped cs)
 
-pub pasted : (d : Macro) → lenient_parameter d.kind ≡ None → list_any holds_rest (chains_of d) ≡ false
+pub pasted : (d : Macro) → lenient_parameter d.kind ≡ None → list_any holds_variadic (chains_of d) ≡ false
 pasted d e =
     let items = parts_after d.kind None d.body in
-    ap (λ l. list_any holds_rest (map (with_rest l) (group_parts items))) e
-    ∙ ap (list_any holds_rest) (as_grouped (group_parts items))
+    ap (λ l. list_any holds_variadic (map (with_variadic l) (group_parts items))) e
+    ∙ ap (list_any holds_variadic) (as_grouped (group_parts items))
     ∙ grouped_whole items (items_whole d.kind None d.body)

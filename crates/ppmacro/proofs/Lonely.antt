@@ -11,9 +11,9 @@ use Rattle.ppmacro.specs.HashOperators.{is_paste}
 use Rattle.ppmacro.specs.declared.macros.MacroKind.{MacroKind}
 use Rattle.ppmacro.specs.declared.macros.MacroKind.TheVariants.{Predefined, ObjectLike, FunctionLike}
 use Rattle.ppmacro.specs.declared.macros.Operand.TheVariants.{Tok}
-use Rattle.ppmacro.specs.Chains.{ChainPart, Operates, parts_at, parts_after, plain_part, parameter_of, begins_joined, group_parts, hash_sign, with_rest}
+use Rattle.ppmacro.specs.Chains.{ChainPart, Operates, parts_at, parts_after, plain_part, parameter_of, begins_joined, group_parts, hash_sign, with_variadic}
 use Rattle.ppmacro.specs.PasteFree.{is_object_like, lone_chain}
-use Rattle.ppmacro.specs.Substitution.{Arguments, plain, with_flag, hsadd, chains_tokens, chains_replacement}
+use Rattle.ppmacro.specs.Substitution.{Arguments, plain, with_space, hsadd, chains_tokens, chains_replacement}
 use Rattle.ppmacro.proofs.ChainLemmas.{group_parts-alone}
 
 -- ---- the chains
@@ -43,7 +43,7 @@ all_alone (t ∷ ts) a =
     ∙ group_parts-alone t.space (Tok t) (parts_after ObjectLike None ts) (unjoined ts none.1)
     ∙ ap (λ cs. lone_chain t ∷ cs) (all_alone ts none.1)
 
-pub lone_chains : (ts : List Token) → list_any is_paste ts ≡ false → map (with_rest None) (group_parts (parts_after ObjectLike None ts)) ≡ map lone_chain ts
+pub lone_chains : (ts : List Token) → list_any is_paste ts ≡ false → map (with_variadic None) (group_parts (parts_after ObjectLike None ts)) ≡ map lone_chain ts
 lone_chains ts a = map-id (group_parts (parts_after ObjectLike None ts)) ∙ all_alone ts a
 
 -- ---- their tokens
@@ -53,7 +53,7 @@ others args used [] = refl
 others args used (t ∷ ts) = rw (others args used ts) refl
 
 marked_first : (args : Arguments) (used : Place) (space : Bool) (t : Token) (ts : List Token)
-    → chains_tokens args used space true (map lone_chain (t ∷ ts)) ≡ Ok (record { tokens = with_flag space (plain t) ∷ map plain ts; pending = false })
+    → chains_tokens args used space true (map lone_chain (t ∷ ts)) ≡ Ok (record { tokens = with_space space (plain t) ∷ map plain ts; pending = false })
 marked_first args used true t ts = rw (others args used ts) refl
 marked_first args used false t ts = rw (others args used ts) refl
 
@@ -67,13 +67,13 @@ lone_none args added used space = refl
 
 pub lone_substituted : (args : Arguments) (added : HideSet) (used : Place) (space : Bool) (t : Token) (ts : List Token)
     → chains_replacement (map lone_chain (t ∷ ts)) args added used space
-    ≡ Ok (record { tokens = hsadd added used (with_flag space (plain t)) ∷ map (λ t. hsadd added used (plain t)) ts; pending = false })
+    ≡ Ok (record { tokens = hsadd added used (with_space space (plain t)) ∷ map (λ t. hsadd added used (plain t)) ts; pending = false })
 lone_substituted args added used space t ts =
-    rw (marked_first args used space t ts) (λ i. Ok (record { tokens = hsadd added used (with_flag space (plain t)) ∷ gained_each added used ts i; pending = false }))
+    rw (marked_first args used space t ts) (λ i. Ok (record { tokens = hsadd added used (with_space space (plain t)) ∷ gained_each added used ts i; pending = false }))
 
 -- ---- the macros that have such lists
 
 pub object_like : (s : MacroKind) → is_object_like s ≡ true → s ≡ ObjectLike
 object_like ObjectLike e = refl
-object_like (Predefined builtin) e = absurd (false≢true e)
+object_like (Predefined predefined) e = absurd (false≢true e)
 object_like (FunctionLike parameters variadic) e = absurd (false≢true e)

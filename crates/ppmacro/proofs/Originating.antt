@@ -10,12 +10,12 @@ use Rattle.ppmacro.specs.Names.{HideSet}
 use Rattle.ppmacro.specs.Hiding.{Hiding}
 use Rattle.ppmacro.specs.Lexing.{kind_of}
 use Rattle.ppmacro.specs.Substitution.{Arguments, Replacement, argument_at, expanded_at, stringized, is_string_literal, string_text, string_token, pasted, pasted_as, after_ok, join, join_all}
-use Rattle.ppmacro.specs.Substitution.{operand_tokens, operands_tokens, is_joined, before_rest, rest_of, rest_after_comma, with_rest_tokens, chain_tokens, flag_first, chains_tokens}
+use Rattle.ppmacro.specs.Substitution.{operand_tokens, operands_tokens, is_joined, before_variadic, variadic_of, variadic_after_comma, with_variadic_tokens, chain_tokens, space_first, chains_tokens}
 use Rattle.ppmacro.specs.Substitution.{hsadd, chains_replacement}
-use Rattle.ppmacro.specs.Origins.{ComesFrom, listed, expanded, given, rest, literal, paste, own_flag, LeavesPending, at_front, behind_tokens, behind_none, IsReplacementToken}
+use Rattle.ppmacro.specs.Origins.{ComesFrom, listed, expanded, given, variadic, literal, paste, own_space, LeavesPending, at_start, after_tokens, after_none, IsReplacementToken}
 use Rattle.ppmacro.specs.declared.macros.Chain.{Chain}
 use Rattle.ppmacro.specs.declared.macros.Operand.{Operand}
-use Rattle.ppmacro.specs.declared.macros.Operand.TheVariants.{Tok, Param, Str, Rest}
+use Rattle.ppmacro.specs.declared.macros.Operand.TheVariants.{Tok, Param, Str, VariadicAfterComma}
 
 -- ---- lists and results
 
@@ -101,7 +101,7 @@ module _ (args : Arguments) (used : Place) (operands : List Operand) where
   operand_each next_to_paste joined (Tok t) h ts e = subst (AllByRecursion Comes) (ok-same _ ts e) (listed h, tt)
   operand_each true joined (Param i) h ts e = subst (AllByRecursion Comes) (ok-same _ ts e) (each-of Comes (argument_at args.given i) (λ x k. given joined h k))
   operand_each false joined (Param i) h ts e = subst (AllByRecursion Comes) (ok-same _ ts e) (each-of Comes (expanded_at args.expanded i) (λ x k. expanded joined h k))
-  operand_each next_to_paste joined (Rest i) h ts e = subst (AllByRecursion Comes) (ok-same _ ts e) (each-of Comes (argument_at args.given i) (λ x k. rest h k))
+  operand_each next_to_paste joined (VariadicAfterComma i) h ts e = subst (AllByRecursion Comes) (ok-same _ ts e) (each-of Comes (argument_at args.given i) (λ x k. variadic h k))
   operand_each next_to_paste joined (Str i at) h ts e =
       let made = after (stringized (map (λ t. t.token) (argument_at args.given i)) at used) (λ t. Ok (t ∷ [])) ts e in
       subst (AllByRecursion Comes) (ok-same _ ts made.2) (literal_comes i at made.0 h made.1, tt)
@@ -116,13 +116,13 @@ module _ (args : Arguments) (used : Place) (operands : List Operand) where
         operands_each os (λ p h. within p (there o p os h)) others.0 others.1,
       )
 
-  rest_each : (i : ℕ) → Contains operands (Rest i) → (o : Option (List Hiding)) → slice_get args.given i ≡ o → (ts : List Hiding) → AllByRecursion Comes ts → AllByRecursion Comes (rest_after_comma o ts)
+  rest_each : (i : ℕ) → Contains operands (VariadicAfterComma i) → (o : Option (List Hiding)) → slice_get args.given i ≡ o → (ts : List Hiding) → AllByRecursion Comes ts → AllByRecursion Comes (variadic_after_comma o ts)
   rest_each i h None e ts all = all-take Comes (length ts - 1) ts all
   rest_each i h (Some argument) e ts all =
       let is : argument_at args.given i ≡ argument = ap (λ o. unwrap_or o []) e in
-      all-append Comes ts argument all (subst (AllByRecursion Comes) is (each-of Comes (argument_at args.given i) (λ x k. rest h k)))
+      all-append Comes ts argument all (subst (AllByRecursion Comes) is (each-of Comes (argument_at args.given i) (λ x k. variadic h k)))
 
-  with_rest_each : (o : Option ℕ) → ((i : ℕ) → o ≡ Some i → Contains operands (Rest i)) → (ts : List Hiding) → AllByRecursion Comes ts → AllByRecursion Comes (with_rest_tokens args.given o ts)
+  with_rest_each : (o : Option ℕ) → ((i : ℕ) → o ≡ Some i → Contains operands (VariadicAfterComma i)) → (ts : List Hiding) → AllByRecursion Comes ts → AllByRecursion Comes (with_variadic_tokens args.given o ts)
   with_rest_each None has ts all = all
   with_rest_each (Some i) has ts all = rest_each i (has i refl) (slice_get args.given i) refl ts all
 
@@ -133,30 +133,30 @@ tail_within {X} x xs ys f y h = by_index h.0 h.1 h.2
     by_index zero less is = (0, omega arith, is)
     by_index (suc k) less is = there x y ys (f y (k, omega (arith, less), is))
 
-before_rest_within : (os : List Operand) (o : Operand) → Contains (before_rest os) o → Contains os o
+before_rest_within : (os : List Operand) (o : Operand) → Contains (before_variadic os) o → Contains os o
 before_rest_within [] o h = h
-before_rest_within (Rest i ∷ []) o h = absurd (omega (arith, h.1))
-before_rest_within (Tok t ∷ os) o h = tail_within (Tok t) (before_rest os) os (before_rest_within os) o h
-before_rest_within (Param i ∷ os) o h = tail_within (Param i) (before_rest os) os (before_rest_within os) o h
-before_rest_within (Str i at ∷ os) o h = tail_within (Str i at) (before_rest os) os (before_rest_within os) o h
-before_rest_within (Rest i ∷ (p ∷ os)) o h = tail_within (Rest i) (before_rest (p ∷ os)) (p ∷ os) (before_rest_within (p ∷ os)) o h
+before_rest_within (VariadicAfterComma i ∷ []) o h = absurd (omega (arith, h.1))
+before_rest_within (Tok t ∷ os) o h = tail_within (Tok t) (before_variadic os) os (before_rest_within os) o h
+before_rest_within (Param i ∷ os) o h = tail_within (Param i) (before_variadic os) os (before_rest_within os) o h
+before_rest_within (Str i at ∷ os) o h = tail_within (Str i at) (before_variadic os) os (before_rest_within os) o h
+before_rest_within (VariadicAfterComma i ∷ (p ∷ os)) o h = tail_within (VariadicAfterComma i) (before_variadic (p ∷ os)) (p ∷ os) (before_rest_within (p ∷ os)) o h
 
-rest_within : (os : List Operand) (i : ℕ) → rest_of os ≡ Some i → Contains os (Rest i)
+rest_within : (os : List Operand) (i : ℕ) → variadic_of os ≡ Some i → Contains os (VariadicAfterComma i)
 rest_within [] i e = absurd (cc)
-rest_within (Rest j ∷ []) i e = let is : j ≡ i = cc in subst (λ k. Contains (Rest j ∷ []) (Rest k)) is (here (Rest j) [])
-rest_within (Tok t ∷ os) i e = there (Tok t) (Rest i) os (rest_within os i e)
-rest_within (Param j ∷ os) i e = there (Param j) (Rest i) os (rest_within os i e)
-rest_within (Str j at ∷ os) i e = there (Str j at) (Rest i) os (rest_within os i e)
-rest_within (Rest j ∷ (p ∷ os)) i e = there (Rest j) (Rest i) (p ∷ os) (rest_within (p ∷ os) i e)
+rest_within (VariadicAfterComma j ∷ []) i e = let is : j ≡ i = cc in subst (λ k. Contains (VariadicAfterComma j ∷ []) (VariadicAfterComma k)) is (here (VariadicAfterComma j) [])
+rest_within (Tok t ∷ os) i e = there (Tok t) (VariadicAfterComma i) os (rest_within os i e)
+rest_within (Param j ∷ os) i e = there (Param j) (VariadicAfterComma i) os (rest_within os i e)
+rest_within (Str j at ∷ os) i e = there (Str j at) (VariadicAfterComma i) os (rest_within os i e)
+rest_within (VariadicAfterComma j ∷ (p ∷ os)) i e = there (VariadicAfterComma j) (VariadicAfterComma i) (p ∷ os) (rest_within (p ∷ os) i e)
 
 pub chain_each : (args : Arguments) (used : Place) (c : Chain) (ts : List Hiding) → chain_tokens args used c ≡ Ok ts → AllByRecursion (ComesFrom args used c.operands) ts
 chain_each args used c ts e =
-    let lists = after (operands_tokens (is_joined c.operands) args used (before_rest c.operands)) (λ lists. after_ok (join_all [] lists used) (λ us. Ok (with_rest_tokens args.given (rest_of c.operands) us))) ts e in
-    let joined = after (join_all [] lists.0 used) (λ us. Ok (with_rest_tokens args.given (rest_of c.operands) us)) ts lists.2 in
+    let lists = after (operands_tokens (is_joined c.operands) args used (before_variadic c.operands)) (λ lists. after_ok (join_all [] lists used) (λ us. Ok (with_variadic_tokens args.given (variadic_of c.operands) us))) ts e in
+    let joined = after (join_all [] lists.0 used) (λ us. Ok (with_variadic_tokens args.given (variadic_of c.operands) us)) ts lists.2 in
     let all : AllByRecursion (ComesFrom args used c.operands) joined.0 =
     join_all_each (ComesFrom args used c.operands) used (pasted_comes args used c.operands) [] lists.0 joined.0 tt
-    (operands_each args used c.operands (before_rest c.operands) (before_rest_within c.operands) lists.0 lists.1) joined.1 in
-    subst (AllByRecursion (ComesFrom args used c.operands)) (ok-same _ ts joined.2) (with_rest_each args used c.operands (rest_of c.operands) (rest_within c.operands) joined.0 all)
+    (operands_each args used c.operands (before_variadic c.operands) (before_rest_within c.operands) lists.0 lists.1) joined.1 in
+    subst (AllByRecursion (ComesFrom args used c.operands)) (ok-same _ ts joined.2) (with_rest_each args used c.operands (variadic_of c.operands) (rest_within c.operands) joined.0 all)
 
 -- ---- flags, and added names
 
@@ -169,7 +169,7 @@ not_nil [] x = refl
 not_nil (y ∷ ys) x = refl
 
 -- The leading-space flag of a chain's first token.
-mark_is : (first : Bool) (before : List Chain) (c : Chain) → first ≡ is_nil before → (not first && c.flag) ≡ own_flag before c
+mark_is : (first : Bool) (before : List Chain) (c : Chain) → first ≡ is_nil before → (not first && c.space) ≡ own_space before c
 mark_is first [] c e = rw e refl
 mark_is first (b ∷ bs) c e = rw e refl
 
@@ -182,97 +182,97 @@ numbered-append : {X : Type 0} (P : ℕ → X → Type 0) (n : ℕ) (xs ys : Lis
 numbered-append P n [] ys h k = subst (λ m. Indexed P m ys) (omega arith) k
 numbered-append P n (x ∷ xs) ys h k = (h.0, numbered-append P (suc n) xs ys h.1 (subst (λ m. Indexed P m ys) (omega arith) k))
 
-numbered-at : {X : Type 0} (P : ℕ → X → Type 0) (n : ℕ) (front : List X) (x : X) (following : List X) → Indexed P n (front ++ x ∷ following) → P (n + length front) x
+numbered-at : {X : Type 0} (P : ℕ → X → Type 0) (n : ℕ) (prefix : List X) (x : X) (following : List X) → Indexed P n (prefix ++ x ∷ following) → P (n + length prefix) x
 numbered-at P n [] x following h = subst (λ m. P m x) (omega arith) h.0
-numbered-at P n (y ∷ front) x following h = subst (λ m. P m x) (omega arith) (numbered-at P (suc n) front x following h.1)
+numbered-at P n (y ∷ prefix) x following h = subst (λ m. P m x) (omega arith) (numbered-at P (suc n) prefix x following h.1)
 
 module _ (args : Arguments) (added : HideSet) (used : Place) (space : Bool) where
   abbrev Replacing : List Chain → ℕ → Hiding → Type 0
   Replacing cs n t = IsReplacementToken cs args added used space n (hsadd added used t)
 
   -- The tokens of a chain after its first.
-  later_each : (before : List Chain) (c : Chain) (following : List Chain) (count : ℕ) (waiting : Bool)
-      → LeavesPending args used space before count waiting
+  later_each : (before : List Chain) (c : Chain) (following : List Chain) (count : ℕ) (pending : Bool)
+      → LeavesPending args used space before count pending
       → (t : Hiding) (ts us : List Hiding)
       → chain_tokens args used c ≡ Ok ((t ∷ ts) ++ us)
       → (n : ℕ)
       → n ≡ count + length (t ∷ ts)
       → Indexed (Replacing (before ++ c ∷ following)) n us
-  later_each before c following count waiting w t ts [] e n at = tt
-  later_each before c following count waiting w t ts (u ∷ us) e n at = (
+  later_each before c following count pending w t ts [] e n at = tt
+  later_each before c following count pending w t ts (u ∷ us) e n at = (
     record {
       before = before;
       chain = c;
       following = following;
       laid_out = refl;
-      front = t ∷ ts;
+      prefix = t ∷ ts;
       own = u;
       more = us;
       gives = e;
       count = count;
-      waiting = waiting;
-      waits = w;
-      stands = at;
+      pending = pending;
+      is_pending = w;
+      located = at;
       token = refl;
       hide = refl;
     },
-    later_each before c following count waiting w t (ts ++ u ∷ []) us (e ∙ ap (λ xs. Ok (t ∷ xs)) (sym (append_assoc ts (u ∷ []) us))) (suc n) (omega (arith, at, length-append ts (u ∷ []))),
+    later_each before c following count pending w t (ts ++ u ∷ []) us (e ∙ ap (λ xs. Ok (t ∷ xs)) (sym (append_assoc ts (u ∷ []) us))) (suc n) (omega (arith, at, length-append ts (u ∷ []))),
   )
 
   -- The tokens of a chain, and the flag that is pending after it.
-  chain_replacing : (before : List Chain) (c : Chain) (following : List Chain) (count : ℕ) (waiting flag : Bool)
-      → LeavesPending args used space before count waiting
-      → flag ≡ (waiting || own_flag before c)
+  chain_replacing : (before : List Chain) (c : Chain) (following : List Chain) (count : ℕ) (pending flag : Bool)
+      → LeavesPending args used space before count pending
+      → flag ≡ (pending || own_space before c)
       → (ts : List Hiding)
       → chain_tokens args used c ≡ Ok ts
-      → Indexed (Replacing (before ++ c ∷ following)) count (flag_first flag ts).tokens
-      × LeavesPending args used space (before ++ c ∷ []) (count + length (flag_first flag ts).tokens) (flag_first flag ts).pending
-  chain_replacing before c following count waiting flag w m [] e =
+      → Indexed (Replacing (before ++ c ∷ following)) count (space_first flag ts).tokens
+      × LeavesPending args used space (before ++ c ∷ []) (count + length (space_first flag ts).tokens) (space_first flag ts).pending
+  chain_replacing before c following count pending flag w m [] e =
       let none : count ≡ count + 0 = omega arith in
-      (tt, subst (λ n. LeavesPending args used space (before ++ c ∷ []) n flag) none (subst (LeavesPending args used space (before ++ c ∷ []) count) (sym m) (behind_none before c w e)))
-  chain_replacing before c following count waiting flag w m (t ∷ ts) e = (
+      (tt, subst (λ n. LeavesPending args used space (before ++ c ∷ []) n flag) none (subst (LeavesPending args used space (before ++ c ∷ []) count) (sym m) (after_none before c w e)))
+  chain_replacing before c following count pending flag w m (t ∷ ts) e = (
     (
       record {
         before = before;
         chain = c;
         following = following;
         laid_out = refl;
-        front = [];
+        prefix = [];
         own = t;
         more = ts;
         gives = e;
         count = count;
-        waiting = waiting;
-        waits = w;
-        stands = omega arith;
+        pending = pending;
+        is_pending = w;
+        located = omega arith;
         token = ap (λ b. record t.token { used = used; space = b }) m;
         hide = refl;
       },
-      later_each before c following count waiting w t [] ts e (suc count) (omega arith),
+      later_each before c following count pending w t [] ts e (suc count) (omega arith),
     ),
-    behind_tokens before c w e,
+    after_tokens before c w e,
   )
 
   abbrev Walked : List Chain → ℕ → Replacement → Type 0
   Walked cs count m = Indexed (Replacing cs) count m.tokens × LeavesPending args used space cs (count + length m.tokens) m.pending
 
-  walk : (before : List Chain) (count : ℕ) (waiting first : Bool) (cs : List Chain) (m : Replacement)
+  walk : (before : List Chain) (count : ℕ) (pending first : Bool) (cs : List Chain) (m : Replacement)
       → first ≡ is_nil before
-      → LeavesPending args used space before count waiting
-      → chains_tokens args used waiting first cs ≡ Ok m
+      → LeavesPending args used space before count pending
+      → chains_tokens args used pending first cs ≡ Ok m
       → Walked (before ++ cs) count m
-  walk before count waiting first [] m f w e =
-      let is : record { tokens = []; pending = waiting } ≡ m = ok-same _ m e in
+  walk before count pending first [] m f w e =
+      let is : record { tokens = []; pending = pending } ≡ m = ok-same _ m e in
       let none : count ≡ count + 0 = omega arith in
-      subst (Walked (before ++ []) count) is (tt, subst (λ n. LeavesPending args used space (before ++ []) n waiting) none (subst (λ cs. LeavesPending args used space cs count waiting) (sym (append-nil before)) w))
-  walk before count waiting first (c ∷ cs) m f w e =
+      subst (Walked (before ++ []) count) is (tt, subst (λ n. LeavesPending args used space (before ++ []) n pending) none (subst (λ cs. LeavesPending args used space cs count pending) (sym (append-nil before)) w))
+  walk before count pending first (c ∷ cs) m f w e =
       let one = after (chain_tokens args used c) (λ ts.
-      let at : Replacement = flag_first (waiting || (not first && c.flag)) ts in
+      let at : Replacement = space_first (pending || (not first && c.space)) ts in
       after_ok (chains_tokens args used at.pending false cs) (λ more. Ok (record { tokens = at.tokens ++ more.tokens; pending = more.pending }))) m e in
-      let at : Replacement = flag_first (waiting || (not first && c.flag)) one.0 in
+      let at : Replacement = space_first (pending || (not first && c.space)) one.0 in
       let others = after (chains_tokens args used at.pending false cs) (λ more. Ok (record { tokens = at.tokens ++ more.tokens; pending = more.pending })) m one.2 in
       let is : record { tokens = at.tokens ++ others.0.tokens; pending = others.0.pending } ≡ m = ok-same _ m others.2 in
-      let own = chain_replacing before c cs count waiting (waiting || (not first && c.flag)) w (ap (λ b. waiting || b) (mark_is first before c f)) one.0 one.1 in
+      let own = chain_replacing before c cs count pending (pending || (not first && c.space)) w (ap (λ b. pending || b) (mark_is first before c f)) one.0 one.1 in
       let more = walk (before ++ c ∷ []) (count + length at.tokens) at.pending false cs others.0 (not_nil before c) own.1 others.1 in
       let all : Walked (before ++ c ∷ cs) (count + length at.tokens) others.0 = subst (λ xs. Walked xs (count + length at.tokens) others.0) (append_assoc before (c ∷ []) cs) more in
       let total : count + length at.tokens + length others.0.tokens ≡ count + length (at.tokens ++ others.0.tokens) = omega (arith, length-append at.tokens others.0.tokens) in
@@ -295,20 +295,20 @@ module _ (args : Arguments) (added : HideSet) (used : Place) (space : Bool) wher
   replaced_all cs m e =
       let made = after (chains_tokens args used space true cs) (λ n. Ok (record n { tokens = map (hsadd added used) n.tokens })) m e in
       let is : record made.0 { tokens = map (hsadd added used) made.0.tokens } ≡ m = ok-same _ m made.2 in
-      let all = walk [] 0 space true cs made.0 refl at_front made.1 in
+      let all = walk [] 0 space true cs made.0 refl at_start made.1 in
       let total : 0 + length made.0.tokens ≡ length (map (hsadd added used) made.0.tokens) = omega (arith, length-hsadd made.0.tokens) in
       subst (λ n. Indexed (IsReplacementToken cs args added used space) 0 n.tokens × LeavesPending args used space cs (length n.tokens) n.pending) is
       (all-hsadd cs 0 made.0.tokens all.0, subst (λ n. LeavesPending args used space cs n made.0.pending) total all.1)
 
   pub replaced_each : (cs : List Chain) (m : Replacement)
       → chains_replacement cs args added used space ≡ Ok m
-      → (front : List Hiding) (t : Hiding) (following : List Hiding)
-      → m.tokens ≡ front ++ t ∷ following
-      → IsReplacementToken cs args added used space (length front) t
-  replaced_each cs m e front t following is =
-      let same : 0 + length front ≡ length front = omega arith in
+      → (prefix : List Hiding) (t : Hiding) (following : List Hiding)
+      → m.tokens ≡ prefix ++ t ∷ following
+      → IsReplacementToken cs args added used space (length prefix) t
+  replaced_each cs m e prefix t following is =
+      let same : 0 + length prefix ≡ length prefix = omega arith in
       subst (λ n. IsReplacementToken cs args added used space n t) same
-      (numbered-at (IsReplacementToken cs args added used space) 0 front t following (subst (Indexed (IsReplacementToken cs args added used space) 0) is (replaced_all cs m e).0))
+      (numbered-at (IsReplacementToken cs args added used space) 0 prefix t following (subst (Indexed (IsReplacementToken cs args added used space) 0) is (replaced_all cs m e).0))
 
   pub waits_behind : (cs : List Chain) (m : Replacement) → chains_replacement cs args added used space ≡ Ok m → LeavesPending args used space cs (length m.tokens) m.pending
   waits_behind cs m e = (replaced_all cs m e).1

@@ -8,7 +8,7 @@ use Rattle.ppmacro.specs.declared.macros.MacroKind.{MacroKind}
 use Rattle.ppmacro.specs.declared.macros.Operand.TheVariants as operand
 use Rattle.ppmacro.specs.declared.patterns.Entry.{Entry}
 use Rattle.ppmacro.specs.declared.patterns.Entry.TheVariants.{Tok, Param}
-use Rattle.ppmacro.specs.Chains.{ChainPart, parts_at, parts_after, plain_part, parameter_of, is_function_like, begins_joined, group_parts, hash_sign, lenient_parameter, with_rest}
+use Rattle.ppmacro.specs.Chains.{ChainPart, parts_at, parts_after, plain_part, parameter_of, is_function_like, begins_joined, group_parts, hash_sign, lenient_parameter, with_variadic}
 use Rattle.ppmacro.specs.Patterns.{is_operator, entry_at, entry_of, entry_chain}
 use Rattle.ppmacro.proofs.ChainLemmas.{group_parts-alone}
 
@@ -44,14 +44,14 @@ all_alone s (t ∷ ts) a =
     ∙ ap group_parts (sym (one_item s t ts none.0))
 
 -- No entry ends in a rest.
-restless : (rest : Option ℕ) (e : Entry) → entry_chain e ≡ with_rest rest (entry_chain e)
+restless : (rest : Option ℕ) (e : Entry) → entry_chain e ≡ with_variadic rest (entry_chain e)
 restless None e = refl
 restless (Some i) (Tok t) = refl
-restless (Some i) (Param flag j) = refl
+restless (Some i) (Param space j) = refl
 
-all_restless : (rest : Option ℕ) (es : List Entry) → map entry_chain es ≡ map (with_rest rest) (map entry_chain es)
+all_restless : (rest : Option ℕ) (es : List Entry) → map entry_chain es ≡ map (with_variadic rest) (map entry_chain es)
 all_restless rest [] = refl
 all_restless rest (e ∷ es) = λ i. restless rest e i ∷ all_restless rest es i
 
-pub entry_chains : (s : MacroKind) (ts : List Token) → list_any is_operator ts ≡ false → map entry_chain (map (entry_of s) ts) ≡ map (with_rest (lenient_parameter s)) (group_parts (parts_after s None ts))
-entry_chains s ts a = all_restless (lenient_parameter s) (map (entry_of s) ts) ∙ ap (map (with_rest (lenient_parameter s))) (all_alone s ts a)
+pub entry_chains : (s : MacroKind) (ts : List Token) → list_any is_operator ts ≡ false → map entry_chain (map (entry_of s) ts) ≡ map (with_variadic (lenient_parameter s)) (group_parts (parts_after s None ts))
+entry_chains s ts a = all_restless (lenient_parameter s) (map (entry_of s) ts) ∙ ap (map (with_variadic (lenient_parameter s))) (all_alone s ts a)

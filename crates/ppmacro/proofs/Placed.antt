@@ -42,22 +42,22 @@ before_parameter true true m g = g
 before_parameter true false m g = g
 
 module _ (kind : MacroKind) where
-  operand_pastes : {flag : Bool} {ts : List Token} {o : Operand} → IsOperand kind flag ts o → (b : Bool) (rest : List Token) → misplaces_paste b (ts ++ rest) ≡ misplaces_paste false rest
+  operand_pastes : {space : Bool} {ts : List Token} {o : Operand} → IsOperand kind space ts o → (b : Bool) (rest : List Token) → misplaces_paste b (ts ++ rest) ≡ misplaces_paste false rest
   operand_pastes (token {t = t} p h e) b rest = after_no_paste b t rest p
   operand_pastes (parameter {t = t} {i = i} e) b rest = after_no_paste b t rest (parameter_no_paste kind t i e)
   operand_pastes (stringized {hash = hash} {t = t} {i = i} h e) b rest =
       after_no_paste b hash (t ∷ rest) (hash_no_paste kind hash h) ∙ after_no_paste false t rest (parameter_no_paste kind t i e)
 
-  operand_filled : {flag : Bool} {ts : List Token} {o : Operand} → IsOperand kind flag ts o → (rest : List Token) → is_empty (ts ++ rest) ≡ false
+  operand_filled : {space : Bool} {ts : List Token} {o : Operand} → IsOperand kind space ts o → (rest : List Token) → is_empty (ts ++ rest) ≡ false
   operand_filled (token p h e) rest = refl
   operand_filled (parameter e) rest = refl
   operand_filled (stringized h e) rest = refl
 
-  joined_filled : {flag : Bool} {ts : List Token} {os : List Operand} → AreJoined kind flag ts os → (rest : List Token) → is_empty (ts ++ rest) ≡ false
+  joined_filled : {space : Bool} {ts : List Token} {os : List Operand} → AreJoined kind space ts os → (rest : List Token) → is_empty (ts ++ rest) ≡ false
   joined_filled (last o) rest = operand_filled o rest
   joined_filled (pasted ts p more other o e j) rest = ap is_empty (append_assoc ts (p ∷ more) rest) ∙ operand_filled o (p ∷ (more ++ rest))
 
-  joined_pastes : {flag : Bool} {ts : List Token} {os : List Operand} → AreJoined kind flag ts os → (b : Bool) (rest : List Token) → misplaces_paste b (ts ++ rest) ≡ misplaces_paste false rest
+  joined_pastes : {space : Bool} {ts : List Token} {os : List Operand} → AreJoined kind space ts os → (b : Bool) (rest : List Token) → misplaces_paste b (ts ++ rest) ≡ misplaces_paste false rest
   joined_pastes (last o) b rest = operand_pastes o b rest
   joined_pastes (pasted ts p more other o e j) b rest =
       ap (misplaces_paste b) (append_assoc ts (p ∷ more) rest)
@@ -80,7 +80,7 @@ module _ (kind : MacroKind) where
       subst (λ b. (is_function_like kind && ((is_hash hash && not b) || misplaces_hash kind (t ∷ rest))) ≡ false) (sym e)
       (before_parameter (is_function_like kind) (is_hash hash) (misplaces_hash kind (t ∷ rest)) h)
 
-  operand_hashes : {flag : Bool} {ts : List Token} {o : Operand} → IsOperand kind flag ts o → (rest : List Token) → HashesStand rest → HashesStand (ts ++ rest)
+  operand_hashes : {space : Bool} {ts : List Token} {o : Operand} → IsOperand kind space ts o → (rest : List Token) → HashesStand rest → HashesStand (ts ++ rest)
   operand_hashes (token {t = t} p h e) rest s = free_before t rest h s
   operand_hashes (parameter {t = t} {i = i} e) rest s = free_before t rest (parameter_no_hash kind t i e) s
   operand_hashes (stringized {hash = hash} {t = t} {i = i} h e) rest s = hash_before hash t rest (ap is_some e) (free_before t rest (parameter_no_hash kind t i e) s)
@@ -92,7 +92,7 @@ module _ (kind : MacroKind) where
       by_shape true h e = e
       by_shape false h e = refl
 
-  joined_hashes : {flag : Bool} {ts : List Token} {os : List Operand} → AreJoined kind flag ts os → (rest : List Token) → HashesStand rest → HashesStand (ts ++ rest)
+  joined_hashes : {space : Bool} {ts : List Token} {os : List Operand} → AreJoined kind space ts os → (rest : List Token) → HashesStand rest → HashesStand (ts ++ rest)
   joined_hashes (last o) rest s = operand_hashes o rest s
   joined_hashes (pasted ts p more other o e j) rest s =
       subst HashesStand (sym (append_assoc ts (p ∷ more) rest)) (operand_hashes o (p ∷ (more ++ rest)) (free_before p (more ++ rest) (paste_free p e) (joined_hashes j rest s)))

@@ -9,10 +9,10 @@ use Rattle.pptext.specs.declared.tokens.Fault.{Fault}
 use Rattle.ppmacro.specs.HideSetPool.{HideSetPool}
 use Rattle.ppmacro.specs.Hiding.{Hiding}
 use Rattle.ppmacro.specs.HideSets.{set_at, IsKnown, hiding, hidings, HasSets, AllKnown, KeepsSets}
-use Rattle.ppmacro.specs.Substitution.{Arguments, Replacement, after_ok, argument_at, expanded_at, chain_tokens, flag_first, chains_tokens, hsadd}
+use Rattle.ppmacro.specs.Substitution.{Arguments, Replacement, after_ok, argument_at, expanded_at, chain_tokens, space_first, chains_tokens, hsadd}
 use Rattle.ppmacro.specs.Substituting.{lists_of, options_of, ArgumentsKnown, arguments_in, pushed, IsSubset}
 use Rattle.ppmacro.specs.declared.hidden_token.Hidden.{Hidden}
-use Rattle.ppmacro.specs.declared.hidden_token.Expansion.{Expansion}
+use Rattle.ppmacro.specs.declared.hidden_token.ArgumentExpansion.{ArgumentExpansion}
 use Rattle.ppmacro.specs.declared.macros.Chain.{Chain}
 use Rattle.ppmacro.proofs.KeepLemmas.{set-keeps, hiding-keeps, hidings-keeps, known-keeps}
 
@@ -49,16 +49,16 @@ expanded-keeps : {s t : HideSetPool} (expanded : List (Option (List Hidden)))
 expanded-keeps [] k known = refl
 expanded-keeps (o ∷ os) k known = λ i. option-keeps o os k (known 0) i ∷ expanded-keeps os k (λ n. known (suc n)) i
 
-pub arguments-keeps : {s t : HideSetPool} (given : List (Vec Hidden Global)) (expanded : List Expansion) → KeepsSets s t → ArgumentsKnown s given expanded → arguments_in t given expanded ≡ arguments_in s given expanded
+pub arguments-keeps : {s t : HideSetPool} (given : List (Vec Hidden Global)) (expanded : List ArgumentExpansion) → KeepsSets s t → ArgumentsKnown s given expanded → arguments_in t given expanded ≡ arguments_in s given expanded
 arguments-keeps given expanded k known = λ i. record { given = given-keeps given k known.given_known i; expanded = expanded-keeps (options_of given expanded) k known.expanded_known i }
 
-pub arguments-known : {s t : HideSetPool} (given : List (Vec Hidden Global)) (expanded : List Expansion) → KeepsSets s t → ArgumentsKnown s given expanded → ArgumentsKnown t given expanded
+pub arguments-known : {s t : HideSetPool} (given : List (Vec Hidden Global)) (expanded : List ArgumentExpansion) → KeepsSets s t → ArgumentsKnown s given expanded → ArgumentsKnown t given expanded
 arguments-known given expanded k known = record { given_known = λ i. known-keeps _ k (known.given_known i); expanded_known = λ i. known-keeps _ k (known.expanded_known i) }
 
 -- ---- chains
 
 abbrev goes_on : Arguments → Place → Bool → List Chain → List Hiding → Result Replacement Fault
-goes_on args used flag cs ts = after_ok (chains_tokens args used (flag_first flag ts).pending false cs) (λ rest. Ok (record { tokens = (flag_first flag ts).tokens ++ rest.tokens; pending = rest.pending }))
+goes_on args used space cs ts = after_ok (chains_tokens args used (space_first space ts).pending false cs) (λ rest. Ok (record { tokens = (space_first space ts).tokens ++ rest.tokens; pending = rest.pending }))
 
 -- Tokens before the replacement by the other chains.
 abbrev pub marked_behind : List Hiding → Result Replacement Fault → Result Replacement Fault
@@ -71,26 +71,26 @@ following-following xs ys (Err f) = refl
 
 chains-more : (args : Arguments) (used : Place) (pending first : Bool) (c : Chain) (cs : List Chain) (front ts : List Hiding)
     → Ok ts ≡ chain_tokens args used c
-    → marked_behind (front ++ (flag_first (pending || (not first && c.flag)) ts).tokens)
-    (chains_tokens args used (flag_first (pending || (not first && c.flag)) ts).pending false cs)
+    → marked_behind (front ++ (space_first (pending || (not first && c.space)) ts).tokens)
+    (chains_tokens args used (space_first (pending || (not first && c.space)) ts).pending false cs)
     ≡ marked_behind front (chains_tokens args used pending first (c ∷ cs))
 chains-more args used pending first c cs front ts h =
-    sym (following-following front (flag_first (pending || (not first && c.flag)) ts).tokens (chains_tokens args used (flag_first (pending || (not first && c.flag)) ts).pending false cs))
-    ∙ ap (λ r. marked_behind front (after_ok r (goes_on args used (pending || (not first && c.flag)) cs))) h
+    sym (following-following front (space_first (pending || (not first && c.space)) ts).tokens (chains_tokens args used (space_first (pending || (not first && c.space)) ts).pending false cs))
+    ∙ ap (λ r. marked_behind front (after_ok r (goes_on args used (pending || (not first && c.space)) cs))) h
 
 chains-refused : (args : Arguments) (used : Place) (pending first : Bool) (c : Chain) (cs : List Chain) (front : List Hiding) (f : Fault)
     → Err f ≡ chain_tokens args used c
     → Err f ≡ marked_behind front (chains_tokens args used pending first (c ∷ cs))
-chains-refused args used pending first c cs front f h = ap (λ r. marked_behind front (after_ok r (goes_on args used (pending || (not first && c.flag)) cs))) h
+chains-refused args used pending first c cs front f h = ap (λ r. marked_behind front (after_ok r (goes_on args used (pending || (not first && c.space)) cs))) h
 
 -- One chain is appended, and the others after it.
 pub chains-pushed : (args : Arguments) (used : Place) (pending first : Bool) (c : Chain) (cs : List Chain) (front new : List Hiding) (left : Bool)
     (r : Result (List Hiding) Fault)
     → r ≡ chain_tokens args used c
-    → Ok (record { tokens = new; pending = left }) ≡ pushed front (pending || (not first && c.flag)) r
+    → Ok (record { tokens = new; pending = left }) ≡ pushed front (pending || (not first && c.space)) r
     → marked_behind new (chains_tokens args used left false cs) ≡ marked_behind front (chains_tokens args used pending first (c ∷ cs))
 chains-pushed args used pending first c cs front new left (Ok ts) h e =
-    let here : Replacement = flag_first (pending || (not first && c.flag)) ts in
+    let here : Replacement = space_first (pending || (not first && c.space)) ts in
     let same : record { tokens = new; pending = left } ≡ record { tokens = front ++ here.tokens; pending = here.pending } = cc in
     ap (λ (m : Replacement). marked_behind m.tokens (chains_tokens args used m.pending false cs)) same ∙ chains-more args used pending first c cs front ts h
 chains-pushed args used pending first c cs front new left (Err f) h e = absurd (cc)
@@ -98,7 +98,7 @@ chains-pushed args used pending first c cs front new left (Err f) h e = absurd (
 pub chains-refused-pushed : (args : Arguments) (used : Place) (pending first : Bool) (c : Chain) (cs : List Chain) (front : List Hiding) (f : Fault)
     (r : Result (List Hiding) Fault)
     → r ≡ chain_tokens args used c
-    → Err f ≡ pushed front (pending || (not first && c.flag)) r
+    → Err f ≡ pushed front (pending || (not first && c.space)) r
     → Err f ≡ marked_behind front (chains_tokens args used pending first (c ∷ cs))
 chains-refused-pushed args used pending first c cs front f (Ok ts) h e = absurd (cc)
 chains-refused-pushed args used pending first c cs front f (Err g) h e =

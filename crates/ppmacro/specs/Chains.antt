@@ -12,11 +12,11 @@ use Rattle.ppmacro.specs.declared.macros.MacroKind.TheVariants.{FunctionLike}
 use Rattle.ppmacro.specs.declared.macros.Macro.{Macro}
 use Rattle.ppmacro.specs.declared.macros.Chain.{Chain}
 use Rattle.ppmacro.specs.declared.macros.Operand.{Operand}
-use Rattle.ppmacro.specs.declared.macros.Operand.TheVariants.{Tok, Param, Str, Rest}
+use Rattle.ppmacro.specs.declared.macros.Operand.TheVariants.{Tok, Param, Str, VariadicAfterComma}
 
 -- A `#` operator: its leading-space flag and its location.
 pub record HashSign : Type 0 where
-  pub flag : Bool
+  pub space : Bool
   pub at : Place
 
 -- A part of a replacement list: an operand with the leading-space flag of its first token, or `##`.
@@ -51,11 +51,11 @@ plain_part None t = Operates t.space (Tok t)
 
 -- The part that a token after `#` gives.
 abbrev pub stringized_part : Option ℕ → HashSign → Token → ChainPart
-stringized_part (Some i) hash t = Operates hash.flag (Str i hash.at)
+stringized_part (Some i) hash t = Operates hash.space (Str i hash.at)
 stringized_part None hash t = plain_part None t
 
 abbrev pub hash_sign : Token → HashSign
-hash_sign t = record { flag = t.space; at = t.at }
+hash_sign t = record { space = t.space; at = t.at }
 
 -- The parts from a token on. The token is `##` (`paste`), or the operator `#` (`hash`), or an operand. `following` are the parts
 -- after it, if it isn't `#`; `after_hash` are those if it is.
@@ -79,13 +79,13 @@ begins_joined _ = false
 
 -- Joins an operand to the first of these chains.
 abbrev pub join_first : Bool → Operand → List Chain → List Chain
-join_first flag o [] = record { flag = flag; operands = o ∷ [] } ∷ []
-join_first flag o (c ∷ cs) = record { flag = flag; operands = o ∷ c.operands } ∷ cs
+join_first space o [] = record { space = space; operands = o ∷ [] } ∷ []
+join_first space o (c ∷ cs) = record { space = space; operands = o ∷ c.operands } ∷ cs
 
 abbrev pub group_parts : List ChainPart → List Chain
 group_parts [] = []
 group_parts (Joins ∷ is) = group_parts is
-group_parts (Operates flag o ∷ is) = elim (begins_joined is) [ true ↦ join_first flag o (group_parts is) | false ↦ record { flag = flag; operands = o ∷ [] } ∷ group_parts is ]
+group_parts (Operates space o ∷ is) = elim (begins_joined is) [ true ↦ join_first space o (group_parts is) | false ↦ record { space = space; operands = o ∷ [] } ∷ group_parts is ]
 
 -- ---- a comma before a variable argument that may be absent (gcc's manual, "Variadic Macros")
 
@@ -99,19 +99,19 @@ is_comma (Tok t) = is_punct (codes ",") t
 is_comma _ = false
 
 -- The last operand of a chain, after another operand. It is a rest if it is parameter i and the operand before is the token `,`.
-abbrev pub rest_after : ℕ → Operand → Operand → Operand
-rest_after i o (Param j) = if is_comma o && i == j then Rest i else Param j
-rest_after i o p = p
+abbrev pub variadic_after : ℕ → Operand → Operand → Operand
+variadic_after i o (Param j) = if is_comma o && i == j then VariadicAfterComma i else Param j
+variadic_after i o p = p
 
--- The operands of a chain. The last becomes a rest where `rest_after` says so.
-abbrev pub ending_in_rest : ℕ → List Operand → List Operand
-ending_in_rest i (o ∷ (p ∷ [])) = o ∷ (rest_after i o p ∷ [])
-ending_in_rest i (o ∷ (p ∷ (q ∷ os))) = o ∷ ending_in_rest i (p ∷ (q ∷ os))
-ending_in_rest i os = os
+-- The operands of a chain. The last becomes a rest where `variadic_after` says so.
+abbrev pub ending_in_variadic : ℕ → List Operand → List Operand
+ending_in_variadic i (o ∷ (p ∷ [])) = o ∷ (variadic_after i o p ∷ [])
+ending_in_variadic i (o ∷ (p ∷ (q ∷ os))) = o ∷ ending_in_variadic i (p ∷ (q ∷ os))
+ending_in_variadic i os = os
 
-abbrev pub with_rest : Option ℕ → Chain → Chain
-with_rest None c = c
-with_rest (Some i) c = record { flag = c.flag; operands = ending_in_rest i c.operands }
+abbrev pub with_variadic : Option ℕ → Chain → Chain
+with_variadic None c = c
+with_variadic (Some i) c = record { space = c.space; operands = ending_in_variadic i c.operands }
 
 abbrev pub chains_of : Macro → List Chain
-chains_of d = map (with_rest (lenient_parameter d.kind)) (group_parts (parts_after d.kind None d.body))
+chains_of d = map (with_variadic (lenient_parameter d.kind)) (group_parts (parts_after d.kind None d.body))

@@ -8,7 +8,7 @@ use Rattle.pptext.specs.Tokens.{is_identifier, is_punct}
 use Rattle.ppmacro.specs.Names.{Name}
 use Rattle.ppmacro.specs.HashOperators.{is_paste}
 use Rattle.ppmacro.specs.ParsedParameters.{ParsedParameters}
-use Rattle.ppmacro.specs.Chains.{parameter_of, is_function_like, is_operator_hash, lenient_parameter, with_rest}
+use Rattle.ppmacro.specs.Chains.{parameter_of, is_function_like, is_operator_hash, lenient_parameter, with_variadic}
 use Rattle.ppmacro.specs.Define.{misplaces_paste, misplaces_hash}
 use Rattle.ppmacro.specs.declared.defining.parameter_lists.Ending.{Ending}
 use Rattle.ppmacro.specs.declared.defining.parameter_lists.Ending.TheVariants.{NoEllipsis, Ellipsis, NamedEllipsis}
@@ -16,7 +16,7 @@ use Rattle.ppmacro.specs.declared.macros.MacroKind.{MacroKind}
 use Rattle.ppmacro.specs.declared.macros.Macro.{Macro}
 use Rattle.ppmacro.specs.declared.macros.Chain.{Chain}
 use Rattle.ppmacro.specs.declared.macros.Operand.{Operand}
-use Rattle.ppmacro.specs.declared.macros.Operand.TheVariants.{Tok, Param, Str, Rest}
+use Rattle.ppmacro.specs.declared.macros.Operand.TheVariants.{Tok, Param, Str, VariadicAfterComma}
 
 -- ---- the parameter list (6.10p1, 6.10.3p10)
 
@@ -79,22 +79,22 @@ pub data IsOperand (kind : MacroKind) : Bool → List Token → Operand → Type
 
 -- Tokens that are operands with `##` between them, with the leading-space flag of the first.
 pub data AreJoined (kind : MacroKind) : Bool → List Token → List Operand → Type 0 where
-  last : {flag : Bool} {ts : List Token} {o : Operand}
-      → IsOperand kind flag ts o
-      → AreJoined kind flag ts (o ∷ [])
-  pasted : {flag : Bool} {o : Operand} {os : List Operand} (ts : List Token) (paste : Token) (rest : List Token) (other : Bool)
-      → IsOperand kind flag ts o
+  last : {space : Bool} {ts : List Token} {o : Operand}
+      → IsOperand kind space ts o
+      → AreJoined kind space ts (o ∷ [])
+  pasted : {space : Bool} {o : Operand} {os : List Operand} (ts : List Token) (paste : Token) (rest : List Token) (other : Bool)
+      → IsOperand kind space ts o
       → is_paste paste ≡ true
       → AreJoined kind other rest os
-      → AreJoined kind flag (ts ++ paste ∷ rest) (o ∷ os)
+      → AreJoined kind space (ts ++ paste ∷ rest) (o ∷ os)
 
 -- Tokens that are chains, laid end to end. The last operand of a chain may be a rest.
 pub data AreChains (kind : MacroKind) : List Token → List Chain → Type 0 where
   none : AreChains kind [] []
-  chain : {flag : Bool} {os : List Operand} {cs : List Chain} (ts rest : List Token)
-      → AreJoined kind flag ts os
+  chain : {space : Bool} {os : List Operand} {cs : List Chain} (ts rest : List Token)
+      → AreJoined kind space ts os
       → AreChains kind rest cs
-      → AreChains kind (ts ++ rest) (with_rest (lenient_parameter kind) (record { flag = flag; operands = os }) ∷ cs)
+      → AreChains kind (ts ++ rest) (with_variadic (lenient_parameter kind) (record { space = space; operands = os }) ∷ cs)
 
 -- `##` and `#` are in valid positions (6.10.3.2p1, 6.10.3.3p1, p3).
 abbrev pub places_operators : Macro → Bool
@@ -102,9 +102,9 @@ places_operators d = not (misplaces_paste true d.body) && not (is_function_like 
 
 -- ---- variable arguments that may be absent (gcc's manual, "Variadic Macros")
 
-abbrev pub is_rest : Operand → Bool
-is_rest (Rest i) = true
-is_rest _ = false
+abbrev pub is_variadic : Operand → Bool
+is_variadic (VariadicAfterComma i) = true
+is_variadic _ = false
 
-abbrev pub holds_rest : Chain → Bool
-holds_rest c = list_any is_rest c.operands
+abbrev pub holds_variadic : Chain → Bool
+holds_variadic c = list_any is_variadic c.operands

@@ -11,7 +11,7 @@ use Rattle.ppmacro.specs.Lexing.{kind_of}
 use Rattle.ppmacro.specs.Substitution.{Arguments, argument_at, expanded_at, is_joined, string_text, string_token, chain_tokens}
 use Rattle.ppmacro.specs.declared.macros.Chain.{Chain}
 use Rattle.ppmacro.specs.declared.macros.Operand.{Operand}
-use Rattle.ppmacro.specs.declared.macros.Operand.TheVariants.{Tok, Param, Str, Rest}
+use Rattle.ppmacro.specs.declared.macros.Operand.TheVariants.{Tok, Param, Str, VariadicAfterComma}
 
 -- A token of a chain with these operands, before names are added. It is a token of the replacement list or a literal made by `#`,
 -- which have empty hide sets; or a token of an argument, with its hide set there; or a paste, with the intersection of both hide
@@ -31,8 +31,8 @@ pub data ComesFrom (args : Arguments) (used : Place) (operands : List Operand) :
       → Contains operands (Param i)
       → Contains (argument_at args.given i) t
       → ComesFrom args used operands t
-  rest : {i : ℕ} {t : Hiding}
-      → Contains operands (Rest i)
+  variadic : {i : ℕ} {t : Hiding}
+      → Contains operands (VariadicAfterComma i)
       → Contains (argument_at args.given i) t
       → ComesFrom args used operands t
   literal : {i : ℕ} {at : Place}
@@ -49,28 +49,28 @@ pub data ComesFrom (args : Arguments) (used : Place) (operands : List Operand) :
       })
 
 -- The flag of a chain after these. That of the first chain of the replacement list doesn't count.
-abbrev pub own_flag : List Chain → Chain → Bool
-own_flag [] c = false
-own_flag (b ∷ bs) c = c.flag
+abbrev pub own_space : List Chain → Chain → Bool
+own_space [] c = false
+own_space (b ∷ bs) c = c.space
 
 -- The number of tokens of these chains, and whether a leading-space flag is pending after them. At the front the flag of the
 -- macro name is pending. A chain without tokens leaves the pending flag, or its own, to the next.
 pub data LeavesPending (args : Arguments) (used : Place) (space : Bool) : List Chain → ℕ → Bool → Type 0 where
-  at_front : LeavesPending args used space [] 0 space
-  behind_tokens : (before : List Chain) (c : Chain) {count : ℕ} {waiting : Bool} {t : Hiding} {ts : List Hiding}
-      → LeavesPending args used space before count waiting
+  at_start : LeavesPending args used space [] 0 space
+  after_tokens : (before : List Chain) (c : Chain) {count : ℕ} {pending : Bool} {t : Hiding} {ts : List Hiding}
+      → LeavesPending args used space before count pending
       → chain_tokens args used c ≡ Ok (t ∷ ts)
       → LeavesPending args used space (before ++ c ∷ []) (count + length (t ∷ ts)) false
-  behind_none : (before : List Chain) (c : Chain) {count : ℕ} {waiting : Bool}
-      → LeavesPending args used space before count waiting
+  after_none : (before : List Chain) (c : Chain) {count : ℕ} {pending : Bool}
+      → LeavesPending args used space before count pending
       → chain_tokens args used c ≡ Ok []
-      → LeavesPending args used space (before ++ c ∷ []) count (waiting || own_flag before c)
+      → LeavesPending args used space (before ++ c ∷ []) count (pending || own_space before c)
 
 -- The leading-space flag of a token after these of its own chain. The first token has the flag `leading` of the chain; another
 -- has its own.
-abbrev pub flag_after : Bool → List Hiding → Hiding → Bool
-flag_after leading [] t = leading
-flag_after leading (f ∷ fs) t = t.token.space
+abbrev pub space_after : Bool → List Hiding → Hiding → Bool
+space_after leading [] t = leading
+space_after leading (f ∷ fs) t = t.token.space
 
 -- The token with this index in the replacement. It is a token of one of the chains, after those of the chains before it and those
 -- before it in its own. Its expansion location is that of the macro name, and its hide set has the names that the invocation
@@ -80,13 +80,13 @@ pub record IsReplacementToken (chains : List Chain) (args : Arguments) (added : 
   pub chain : Chain
   pub following : List Chain
   pub laid_out : chains ≡ before ++ chain ∷ following
-  pub front : List Hiding
+  pub prefix : List Hiding
   pub own : Hiding
   pub more : List Hiding
-  pub gives : chain_tokens args used chain ≡ Ok (front ++ own ∷ more)
+  pub gives : chain_tokens args used chain ≡ Ok (prefix ++ own ∷ more)
   pub count : ℕ
-  pub waiting : Bool
-  pub waits : LeavesPending args used space before count waiting
-  pub stands : index ≡ count + length front
-  pub token : t.token ≡ record own.token { used = used; space = flag_after (waiting || own_flag before chain) front own }
+  pub pending : Bool
+  pub is_pending : LeavesPending args used space before count pending
+  pub located : index ≡ count + length prefix
+  pub token : t.token ≡ record own.token { used = used; space = space_after (pending || own_space before chain) prefix own }
   pub hide : t.hide ≡ set.union own.hide added

@@ -19,4 +19,4 @@ lone_tokens d = if is_object_like d.kind && not (list_any is_paste d.body) then 
 
 -- A token as a chain of its own.
 abbrev pub lone_chain : Token → Chain
-lone_chain t = record { flag = t.space; operands = Tok t ∷ [] }
+lone_chain t = record { space = t.space; operands = Tok t ∷ [] }

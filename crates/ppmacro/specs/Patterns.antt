@@ -24,8 +24,8 @@ entry_of kind t = entry_at (parameter_of kind t) t
 
 -- An entry as a chain.
 abbrev pub entry_chain : Entry → Chain
-entry_chain (Tok t) = record { flag = t.space; operands = operand.Tok t ∷ [] }
-entry_chain (Param flag i) = record { flag = flag; operands = operand.Param i ∷ [] }
+entry_chain (Tok t) = record { space = t.space; operands = operand.Tok t ∷ [] }
+entry_chain (Param space i) = record { space = space; operands = operand.Param i ∷ [] }
 
 -- The chains of a replacement list.
 abbrev pub listed : Pattern → List Chain

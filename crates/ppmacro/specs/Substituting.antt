@@ -10,10 +10,10 @@ use Rattle.ppmacro.specs.HideSetPool.{HideSetPool}
 use Rattle.ppmacro.specs.Hiding.{Hiding}
 use Rattle.ppmacro.specs.HideSets.{set_at, hiding, hidings, AllKnown}
 use Rattle.ppmacro.specs.Lexing.{kind_of}
-use Rattle.ppmacro.specs.Substitution.{Arguments, Replacement, argument_at, expanded_at, flag_first}
+use Rattle.ppmacro.specs.Substitution.{Arguments, Replacement, argument_at, expanded_at, space_first}
 use Rattle.ppmacro.specs.declared.hidden_token.Hidden.{Hidden}
-use Rattle.ppmacro.specs.declared.hidden_token.Expansion.{Expansion}
-use Rattle.ppmacro.specs.declared.hidden_token.Expansion.TheVariants.{Unused, AsGiven, Made}
+use Rattle.ppmacro.specs.declared.hidden_token.ArgumentExpansion.{ArgumentExpansion}
+use Rattle.ppmacro.specs.declared.hidden_token.ArgumentExpansion.TheVariants.{Unused, AsGiven, Made}
 
 abbrev pub tokens_of : List Hidden → List Token
 tokens_of hs = map (λ h. h.token) hs
@@ -34,13 +34,13 @@ abbrev pub lists_of : List (Vec Hidden Global) → List (List Hidden)
 lists_of vs = map (λ v. v.items) vs
 
 -- The expansion of an argument, if it is computed.
-abbrev pub option_of : List Hidden → Expansion → Option (List Hidden)
+abbrev pub option_of : List Hidden → ArgumentExpansion → Option (List Hidden)
 option_of given Unused = None
 option_of given AsGiven = Some given
 option_of given (Made v) = Some v.items
 
 -- The expansion of each argument.
-abbrev pub options_of : List (Vec Hidden Global) → List Expansion → List (Option (List Hidden))
+abbrev pub options_of : List (Vec Hidden Global) → List ArgumentExpansion → List (Option (List Hidden))
 options_of given [] = []
 options_of [] (e ∷ es) = option_of [] e ∷ options_of [] es
 options_of (v ∷ vs) (e ∷ es) = option_of v.items e ∷ options_of vs es
@@ -50,11 +50,11 @@ pub record ListsKnown (sets : HideSetPool) (vs : List (Vec Hidden Global)) : Typ
   pub each : AllByRecursion (λ v. AllKnown sets v.items) vs
 
 -- The numbers of the hide sets in all arguments are known.
-pub record ArgumentsKnown (sets : HideSetPool) (given : List (Vec Hidden Global)) (expanded : List Expansion) : Type 0 where
+pub record ArgumentsKnown (sets : HideSetPool) (given : List (Vec Hidden Global)) (expanded : List ArgumentExpansion) : Type 0 where
   pub given_known : (i : ℕ) → AllKnown sets (argument_at (lists_of given) i)
   pub expanded_known : (i : ℕ) → AllKnown sets (expanded_at (options_of given expanded) i)
 
-abbrev pub arguments_in : HideSetPool → List (Vec Hidden Global) → List Expansion → Arguments
+abbrev pub arguments_in : HideSetPool → List (Vec Hidden Global) → List ArgumentExpansion → Arguments
 arguments_in sets given expanded = record { given = map (hidings sets) (lists_of given); expanded = map (λ o. option_map (hidings sets) o) (options_of given expanded) }
 
 abbrev pub replacement_in : HideSetPool → Result (Vec Hidden Global × Bool) Fault → Result Replacement Fault
@@ -63,8 +63,8 @@ replacement_in sets (Err f) = Err f
 
 -- A list followed by the tokens of a chain, the first with this leading-space flag.
 abbrev pub pushed : List Hiding → Bool → Result (List Hiding) Fault → Result Replacement Fault
-pushed front flag (Ok ts) = Ok (record { tokens = front ++ (flag_first flag ts).tokens; pending = (flag_first flag ts).pending })
-pushed front flag (Err f) = Err f
+pushed front space (Ok ts) = Ok (record { tokens = front ++ (space_first space ts).tokens; pending = (space_first space ts).pending })
+pushed front space (Err f) = Err f
 
 -- The tokens that a call leaves, with the pending flag that it returns.
 abbrev pub left_with : HideSetPool → List Hidden → Bool → Replacement

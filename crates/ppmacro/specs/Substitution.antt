@@ -14,7 +14,7 @@ use Rattle.ppmacro.specs.Lexing.{kind_of}
 use Rattle.ppmacro.specs.declared.macros.Macro.{Macro}
 use Rattle.ppmacro.specs.declared.macros.Chain.{Chain}
 use Rattle.ppmacro.specs.declared.macros.Operand.{Operand}
-use Rattle.ppmacro.specs.declared.macros.Operand.TheVariants.{Tok, Param, Str, Rest}
+use Rattle.ppmacro.specs.declared.macros.Operand.TheVariants.{Tok, Param, Str, VariadicAfterComma}
 
 -- ---- `#` (6.10.3.2)
 
@@ -105,7 +105,7 @@ abbrev pub operand_tokens : Bool → Arguments → Place → Operand → Result 
 operand_tokens next_to_paste args used (Tok t) = Ok (plain t ∷ [])
 operand_tokens true args used (Param i) = Ok (argument_at args.given i)
 operand_tokens false args used (Param i) = Ok (expanded_at args.expanded i)
-operand_tokens next_to_paste args used (Rest i) = Ok (argument_at args.given i)
+operand_tokens next_to_paste args used (VariadicAfterComma i) = Ok (argument_at args.given i)
 operand_tokens next_to_paste args used (Str i at) = after_ok (stringized (map (λ t. t.token) (argument_at args.given i)) at used) (λ t. Ok (t ∷ []))
 
 abbrev pub operands_tokens : Bool → Arguments → Place → List Operand → Result (List (List Hiding)) Fault
@@ -116,36 +116,36 @@ abbrev pub is_joined : List Operand → Bool
 is_joined (o ∷ p ∷ os) = true
 is_joined _ = false
 
--- The operands that `##` joins: all but a variable argument after a comma at the end, which may be absent (`Rest`).
-abbrev pub before_rest : List Operand → List Operand
-before_rest [] = []
-before_rest (Rest i ∷ []) = []
-before_rest (o ∷ os) = o ∷ before_rest os
+-- The operands that `##` joins: all but a variable argument after a comma at the end, which may be absent (`VariadicAfterComma`).
+abbrev pub before_variadic : List Operand → List Operand
+before_variadic [] = []
+before_variadic (VariadicAfterComma i ∷ []) = []
+before_variadic (o ∷ os) = o ∷ before_variadic os
 
 -- The index of this argument, if there is one at the end.
-abbrev pub rest_of : List Operand → Option ℕ
-rest_of [] = None
-rest_of (Rest i ∷ []) = Some i
-rest_of (o ∷ os) = rest_of os
+abbrev pub variadic_of : List Operand → Option ℕ
+variadic_of [] = None
+variadic_of (VariadicAfterComma i ∷ []) = Some i
+variadic_of (o ∷ os) = variadic_of os
 
 -- All but the last.
 abbrev pub without_last : {X : Type 0} → List X → List X
 without_last ts = take (length ts - 1) ts
 
 -- Appends the argument without a paste. If it is absent, removes the last token, which is the comma.
-abbrev pub rest_after_comma : {X : Type 0} → Option (List X) → List X → List X
-rest_after_comma None ts = without_last ts
-rest_after_comma (Some argument) ts = ts ++ argument
+abbrev pub variadic_after_comma : {X : Type 0} → Option (List X) → List X → List X
+variadic_after_comma None ts = without_last ts
+variadic_after_comma (Some argument) ts = ts ++ argument
 
-abbrev pub with_rest_tokens : {X : Type 0} → List (List X) → Option ℕ → List X → List X
-with_rest_tokens given None ts = ts
-with_rest_tokens given (Some i) ts = rest_after_comma (slice_get given i) ts
+abbrev pub with_variadic_tokens : {X : Type 0} → List (List X) → Option ℕ → List X → List X
+with_variadic_tokens given None ts = ts
+with_variadic_tokens given (Some i) ts = variadic_after_comma (slice_get given i) ts
 
 -- The tokens of a chain: first each `#`, then each `##` from the left, and last the variable argument after a comma at its end.
 abbrev pub chain_tokens : Arguments → Place → Chain → Result (List Hiding) Fault
 chain_tokens args used c =
-    after_ok (operands_tokens (is_joined c.operands) args used (before_rest c.operands)) (λ lists.
-    after_ok (join_all [] lists used) (λ ts. Ok (with_rest_tokens args.given (rest_of c.operands) ts)))
+    after_ok (operands_tokens (is_joined c.operands) args used (before_variadic c.operands)) (λ lists.
+    after_ok (join_all [] lists used) (λ ts. Ok (with_variadic_tokens args.given (variadic_of c.operands) ts)))
 
 -- ---- the replacement
 
@@ -154,13 +154,13 @@ pub record Replacement : Type 0 where
   pub tokens : List Hiding
   pub pending : Bool
 
-abbrev pub with_flag : Bool → Hiding → Hiding
-with_flag flag t = record t { token = record t.token { space = flag } }
+abbrev pub with_space : Bool → Hiding → Hiding
+with_space space t = record t { token = record t.token { space = space } }
 
 -- Gives the pending flag to the first token.
-abbrev pub flag_first : Bool → List Hiding → Replacement
-flag_first flag [] = record { tokens = []; pending = flag }
-flag_first flag (t ∷ ts) = record { tokens = with_flag flag t ∷ ts; pending = false }
+abbrev pub space_first : Bool → List Hiding → Replacement
+space_first space [] = record { tokens = []; pending = space }
+space_first space (t ∷ ts) = record { tokens = with_space space t ∷ ts; pending = false }
 
 -- The tokens of chains. `first`: the next chain is the first of the replacement list. White space before it isn't part of the list
 -- (6.10.3), so its own flag doesn't count.
@@ -168,7 +168,7 @@ abbrev pub chains_tokens : Arguments → Place → Bool → Bool → List Chain 
 chains_tokens args used pending first [] = Ok (record { tokens = []; pending = pending })
 chains_tokens args used pending first (c ∷ cs) =
     after_ok (chain_tokens args used c) (λ ts.
-    let here : Replacement = flag_first (pending || (not first && c.flag)) ts in
+    let here : Replacement = space_first (pending || (not first && c.space)) ts in
     after_ok (chains_tokens args used here.pending false cs) (λ rest. Ok (record { tokens = here.tokens ++ rest.tokens; pending = rest.pending })))
 
 -- A token of the replacement, with more names in its hide set and the macro name's location as its expansion location (Prosser's

@@ -3,7 +3,7 @@ ghost use Rattle.std.specs.Prelude.{◌≡◌, IfOk, OnOk, None, List, [], ◌�
 ghost use Rattle.std.specs.Str.{bytes_eq};
 ghost use Rattle.std.specs.Option.{option_map};
 ghost use Rattle.ppmacro.specs.Chains as specification;
-ghost use Rattle.ppmacro.specs.Chains.{parameter_names, parameter_named, parameter_of, is_function_like, is_operator_hash, plain_part, stringized_part, parts_after, group_parts, lenient_parameter, with_rest, chains_of};
+ghost use Rattle.ppmacro.specs.Chains.{parameter_names, parameter_named, parameter_of, is_function_like, is_operator_hash, plain_part, stringized_part, parts_after, group_parts, lenient_parameter, with_variadic, chains_of};
 ghost use Rattle.ppmacro.specs.code.ChainParts.{led_by, resumed};
 ghost use Rattle.pptext.specs.declared.tokens.Token.{Token};
 
@@ -20,7 +20,7 @@ use std::marker::Model;
 /// The leading-space flag and the location of a `#` operator.
 #[derive(Clone, Copy)]
 pub(crate) struct HashSign {
-    flag: bool,
+    space: bool,
     at: Place,
 }
 
@@ -29,9 +29,9 @@ impl Model for HashSign {
 
     ghost Value = { HashSign };
 
-    ghost view = { λ h. record { flag = h.flag; at = h.at } };
+    ghost view = { λ h. record { space = h.space; at = h.at } };
 
-    ghost inverse = { λ h. record { flag = h.flag; at = h.at } };
+    ghost inverse = { λ h. record { space = h.space; at = h.at } };
 }
 
 /// A part of a replacement list: an operand with the leading-space flag of its first token, or `##`.
@@ -158,7 +158,7 @@ fn stringized_operand<'a>(
     let Some(index) = parameter_of(kind, token) else {
         return (token.space, Operand::Tok(BodyToken::new(token)));
     };
-    (hash.flag, Operand::Str(index, hash.at))
+    (hash.space, Operand::Str(index, hash.at))
 }
 
 /// Returns the next part. There is none at a `#`: it belongs to the token after it.
@@ -168,11 +168,11 @@ fn next_part<'a>(
     token: &'a Token,
 ) -> Option<ChainPart<'a>>
     ensures { (ts : List Token) → parts_after kind.now hash (token.now ∷ ts) ≡ led_by kind.now token.now
-        (option_map (elim [ ChainPart.Operates flag operand ↦ specification.Operates flag operand | ChainPart.Joins ↦ specification.Joins ]) result) ts }
+        (option_map (elim [ ChainPart.Operates space operand ↦ specification.Operates space operand | ChainPart.Joins ↦ specification.Joins ]) result) ts }
 {
     if let Some(sign) = hash {
-        let (flag, operand) = stringized_operand(kind, sign, token);
-        return Some(ChainPart::Operates(flag, operand));
+        let (space, operand) = stringized_operand(kind, sign, token);
+        return Some(ChainPart::Operates(space, operand));
     }
     if is_paste(token) {
         return Some(ChainPart::Joins);
@@ -180,20 +180,20 @@ fn next_part<'a>(
     if is_operator_hash(kind, token) {
         return None;
     }
-    let (flag, operand) = plain_operand(kind, token);
-    Some(ChainPart::Operates(flag, operand))
+    let (space, operand) = plain_operand(kind, token);
+    Some(ChainPart::Operates(space, operand))
 }
 
 /// Appends a chain of one operand.
 fn begin_chain<'a>(
     chains: &mut Vec<Chain<'a>>,
-    flag: bool,
+    space: bool,
     operand: Operand<'a>,
 ) -> Result<(), AllocError>
-    ensures { OnOk result (chains.new.items ≡ chains.old.items ++ record { flag = flag; operands = operand.entry ∷ [] } ∷ []) }
+    ensures { OnOk result (chains.new.items ≡ chains.old.items ++ record { space = space; operands = operand.entry ∷ [] } ∷ []) }
 {
     let operands = Operands::new(operand);
-    chains.push(Chain { flag, operands })?;
+    chains.push(Chain { space, operands })?;
     Ok(())
 }
 
@@ -201,17 +201,17 @@ fn begin_chain<'a>(
 fn put<'a>(
     chains: &mut Vec<Chain<'a>>,
     joined: bool,
-    flag: bool,
+    space: bool,
     operand: Operand<'a>,
 ) -> Result<(), AllocError>
     ensures { OnOk result ((is : List specification.ChainPart) →
-        resumed false chains.new.items is ≡ resumed joined chains.old.items (specification.Operates flag operand.entry ∷ is)) }
+        resumed false chains.new.items is ≡ resumed joined chains.old.items (specification.Operates space operand.entry ∷ is)) }
 {
     if !joined {
-        return begin_chain(chains, flag, operand);
+        return begin_chain(chains, space, operand);
     }
     let Some(last) = chains.len().checked_sub(1) else {
-        return begin_chain(chains, flag, operand);
+        return begin_chain(chains, space, operand);
     };
     let alloc = *chains.allocator();
     let chain = &mut chains[last];
@@ -226,16 +226,16 @@ fn put_part<'a>(
     item: ChainPart<'a>,
 ) -> Result<bool, AllocError>
     ensures { IfOk result (λ j. (is : List specification.ChainPart) → resumed j chains.new.items is ≡ resumed joined chains.old.items
-        ((elim item.entry [ ChainPart.Operates flag operand ↦ specification.Operates flag operand | ChainPart.Joins ↦ specification.Joins ]) ∷ is)) }
+        ((elim item.entry [ ChainPart.Operates space operand ↦ specification.Operates space operand | ChainPart.Joins ↦ specification.Joins ]) ∷ is)) }
 {
-    let ChainPart::Operates(flag, operand) = item else {
+    let ChainPart::Operates(space, operand) = item else {
         return Ok(true);
     };
-    put(chains, joined, flag, operand)?;
+    put(chains, joined, space, operand)?;
     Ok(false)
 }
 
-/// Returns the chains of a replacement list, before `end_in_rest`.
+/// Returns the chains of a replacement list, before `end_in_variadic`.
 fn chains_in<'a>(
     alloc: Global,
     kind: &Parameters,
@@ -249,7 +249,7 @@ fn chains_in<'a>(
     for token in body {
         let Some(item) = next_part(kind, hash, token) else {
             hash = Some(HashSign {
-                flag: token.space,
+                space: token.space,
                 at: token.at,
             });
             continue;
@@ -274,14 +274,14 @@ fn lenient_parameter(kind: &MacroKind) -> Option<usize>
 }
 
 /// Turns the last operand of a chain into a rest, if it is the parameter that may be absent and follows a comma.
-fn end_in_rest(kind: &MacroKind, chains: &mut [Chain])
-    ensures { chains.new ≡ map (with_rest (lenient_parameter kind.now)) chains.old }
+fn end_in_variadic(kind: &MacroKind, chains: &mut [Chain])
+    ensures { chains.new ≡ map (with_variadic (lenient_parameter kind.now)) chains.old }
 {
     let Some(index) = lenient_parameter(kind) else {
         return;
     };
     for chain in chains.iter_mut() {
-        chain.operands.end_in_rest(index);
+        chain.operands.end_in_variadic(index);
     }
 }
 
@@ -296,6 +296,6 @@ pub(crate) fn chains_of<'a>(
     let body = definition.body.as_slice();
     let kind = Parameters::new(alloc, &definition.kind, body.len(), hashing)?;
     let mut chains = chains_in(alloc, &kind, body)?;
-    end_in_rest(&definition.kind, chains.as_mut_slice());
+    end_in_variadic(&definition.kind, chains.as_mut_slice());
     Ok(Chains::new(chains))
 }

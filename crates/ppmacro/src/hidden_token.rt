@@ -107,12 +107,12 @@ impl<'a> StoredToken<'a> {
     }
 
     /// Sets the leading-space flag.
-    fn flag(&mut self, flag: bool)
-        ensures { self.new ≡ (self.old.0, flag, self.old.2) }
+    fn set_space(&mut self, leading: bool)
+        ensures { self.new ≡ (self.old.0, leading, self.old.2) }
     {
         match &mut self.storage {
-            TokenStorage::Source { space, .. } => *space = flag,
-            TokenStorage::Made { space, .. } => *space = flag,
+            TokenStorage::Source { space, .. } => *space = leading,
+            TokenStorage::Made { space, .. } => *space = leading,
         }
     }
 
@@ -141,7 +141,7 @@ pub struct Hidden<'a> {
 
 /// The expansion of an argument.
 #[derive(Drop)]
-pub enum Expansion<'a> {
+pub enum ArgumentExpansion<'a> {
     /// It isn't computed: the parameter is only used next to `#` and `##`.
     Unused,
     /// It is the argument itself.
@@ -281,10 +281,10 @@ impl<'a> Hidden<'a> {
     }
 
     /// Sets the leading-space flag.
-    pub fn flag(&mut self, space: bool)
+    pub fn set_space(&mut self, space: bool)
         ensures { self.new ≡ record self.old { token = record self.old.token { space = space } } }
     {
-        self.token.flag(space);
+        self.token.set_space(space);
     }
 
     /// Sets the expansion location and the hide set.

@@ -1,5 +1,5 @@
 //! The inputs of a substitution: the arguments and the macro name token of an invocation.
-use crate::hidden_token::{Expansion, Hidden};
+use crate::hidden_token::{ArgumentExpansion, Hidden};
 use crate::hide_sets::Set;
 use pptext::Place;
 
@@ -9,7 +9,7 @@ pub struct Arguments<'s, 'x> {
     /// The tokens of each argument, not expanded.
     pub given: &'s [Vec<Hidden<'x>>],
     /// The expansion of each argument that the replacement list uses away from `#` and `##`.
-    pub expanded: &'s [Expansion<'x>],
+    pub expanded: &'s [ArgumentExpansion<'x>],
 }
 
 /// The macro name token of an invocation. Each token of the replacement is hidden by `name` and by the names of `base`.

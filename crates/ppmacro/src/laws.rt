@@ -14,7 +14,7 @@ ghost use Rattle.ppmacro.specs.declared.macros.Macro.{Macro};
 ghost use Rattle.ppmacro.specs.declared.macros.Chain.{Chain};
 ghost use Rattle.ppmacro.specs.Substitution.{Arguments, Replacement, chain_tokens, chains_replacement};
 ghost use Rattle.ppmacro.specs.Origins.{ComesFrom, LeavesPending, IsReplacementToken};
-ghost use Rattle.ppmacro.specs.Laws.{IsParameterList, AreChains, places_operators, holds_rest};
+ghost use Rattle.ppmacro.specs.Laws.{IsParameterList, AreChains, places_operators, holds_variadic};
 
 /// Proves that a parameter list is read exactly if it has the syntax of 6.10.3: names with commas between them, then `...` or
 /// not, then `)`. In GNU C a name and `...` without a comma between them is permitted, too.
@@ -35,7 +35,7 @@ pub fn lays_out_chains()
 /// rest.
 pub fn lenient_in_gnu_alone()
     ensures strict { (profile : Profile) (macros : Macros) (at : Place) (line : List Token) (named : Named) → is_gnu profile ≡ false → check_define profile macros at line ≡ Ok named → lenient_parameter named.definition.kind ≡ None }
-    ensures pasted { (definition : Macro) → lenient_parameter definition.kind ≡ None → list_any holds_rest (chains_of definition) ≡ false }
+    ensures pasted { (definition : Macro) → lenient_parameter definition.kind ≡ None → list_any holds_variadic (chains_of definition) ≡ false }
 {}
 
 /// Proves the origin of each token of a replacement: the replacement list, an argument, a `#` or a `##` (6.10.3.1 to 6.10.3.4).
@@ -44,10 +44,10 @@ pub fn lenient_in_gnu_alone()
 pub fn tells_origins()
     ensures replaces { (chains : List Chain) (args : Arguments) (added : HideSet) (used : Place) (space : Bool) (whole : Replacement)
         → chains_replacement chains args added used space ≡ Ok whole
-        → (front : List Hiding) (token : Hiding) (following : List Hiding)
-        → whole.tokens ≡ front ++ token ∷ following
-        → IsReplacementToken chains args added used space (length front) token }
-    ensures waits { (chains : List Chain) (args : Arguments) (added : HideSet) (used : Place) (space : Bool) (whole : Replacement)
+        → (prefix : List Hiding) (token : Hiding) (following : List Hiding)
+        → whole.tokens ≡ prefix ++ token ∷ following
+        → IsReplacementToken chains args added used space (length prefix) token }
+    ensures is_pending { (chains : List Chain) (args : Arguments) (added : HideSet) (used : Place) (space : Bool) (whole : Replacement)
         → chains_replacement chains args added used space ≡ Ok whole
         → LeavesPending args used space chains (length whole.tokens) whole.pending }
     ensures comes { (args : Arguments) (used : Place) (chain : Chain) (tokens : List Hiding)

@@ -19,7 +19,7 @@ mod tables;
 mod token_hide_set;
 
 pub use defining::{define, undef};
-pub use hidden_token::{Expansion, Hidden};
+pub use hidden_token::{ArgumentExpansion, Hidden};
 pub use hide_sets::{HideSets, Set};
 pub use invocation::{Arguments, MacroName};
 pub use laws::{lays_out_chains, lenient_in_gnu_alone, reads_parameter_lists, tells_origins};

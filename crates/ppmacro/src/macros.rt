@@ -2,8 +2,8 @@
 ghost use Rattle.std.specs.Prelude.{◌≡◌, OnOk, IfOk, IfSome, ◌++◌, ◌∷◌, [], map, if◌then◌else◌};
 ghost use Rattle.std.specs.List.{list_any};
 ghost use Rattle.std.specs.Option.{option_copied};
-ghost use Rattle.ppmacro.specs.Chains.{is_comma, rest_after, ending_in_rest, chains_of};
-ghost use Rattle.ppmacro.specs.declared.macros.Operand.TheVariants.{Rest};
+ghost use Rattle.ppmacro.specs.Chains.{is_comma, variadic_after, ending_in_variadic, chains_of};
+ghost use Rattle.ppmacro.specs.declared.macros.Operand.TheVariants.{VariadicAfterComma};
 ghost use Rattle.ppmacro.specs.PasteFree.{is_object_like, lone_tokens, lone_chain};
 ghost use Rattle.ppmacro.specs.Patterns.{listed};
 ghost use Rattle.ppmacro.specs.HashOperators.{is_paste};
@@ -72,7 +72,7 @@ pub enum Operand<'a> {
     /// A stringized parameter, by its index, with the location of the `#`.
     Str(usize, Place),
     /// A variable argument that may be absent, after a comma at the end of a chain (gcc's manual, "Variadic Macros").
-    Rest(usize),
+    VariadicAfterComma(usize),
 }
 
 impl<'a> Default for Operand<'a> {
@@ -98,8 +98,8 @@ fn is_comma(operand: &Operand) -> bool
 }
 
 /// Returns whether the last operand is this parameter and follows a comma.
-fn is_rest(before: &Operand, last: &Operand, index: usize) -> bool
-    ensures { rest_after index before.now last.now ≡ (if result then Rest index else last.now) }
+fn is_variadic(before: &Operand, last: &Operand, index: usize) -> bool
+    ensures { variadic_after index before.now last.now ≡ (if result then VariadicAfterComma index else last.now) }
 {
     match last {
         Operand::Param(parameter) => *parameter == index && is_comma(before),
@@ -108,15 +108,15 @@ fn is_rest(before: &Operand, last: &Operand, index: usize) -> bool
 }
 
 /// Turns the last operand into a rest, if it is this parameter and follows a comma.
-fn end_in_rest(operands: &mut [Operand], index: usize)
-    ensures { operands.new ≡ ending_in_rest index operands.old }
+fn end_in_variadic(operands: &mut [Operand], index: usize)
+    ensures { operands.new ≡ ending_in_variadic index operands.old }
 {
     let count = operands.len();
     if count < 2 {
         return;
     }
-    if is_rest(&operands[count - 2], &operands[count - 1], index) {
-        operands[count - 1] = Operand::Rest(index);
+    if is_variadic(&operands[count - 2], &operands[count - 1], index) {
+        operands[count - 1] = Operand::VariadicAfterComma(index);
     }
 }
 
@@ -168,11 +168,11 @@ impl<'a> Operands<'a> {
     }
 
     /// Turns the last operand into a rest, if it is this parameter and follows a comma.
-    pub(crate) fn end_in_rest(&mut self, index: usize)
-        ensures { self.new ≡ ending_in_rest index self.old }
+    pub(crate) fn end_in_variadic(&mut self, index: usize)
+        ensures { self.new ≡ ending_in_variadic index self.old }
     {
         if let OperandStorage::Many(operands) = &mut self.storage {
-            end_in_rest(operands.as_mut_slice(), index);
+            end_in_variadic(operands.as_mut_slice(), index);
         }
     }
 
@@ -190,7 +190,7 @@ impl<'a> Operands<'a> {
 /// Operands that `##` joins, with the leading-space flag of the first token.
 #[derive(Drop)]
 pub struct Chain<'a> {
-    pub flag: bool,
+    pub space: bool,
     pub operands: Operands<'a>,
 }
 

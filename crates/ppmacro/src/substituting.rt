@@ -3,7 +3,7 @@ ghost use Rattle.std.specs.Prelude.{◌≡◌, ◌++◌, ◌∷◌, IfOk, OnOk, 
 ghost use Rattle.std.specs.FinSet as set;
 ghost use Rattle.ppmacro.specs.HideSetPool.{HideSetPool};
 ghost use Rattle.ppmacro.specs.HideSets.{set_at, IsKnown, hidings, AllKnown, KeepsSets};
-ghost use Rattle.ppmacro.specs.Substitution.{is_joined, before_rest, rest_of, with_rest_tokens, chain_tokens, flag_first, with_flag, plain, chains_tokens, chains_replacement};
+ghost use Rattle.ppmacro.specs.Substitution.{is_joined, before_variadic, variadic_of, with_variadic_tokens, chain_tokens, space_first, with_space, plain, chains_tokens, chains_replacement};
 ghost use Rattle.pptext.specs.Errors.{Returns};
 ghost use Rattle.ppmacro.specs.Substituting.{lists_of, ArgumentsKnown, arguments_in, replacement_in, pushed, left_with};
 
@@ -37,26 +37,26 @@ fn is_joined(operands: &[Operand]) -> bool
 }
 
 /// Splits the operands of a chain into those that `##` joins and the argument index of the rest.
-fn split_rest<'s, 'a>(operands: &'s [Operand<'a>]) -> (&'s [Operand<'a>], Option<usize>)
-    ensures front { result.0.now ≡ before_rest operands.now }
-    ensures rest { result.1 ≡ rest_of operands.now }
+fn split_variadic<'s, 'a>(operands: &'s [Operand<'a>]) -> (&'s [Operand<'a>], Option<usize>)
+    ensures front { result.0.now ≡ before_variadic operands.now }
+    ensures rest { result.1 ≡ variadic_of operands.now }
 {
     let Some((last, front)) = operands.split_last() else {
         return (operands, None);
     };
     match last {
-        Operand::Rest(index) => (front, Some(*index)),
+        Operand::VariadicAfterComma(index) => (front, Some(*index)),
         _ => (operands, None),
     }
 }
 
 /// Appends the rest to the tokens of a chain, or removes the comma if the argument is absent.
-fn append_rest<'a>(
+fn append_variadic<'a>(
     tokens: &mut Vec<Hidden<'a>>,
     given: &[Vec<Hidden<'a>>],
     rest: Option<usize>,
 ) -> Result<(), AllocError>
-    ensures { OnOk result (tokens.new.items ≡ with_rest_tokens (lists_of given.now) rest tokens.old.items) }
+    ensures { OnOk result (tokens.new.items ≡ with_variadic_tokens (lists_of given.now) rest tokens.old.items) }
 {
     let Some(index) = rest else {
         return Ok(());
@@ -85,37 +85,37 @@ fn chain_tokens<'x, 'a: 'x>(
 {
     let operands = chain.operands.as_slice();
     let next_to_paste = is_joined(operands);
-    let (front, rest) = split_rest(operands);
+    let (front, rest) = split_variadic(operands);
     let lists = operands_tokens(alloc, sets, next_to_paste, arguments, used, front)?;
     let mut tokens = join_all(alloc, sets, lists.as_slice(), used)?;
-    append_rest(&mut tokens, arguments.given, rest)?;
+    append_variadic(&mut tokens, arguments.given, rest)?;
     Ok(tokens)
 }
 
 /// Returns a copy of a token with this leading-space flag.
-fn copy_with_flag<'a>(token: &Hidden<'a>, flag: bool) -> Result<Hidden<'a>, AllocError>
-    ensures { IfOk result (λ h. h ≡ record token.now { token = record token.now.token { space = flag } }) }
+fn copy_with_space<'a>(token: &Hidden<'a>, space: bool) -> Result<Hidden<'a>, AllocError>
+    ensures { IfOk result (λ h. h ≡ record token.now { token = record token.now.token { space = space } }) }
 {
     let mut hidden = token.clone()?;
-    hidden.flag(flag);
+    hidden.set_space(space);
     Ok(hidden)
 }
 
 /// Appends the tokens of a chain. The first gets the pending leading-space flag. Returns the flag that is pending afterwards.
-fn push_chain<'a>(
+fn push_spaced<'a>(
     tokens: &mut Vec<Hidden<'a>>,
     pending: bool,
     more: &[Hidden<'a>],
 ) -> Result<bool, AllocError>
-    ensures tokens { IfOk result (λ p. (s : HideSetPool) → hidings s tokens.new.items ≡ hidings s tokens.old.items ++ (flag_first pending (hidings s more.now)).tokens) }
-    ensures pending { IfOk result (λ p. (s : HideSetPool) → p ≡ (flag_first pending (hidings s more.now)).pending) }
+    ensures tokens { IfOk result (λ p. (s : HideSetPool) → hidings s tokens.new.items ≡ hidings s tokens.old.items ++ (space_first pending (hidings s more.now)).tokens) }
+    ensures pending { IfOk result (λ p. (s : HideSetPool) → p ≡ (space_first pending (hidings s more.now)).pending) }
     ensures known { OnOk result ((s : HideSetPool) → AllKnown s tokens.old.items → AllKnown s more.now → AllKnown s tokens.new.items) }
 {
     let Some((first, others)) = more.split_first() else {
         return Ok(pending);
     };
     tokens.reserve(more.len())?;
-    push_one(tokens, copy_with_flag(first, pending)?)?;
+    push_one(tokens, copy_with_space(first, pending)?)?;
     push_all(tokens, others)?;
     Ok(false)
 }
@@ -124,31 +124,31 @@ fn push_chain<'a>(
 fn push_token<'a>(
     sets: &HideSets,
     tokens: &mut Vec<Hidden<'a>>,
-    flag: bool,
+    space: bool,
     token: &'a Token,
 ) -> Result<(), AllocError>
-    ensures tokens { OnOk result (hidings sets.now tokens.new.items ≡ hidings sets.now tokens.old.items ++ with_flag flag (plain token.now) ∷ []) }
+    ensures tokens { OnOk result (hidings sets.now tokens.new.items ≡ hidings sets.now tokens.old.items ++ with_space space (plain token.now) ∷ []) }
     ensures known { OnOk result (AllKnown sets.now tokens.old.items → AllKnown sets.now tokens.new.items) }
 {
     let mut hidden = Hidden::new(token, sets.empty());
-    hidden.flag(flag);
+    hidden.set_space(space);
     push_one(tokens, hidden)
 }
 
 /// Appends the tokens of a chain. The first gets the flag `flag`. Returns the leading-space flag that is pending afterwards, or
 /// fault 19 or 20.
-fn push_chain_tokens<'x, 'a: 'x>(
+fn push_chain<'x, 'a: 'x>(
     sets: &mut HideSets,
     arguments: Arguments<'_, 'x>,
     used: Place,
-    flag: bool,
+    space: bool,
     chain: &Chain<'a>,
     tokens: &mut Vec<Hidden<'x>>,
 ) -> Result<bool, Error>
     requires arguments { ArgumentsKnown sets.old arguments.given.now arguments.expanded.now }
     requires tokens { AllKnown sets.old tokens.old.items }
     ensures is { Returns result (left_with sets.new tokens.new.items)
-        (pushed (hidings sets.old tokens.old.items) flag (chain_tokens (arguments_in sets.old arguments.entry.given.now arguments.entry.expanded.now) used chain.now)) }
+        (pushed (hidings sets.old tokens.old.items) space (chain_tokens (arguments_in sets.old arguments.entry.given.now arguments.entry.expanded.now) used chain.now)) }
     ensures known { OnOk result (AllKnown sets.new tokens.new.items) }
     ensures keeps { KeepsSets sets.old sets.new }
 {
@@ -156,28 +156,28 @@ fn push_chain_tokens<'x, 'a: 'x>(
     if let [operand] = chain.operands.as_slice() {
         match operand {
             Operand::Tok(token) => {
-                push_token(sets, tokens, flag, token.token())?;
+                push_token(sets, tokens, space, token.token())?;
                 return Ok(false);
             }
             Operand::Param(index) => {
-                let pending = push_chain(
+                let pending = push_spaced(
                     tokens,
-                    flag,
+                    space,
                     expansion(arguments.given, arguments.expanded, *index),
                 )?;
                 return Ok(pending);
             }
-            Operand::Str(_, _) | Operand::Rest(_) => {}
+            Operand::Str(_, _) | Operand::VariadicAfterComma(_) => {}
         }
     }
     let alloc = *tokens.allocator();
     let more = chain_tokens(alloc, sets, arguments, used, chain)?;
-    let pending = push_chain(tokens, flag, more.as_slice())?;
+    let pending = push_spaced(tokens, space, more.as_slice())?;
     Ok(pending)
 }
 
 /// Returns the leading-space flag before a chain. The first chain's own flag doesn't count.
-fn flag_before(pending: bool, first: bool, own: bool) -> bool
+fn space_before(pending: bool, first: bool, own: bool) -> bool
     ensures { result ≡ (pending || (not first && own)) }
 {
     pending || (!first && own)
@@ -202,8 +202,8 @@ fn chains_tokens<'x, 'a: 'x>(
     let mut pending = space;
     let mut first = true;
     for chain in chains {
-        let flag = flag_before(pending, first, chain.flag);
-        pending = push_chain_tokens(sets, arguments, used, flag, chain, &mut tokens)?;
+        let leading = space_before(pending, first, chain.space);
+        pending = push_chain(sets, arguments, used, leading, chain, &mut tokens)?;
         first = false;
     }
     Ok((tokens, pending))

@@ -131,12 +131,12 @@ impl<'a> Table<'a> {
     }
 
     /// Inserts a predefined macro.
-    fn predefine(&mut self, name: &'a [u8], builtin: PredefinedMacro) -> Result<(), AllocError>
-        ensures macros { OnOk result (self.new.macros ≡ table.insert self.old.macros name.now (predefined_as builtin)) }
+    fn predefine(&mut self, name: &'a [u8], predefined: PredefinedMacro) -> Result<(), AllocError>
+        ensures macros { OnOk result (self.new.macros ≡ table.insert self.old.macros name.now (predefined_as predefined)) }
         ensures hashing { self.new.hashing ≡ self.old.hashing }
     {
         let definition = Macro {
-            kind: MacroKind::Predefined(builtin),
+            kind: MacroKind::Predefined(predefined),
             body: ReplacementList::new(&[]),
         };
         self.insert(name, definition)

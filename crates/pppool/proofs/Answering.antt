@@ -4,7 +4,7 @@ use Rattle.std.proofs.lemmas.Bool.{cases_lt, cases_eq}
 use Rattle.std.proofs.lemmas.Bool.Decides.{nat_tests}
 use Rattle.std.proofs.lemmas.List.{get_or_read}
 use Rattle.std.proofs.lemmas.List.Elements.{All-push}
-use Rattle.ppshelf.specs.Files.{Files, Extends, TableView}
+use Rattle.ppshelf.specs.Files.{Files, Extends, ShelfView}
 use Rattle.ppunit.specs.declared.units.Unit.{Unit as UnitOfList}
 use Rattle.ppunit.specs.declared.units.Setting.{Setting}
 use Rattle.ppunit.specs.declared.units.UnitOut.{UnitOut}
@@ -18,22 +18,22 @@ use Rattle.pppool.proofs.Totals.{times-append, times_at}
 
 -- what is true of an answer over some files is true over more
 pub answers_grow : Grows
-    → (retain : Retain) (stock : TableView) (old new : Files) (setting : Setting) (units : List UnitOfList) (results : List UnitResult)
+    → (retain : Retain) (shelf : ShelfView) (old new : Files) (setting : Setting) (units : List UnitOfList) (results : List UnitResult)
     → Extends new old
-    → AreUnitResults retain stock old setting units results
-    → AreUnitResults retain stock new setting units results
-answers_grow grows retain stock old new setting units results more all k d w =
+    → AreUnitResults retain shelf old setting units results
+    → AreUnitResults retain shelf new setting units results
+answers_grow grows retain shelf old new setting units results more all k d w =
     let a = all k d w in
-    record { within = a.within; value = λ u. kept_grows grows retain stock.names old new setting (get_or units (get_or results k d).unit u) (get_or results k d).out more (a.value u) }
+    record { within = a.within; value = λ u. kept_grows grows retain shelf.names old new setting (get_or units (get_or results k d).unit u) (get_or results k d).out more (a.value u) }
 
 -- one answer more
-pub answers_push : Grows → (retain : Retain) (stock : TableView) (old new : Files) (setting : Setting) (units : List UnitOfList) (results : List UnitResult) (number : ℕ) (unit : UnitOfList) (out : UnitOut)
-    → Extends new old → AreUnitResults retain stock old setting units results → number < length units → unit ≡ get_or units number unit → IsRetained retain stock.names new setting unit out
-    → AreUnitResults retain stock new setting units (results ++ record { unit = number; out = out } ∷ [])
-answers_push grows retain stock old new setting units results number unit out more all w read is =
-    let P : UnitResult → Type 0 = IsUnitResult retain stock new setting units in
-    let Q : UnitOfList → Type 0 = λ u. IsRetained retain stock.names new setting u out in
-    All-push P results (record { unit = number; out = out }) (answers_grow grows retain stock old new setting units results more all)
+pub answers_push : Grows → (retain : Retain) (shelf : ShelfView) (old new : Files) (setting : Setting) (units : List UnitOfList) (results : List UnitResult) (number : ℕ) (unit : UnitOfList) (out : UnitOut)
+    → Extends new old → AreUnitResults retain shelf old setting units results → number < length units → unit ≡ get_or units number unit → IsRetained retain shelf.names new setting unit out
+    → AreUnitResults retain shelf new setting units (results ++ record { unit = number; out = out } ∷ [])
+answers_push grows retain shelf old new setting units results number unit out more all w read is =
+    let P : UnitResult → Type 0 = IsUnitResult retain shelf new setting units in
+    let Q : UnitOfList → Type 0 = λ u. IsRetained retain shelf.names new setting u out in
+    All-push P results (record { unit = number; out = out }) (answers_grow grows retain shelf old new setting units results more all)
     (record { within = w; value = λ u. subst Q (get_or_read units number unit w read u) is })
 
 pub answered_push : (results : List UnitResult) (a : UnitResult) → result_units (results ++ a ∷ []) ≡ result_units results ++ a.unit ∷ []

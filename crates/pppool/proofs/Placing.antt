@@ -6,7 +6,7 @@ use Rattle.std.proofs.lemmas.Bool.{cases_lt, cases_eq}
 use Rattle.std.proofs.lemmas.List.{length-set, get_or-set_same, get_or-set_other, get_or_default, set_past}
 use Rattle.std.proofs.lemmas.Slice.Zip.{AllZip-long}
 use Rattle.ppshelf.specs.Names.{AreNames}
-use Rattle.ppshelf.specs.Files.{Files, Extends, TableView}
+use Rattle.ppshelf.specs.Files.{Files, Extends, ShelfView}
 use Rattle.ppunit.specs.declared.units.Unit.{Unit as UnitOfList}
 use Rattle.ppunit.specs.declared.units.Setting.{Setting}
 use Rattle.ppunit.specs.declared.units.UnitOut.{UnitOut}
@@ -48,36 +48,36 @@ if_some_map P Q (Some x) more h = more x h
 
 -- what stands in slots over some files stands there over more
 pub slots_grow : Grows
-    → (retain : Retain) (stock : TableView) (old new : Files) (setting : Setting) (units : List UnitOfList) (slots : List (Option UnitOut))
+    → (retain : Retain) (shelf : ShelfView) (old new : Files) (setting : Setting) (units : List UnitOfList) (slots : List (Option UnitOut))
     → Extends new old
-    → FitSlots retain stock old setting units slots
-    → FitSlots retain stock new setting units slots
-slots_grow grows retain stock old new setting units slots more fit =
-    let At : Files → UnitOfList → UnitOut → Type 0 = λ files unit out. IsRetained retain stock.names files setting unit out in
+    → FitSlots retain shelf old setting units slots
+    → FitSlots retain shelf new setting units slots
+slots_grow grows retain shelf old new setting units slots more fit =
+    let At : Files → UnitOfList → UnitOut → Type 0 = λ files unit out. IsRetained retain shelf.names files setting unit out in
     zip_map (λ unit slot. IfSome slot (At old unit)) (λ unit slot. IfSome slot (At new unit)) units slots
-    (λ unit slot h. if_some_map (At old unit) (At new unit) slot (λ out is. kept_grows grows retain stock.names old new setting unit out more is) h) fit
+    (λ unit slot h. if_some_map (At old unit) (At new unit) slot (λ out is. kept_grows grows retain shelf.names old new setting unit out more is) h) fit
 
 -- answers that are their units' values go into slots
-pub slots_placed : (retain : Retain) (stock : TableView) (files : Files) (setting : Setting) (units : List UnitOfList) (slots : List (Option UnitOut))
+pub slots_placed : (retain : Retain) (shelf : ShelfView) (files : Files) (setting : Setting) (units : List UnitOfList) (slots : List (Option UnitOut))
     (results : List UnitResult)
-    → FitSlots retain stock files setting units slots
-    → AreUnitResults retain stock files setting units results
-    → FitSlots retain stock files setting units (filled_slots slots results)
-slots_placed retain stock files setting units slots [] fit all = fit
-slots_placed retain stock files setting units slots (a ∷ results) fit all =
+    → FitSlots retain shelf files setting units slots
+    → AreUnitResults retain shelf files setting units results
+    → FitSlots retain shelf files setting units (filled_slots slots results)
+slots_placed retain shelf files setting units slots [] fit all = fit
+slots_placed retain shelf files setting units slots (a ∷ results) fit all =
     let first = all 0 a (omega arith) in
-    let R : UnitOfList → Option UnitOut → Type 0 = λ unit slot. IfSome slot (λ out. IsRetained retain stock.names files setting unit out) in
-    slots_placed retain stock files setting units (set slots a.unit (Some a.out)) results (zip_set R units slots a.unit (Some a.out) fit (λ d w. first.value d)) (λ k d w. all (suc k) d (omega arith))
+    let R : UnitOfList → Option UnitOut → Type 0 = λ unit slot. IfSome slot (λ out. IsRetained retain shelf.names files setting unit out) in
+    slots_placed retain shelf files setting units (set slots a.unit (Some a.out)) results (zip_set R units slots a.unit (Some a.out) fit (λ d w. first.value d)) (λ k d w. all (suc k) d (omega arith))
 
-none_fit : (retain : Retain) (stock : TableView) (files : Files) (setting : Setting) (units : List UnitOfList) → FitSlots retain stock files setting units (replicate (length units) None)
-none_fit retain stock files setting [] = tt
-none_fit retain stock files setting (u ∷ units) = (tt, none_fit retain stock files setting units)
+none_fit : (retain : Retain) (shelf : ShelfView) (files : Files) (setting : Setting) (units : List UnitOfList) → FitSlots retain shelf files setting units (replicate (length units) None)
+none_fit retain shelf files setting [] = tt
+none_fit retain shelf files setting (u ∷ units) = (tt, none_fit retain shelf files setting units)
 
 -- empty slots
-pub slots_empty : (retain : Retain) (stock : TableView) (files : Files) (setting : Setting) (units : List UnitOfList) (slots : List (Option UnitOut)) → slots ≡ replicate (length units) None → FitSlots retain stock files setting units slots
-slots_empty retain stock files setting units slots is =
-    let P : List (Option UnitOut) → Type 0 = FitSlots retain stock files setting units in
-    subst P (sym is) (none_fit retain stock files setting units)
+pub slots_empty : (retain : Retain) (shelf : ShelfView) (files : Files) (setting : Setting) (units : List UnitOfList) (slots : List (Option UnitOut)) → slots ≡ replicate (length units) None → FitSlots retain shelf files setting units slots
+slots_empty retain shelf files setting units slots is =
+    let P : List (Option UnitOut) → Type 0 = FitSlots retain shelf files setting units in
+    subst P (sym is) (none_fit retain shelf files setting units)
 
 -- a slot that was full stays full, and each answer's slot is full
 full_set : (slots : List (Option UnitOut)) (j i : ℕ) (out : UnitOut) → IsSome (get_or slots i None) → IsSome (get_or (set slots j (Some out)) i None)
@@ -108,14 +108,14 @@ placed_fills slots (a ∷ results) i w h =
     ]
 
 -- at the end the slots have what is kept of the units' values
-pub are_kept : (retain : Retain) (stock : TableView) (files : Files) (setting : Setting) (units : List UnitOfList) (outs : List UnitOut)
-    → FitSlots retain stock files setting units (map (λ x. Some x) outs)
-    → AreRetained retain stock.names files setting units outs
-are_kept retain stock files setting [] [] fit = record { wholes = []; values = tt; same = refl }
-are_kept retain stock files setting [] (out ∷ outs) fit = elim fit [ ]
-are_kept retain stock files setting (u ∷ units) [] fit = elim fit [ ]
-are_kept retain stock files setting (u ∷ units) (out ∷ outs) fit =
-    let rest = are_kept retain stock files setting units outs fit.1 in
+pub are_kept : (retain : Retain) (shelf : ShelfView) (files : Files) (setting : Setting) (units : List UnitOfList) (outs : List UnitOut)
+    → FitSlots retain shelf files setting units (map (λ x. Some x) outs)
+    → AreRetained retain shelf.names files setting units outs
+are_kept retain shelf files setting [] [] fit = record { wholes = []; values = tt; same = refl }
+are_kept retain shelf files setting [] (out ∷ outs) fit = elim fit [ ]
+are_kept retain shelf files setting (u ∷ units) [] fit = elim fit [ ]
+are_kept retain shelf files setting (u ∷ units) (out ∷ outs) fit =
+    let rest = are_kept retain shelf files setting units outs fit.1 in
     record {
       wholes = fit.0.whole ∷ rest.wholes;
       values = (fit.0.value, rest.values);
@@ -125,22 +125,22 @@ are_kept retain stock files setting (u ∷ units) (out ∷ outs) fit =
 -- ---- what comes of a worker that is done
 
 -- each unit has a slot
-pub slots_long : (retain : Retain) (stock : TableView) (files : Files) (setting : Setting) (units : List UnitOfList) (slots : List (Option UnitOut))
-    → FitSlots retain stock files setting units slots
+pub slots_long : (retain : Retain) (shelf : ShelfView) (files : Files) (setting : Setting) (units : List UnitOfList) (slots : List (Option UnitOut))
+    → FitSlots retain shelf files setting units slots
     → (i : ℕ)
     → i < length units
     → i < length slots
-slots_long retain stock files setting units slots fit i w =
-    let long = AllZip-long (λ unit slot. IfSome slot (λ out. IsRetained retain stock.names files setting unit out)) units slots fit in
+slots_long retain shelf files setting units slots fit i w =
+    let long = AllZip-long (λ unit slot. IfSome slot (λ out. IsRetained retain shelf.names files setting unit out)) units slots fit in
     omega arith
 
 -- each answer has a slot
-pub within_slots : (retain : Retain) (stock : TableView) (mine theirs : Files) (setting : Setting) (units : List UnitOfList) (slots : List (Option UnitOut))
+pub within_slots : (retain : Retain) (shelf : ShelfView) (mine theirs : Files) (setting : Setting) (units : List UnitOfList) (slots : List (Option UnitOut))
     (results : List UnitResult)
-    → FitSlots retain stock mine setting units slots
-    → AreUnitResults retain stock theirs setting units results
+    → FitSlots retain shelf mine setting units slots
+    → AreUnitResults retain shelf theirs setting units results
     → All (λ a. a.unit < length slots) results
-within_slots retain stock mine theirs setting units slots results fit all k d w = slots_long retain stock mine setting units slots fit (get_or results k d).unit (all k d w).within
+within_slots retain shelf mine theirs setting units slots results fit all k d w = slots_long retain shelf mine setting units slots fit (get_or results k d).unit (all k d w).within
 
 -- a seat more is handed in
 pub filled_push : (count block : ℕ) (seats more : List SeatView) (seat : SeatView) (old new : List (Option UnitOut)) → more ≡ seats ++ seat ∷ [] → AllFilled count block (claims_of seats) old
@@ -171,10 +171,10 @@ if_ok_then (Ok x) p more = more x p
 if_ok_then (Err e) p more = tt
 
 -- where each block was claimed, all slots are full
-pub all_full : (retain : Retain) (stock : TableView) (files : Files) (setting : Setting) (units : List UnitOfList) (block blocks : ℕ) (claims : List ℕ) (slots : List (Option UnitOut)) → FitSlots retain stock files setting units slots
+pub all_full : (retain : Retain) (shelf : ShelfView) (files : Files) (setting : Setting) (units : List UnitOfList) (block blocks : ℕ) (claims : List ℕ) (slots : List (Option UnitOut)) → FitSlots retain shelf files setting units slots
     → AllFilled (length units) block claims slots → ((x : ℕ) → times x claims ≡ once_below x blocks) → ((i : ℕ) → i < length units → i / block < blocks) → All (λ s. IsSome s) slots
-all_full retain stock files setting units block blocks claims slots fit full whole below k d w =
-    let long = AllZip-long (λ unit slot. IfSome slot (λ out. IsRetained retain stock.names files setting unit out)) units slots fit in
+all_full retain shelf files setting units block blocks claims slots fit full whole below k d w =
+    let long = AllZip-long (λ unit slot. IfSome slot (λ out. IsRetained retain shelf.names files setting unit out)) units slots fit in
     let u : k < length units = omega arith in
     let P : Option UnitOut → Type 0 = IsSome in
     let once = below_once_one (k / block) blocks (below k u) in

@@ -16,7 +16,7 @@ use Rattle.pppool.proofs.Totals.{total_set, total_snoc, total_le, total_at, time
 -- the word is far below its limit
 no_wrap : (p : Plan) (s : State ℕ SeatState) → ClaimInvariant p s → get_or s.words 0 0 ≤ 65599
 no_wrap p s d =
-    let r = d.room in
+    let r = d.bound in
     let e = total_le (λ v. v.empty_claims) (λ v. v.seats) s.views (λ id v at. (d.each id v at).empty_claims) in
     let f = d.seats in
     let g = d.small in
@@ -80,7 +80,7 @@ dealt_block p s id n v d at one is below =
       seats = let a = total_set (λ u. u.seats) s.views id v w at in let c = d.seats in omega arith;
       each = let fit : FitsSeat p (get_or (set s.words 0 (n + 1)) 0 0) w = record { empty_claims = f.empty_claims; idle = λ none. absurd (omega arith); plan = f.plan; passed_last = λ h. let g = f.passed_last h in omega arith } in
           each_set p (get_or s.words 0 0) (get_or (set s.words 0 (n + 1)) 0 0) s.views id w (omega arith) d.each fit;
-      room = let a = total_set (λ u. u.empty_claims) s.views id v w at in let r = d.room in omega arith;
+      bound = let a = total_set (λ u. u.empty_claims) s.views id v w at in let r = d.bound in omega arith;
     }
 
 dealt_mark : (p : Plan) (s : State ℕ SeatState) (id n : ℕ) (v : SeatState) → ClaimInvariant p s → get_elem? s.views id ≡ some v → v.seats ≡ 1 → v.empty_claims ≡ 0 → n ≡ get_or s.words 0 0 → p.blocks ≤ n
@@ -101,7 +101,7 @@ dealt_mark p s id n v d at one unmarked is above =
       seats = let a = total_set (λ u. u.seats) s.views id v w at in let c = d.seats in omega arith;
       each = let fit : FitsSeat p (get_or (set s.words 0 (n + 1)) 0 0) w = record { empty_claims = omega arith; idle = λ none. absurd (omega arith); plan = f.plan; passed_last = λ h. omega arith } in
           each_set p (get_or s.words 0 0) (get_or (set s.words 0 (n + 1)) 0 0) s.views id w (omega arith) d.each fit;
-      room = let a = total_set (λ u. u.empty_claims) s.views id v w at in let r = d.room in omega arith;
+      bound = let a = total_set (λ u. u.empty_claims) s.views id v w at in let r = d.bound in omega arith;
     }
 
 abbrev Goes : Plan → State ℕ SeatState → ℕ → SeatState → Type 0
@@ -179,7 +179,7 @@ splits p id v left_over unclaimed unmarked s d at =
             | inl e ↦ each_set p n n s.views id w (omega arith) d.each fit_w j k e
             | inr e ↦ let P : SeatState → Type 0 = FitsSeat p n in subst P e fit_u
           ];
-      room = let a = sum (λ k. k.empty_claims) in let b = d.room in omega arith;
+      bound = let a = sum (λ k. k.empty_claims) in let b = d.bound in omega arith;
     }
 
 -- two seats become one
@@ -202,7 +202,7 @@ joins p id other v w some_left s d at apart there =
       claims = λ x. let a = sum (λ k. times x k.claims) in let b = d.claims x in let c = times-append x v.claims w.claims in omega arith;
       seats = let a = sum (λ k. k.seats) in let b = d.seats in omega arith;
       each = each_set p n n (set s.views id both) other spent (omega arith) mid fit_spent;
-      room = let a = sum (λ k. k.empty_claims) in let b = d.room in omega arith;
+      bound = let a = sum (λ k. k.empty_claims) in let b = d.bound in omega arith;
     }
 
 -- the view that has every seat has every claim
@@ -248,5 +248,5 @@ opens p blocks seats = record {
   claims = λ x. let e : once_below x (min 0 p.blocks) ≡ once_below x 0 = ap (once_below x) (let z : min 0 p.blocks ≡ 0 = omega arith in z) in let z = once_zero x in omega arith;
   seats = omega arith;
   each = λ id v at. each_first p id v at;
-  room = omega arith;
+  bound = omega arith;
 }

@@ -47,7 +47,7 @@ pub record ClaimInvariant (p : Plan) (s : State ℕ SeatState) : Type 0 where
   pub claims : (x : ℕ) → total (λ v. times x v.claims) s.views ≡ once_below x (min (slice_index s.words 0) p.blocks)
   pub seats : total (λ v. v.seats) s.views ≡ p.seats
   pub each : (id : ℕ) (v : SeatState) → get_elem? s.views id ≡ some v → FitsSeat p (slice_index s.words 0) v
-  pub room : slice_index s.words 0 ≤ p.blocks + total (λ v. v.empty_claims) s.views
+  pub bound : slice_index s.words 0 ≤ p.blocks + total (λ v. v.empty_claims) s.views
 
 -- What one claim does: it takes a block above all that the seat has, or finds no block left and counts that
 abbrev pub Claims : Step ℕ → Me ℕ SeatState → ℕ → Me ℕ SeatState → Type 0

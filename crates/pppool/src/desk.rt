@@ -134,7 +134,7 @@ impl DeskSeat {
     fn into_parts(self) -> (Seat<u8, SeatState>, bool)
         ensures desk { (result.0.table_id ≡ self.desk.table) × (result.0.me.0.plan ≡ self.desk.plan) }
         ensures seat { (result.0.me.1 ≡ []) × (result.0.me.0.seats ≡ 1) × (result.0.me.0.claims ≡ self.claims) }
-        ensures mark { (result.1 ≡ self.found_empty) × (result.0.me.0.empty_claims ≡ (if result.1 then 1 else 0)) }
+        ensures found_empty { (result.1 ≡ self.found_empty) × (result.0.me.0.empty_claims ≡ (if result.1 then 1 else 0)) }
     {
         let DeskSeat { seat, found_empty } = self;
         (seat, found_empty)

@@ -48,7 +48,7 @@ pub fn run<'a, R: Threads + Sync, D: Disk + Send + Sync, G: Gate + Sync>(
     ensures within { IfOk result (λ outs. AreInBudget batch.now.shelf.now.names pass.new.files batch.now.setting.now batch.now.units.now outs.items) }
     ensures capped { IfOk result (λ outs. AreCapped batch.now.shelf.now.names pass.new.files batch.now.setting.now batch.now.units.now outs.items) }
     ensures contents_permitted { AllPermitted D.may batch.now.shelf.now.names pass.new.files }
-    ensures filled { Agree batch.now.shelf.now.base pass.new.files }
+    ensures filled { Agree batch.now.shelf.now.filled pass.new.files }
 {
     let outs = run_retaining(threads, alloc, pass, batch, Retain::Everything)?;
     batch.shelf.contents_permitted();
@@ -80,7 +80,7 @@ pub fn run_retaining<'a, R: Threads + Sync, D: Disk + Send + Sync, G: Gate + Syn
     ensures within { IfOk result (λ outs. AreRetainedInBudget retain batch.now.shelf.now.names pass.new.files batch.now.setting.now batch.now.units.now outs.items) }
     ensures capped { IfOk result (λ outs. AreRetainedCapped retain batch.now.shelf.now.names pass.new.files batch.now.setting.now batch.now.units.now outs.items) }
     ensures contents_permitted { AllPermitted D.may batch.now.shelf.now.names pass.new.files }
-    ensures filled { Agree batch.now.shelf.now.base pass.new.files }
+    ensures filled { Agree batch.now.shelf.now.filled pass.new.files }
 {
     let Batch {
         shelf,

@@ -7,7 +7,7 @@ use Rattle.std.proofs.lemmas.List.{ext_get_or, get_or_past, get_or-map, get_or-r
 use Rattle.std.proofs.lemmas.Option.{none-some}
 use Rattle.std.proofs.lemmas.Slice.Zip.{AllZip-long}
 use Rattle.ppshelf.specs.Content.{Content, readable}
-use Rattle.ppshelf.specs.Files.{most_rows, Files, TableView, file_at, Extends, Agree, IsFull, Filled, bytes_at}
+use Rattle.ppshelf.specs.Files.{most_rows, Files, ShelfView, file_at, Extends, Agree, IsFull, Filled, bytes_at}
 use Rattle.ppunit.specs.declared.units.Setting.{Setting}
 use Rattle.ppunit.specs.declared.units.Unit.{Unit as UnitOfList}
 use Rattle.ppunit.specs.declared.units.UnitOut.{UnitOut}
@@ -19,7 +19,7 @@ use Rattle.ppserve.specs.declared.list.List.{List as CompilationList}
 use Rattle.ppserve.specs.Contents.{files_of, AreRetainedOverSome}
 use Rattle.ppserve.specs.Listing.{IsRunnable}
 use Rattle.ppserve.specs.Output.{numbered, unit_lines, output_text}
-use Rattle.ppserve.specs.Serving.{some_fault, ReadsList, Produces, WritesAll, WritesPrefix, Serves, ServesPrefix}
+use Rattle.ppserve.specs.Serving.{any_fault, ReadsList, Produces, WritesAll, WritesPrefix, Serves, ServesPrefix}
 use Rattle.ppserve.specs.declared.output.Mode.{Mode}
 use Rattle.ppserve.specs.code.NeededRetention.{needed_retention}
 use Rattle.ppserve.proofs.Known.{appends_as}
@@ -31,20 +31,20 @@ content_now None i = absurd (false≢true i)
 content_now (Some c) i = (c, refl)
 
 -- a pass over a full shelf knows nothing but what was filled
-pub knows_files : (shelf : TableView) (files : Files) → IsFull shelf → Agree shelf.base files → length files ≡ length shelf.names → Extends shelf.base files
+pub knows_files : (shelf : ShelfView) (files : Files) → IsFull shelf → Agree shelf.filled files → length files ≡ length shelf.names → Extends shelf.filled files
 knows_files shelf files full agree len row c e =
     elim (cases_lt row (length files)) [
       | inl w ↦
-          let held = content_now (file_at shelf.base row) (full row (omega arith)) in
+          let held = content_now (file_at shelf.filled row) (full row (omega arith)) in
           held.1 ∙ ap (λ (x : Content). Some x) (agree row held.0 c held.1 e)
       | inr w ↦ absurd (none-some c (sym (get_or_past files row None w) ∙ e))
     ]
 
 -- what is kept of what units give over a shelf of the list's files is kept of what they give over the list's
-pub gives_all : (retain : Retain) (list : CompilationList) (shelf : TableView) (units : List UnitOfList) (outs : List UnitOut) → shelf.names ≡ list.names → shelf.base ≡ files_of list.contents → units ≡ list.units
-    → AreRetained retain shelf.names shelf.base list.setting units outs → AreRetained retain list.names (files_of list.contents) list.setting list.units outs
+pub gives_all : (retain : Retain) (list : CompilationList) (shelf : ShelfView) (units : List UnitOfList) (outs : List UnitOut) → shelf.names ≡ list.names → shelf.filled ≡ files_of list.contents → units ≡ list.units
+    → AreRetained retain shelf.names shelf.filled list.setting units outs → AreRetained retain list.names (files_of list.contents) list.setting list.units outs
 gives_all retain list shelf units outs named is same gives =
-    let P : List (List ℕ) → Type 0 = λ ns. AreRetained retain ns shelf.base list.setting units outs in
+    let P : List (List ℕ) → Type 0 = λ ns. AreRetained retain ns shelf.filled list.setting units outs in
     let Q : Files → Type 0 = λ fs. AreRetained retain list.names fs list.setting units outs in
     let R : List UnitOfList → Type 0 = λ us. AreRetained retain list.names (files_of list.contents) list.setting us outs in
     subst R same (subst Q is (subst P named gives))
@@ -55,24 +55,24 @@ one_each retain names files setting units outs gives =
     ap length gives.same ∙ (length-map gives.wholes (retained retain) ∙ AllZip-long (λ unit out. IsUnit names files setting unit out) units gives.wholes gives.values)
 
 -- a shelf that was empty holds the contents that were moved to it
-pub filled_files : (contents : List (List ℕ)) (old new : TableView) → old.base ≡ replicate (length old.names) None → length contents ≡ length old.names → new.names ≡ old.names → length new.base ≡ length old.names
-    → ((row : ℕ) → row < length old.names → Filled (λ c. c ≡ readable (bytes_at contents row)) (file_at old.base row) (file_at new.base row)) → IsFull new → new.base ≡ files_of contents
+pub filled_files : (contents : List (List ℕ)) (old new : ShelfView) → old.filled ≡ replicate (length old.names) None → length contents ≡ length old.names → new.names ≡ old.names → length new.filled ≡ length old.names
+    → ((row : ℕ) → row < length old.names → Filled (λ c. c ≡ readable (bytes_at contents row)) (file_at old.filled row) (file_at new.filled row)) → IsFull new → new.filled ≡ files_of contents
 filled_files contents old new empty len named long rows full =
     let file : List ℕ → Option Content = λ bytes. Some (readable bytes) in
-    let lens : length new.base ≡ length (files_of contents) = long ∙ (sym len ∙ sym (length-map contents file)) in
-    ext_get_or None new.base (files_of contents) lens (λ row below.
+    let lens : length new.filled ≡ length (files_of contents) = long ∙ (sym len ∙ sym (length-map contents file)) in
+    ext_get_or None new.filled (files_of contents) lens (λ row below.
     let in_old : row < length old.names = omega arith in
     let in_new : row < length new.names = let l = ap length named in omega arith in
     let in_contents : row < length contents = omega arith in
-    let was : file_at old.base row ≡ None = ap (λ (f : Files). get_or f row None) empty ∙ get_or-replicate (length old.names) row None None in_old in
-    let now = content_now (file_at new.base row) (full row in_new) in
-    let P : Option Content → Type 0 = λ o. Filled (λ c. c ≡ readable (bytes_at contents row)) o (file_at new.base row) in
+    let was : file_at old.filled row ≡ None = ap (λ (f : Files). get_or f row None) empty ∙ get_or-replicate (length old.names) row None None in_old in
+    let now = content_now (file_at new.filled row) (full row in_new) in
+    let P : Option Content → Type 0 = λ o. Filled (λ c. c ≡ readable (bytes_at contents row)) o (file_at new.filled row) in
     let Q : Option Content → Type 0 = λ o. Filled (λ c. c ≡ readable (bytes_at contents row)) None o in
     let content : now.0 ≡ readable (bytes_at contents row) = subst Q now.1 (subst P was (rows row in_old)) in
     now.1 ∙ (ap Some content ∙ sym (get_or-map file contents row [] None in_contents)))
 
 -- what units give over some files of a shelf, they give for the list whose names the shelf has
-pub gives_from : (may : List ℕ → Content → Type 0) (retain : Retain) (list : CompilationList) (shelf : TableView) (units : List UnitOfList) (outs : List UnitOut) → shelf.names ≡ list.names → units ≡ list.units
+pub gives_from : (may : List ℕ → Content → Type 0) (retain : Retain) (list : CompilationList) (shelf : ShelfView) (units : List UnitOfList) (outs : List UnitOut) → shelf.names ≡ list.names → units ≡ list.units
     → AreRetainedOverSome may retain shelf.names list.setting units outs → AreRetainedOverSome may retain list.names list.setting list.units outs
 gives_from may retain list shelf units outs named same gives =
     let P : List (List ℕ) → Type 0 = λ ns. AreRetainedOverSome may retain ns list.setting units outs in
@@ -104,7 +104,7 @@ pub record Came (inline : Bool) (Such : CompilationList → Files → Type 0) (m
   pub outs : List UnitOut
   pub brings : Produces inline Such before after list outs
   pub text : numbered (unit_lines mode list.names) 0 units shown ≡ output_text mode list outs
-  pub fault : some_fault shown ≡ some_fault outs
+  pub fault : any_fault shown ≡ any_fault outs
 
 pub came_of : {inline : Bool} {Such : CompilationList → Files → Type 0} {before after : Option (List ℕ)} (mode : Mode) (list : CompilationList)
     (units : List UnitOfList) (shown outs : List UnitOut)
@@ -114,7 +114,7 @@ came_of mode list units shown outs same is came files such gives = record {
   outs = gives.wholes;
   brings = record { came = came; files = files; such = such; gives = gives.values };
   text = text_of mode list units shown gives.wholes same (is ∙ gives.same);
-  fault = ap some_fault (is ∙ gives.same) ∙ some_fault_kept mode gives.wholes;
+  fault = ap any_fault (is ∙ gives.same) ∙ some_fault_kept mode gives.wholes;
 }
 
 -- where its output went out, it was served

@@ -15,7 +15,7 @@ use Rattle.ppserve.specs.Contents.{AreInList, files_of}
 use Rattle.ppserve.specs.Laws.{wrong_names, OneOutput, OneOutputOfContents}
 use Rattle.ppserve.specs.Listing.{outcome_of, accepted, names_hold, names_of}
 use Rattle.ppserve.specs.Output.{output_text}
-use Rattle.ppserve.specs.Serving.{some_fault, ReadsList}
+use Rattle.ppserve.specs.Serving.{any_fault, ReadsList}
 use Rattle.ppserve.specs.declared.list.List.{List as CompilationList}
 use Rattle.ppserve.proofs.Received.{decided}
 use Rattle.ppserve.proofs.Refusing.{takes_the_rest}
@@ -104,7 +104,7 @@ one_output once grows Such inline mode known with_part left right one two any ot
     (named inline a.came.came.bytes list a.came.came.is_list) agree a.came.gives theirs in
     let text : output_text mode a.list a.outs ≡ output_text mode b.list b.outs = ap (λ (l : CompilationList). output_text mode l a.outs) same ∙ ap (output_text mode b.list) outs in (
       a.went ∙ (ap (λ bytes. with_part ++ bytes) text ∙ sym b.went),
-      a.fault ∙ (ap some_fault outs ∙ sym b.fault),
+      a.fault ∙ (ap any_fault outs ∙ sym b.fault),
     )
 
 same_agree : (one two : Files) → one ≡ two → Agree one two

@@ -9,7 +9,7 @@ use Rattle.ppserve.specs.declared.output.Mode.{Mode}
 use Rattle.ppserve.specs.declared.output.Mode.TheVariants.{Dump, Deps}
 use Rattle.ppserve.specs.code.NeededRetention.{needed_retention}
 use Rattle.ppserve.specs.Output.{numbered, unit_lines}
-use Rattle.ppserve.specs.Serving.{some_fault}
+use Rattle.ppserve.specs.Serving.{any_fault}
 
 -- the lines of one unit
 lines_kept : (mode : Mode) (names : List (List ℕ)) (i : ℕ) (unit : UnitOfList) (out : UnitOut) → unit_lines mode names i unit (retained (needed_retention mode) out) ≡ unit_lines mode names i unit out
@@ -29,7 +29,7 @@ fault_kept Dump out = refl
 fault_kept Deps out = refl
 
 -- whether one of them has a fault
-pub some_fault_kept : (mode : Mode) (outs : List UnitOut) → some_fault (map (retained (needed_retention mode)) outs) ≡ some_fault outs
+pub some_fault_kept : (mode : Mode) (outs : List UnitOut) → any_fault (map (retained (needed_retention mode)) outs) ≡ any_fault outs
 some_fault_kept mode [] = refl
 some_fault_kept mode (out ∷ outs) =
-    ap (λ (b : Bool). b || some_fault (map (retained (needed_retention mode)) outs)) (fault_kept mode out) ∙ ap (λ (b : Bool). is_some out.fault || b) (some_fault_kept mode outs)
+    ap (λ (b : Bool). b || any_fault (map (retained (needed_retention mode)) outs)) (fault_kept mode out) ∙ ap (λ (b : Bool). is_some out.fault || b) (some_fault_kept mode outs)

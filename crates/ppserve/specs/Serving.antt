@@ -16,9 +16,9 @@ use Rattle.ppserve.specs.Listing.{most_input, outcome_of, accepted, refused}
 use Rattle.ppserve.specs.Output.{numbered, unit_lines, output_text}
 
 -- some unit has a fault
-abbrev pub some_fault : List UnitOut → Bool
-some_fault [] = false
-some_fault (out ∷ outs) = is_some out.fault || some_fault outs
+abbrev pub any_fault : List UnitOut → Bool
+any_fault [] = false
+any_fault (out ∷ outs) = is_some out.fault || any_fault outs
 
 -- the bytes were read, and are all that the reader had unless they are more than a list may have
 pub record Received (before after : Option (List ℕ)) (bytes : List ℕ) : Type 0 where
@@ -43,7 +43,7 @@ pub record Produces (inline : Bool) (Such : CompilationList → Files → Type 0
 pub record WritesAll (mode : Mode) (names : List (List ℕ)) (units : List UnitOfList) (outs : List UnitOut)
     (before after : Option (List ℕ)) (any : Bool) : Type 0 where
   pub went : Appends before after (numbered (unit_lines mode names) 0 units outs)
-  pub fault : any ≡ some_fault outs
+  pub fault : any ≡ any_fault outs
 
 -- a prefix of the output of units was written
 pub record WritesPrefix (mode : Mode) (names : List (List ℕ)) (units : List UnitOfList) (outs : List UnitOut)
@@ -58,7 +58,7 @@ pub record Serves (inline : Bool) (Such : CompilationList → Files → Type 0) 
   pub outs : List UnitOut
   pub came : Produces inline Such before after list outs
   pub went : Appends out_before out_after (output_text mode list outs)
-  pub fault : any ≡ some_fault outs
+  pub fault : any ≡ any_fault outs
 
 -- a list was read, and a prefix of its output over some such files was written
 pub record ServesPrefix (inline : Bool) (Such : CompilationList → Files → Type 0) (mode : Mode)

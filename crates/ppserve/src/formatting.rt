@@ -24,7 +24,7 @@ pub(crate) fn put_prefix<const N: usize>(
     text: &[u8; N],
     len: usize,
 ) -> usize
-    requires room { end + N ≤ length bytes.old }
+    requires capacity { end + N ≤ length bytes.old }
     requires len { len ≤ N }
     ensures text { take result bytes.new ≡ take end bytes.old ++ take len text.now }
     ensures end { result ≡ end + len }
@@ -98,7 +98,7 @@ fn put_pair(bytes: &mut [u8], end: usize, number: u32) -> usize
 #[inline(never)]
 fn put_large(bytes: &mut [u8], end: usize, number: u32) -> usize
     requires large { 100 ≤ number }
-    requires room { end + length (decimal number) ≤ length bytes.old }
+    requires capacity { end + length (decimal number) ≤ length bytes.old }
     ensures text { take result bytes.new ≡ take end bytes.old ++ decimal number }
     ensures end { result ≡ end + length (decimal number) }
 {
@@ -125,10 +125,10 @@ pub(crate) fn put_number(bytes: &mut [u8], end: usize, number: u32) -> usize
 
 /// Returns the length of the longest prefix of 14 bytes that is printed as it is, from two overlapping loads.
 #[inline(always)]
-pub(crate) fn as_is_prefix(room: &[u8; 14]) -> usize
-    ensures { PrintsAsIsBetween room.now 0 result }
+pub(crate) fn as_is_prefix(inline: &[u8; 14]) -> usize
+    ensures { PrintsAsIsBetween inline.now 0 result }
 {
-    let (prefix, back) = (as_is_run(room, 0), as_is_run(room, 6));
+    let (prefix, back) = (as_is_run(inline, 0), as_is_run(inline, 6));
     if prefix < 8 { prefix } else { 6 + back }
 }
 

@@ -67,7 +67,7 @@ impl OutBuffer {
     #[inline(always)]
     pub(crate) fn ensure_capacity<W: Sink>(&mut self, writer: &mut W)
         ensures out { Puts W.written W.has_failed writer.old writer.new self.old self.new [] }
-        ensures room { length self.new + 88 ≤ 65_536 }
+        ensures capacity { length self.new + 88 ≤ 65_536 }
     {
         if SIZE - self.used < MOST_PREFIX + SHORT + 1 {
             self.flush(writer);
@@ -89,17 +89,17 @@ impl OutBuffer {
     /// if a byte of the spelling can't be printed as it is. All bytes of `room` are copied, so that no branch depends
     /// on the spelling's length, which is hard to predict.
     #[inline(always)]
-    pub(crate) fn add_short_spelling(&mut self, room: &[u8; 14], len: usize) -> bool
-        requires room { length self.old + 15 ≤ 65_536 }
+    pub(crate) fn add_short_spelling(&mut self, inline: &[u8; 14], len: usize) -> bool
+        requires capacity { length self.old + 15 ≤ 65_536 }
         requires len { len ≤ 14 }
-        ensures added { result ≡ true → self.new ≡ self.old ++ escaped (take len room.now) ++ (10 ∷ []) }
+        ensures added { result ≡ true → self.new ≡ self.old ++ escaped (take len inline.now) ++ (10 ∷ []) }
         ensures refused { result ≡ false → self.new ≡ self.old }
     {
-        if as_is_prefix(room) < len {
+        if as_is_prefix(inline) < len {
             return false;
         }
         let bytes = self.bytes.as_mut_slice();
-        let end = put_prefix(bytes, self.used, room, len);
+        let end = put_prefix(bytes, self.used, inline, len);
         self.used = put_byte(bytes, end, b'\n');
         true
     }

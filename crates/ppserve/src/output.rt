@@ -274,8 +274,8 @@ fn put_line<W: Sink>(buf: &mut OutBuffer, writer: &mut W, fields: LineFields, sp
 {
     buf.ensure_capacity(writer);
     buf.add_line_prefix(fields);
-    if let Some((room, len)) = spelling.in_place() {
-        if buf.add_short_spelling(room, len) {
+    if let Some((inline, len)) = spelling.in_place() {
+        if buf.add_short_spelling(inline, len) {
             return;
         }
     }

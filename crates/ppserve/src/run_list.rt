@@ -117,7 +117,7 @@ pub(crate) fn empty_shelf<D: Disk>(
     requires few { length names.now ≤ most_rows }
     ensures names { IfOk result (λ s. s.names ≡ names.now) }
     ensures profile { IfOk result (λ s. s.profile ≡ profile) }
-    ensures empty { IfOk result (λ s. s.base ≡ replicate (length names.now) None) }
+    ensures empty { IfOk result (λ s. s.filled ≡ replicate (length names.now) None) }
 {
     let copies = copies_of(alloc, names.as_slice())?;
     match Shelf::with_hasher(alloc, copies, profile, hashing) {
@@ -144,7 +144,7 @@ pub(crate) fn filled_shelf(
     requires small { All (λ bytes. length bytes ≤ longest) contents }
     ensures names { IfOk result (λ s. s.names ≡ names.now) }
     ensures profile { IfOk result (λ s. s.profile ≡ profile) }
-    ensures files { IfOk result (λ s. s.base ≡ files_of contents) }
+    ensures files { IfOk result (λ s. s.filled ≡ files_of contents) }
     ensures full { IfOk result (λ s. IsFull s) }
 {
     let mut shelf = empty_shelf(alloc, names, profile, hashing)?;
@@ -168,7 +168,7 @@ pub(crate) fn over_contents<'a, R: Threads + Sync>(
     requires units { All (IsUnitOf (length shelf.now.names) setting.now.profile) units.now }
     requires workers { (1 ≤ options.workers) × (options.workers ≤ 64) }
     requires block { (1 ≤ options.block) × (options.block ≤ 1024) }
-    ensures { IfOk result (λ outs. AreRetained (needed_retention options.mode) shelf.now.names shelf.now.base setting.now units.now outs.items) }
+    ensures { IfOk result (λ outs. AreRetained (needed_retention options.mode) shelf.now.names shelf.now.filled setting.now units.now outs.items) }
 {
     let disk = no_disk(alloc);
     let mut pass = shelf.pass()?;

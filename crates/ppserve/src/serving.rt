@@ -4,7 +4,7 @@ ghost use Rattle.ppserve.specs.Contents.{AreInList, ArePermitted};
 ghost use Rattle.ppserve.specs.Listing.{IsRunnable};
 ghost use Rattle.ppserve.specs.declared.serving.RunFault.TheVariants.{List as ListRefused, Memory as OutOfMemory};
 ghost use Rattle.ppserve.specs.declared.serving.RunFault.TheVariants.{Read as ReadFailed, Write as WriteFailed};
-ghost use Rattle.ppserve.specs.Serving.{some_fault, Received, ReadsList, WritesAll, WritesPrefix, Serves, ServesPrefix, Refuses};
+ghost use Rattle.ppserve.specs.Serving.{any_fault, Received, ReadsList, WritesAll, WritesPrefix, Serves, ServesPrefix, Refuses};
 
 use crate::list::{List, ListFault, MOST_INPUT, read_list};
 use crate::out_buffer::OutBuffer;
@@ -290,7 +290,7 @@ fn write_output<W: Sink>(
 
 /// Returns whether a unit has a fault.
 fn any_fault(outs: &[UnitOut]) -> bool
-    ensures { result ≡ some_fault outs.now }
+    ensures { result ≡ any_fault outs.now }
 {
     for out in outs {
         if out.fault.is_some() {

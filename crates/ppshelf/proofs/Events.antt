@@ -9,7 +9,7 @@ use Rattle.std.proofs.lemmas.Option.{none-some, same_Some}
 use Rattle.ppshelf.specs.Content.{Content}
 use Rattle.ppshelf.specs.Files.{Files, file_at, Extends}
 use Rattle.ppshelf.proofs.Files.{none_known}
-use Rattle.ppshelf.specs.Events.{Caller, no_caller, Shared, caller_at, observed_by, with_changed_caller, observing, caching, with_block, with_no_block_left, with_next_block, Event, Happens, keeps, reads, claims, finds_none, Happen, none, next, initial_state, ObservedStays, CallersAgree, times, claims_of, EachBlockOnce}
+use Rattle.ppshelf.specs.Events.{Caller, no_caller, Shared, caller_at, observed_by, with_changed_caller, observing, caching, with_block, with_no_block_left, with_next_block, Event, Happens, caches, reads, claims, finds_none, Happen, none, next, initial_state, ObservedStays, CallersAgree, times, claims_of, EachBlockOnce}
 
 -- all that a caller has observed is cached
 abbrev Sound : Shared → Type 0
@@ -106,7 +106,7 @@ unlearnt before after cached same sound = (
 )
 
 happens : (blocks : ℕ) (before : Shared) (event : Event) (after : Shared) → Happens blocks before event after → Sound before → Sound after × Grown before after
-happens blocks before event after (keeps {caller = caller} {row = row} {c = c} there within free) sound =
+happens blocks before event after (caches {caller = caller} {row = row} {c = c} there within free) sound =
     let wider : Extends (set before.cached row (Some c)) before.cached = set_extends before.cached row c (λ d e. absurd (none-some d (sym free ∙ e))) in
     let still : Sound (caching before row c) = λ who at d e. wider at d (sound who at d e) in
     learns (caching before row c) caller row c there still (get_or-set_same before.cached row (Some c) None within)
@@ -201,7 +201,7 @@ append_none [] = refl
 append_none (x ∷ xs) = ap (λ (l : List ℕ). x ∷ l) (append_none xs)
 
 counted : (blocks : ℕ) (before : Shared) (event : Event) (after : Shared) → Happens blocks before event after → Counted blocks before → Counted blocks after
-counted blocks before event after (keeps {caller = caller} {row = row} {c = c} there within free) h =
+counted blocks before event after (caches {caller = caller} {row = row} {c = c} there within free) h =
     uncounted blocks before caller (λ (k : Caller). record k { observed = set k.observed row (Some c) }) (set before.cached row (Some c)) (λ k. append_none k.claims) (λ k. refl) there h
 counted blocks before event after (reads {caller = caller} {row = row} {c = c} there cached) h =
     uncounted blocks before caller (λ (k : Caller). record k { observed = set k.observed row (Some c) }) before.cached (λ k. append_none k.claims) (λ k. refl) there h

@@ -10,10 +10,10 @@ use Rattle.std.proofs.lemmas.Bool.{cases_lt, cases_eq}
 use Rattle.std.proofs.lemmas.Option.{none-some, same_Some}
 use Rattle.ppshelf.specs.Content.{Content, IsPermitted}
 use Rattle.ppshelf.specs.Names.{name_in}
-use Rattle.ppshelf.specs.Files.{Files, TableView, file_at, AllPermitted, or_else, Agree, IsMerged, Extends}
+use Rattle.ppshelf.specs.Files.{Files, ShelfView, file_at, AllPermitted, or_else, Agree, IsMerged, Extends}
 use Rattle.pptext.specs.declared.hashing.Hashing.{Hashing}
 use Rattle.pptext.specs.declared.sources.Profile.{Profile}
-use Rattle.ppshelf.specs.code.TableRows.{LoadedView, RowState, Observation, IsPlaced, FitsRow, Placed, IsPass, files_of, names_of, base_of, cells_of, table_view, row_state_at, no_observation, no_row_state}
+use Rattle.ppshelf.specs.code.ShelfRows.{LoadedView, RowState, Observation, IsPlaced, FitsRow, Placed, IsPass, files_of, names_of, filled_of, cells_of, shelf_view, row_state_at, no_observation, no_row_state}
 
 -- a map that knows nothing knows no row
 pub none_known : (rows row : ℕ) → file_at (replicate rows None) row ≡ None
@@ -24,23 +24,23 @@ none_known (suc rows) (suc row) = none_known rows row
 abbrev pub content_of_sight : Observation → Option Content
 content_of_sight s = option_map (λ (h : LoadedView). h.content) s.shown
 
-pub files_of-at : (sights : List Observation) (row : ℕ) → file_at (files_of sights) row ≡ content_of_sight (get_or sights row no_observation)
-files_of-at sights row = get_or-map content_of_sight sights row no_observation
+pub files_of-at : (observations : List Observation) (row : ℕ) → file_at (files_of observations) row ≡ content_of_sight (get_or observations row no_observation)
+files_of-at observations row = get_or-map content_of_sight observations row no_observation
 
 some_of : (o : Option LoadedView) (c : Content) → option_map (λ (h : LoadedView). h.content) o ≡ Some c → (h : LoadedView) × (o ≡ Some h) × (h.content ≡ c)
 some_of None c e = absurd (none-some c e)
 some_of (Some h) c e = (h, refl, same_Some h.content c e)
 
 -- a row that is known was shown
-pub shown_of : (sights : List Observation) (row : ℕ) (c : Content) → file_at (files_of sights) row ≡ Some c → (h : LoadedView) × ((get_or sights row no_observation).shown ≡ Some h) × (h.content ≡ c)
-shown_of sights row c e = some_of (get_or sights row no_observation).shown c (sym (files_of-at sights row) ∙ e)
+pub shown_of : (observations : List Observation) (row : ℕ) (c : Content) → file_at (files_of observations) row ≡ Some c → (h : LoadedView) × ((get_or observations row no_observation).shown ≡ Some h) × (h.content ≡ c)
+shown_of observations row c e = some_of (get_or observations row no_observation).shown c (sym (files_of-at observations row) ∙ e)
 
 -- and lies within the list
-pub known_within : (sights : List Observation) (row : ℕ) (c : Content) → file_at (files_of sights) row ≡ Some c → row < length sights
-known_within sights row c e =
-    elim (cases_lt row (length sights)) [
+pub known_within : (observations : List Observation) (row : ℕ) (c : Content) → file_at (files_of observations) row ≡ Some c → row < length observations
+known_within observations row c e =
+    elim (cases_lt row (length observations)) [
       | inl h ↦ h
-      | inr h ↦ absurd (none-some c (ap content_of_sight (sym (get_or_past sights row no_observation h)) ∙ (sym (files_of-at sights row) ∙ e)))
+      | inr h ↦ absurd (none-some c (ap content_of_sight (sym (get_or_past observations row no_observation h)) ∙ (sym (files_of-at observations row) ∙ e)))
     ]
 
 -- ---- what callers see of a row
@@ -56,114 +56,114 @@ held_is (Some h) profile row name p =
     let two : Some (record h { row = row }) ≡ Some (record h { row = row; name = name }) = ap (λ (n : List ℕ). Some (record h { row = row; name = n })) e.1 in
     one ∙ (two ∙ ap (λ (p : Profile). Some (held p row name h.content)) e.2)
 
-spot_by : (s : RowState) (profile : Profile) (row : ℕ) (name : List ℕ) (base : Option Content) (cell : ℕ)
+spot_by : (s : RowState) (profile : Profile) (row : ℕ) (name : List ℕ) (filled : Option Content) (cell : ℕ)
     → name ≡ s.name
-    → base ≡ option_map (λ (h : LoadedView). h.content) s.base
+    → filled ≡ option_map (λ (h : LoadedView). h.content) s.filled
     → cell ≡ s.cell
-    → ((h : LoadedView) → s.base ≡ Some h → IsPlaced profile row s.name h)
-    → s ≡ record { name = name; base = option_map (held profile row name) base; cell = cell }
-spot_by s profile row name base cell named based celled p =
-    let contents : Option Content = option_map (λ (h : LoadedView). h.content) s.base in
-    let a : s ≡ record s { base = option_map (held profile row s.name) contents } = ap (λ (b : Option LoadedView). record s { base = b }) (held_is s.base profile row s.name p) in
+    → ((h : LoadedView) → s.filled ≡ Some h → IsPlaced profile row s.name h)
+    → s ≡ record { name = name; filled = option_map (held profile row name) filled; cell = cell }
+spot_by s profile row name filled cell named based celled p =
+    let contents : Option Content = option_map (λ (h : LoadedView). h.content) s.filled in
+    let a : s ≡ record s { filled = option_map (held profile row s.name) contents } = ap (λ (b : Option LoadedView). record s { filled = b }) (held_is s.filled profile row s.name p) in
     a
-    ∙ (ap (λ (n : List ℕ). record { name = n; base = option_map (held profile row n) contents; cell = s.cell }) (sym named)
-    ∙ (ap (λ (b : Option Content). record { name = name; base = option_map (held profile row name) b; cell = s.cell }) (sym based)
-    ∙ ap (λ (k : ℕ). record { name = name; base = option_map (held profile row name) base; cell = k }) (sym celled)))
+    ∙ (ap (λ (n : List ℕ). record { name = n; filled = option_map (held profile row n) contents; cell = s.cell }) (sym named)
+    ∙ (ap (λ (b : Option Content). record { name = name; filled = option_map (held profile row name) b; cell = s.cell }) (sym based)
+    ∙ ap (λ (k : ℕ). record { name = name; filled = option_map (held profile row name) filled; cell = k }) (sym celled)))
 
 -- what a row is, callers see
-pub spot_is : (profile : Profile) (hashing : Hashing) (rows : List RowState) (row : ℕ) (spot : RowState) → Placed profile rows → row < length rows → spot ≡ get_or rows row spot → spot ≡ row_state_at (table_view profile hashing rows) row
-spot_is profile hashing rows row spot placed within read =
+pub spot_is : (profile : Profile) (hashing : Hashing) (rows : List RowState) (row : ℕ) (state : RowState) → Placed profile rows → row < length rows → state ≡ get_or rows row state → state ≡ row_state_at (shelf_view profile hashing rows) row
+spot_is profile hashing rows row state placed within read =
     let name : RowState → List ℕ = λ s. s.name in
-    let base : RowState → Option Content = λ s. option_map (λ (h : LoadedView). h.content) s.base in
+    let filled : RowState → Option Content = λ s. option_map (λ (h : LoadedView). h.content) s.filled in
     let cell : RowState → ℕ = λ s. s.cell in
-    get_or_read rows row spot within read no_row_state
-    ∙ spot_by (get_or rows row no_row_state) profile row (name_in (names_of rows) row) (file_at (base_of rows) row) (get_or (cells_of rows) row 0)
-    (get_or-map name rows row no_row_state) (get_or-map base rows row no_row_state) (get_or-map cell rows row no_row_state) (placed row)
+    get_or_read rows row state within read no_row_state
+    ∙ spot_by (get_or rows row no_row_state) profile row (name_in (names_of rows) row) (file_at (filled_of rows) row) (get_or (cells_of rows) row 0)
+    (get_or-map name rows row no_row_state) (get_or-map filled rows row no_row_state) (get_or-map cell rows row no_row_state) (placed row)
 
 -- ---- what a pass knows
 
-pub lawful_files : (may : List ℕ → Content → Type 0) (stock : TableView) (sights : List Observation) → IsPass may stock sights → AllPermitted may stock.names (files_of sights)
-lawful_files may stock sights is row c e =
-    let s = shown_of sights row c e in
-    let within : row < length stock.names = let k = known_within sights row c e in let l = is.len in omega arith in
+pub lawful_files : (may : List ℕ → Content → Type 0) (stock : ShelfView) (observations : List Observation) → IsPass may stock observations → AllPermitted may stock.names (files_of observations)
+lawful_files may stock observations is row c e =
+    let s = shown_of observations row c e in
+    let within : row < length stock.names = let k = known_within observations row c e in let l = is.len in omega arith in
     let f = (is.rows row within).fits s.0 s.1 in
     let P : Content → Type 0 = λ x. IsPermitted may (name_in stock.names row) x in
     let Q : List ℕ → Type 0 = λ n. IsPermitted may n s.0.content in
     subst P s.2 (subst Q f.name_is f.contents_permitted)
 
 -- what is known of a row that was filled is what was put there
-pub filled_files : (may : List ℕ → Content → Type 0) (stock : TableView) (sights : List Observation) → IsPass may stock sights → Agree stock.base (files_of sights)
-filled_files may stock sights is row c d base known =
-    let s = shown_of sights row d known in
-    let within : row < length stock.names = let k = known_within sights row d known in let l = is.len in omega arith in
+pub filled_files : (may : List ℕ → Content → Type 0) (stock : ShelfView) (observations : List Observation) → IsPass may stock observations → Agree stock.filled (files_of observations)
+filled_files may stock observations is row c d filled known =
+    let s = shown_of observations row d known in
+    let within : row < length stock.names = let k = known_within observations row d known in let l = is.len in omega arith in
     let f = (is.rows row within).fits s.0 s.1 in
     let b : LoadedView = held stock.profile row (name_in stock.names row) c in
-    let there : (row_state_at stock row).base ≡ Some b = ap (option_map (held stock.profile row (name_in stock.names row))) base in
+    let there : (row_state_at stock row).filled ≡ Some b = ap (option_map (held stock.profile row (name_in stock.names row))) filled in
     elim f.from [
       | inl e ↦ ap (λ (h : LoadedView). h.content) (same_Some b s.0 (sym there ∙ e)) ∙ s.2
       | inr n ↦ absurd (none-some b (sym n.0 ∙ there))
     ]
 
-pub placed_read : (profile : Profile) (stock : List RowState) (row : ℕ) (spot : RowState)
+pub placed_read : (profile : Profile) (stock : List RowState) (row : ℕ) (state : RowState)
     → Placed profile stock
     → row < length stock
-    → spot ≡ get_or stock row spot
+    → state ≡ get_or stock row state
     → (h : LoadedView)
-    → spot.base ≡ Some h
-    → IsPlaced profile row spot.name h
-placed_read profile stock row spot placed within read h is =
-    let same : spot ≡ get_or stock row no_row_state = get_or_read stock row spot within read no_row_state in
-    let at : (get_or stock row no_row_state).base ≡ Some h = ap (λ (s : RowState). s.base) (sym same) ∙ is in
+    → state.filled ≡ Some h
+    → IsPlaced profile row state.name h
+placed_read profile stock row state placed within read h is =
+    let same : state ≡ get_or stock row no_row_state = get_or_read stock row state within read no_row_state in
+    let at : (get_or stock row no_row_state).filled ≡ Some h = ap (λ (s : RowState). s.filled) (sym same) ∙ is in
     let p = placed row h at in
     (p.0, p.1 ∙ ap (λ (s : RowState). s.name) (sym same), p.2)
 
 -- what is known after the row is shown h
-pub files_of-set : (sights : List Observation) (row : ℕ) (s : Observation) (h : LoadedView) → s.shown ≡ Some h → files_of (set sights row s) ≡ set (files_of sights) row (Some h.content)
-files_of-set sights row s h is = map-set content_of_sight sights row s ∙ ap (λ (o : Option LoadedView). set (files_of sights) row (option_map (λ (x : LoadedView). x.content) o)) is
+pub files_of-set : (observations : List Observation) (row : ℕ) (s : Observation) (h : LoadedView) → s.shown ≡ Some h → files_of (set observations row s) ≡ set (files_of observations) row (Some h.content)
+files_of-set observations row s h is = map-set content_of_sight observations row s ∙ ap (λ (o : Option LoadedView). set (files_of observations) row (option_map (λ (x : LoadedView). x.content) o)) is
 
 -- where nothing new was shown, what is known stays
-pub files_of-same : (sights : List Observation) (row : ℕ) (s old : Observation) → row < length sights → old ≡ get_or sights row old → s.shown ≡ old.shown → files_of (set sights row s) ≡ files_of sights
-files_of-same sights row s old within read is =
-    let same : old ≡ get_or sights row no_observation = get_or_read sights row old within read no_observation in
-    map-set_same content_of_sight sights row s no_observation (ap (λ (o : Option LoadedView). option_map (λ (x : LoadedView). x.content) o) (is ∙ ap (λ (x : Observation). x.shown) same))
+pub files_of-same : (observations : List Observation) (row : ℕ) (s old : Observation) → row < length observations → old ≡ get_or observations row old → s.shown ≡ old.shown → files_of (set observations row s) ≡ files_of observations
+files_of-same observations row s old within read is =
+    let same : old ≡ get_or observations row no_observation = get_or_read observations row old within read no_observation in
+    map-set_same content_of_sight observations row s no_observation (ap (λ (o : Option LoadedView). option_map (λ (x : LoadedView). x.content) o) (is ∙ ap (λ (x : Observation). x.shown) same))
 
 -- a caller that has observed nothing of the first n rows
-pub record Unseen (stock : List RowState) (sights : List Observation) (n : ℕ) : Type 0 where
-  pub len : length sights ≡ n
-  pub each : (row : ℕ) → row < n → ((get_or sights row no_observation).cell ≡ (get_or stock row no_row_state).cell) × ((get_or sights row no_observation).shown ≡ None)
-  pub files : files_of sights ≡ replicate n None
+pub record Unseen (stock : List RowState) (observations : List Observation) (n : ℕ) : Type 0 where
+  pub len : length observations ≡ n
+  pub each : (row : ℕ) → row < n → ((get_or observations row no_observation).cell ≡ (get_or stock row no_row_state).cell) × ((get_or observations row no_observation).shown ≡ None)
+  pub files : files_of observations ≡ replicate n None
 
-get_or_last : (sights : List Observation) (s : Observation) (row : ℕ) → row ≡ length sights → get_or (sights ++ s ∷ []) row no_observation ≡ s
-get_or_last sights s row e = grind (arith, common_steps)
+get_or_last : (observations : List Observation) (s : Observation) (row : ℕ) → row ≡ length observations → get_or (observations ++ s ∷ []) row no_observation ≡ s
+get_or_last observations s row e = grind (arith, common_steps)
 
-get_or_front : (sights : List Observation) (s : Observation) (row : ℕ) → row < length sights → get_or (sights ++ s ∷ []) row no_observation ≡ get_or sights row no_observation
-get_or_front sights s row e = grind (arith, common_steps)
+get_or_front : (observations : List Observation) (s : Observation) (row : ℕ) → row < length observations → get_or (observations ++ s ∷ []) row no_observation ≡ get_or observations row no_observation
+get_or_front observations s row e = grind (arith, common_steps)
 
-pub unseen_more : (stock : List RowState) (sights : List Observation) (n : ℕ) (spot : RowState) (s : Observation)
-    → Unseen stock sights n
+pub unseen_more : (stock : List RowState) (observations : List Observation) (n : ℕ) (state : RowState) (s : Observation)
+    → Unseen stock observations n
     → n < length stock
-    → spot ≡ get_or stock n spot
-    → s.cell ≡ spot.cell
+    → state ≡ get_or stock n state
+    → s.cell ≡ state.cell
     → s.shown ≡ None
-    → Unseen stock (sights ++ s ∷ []) (n + 1)
-unseen_more stock sights n spot s u within read cell shown = let len = u.len in record {
-  len = omega (arith, length-append sights (s ∷ []));
+    → Unseen stock (observations ++ s ∷ []) (n + 1)
+unseen_more stock observations n state s u within read cell shown = let len = u.len in record {
+  len = omega (arith, length-append observations (s ∷ []));
   each = λ row below.
       elim (cases_lt row n) [
-        | inl h ↦ let at = get_or_front sights s row (omega arith) in let e = u.each row h in (ap (λ (x : Observation). x.cell) at ∙ e.0, ap (λ (x : Observation). x.shown) at ∙ e.1)
+        | inl h ↦ let at = get_or_front observations s row (omega arith) in let e = u.each row h in (ap (λ (x : Observation). x.cell) at ∙ e.0, ap (λ (x : Observation). x.shown) at ∙ e.1)
         | inr h ↦
             let is : row ≡ n = omega arith in
-            let at = get_or_last sights s row (omega arith) in
-            let place : spot ≡ get_or stock row no_row_state = get_or_read stock n spot within read no_row_state ∙ ap (λ k. get_or stock k no_row_state) (sym is) in
+            let at = get_or_last observations s row (omega arith) in
+            let place : state ≡ get_or stock row no_row_state = get_or_read stock n state within read no_row_state ∙ ap (λ k. get_or stock k no_row_state) (sym is) in
             (ap (λ (x : Observation). x.cell) at ∙ (cell ∙ ap (λ (x : RowState). x.cell) place), ap (λ (x : Observation). x.shown) at ∙ shown)
       ];
-  files = map-append content_of_sight sights (s ∷ [])
+  files = map-append content_of_sight observations (s ∷ [])
       ∙ (ap (λ (f : Files). f ++ content_of_sight s ∷ []) u.files
       ∙ (ap (λ (o : Option LoadedView). replicate n None ++ option_map (λ (h : LoadedView). h.content) o ∷ []) shown ∙ replicate_more n None));
 }
 
-pub unseen_pass : (may : List ℕ → Content → Type 0) (profile : Profile) (hashing : Hashing) (rows : List RowState) (sights : List Observation) → Unseen rows sights (length rows) → IsPass may (table_view profile hashing rows) sights
-unseen_pass may profile hashing rows sights u =
+pub unseen_pass : (may : List ℕ → Content → Type 0) (profile : Profile) (hashing : Hashing) (rows : List RowState) (observations : List Observation) → Unseen rows observations (length rows) → IsPass may (shelf_view profile hashing rows) observations
+unseen_pass may profile hashing rows observations u =
     let count : length (names_of rows) ≡ length rows = length-map rows (λ (s : RowState). s.name) in
     record {
       len = u.len ∙ sym count;
@@ -179,14 +179,14 @@ set_there : (xs : List Observation) (n row : ℕ) (s : Observation) → (row ≡
 set_there xs n row s e = get_or-set_other xs n row s no_observation e
 
 -- a row that was looked at again leaves a pass of the shelf
-pub pass_set : (may : List ℕ → Content → Type 0) (stock : TableView) (sights : List Observation) (row : ℕ) (spot : RowState) (s : Observation)
-    → IsPass may stock sights
+pub pass_set : (may : List ℕ → Content → Type 0) (stock : ShelfView) (observations : List Observation) (row : ℕ) (state : RowState) (s : Observation)
+    → IsPass may stock observations
     → row < length stock.names
-    → spot ≡ row_state_at stock row
-    → FitsRow may stock.profile row spot s
-    → IsPass may stock (set sights row s)
-pass_set may stock sights n spot s is w at fits = record {
-  len = length-set sights n s ∙ is.len;
+    → state ≡ row_state_at stock row
+    → FitsRow may stock.profile row state s
+    → IsPass may stock (set observations row s)
+pass_set may stock observations n state s is w at fits = record {
+  len = length-set observations n s ∙ is.len;
   rows = λ row within.
       elim (cases_eq row n) [
         | inl e ↦
@@ -194,54 +194,54 @@ pass_set may stock sights n spot s is w at fits = record {
             let Q : RowState → Type 0 = λ x. FitsRow may stock.profile n x s in
             let R : ℕ → Type 0 = λ k. FitsRow may stock.profile k (row_state_at stock k) s in
             let len = is.len in
-            subst P (sym (set_here sights n row s e (omega arith))) (subst R (sym e) (subst Q at fits))
+            subst P (sym (set_here observations n row s e (omega arith))) (subst R (sym e) (subst Q at fits))
         | inr e ↦
             let P : Observation → Type 0 = λ x. FitsRow may stock.profile row (row_state_at stock row) x in
-            subst P (sym (set_there sights n row s e)) (is.rows row within)
+            subst P (sym (set_there observations n row s e)) (is.rows row within)
       ];
 }
 
 -- ---- a row of a shelf that is looked at
 
-pub fits_at : (may : List ℕ → Content → Type 0) (profile : Profile) (hashing : Hashing) (rows : List RowState) (stock : TableView) (sights : List Observation) (row : ℕ) (spot : RowState) (s : Observation)
+pub fits_at : (may : List ℕ → Content → Type 0) (profile : Profile) (hashing : Hashing) (rows : List RowState) (stock : ShelfView) (observations : List Observation) (row : ℕ) (state : RowState) (s : Observation)
     → Placed profile rows
-    → stock ≡ table_view profile hashing rows
+    → stock ≡ shelf_view profile hashing rows
     → row < length rows
-    → spot ≡ get_or rows row spot
-    → IsPass may stock sights
-    → s ≡ get_or sights row s → FitsRow may profile row spot s
-fits_at may profile hashing rows stock sights row spot s placed same w read is mine =
+    → state ≡ get_or rows row state
+    → IsPass may stock observations
+    → s ≡ get_or observations row s → FitsRow may profile row state s
+fits_at may profile hashing rows stock observations row state s placed same w read is mine =
     let count : length (names_of rows) ≡ length rows = length-map rows (λ (x : RowState). x.name) in
-    let long : length stock.names ≡ length (names_of rows) = ap (λ (x : TableView). length x.names) same in
+    let long : length stock.names ≡ length (names_of rows) = ap (λ (x : ShelfView). length x.names) same in
     let len = is.len in
-    let at : spot ≡ row_state_at stock row = spot_is profile hashing rows row spot placed w read ∙ ap (λ (x : TableView). row_state_at x row) (sym same) in
-    let P : Observation → Type 0 = λ x. FitsRow may profile row spot x in
-    let Q : RowState → Type 0 = λ x. FitsRow may profile row x (get_or sights row no_observation) in
-    let R : Profile → Type 0 = λ p. FitsRow may p row (row_state_at stock row) (get_or sights row no_observation) in
-    subst P (sym (get_or_read sights row s (omega arith) mine no_observation)) (subst Q (sym at) (subst R (ap (λ (x : TableView). x.profile) same) (is.rows row (omega arith))))
+    let at : state ≡ row_state_at stock row = spot_is profile hashing rows row state placed w read ∙ ap (λ (x : ShelfView). row_state_at x row) (sym same) in
+    let P : Observation → Type 0 = λ x. FitsRow may profile row state x in
+    let Q : RowState → Type 0 = λ x. FitsRow may profile row x (get_or observations row no_observation) in
+    let R : Profile → Type 0 = λ p. FitsRow may p row (row_state_at stock row) (get_or observations row no_observation) in
+    subst P (sym (get_or_read observations row s (omega arith) mine no_observation)) (subst Q (sym at) (subst R (ap (λ (x : ShelfView). x.profile) same) (is.rows row (omega arith))))
 
-pub shown_pass : (may : List ℕ → Content → Type 0) (profile : Profile) (hashing : Hashing) (rows : List RowState) (stock : TableView) (sights : List Observation) (row : ℕ) (spot : RowState)
+pub shown_pass : (may : List ℕ → Content → Type 0) (profile : Profile) (hashing : Hashing) (rows : List RowState) (stock : ShelfView) (observations : List Observation) (row : ℕ) (state : RowState)
     (s : Observation)
     → Placed profile rows
-    → stock ≡ table_view profile hashing rows
+    → stock ≡ shelf_view profile hashing rows
     → row < length rows
-    → spot ≡ get_or rows row spot
-    → IsPass may stock sights
-    → FitsRow may profile row spot s → IsPass may stock (set sights row s)
-shown_pass may profile hashing rows stock sights row spot s placed same w read is fits =
+    → state ≡ get_or rows row state
+    → IsPass may stock observations
+    → FitsRow may profile row state s → IsPass may stock (set observations row s)
+shown_pass may profile hashing rows stock observations row state s placed same w read is fits =
     let count : length (names_of rows) ≡ length rows = length-map rows (λ (x : RowState). x.name) in
-    let long : length stock.names ≡ length (names_of rows) = ap (λ (x : TableView). length x.names) same in
-    pass_set may stock sights row spot s is (omega arith) (spot_is profile hashing rows row spot placed w read ∙ ap (λ (x : TableView). row_state_at x row) (sym same))
-    (let R : Profile → Type 0 = λ p. FitsRow may p row spot s in subst R (ap (λ (x : TableView). x.profile) (sym same)) fits)
+    let long : length stock.names ≡ length (names_of rows) = ap (λ (x : ShelfView). length x.names) same in
+    pass_set may stock observations row state s is (omega arith) (spot_is profile hashing rows row state placed w read ∙ ap (λ (x : ShelfView). row_state_at x row) (sym same))
+    (let R : Profile → Type 0 = λ p. FitsRow may p row state s in subst R (ap (λ (x : ShelfView). x.profile) (sym same)) fits)
 
 -- two passes are merged at the rows from n on
-pub record Met (may : List ℕ → Content → Type 0) (stock : TableView) (old other new : List Observation) (n : ℕ) : Type 0 where
+pub record Met (may : List ℕ → Content → Type 0) (stock : ShelfView) (old other new : List Observation) (n : ℕ) : Type 0 where
   pub is : IsPass may stock new
   pub cached : (row : ℕ) → row < n → get_or new row no_observation ≡ get_or old row no_observation
   pub joined : (row : ℕ) → n ≤ row → row < length stock.names → (get_or new row no_observation).shown ≡ or_else (get_or old row no_observation).shown (get_or other row no_observation).shown
   pub agree : (row : ℕ) → n ≤ row → row < length stock.names → (h k : LoadedView) → (get_or old row no_observation).shown ≡ Some h → (get_or other row no_observation).shown ≡ Some k → h ≡ k
 
-pub met_none : (may : List ℕ → Content → Type 0) (stock : TableView) (old other : List Observation) (n : ℕ) → IsPass may stock old → length stock.names ≤ n → Met may stock old other old n
+pub met_none : (may : List ℕ → Content → Type 0) (stock : ShelfView) (old other : List Observation) (n : ℕ) → IsPass may stock old → length stock.names ≤ n → Met may stock old other old n
 met_none may stock old other n is e = record {
   is = is;
   cached = λ row below. refl;
@@ -249,15 +249,15 @@ met_none may stock old other n is e = record {
   agree = λ row above within. absurd (omega arith);
 }
 
-pub met_more : (may : List ℕ → Content → Type 0) (stock : TableView) (old other new : List Observation) (n : ℕ) (spot : RowState) (mine theirs s : Observation) → Met may stock old other new (n + 1) → n < length stock.names
-    → spot ≡ row_state_at stock n → mine ≡ get_or new n mine → theirs ≡ get_or other n no_observation → FitsRow may stock.profile n spot s → s.shown ≡ or_else mine.shown theirs.shown
+pub met_more : (may : List ℕ → Content → Type 0) (stock : ShelfView) (old other new : List Observation) (n : ℕ) (state : RowState) (mine theirs s : Observation) → Met may stock old other new (n + 1) → n < length stock.names
+    → state ≡ row_state_at stock n → mine ≡ get_or new n mine → theirs ≡ get_or other n no_observation → FitsRow may stock.profile n state s → s.shown ≡ or_else mine.shown theirs.shown
     → ((h k : LoadedView) → mine.shown ≡ Some h → theirs.shown ≡ Some k → h ≡ k) → Met may stock old other (set new n s) n
-met_more may stock old other new n spot mine theirs s m w at mine_read theirs_is fits shown agree =
+met_more may stock old other new n state mine theirs s m w at mine_read theirs_is fits shown agree =
     let len = m.is.len in
     let mine_is : mine ≡ get_or new n no_observation = get_or_read new n mine (omega arith) mine_read no_observation in
     let old_is : mine ≡ get_or old n no_observation = mine_is ∙ m.cached n (omega arith) in
     record {
-      is = pass_set may stock new n spot s m.is w at fits;
+      is = pass_set may stock new n state s m.is w at fits;
       cached = λ row below. set_there new n row s (λ e. absurd (omega arith)) ∙ m.cached row (omega arith);
       joined = λ row above within.
           elim (cases_eq row n) [
@@ -277,7 +277,7 @@ met_more may stock old other new n spot mine theirs s m w at mine_read theirs_is
     }
 
 -- at the end every row is merged
-pub met_agree : (may : List ℕ → Content → Type 0) (stock : TableView) (old other new : List Observation) → Met may stock old other new 0 → length old ≡ length stock.names → Agree (files_of old) (files_of other)
+pub met_agree : (may : List ℕ → Content → Type 0) (stock : ShelfView) (old other new : List Observation) → Met may stock old other new 0 → length old ≡ length stock.names → Agree (files_of old) (files_of other)
 met_agree may stock old other new m len row c d a b =
     let s = shown_of old row c a in
     let t = shown_of other row d b in
@@ -288,7 +288,7 @@ or_else_content : (a b : Option LoadedView) → option_map (λ (h : LoadedView).
 or_else_content None b = refl
 or_else_content (Some h) b = refl
 
-pub met_joined : (may : List ℕ → Content → Type 0) (stock : TableView) (old other new : List Observation)
+pub met_joined : (may : List ℕ → Content → Type 0) (stock : ShelfView) (old other new : List Observation)
     → Met may stock old other new 0
     → length old ≡ length stock.names
     → length other ≡ length stock.names
@@ -311,15 +311,15 @@ popped_last other items len n theirs is value e = grind (arith, common_steps)
 pub popped_rest : (other items rest : List Observation) (len n : ℕ) → items ≡ take len other → rest ≡ take (len - 1) items → n + 1 ≡ len → rest ≡ take n other
 popped_rest other items rest len n is value e = grind (arith, common_steps)
 
-pub fits_read : (may : List ℕ → Content → Type 0) (stock : TableView) (sights : List Observation) (row : ℕ) (spot : RowState) (s : Observation)
-    → IsPass may stock sights
+pub fits_read : (may : List ℕ → Content → Type 0) (stock : ShelfView) (observations : List Observation) (row : ℕ) (state : RowState) (s : Observation)
+    → IsPass may stock observations
     → row < length stock.names
-    → spot ≡ row_state_at stock row
-    → s ≡ get_or sights row no_observation
-    → FitsRow may stock.profile row spot s
-fits_read may stock sights row spot s is w read at =
-    let P : Observation → Type 0 = λ x. FitsRow may stock.profile row spot x in
-    let Q : RowState → Type 0 = λ x. FitsRow may stock.profile row x (get_or sights row no_observation) in
+    → state ≡ row_state_at stock row
+    → s ≡ get_or observations row no_observation
+    → FitsRow may stock.profile row state s
+fits_read may stock observations row state s is w read at =
+    let P : Observation → Type 0 = λ x. FitsRow may stock.profile row state x in
+    let Q : RowState → Type 0 = λ x. FitsRow may stock.profile row x (get_or observations row no_observation) in
     subst P (sym at) (subst Q (sym read) (is.rows row w))
 
 some_join : (a b c' : Option Content) (c : Content) → ((d e : Content) → a ≡ Some d → b ≡ Some e → d ≡ e) → c' ≡ or_else a b → b ≡ Some c → c' ≡ Some c

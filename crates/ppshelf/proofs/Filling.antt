@@ -7,10 +7,10 @@ use Rattle.ppshelf.specs.Content.{Content, readable, IsPermitted}
 use Rattle.std.specs.Option.{option_map}
 use Rattle.ppshelf.specs.Names.{name_in}
 use Rattle.ppshelf.specs.IndexView.{IndexView}
-use Rattle.ppshelf.specs.Files.{TableView, IsFull, Filled, file_at, bytes_at}
+use Rattle.ppshelf.specs.Files.{ShelfView, IsFull, Filled, file_at, bytes_at}
 use Rattle.pptext.specs.declared.hashing.Hashing.{Hashing}
 use Rattle.pptext.specs.declared.sources.Profile.{Profile}
-use Rattle.ppshelf.specs.code.TableRows.{LoadedView, RowState, FilledRow, Placed, IsShelf, names_of, base_of, cells_of, table_view, no_row_state}
+use Rattle.ppshelf.specs.code.ShelfRows.{LoadedView, RowState, FilledRow, Placed, IsShelf, names_of, filled_of, cells_of, shelf_view, no_row_state}
 
 pub record Turned (profile : Profile) (gives : ℕ → List ℕ → Content → Type 0) (old new : List RowState) : Type 0 where
   pub len : length new ≡ length old
@@ -18,7 +18,7 @@ pub record Turned (profile : Profile) (gives : ℕ → List ℕ → Content → 
 
 pub record Filling (profile : Profile) (gives : ℕ → List ℕ → Content → Type 0) (old new : List RowState) (n : ℕ) : Type 0 where
   pub turned : Turned profile gives old new
-  pub full : (row : ℕ) → row < n → IsSome (get_or new row no_row_state).base
+  pub full : (row : ℕ) → row < n → IsSome (get_or new row no_row_state).filled
   pub ahead : (row : ℕ) → n ≤ row → get_or new row no_row_state ≡ get_or old row no_row_state
 
 untouched_row : (profile : Profile) (gives : ℕ → List ℕ → Content → Type 0) (row : ℕ) (s : RowState) → FilledRow (gives row) profile row s s
@@ -56,17 +56,17 @@ pub filling_more : (profile : Profile) (gives : ℕ → List ℕ → Content →
     → n < length old
     → mine ≡ get_or new n mine
     → FilledRow (gives n) profile n mine s
-    → IsSome s.base
+    → IsSome s.filled
     → Filling profile gives old (set new n s) (n + 1)
 filling_more profile gives old new n mine s f w read turned some = let len = f.turned.len in record {
   turned = turned_set profile gives old new n mine s f w read turned;
   full = λ row below.
       elim (cases_eq row n) [
         | inl e ↦
-            let P : ℕ → Type 0 = λ k. IsSome (get_or (set new n s) k no_row_state).base in
-            let Q : RowState → Type 0 = λ x. IsSome x.base in
+            let P : ℕ → Type 0 = λ k. IsSome (get_or (set new n s) k no_row_state).filled in
+            let Q : RowState → Type 0 = λ x. IsSome x.filled in
             subst P (sym e) (subst Q (sym (get_or-set_same new n s no_row_state (omega arith))) some)
-        | inr e ↦ let Q : RowState → Type 0 = λ x. IsSome x.base in subst Q (sym (get_or-set_other new n row s no_row_state e)) (f.full row (omega arith))
+        | inr e ↦ let Q : RowState → Type 0 = λ x. IsSome x.filled in subst Q (sym (get_or-set_other new n row s no_row_state e)) (f.full row (omega arith))
       ];
   ahead = λ row above. get_or-set_other new n row s no_row_state (λ e. absurd (omega arith)) ∙ f.ahead row (omega arith);
 }
@@ -80,13 +80,13 @@ placed_turned profile gives old new placed t row h is =
     elim (cases_lt row (length old)) [
       | inl w ↦
           let f = t.rows row w in
-          elim (old_or_new (get_or old row no_row_state).base) [
+          elim (old_or_new (get_or old row no_row_state).filled) [
             | inl e ↦ let l = (f.put h e is).0 in (l.0, l.1 ∙ sym f.name, l.2)
             | inr e ↦
                 let same : e.0 ≡ h = let a : Some e.0 ≡ Some h = sym (f.stays e.0 e.1) ∙ is in cc in
                 let p = placed row h (e.1 ∙ ap (λ (x : LoadedView). Some x) same) in (p.0, p.1 ∙ sym f.name, p.2)
           ]
-      | inr w ↦ absurd (none-some h (let l = t.len in ap (λ (s : RowState). s.base) (sym (get_or_past new row no_row_state (omega arith))) ∙ is))
+      | inr w ↦ absurd (none-some h (let l = t.len in ap (λ (s : RowState). s.filled) (sym (get_or_past new row no_row_state (omega arith))) ∙ is))
     ]
 
 -- a fill keeps the names
@@ -118,38 +118,38 @@ filled_by P None (Some h) stays put = put h refl refl
 
 filled_row : (gives : List ℕ → Content → Type 0) (profile : Profile) (row : ℕ) (old new : RowState)
     → FilledRow gives profile row old new
-    → Filled (gives old.name) (option_map (λ (h : LoadedView). h.content) old.base) (option_map (λ (h : LoadedView). h.content) new.base)
+    → Filled (gives old.name) (option_map (λ (h : LoadedView). h.content) old.filled) (option_map (λ (h : LoadedView). h.content) new.filled)
 filled_row gives profile row old new f =
-    filled_by (gives old.name) old.base new.base f.stays (λ h was now.
+    filled_by (gives old.name) old.filled new.filled f.stays (λ h was now.
     let l = f.put h was now in
     let P : List ℕ → Type 0 = λ n. gives n h.content in
     subst P l.0.1 l.1)
 
 -- what a fill makes of a shelf, as callers see it
-pub record Fills (gives : ℕ → List ℕ → Content → Type 0) (old new : TableView) : Type 0 where
+pub record Fills (gives : ℕ → List ℕ → Content → Type 0) (old new : ShelfView) : Type 0 where
   pub shelf : (new.names ≡ old.names) × (new.profile ≡ old.profile) × (new.cells ≡ old.cells)
   pub hashing : new.hashing ≡ old.hashing
-  pub base : (row : ℕ) → row < length old.names → Filled (gives row (name_in old.names row)) (file_at old.base row) (file_at new.base row)
-  pub len : length new.base ≡ length old.names
+  pub filled : (row : ℕ) → row < length old.names → Filled (gives row (name_in old.names row)) (file_at old.filled row) (file_at new.filled row)
+  pub len : length new.filled ≡ length old.names
 
-fills_turned : (profile : Profile) (hashing : Hashing) (gives : ℕ → List ℕ → Content → Type 0) (old new : List RowState) → Turned profile gives old new → Fills gives (table_view profile hashing old) (table_view profile hashing new)
+fills_turned : (profile : Profile) (hashing : Hashing) (gives : ℕ → List ℕ → Content → Type 0) (old new : List RowState) → Turned profile gives old new → Fills gives (shelf_view profile hashing old) (shelf_view profile hashing new)
 fills_turned profile hashing gives old new t =
     let name : RowState → List ℕ = λ s. s.name in
-    let base : RowState → Option Content = λ s. option_map (λ (h : LoadedView). h.content) s.base in
+    let filled : RowState → Option Content = λ s. option_map (λ (h : LoadedView). h.content) s.filled in
     record {
       shelf = (names_turned profile gives old new t, refl, cells_turned profile gives old new t);
       hashing = refl;
-      base = λ row below.
+      filled = λ row below.
           let before : row < length old = let l = length-map old name in omega arith in
           let within : row < length new = let l = t.len in omega arith in
-          let P : List ℕ → Type 0 = λ n. Filled (gives row n) (file_at (base_of old) row) (file_at (base_of new) row) in
-          let Q : Option Content → Type 0 = λ o. Filled (gives row (get_or old row no_row_state).name) o (file_at (base_of new) row) in
-          let R : Option Content → Type 0 = λ o. Filled (gives row (get_or old row no_row_state).name) (base (get_or old row no_row_state)) o in
+          let P : List ℕ → Type 0 = λ n. Filled (gives row n) (file_at (filled_of old) row) (file_at (filled_of new) row) in
+          let Q : Option Content → Type 0 = λ o. Filled (gives row (get_or old row no_row_state).name) o (file_at (filled_of new) row) in
+          let R : Option Content → Type 0 = λ o. Filled (gives row (get_or old row no_row_state).name) (filled (get_or old row no_row_state)) o in
           subst P (sym (get_or-map name old row no_row_state [] before))
-          (subst Q (sym (get_or-map base old row no_row_state None before))
-          (subst R (sym (get_or-map base new row no_row_state None within))
+          (subst Q (sym (get_or-map filled old row no_row_state None before))
+          (subst R (sym (get_or-map filled new row no_row_state None within))
           (filled_row (gives row) profile row (get_or old row no_row_state) (get_or new row no_row_state) (t.rows row before))));
-      len = length-map new base ∙ (t.len ∙ sym (length-map old name));
+      len = length-map new filled ∙ (t.len ∙ sym (length-map old name));
     }
 
 some_content : (o : Option LoadedView) → IsSome o → IsSome (option_map (λ (h : LoadedView). h.content) o)
@@ -157,12 +157,12 @@ some_content None some = some
 some_content (Some h) some = refl
 
 -- at the end each row is filled
-pub full_turned : (profile : Profile) (hashing : Hashing) (gives : ℕ → List ℕ → Content → Type 0) (old new : List RowState) (n : ℕ) → length old ≤ n → Filling profile gives old new n → IsFull (table_view profile hashing new)
+pub full_turned : (profile : Profile) (hashing : Hashing) (gives : ℕ → List ℕ → Content → Type 0) (old new : List RowState) (n : ℕ) → length old ≤ n → Filling profile gives old new n → IsFull (shelf_view profile hashing new)
 full_turned profile hashing gives old new n past f row below =
-    let base : RowState → Option Content = λ s. option_map (λ (h : LoadedView). h.content) s.base in
+    let filled : RowState → Option Content = λ s. option_map (λ (h : LoadedView). h.content) s.filled in
     let within : row < length new = let l = length-map new (λ (s : RowState). s.name) in omega arith in
     let P : Option Content → Type 0 = λ o. IsSome o in
-    subst P (sym (get_or-map base new row no_row_state None within)) (some_content (get_or new row no_row_state).base (f.full row (let l = f.turned.len in omega arith)))
+    subst P (sym (get_or-map filled new row no_row_state None within)) (some_content (get_or new row no_row_state).filled (f.full row (let l = f.turned.len in omega arith)))
 
 shelf_turned : (profile : Profile) (gives : ℕ → List ℕ → Content → Type 0) (names : List (List ℕ)) (old new : List RowState) → IsShelf profile names old → Turned profile gives old new → IsShelf profile names new
 shelf_turned profile gives names old new s t = record {
@@ -182,17 +182,17 @@ pub shelf_kept : {gives : ℕ → List ℕ → Content → Type 0} {before index
 shelf_kept {gives = gives} {before = before} {was = was} {old = old} {new = new} profile index s t = rw (profile, index) (shelf_turned was gives before.names old new s t)
 
 -- and fills what callers see
-pub fills_kept : {gives : ℕ → List ℕ → Content → Type 0} {before index : IndexView} {was is : Profile} {old new : List RowState} {now : TableView}
+pub fills_kept : {gives : ℕ → List ℕ → Content → Type 0} {before index : IndexView} {was is : Profile} {old new : List RowState} {now : ShelfView}
     → is ≡ was
     → index ≡ before
-    → table_view was before.hashing old ≡ now
+    → shelf_view was before.hashing old ≡ now
     → Turned was gives old new
-    → Fills gives now (table_view is index.hashing new)
+    → Fills gives now (shelf_view is index.hashing new)
 fills_kept {gives = gives} {before = before} {was = was} {old = old} {new = new} profile index view t = rw (profile, index, ← view) (fills_turned was before.hashing gives old new t)
 
 -- the rows are as many as the names that callers see
-pub rows_counted : (profile : Profile) (hashing : Hashing) (rows : List RowState) {now : TableView} → table_view profile hashing rows ≡ now → length rows ≡ length now.names
-rows_counted profile hashing rows view = sym (length-map rows (λ (s : RowState). s.name)) ∙ ap (λ (s : TableView). length s.names) view
+pub rows_counted : (profile : Profile) (hashing : Hashing) (rows : List RowState) {now : ShelfView} → shelf_view profile hashing rows ≡ now → length rows ≡ length now.names
+rows_counted profile hashing rows view = sym (length-map rows (λ (s : RowState). s.name)) ∙ ap (λ (s : ShelfView). length s.names) view
 
 -- what a shelf that is filled with contents holds in each row
 abbrev pub given : List (List ℕ) → ℕ → List ℕ → Content → Type 0

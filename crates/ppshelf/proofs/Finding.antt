@@ -10,7 +10,7 @@ use Rattle.ppshelf.specs.MemoryFiles.{IsFile}
 use Rattle.ppshelf.specs.Names.{AreNames}
 use Rattle.ppshelf.specs.Files.{Files, most_rows}
 use Rattle.pptext.specs.declared.sources.Profile.{Profile}
-use Rattle.ppshelf.specs.code.TableRows.{LoadedView, RowState, Placed, IsShelf, base_of, names_of, no_row_state}
+use Rattle.ppshelf.specs.code.ShelfRows.{LoadedView, RowState, Placed, IsShelf, filled_of, names_of, no_row_state}
 use Rattle.ppshelf.specs.declared.memory_disk.File.{File}
 use Rattle.ppshelf.proofs.Files.{none_known}
 
@@ -25,22 +25,22 @@ found files i f name c w read e is = let P : List File → Type 0 = λ xs. IsFil
 pub skipped : (files : List File) (i : ℕ) (f : File) (name : List ℕ) (c : Content) → i < length files → f ≡ get_or files i f → string_bytes f.name ≢ name → IsFile (drop (i + 1) files) name c → IsFile (drop i files) name c
 skipped files i f name c w read other later = let P : List File → Type 0 = λ xs. IsFile xs name c in subst P (cons_at files i f w read) ((λ e. absurd (other e)), (λ _. later))
 
-pub none_placed : (profile : Profile) (stock : List RowState) (n : ℕ) → base_of stock ≡ replicate n None → Placed profile stock
+pub none_placed : (profile : Profile) (stock : List RowState) (n : ℕ) → filled_of stock ≡ replicate n None → Placed profile stock
 none_placed profile stock n e row h is =
-    let base : RowState → Option Content = λ (s : RowState). option_map (λ (x : LoadedView). x.content) s.base in
-    absurd (none-some h.content (sym (none_known n row) ∙ (ap (λ (f : Files). get_or f row None) (sym e) ∙ (get_or-map base stock row no_row_state ∙ ap (λ (o : Option LoadedView). option_map (λ (x : LoadedView). x.content) o) is))))
+    let filled : RowState → Option Content = λ (s : RowState). option_map (λ (x : LoadedView). x.content) s.filled in
+    absurd (none-some h.content (sym (none_known n row) ∙ (ap (λ (f : Files). get_or f row None) (sym e) ∙ (get_or-map filled stock row no_row_state ∙ ap (λ (o : Option LoadedView). option_map (λ (x : LoadedView). x.content) o) is))))
 
 -- rows of these names, of which none is filled, with an index of the same names
 pub empty_shelf : (profile : Profile) (index names : List (List ℕ)) (stock : List RowState) (n : ℕ)
     → index ≡ names
     → names_of stock ≡ names
-    → base_of stock ≡ replicate n None
+    → filled_of stock ≡ replicate n None
     → length names ≤ most_rows
     → AreNames index
     → IsShelf profile index stock
-empty_shelf profile index names stock n is named base small form = record {
+empty_shelf profile index names stock n is named filled small form = record {
   small = let l = length-map stock (λ (s : RowState). s.name) in let m = ap length named in omega arith;
   named = is ∙ sym named;
   form = form;
-  placed = none_placed profile stock n base;
+  placed = none_placed profile stock n filled;
 }

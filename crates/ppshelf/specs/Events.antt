@@ -60,7 +60,7 @@ pub data Event : Type 0 where
 -- content, and the caller observes it. Read: the caller observes what the row caches. Claim: the caller gets the next
 -- block if there is one, and otherwise finds that none is left. The number of the next block rises by one.
 pub data Happens (blocks : ℕ) : Shared → Event → Shared → Type 0 where
-  keeps : {shared : Shared} {caller row : ℕ} {c : Content}
+  caches : {shared : Shared} {caller row : ℕ} {c : Content}
       → caller < length shared.callers
       → row < length shared.cached
       → file_at shared.cached row ≡ None

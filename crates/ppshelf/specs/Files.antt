@@ -38,21 +38,21 @@ AllPermitted may names files = (row : ℕ) (c : Content) → file_at files row �
 
 -- A shelf as callers see it: the names of its rows, the contents from `fill`, the profile by which all are read, the
 -- hash function of the names, and its identity: no other shelf with a row has its cells
-pub record TableView : Type 0 where
+pub record ShelfView : Type 0 where
   pub names : List (List ℕ)
-  pub base : Files
+  pub filled : Files
   pub profile : Profile
   pub hashing : Hashing
   pub cells : List ℕ
 
 -- The shelf that a pass belongs to, and what the pass has observed
 pub record PassView : Type 0 where
-  pub shelf : TableView
+  pub shelf : ShelfView
   pub files : Files
 
 -- `fill` put a content into each row
-abbrev pub IsFull : TableView → Type 0
-IsFull shelf = (row : ℕ) → row < length shelf.names → IsSome (file_at shelf.base row)
+abbrev pub IsFull : ShelfView → Type 0
+IsFull shelf = (row : ℕ) → row < length shelf.names → IsSome (file_at shelf.filled row)
 
 -- What a fill does to a row: a content stays, and an empty row stays empty or gets one of these contents
 abbrev pub Filled : (Content → Type 0) → Option Content → Option Content → Type 0

@@ -1,2 +1,2 @@
 -- Vocabulary of the code: only contracts inside this crate and views cite these files. No theorem rests on them.
-pub mod TableRows
+pub mod ShelfRows

@@ -6,7 +6,7 @@ ghost use Rattle.std.specs.String.{string_bytes};
 ghost use Rattle.pptext.specs.Sources.{Reads};
 ghost use Rattle.ppshelf.specs.Content.{unreadable, readable, IsPermitted, longest, content_of, IsRead};
 ghost use Rattle.ppshelf.specs.Files.{most_rows};
-ghost use Rattle.ppshelf.specs.code.TableRows.{LoadedView, IsPlaced};
+ghost use Rattle.ppshelf.specs.code.ShelfRows.{LoadedView, IsPlaced};
 
 use crate::disk::{Disk, ReadFault};
 use pptext::{Fault, LONGEST, Memory, Profile, Source, read_source, split_memory};
@@ -36,7 +36,7 @@ impl<D: Disk> Model for Loaded<D> {
     ghost use Rattle.std.specs.String.{string_bytes};
     ghost use Rattle.pptext.specs.Sources.{Reads};
     ghost use Rattle.ppshelf.specs.Content.{content_of, IsPermitted};
-    ghost use Rattle.ppshelf.specs.code.TableRows.{LoadedView};
+    ghost use Rattle.ppshelf.specs.code.ShelfRows.{LoadedView};
 
     ghost Value = { LoadedView };
 

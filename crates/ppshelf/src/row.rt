@@ -3,7 +3,7 @@ ghost use Rattle.std.specs.Prelude.{◌≡◌, ◌<◌, IfOk, OnErr, OnOk, IsSom
 ghost use Rattle.std.specs.String.{string_bytes};
 ghost use Rattle.ppshelf.specs.Content.{IsPermitted, readable};
 ghost use Rattle.ppshelf.specs.Files.{most_rows, or_else};
-ghost use Rattle.ppshelf.specs.code.TableRows.{LoadedView, IsPlaced, FitsRow, FilledRow};
+ghost use Rattle.ppshelf.specs.code.ShelfRows.{LoadedView, IsPlaced, FitsRow, FilledRow};
 
 use crate::disk::Disk;
 use crate::loaded::Loaded;
@@ -16,25 +16,25 @@ use std::mem;
 /// One row: its name, its content from a fill, and the cell in which looks cache a content.
 pub(crate) struct Row<D: Disk> {
     name: String,
-    base: Option<Loaded<D>>,
+    filled: Option<Loaded<D>>,
     cell: OnceBox<Loaded<D>>,
 }
 
 impl<D: Disk> Model for Row<D> {
     ghost use Rattle.std.specs.String.{string_bytes};
     ghost use Rattle.once_cell.specs.Once.{cell_name};
-    ghost use Rattle.ppshelf.specs.code.TableRows.{RowState};
+    ghost use Rattle.ppshelf.specs.code.ShelfRows.{RowState};
 
     ghost Value = { RowState };
 
-    ghost view = { λ r. record { name = string_bytes r.name; base = r.base; cell = cell_name r.cell } };
+    ghost view = { λ r. record { name = string_bytes r.name; filled = r.filled; cell = cell_name r.cell } };
 }
 
 impl<D: Disk> Drop for Row<D> {
     fn drop(self) {
         let Row {
             name: _,
-            base: _,
+            filled: _,
             cell: _,
         } = self;
     }
@@ -48,7 +48,7 @@ pub(crate) struct RowObservation<'a, D: Disk> {
 
 impl<'a, D: Disk> Model for RowObservation<'a, D> {
     ghost use Rattle.std.specs.Option.{option_copied};
-    ghost use Rattle.ppshelf.specs.code.TableRows.{Observation};
+    ghost use Rattle.ppshelf.specs.code.ShelfRows.{Observation};
 
     ghost Value = { Observation };
 
@@ -64,11 +64,11 @@ impl<D: Disk> Drop for RowObservation<'_, D> {
 impl<D: Disk> Row<D> {
     /// Creates an empty row with this name.
     pub(crate) fn new(alloc: Global, name: String) -> Row<D>
-        ensures { (result.name ≡ string_bytes name) × (result.base ≡ None) }
+        ensures { (result.name ≡ string_bytes name) × (result.filled ≡ None) }
     {
         Row {
             name,
-            base: None,
+            filled: None,
             cell: OnceBox::new(alloc),
         }
     }
@@ -100,11 +100,11 @@ impl<D: Disk> Row<D> {
     ) -> Result<(), Memory>
         requires { row < most_rows }
         ensures turned { FilledRow (IsPermitted (D.gives disk.now)) profile row self.old self.new }
-        ensures full { OnOk result (IsSome self.new.base) }
+        ensures full { OnOk result (IsSome self.new.filled) }
     {
-        if self.base.is_none() {
+        if self.filled.is_none() {
             let loaded = Loaded::read(alloc, disk, profile, row, self.name.as_str())?;
-            self.base = Some(loaded);
+            self.filled = Some(loaded);
         }
         Ok(())
     }
@@ -120,13 +120,13 @@ impl<D: Disk> Row<D> {
         requires row { row < most_rows }
         requires contents_permitted { IsPermitted D.may self.old.name (readable bytes.items) }
         ensures turned { FilledRow (λ name c. c ≡ readable bytes.items) profile row self.old self.new }
-        ensures full { OnOk result (IsSome self.new.base) }
+        ensures full { OnOk result (IsSome self.new.filled) }
     {
-        if self.base.is_some() {
+        if self.filled.is_some() {
             return Ok(());
         }
         let loaded = Loaded::from_bytes(alloc, profile, row, self.name.as_str(), bytes)?;
-        self.base = Some(loaded);
+        self.filled = Some(loaded);
         Ok(())
     }
 
@@ -140,18 +140,18 @@ impl<D: Disk> Row<D> {
         disk: &D,
     ) -> Result<&'a Loaded<D>, Memory>
         requires row { row < most_rows }
-        requires placed { (h : LoadedView) → self.now.base ≡ Some h → IsPlaced profile row self.now.name h }
+        requires placed { (h : LoadedView) → self.now.filled ≡ Some h → IsPlaced profile row self.now.name h }
         requires fits { FitsRow D.may profile row self.now seen.old }
         ensures fits { FitsRow D.may profile row self.now seen.new }
         ensures shown { IfOk result (λ l. seen.new.shown ≡ Some l.now) }
         ensures stays { IfSome seen.old.shown (λ h. IsOkAnd result (λ l. l.now ≡ h)) }
-        ensures base { IfSome self.now.base (λ h. IsOkAnd result (λ l. l.now ≡ h)) }
+        ensures filled { IfSome self.now.filled (λ h. IsOkAnd result (λ l. l.now ≡ h)) }
         ensures err { OnErr result (seen.new.shown ≡ seen.old.shown) }
     {
         if let Some(loaded) = seen.shown {
             return Ok(loaded);
         }
-        if let Some(loaded) = &self.base {
+        if let Some(loaded) = &self.filled {
             loaded.show_permitted();
             seen.shown = Some(loaded);
             return Ok(loaded);

@@ -34,15 +34,15 @@ pub struct Directories<'a> {
 
 impl<'a> Directories<'a> {
     /// Returns the directory with index `passed` among all of them.
-    fn at_index(self, passed: usize) -> &'a [u8]
-        requires { passed < length self.unit.now + length self.setting.now }
-        ensures { result.now ≡ slice_index_or (self.entry.unit.now ++ self.entry.setting.now) passed [] }
+    fn at_index(self, index: usize) -> &'a [u8]
+        requires { index < length self.unit.now + length self.setting.now }
+        ensures { result.now ≡ slice_index_or (self.entry.unit.now ++ self.entry.setting.now) index [] }
     {
         let own = self.unit.len();
-        if passed < own {
-            return self.unit[passed].as_str().as_bytes();
+        if index < own {
+            return self.unit[index].as_str().as_bytes();
         }
-        self.setting[passed - own].as_str().as_bytes()
+        self.setting[index - own].as_str().as_bytes()
     }
 }
 
@@ -156,17 +156,17 @@ fn row_in_directories<D: Disk>(
 {
     let plain = has_no_dot_segments(name);
     let count = directories.unit.len() + directories.setting.len();
-    for passed in number..count {
+    for index in number..count {
         let row = row_in_directory(
             alloc,
             shelf,
-            directories.at_index(passed),
+            directories.at_index(index),
             name,
             plain,
             joined,
         )?;
         if let Some(row) = row {
-            return Ok(Some((row, passed + 1)));
+            return Ok(Some((row, index + 1)));
         }
     }
     Ok(None)

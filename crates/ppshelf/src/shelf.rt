@@ -7,7 +7,7 @@ ghost use Rattle.ppshelf.specs.Content.{IsPermitted, readable};
 ghost use Rattle.ppshelf.specs.Faults.{IsShelfFault};
 ghost use Rattle.ppshelf.specs.Files.{most_rows, file_at, AllPermitted, Agree, Extends, IsMerged, IsFull, Filled, bytes_at};
 ghost use Rattle.ppshelf.specs.Names.{AreNames, IsRowOf, name_in};
-ghost use Rattle.ppshelf.specs.code.TableRows.{names_of, base_of};
+ghost use Rattle.ppshelf.specs.code.ShelfRows.{names_of, filled_of};
 
 use crate::disk::Disk;
 use crate::index::{Index, index_names};
@@ -37,12 +37,12 @@ pub struct Shelf<D: Disk> {
 }
 
 impl<D: Disk> Model for Shelf<D> {
-    ghost use Rattle.ppshelf.specs.Files.{TableView};
-    ghost use Rattle.ppshelf.specs.code.TableRows.{IsShelf, table_view};
+    ghost use Rattle.ppshelf.specs.Files.{ShelfView};
+    ghost use Rattle.ppshelf.specs.code.ShelfRows.{IsShelf, shelf_view};
 
-    ghost Value = { TableView };
+    ghost Value = { ShelfView };
 
-    ghost view = { λ s. table_view s.profile s.index.hashing s.rows.items };
+    ghost view = { λ s. shelf_view s.profile s.index.hashing s.rows.items };
 
     ghost invariant = { λ s. IsShelf s.profile s.index.names s.rows.items };
 }
@@ -75,7 +75,7 @@ pub struct Pass<'a, D: Disk> {
 
 impl<'a, D: Disk> Model for Pass<'a, D> {
     ghost use Rattle.ppshelf.specs.Files.{PassView};
-    ghost use Rattle.ppshelf.specs.code.TableRows.{IsPass, files_of};
+    ghost use Rattle.ppshelf.specs.code.ShelfRows.{IsPass, files_of};
 
     ghost Value = { PassView };
 
@@ -109,7 +109,7 @@ impl<D: Disk> Shelf<D> {
         ensures names { IfOk result (λ s. s.names ≡ map string_bytes names.items) }
         ensures profile { IfOk result (λ s. s.profile ≡ profile) }
         ensures form { OnOk result (AreNames (map string_bytes names.items)) }
-        ensures empty { IfOk result (λ s. s.base ≡ replicate (length names.items) None) }
+        ensures empty { IfOk result (λ s. s.filled ≡ replicate (length names.items) None) }
         ensures fault { IfErr result (λ e. IsShelfFault e (map string_bytes names.items)) }
     {
         Shelf::with_hasher(alloc, names, profile, Hashing::fixed())
@@ -132,7 +132,7 @@ impl<D: Disk> Shelf<D> {
         ensures profile { IfOk result (λ s. s.profile ≡ profile) }
         ensures hashing { IfOk result (λ s. s.hashing ≡ hashing) }
         ensures form { OnOk result (AreNames (map string_bytes names.items)) }
-        ensures empty { IfOk result (λ s. s.base ≡ replicate (length names.items) None) }
+        ensures empty { IfOk result (λ s. s.filled ≡ replicate (length names.items) None) }
         ensures fault { IfErr result (λ e. IsShelfFault e (map string_bytes names.items)) }
     {
         let index = index_names(alloc, names.as_slice(), hashing)?;
@@ -189,7 +189,7 @@ impl<D: Disk> Shelf<D> {
     /// Does nothing.
     pub fn contents_permitted(&self)
         ensures names { AreNames self.now.names }
-        ensures base { length self.now.base ≡ length self.now.names }
+        ensures from_fill { length self.now.filled ≡ length self.now.names }
     {
         let _rows = &self.rows;
     }
@@ -202,9 +202,9 @@ impl<D: Disk> Shelf<D> {
     pub fn fill(&mut self, disk: &D) -> Result<(), Memory>
         ensures shelf { (self.new.names ≡ self.old.names) × (self.new.profile ≡ self.old.profile) × (self.new.cells ≡ self.old.cells) }
         ensures hashing { self.new.hashing ≡ self.old.hashing }
-        ensures base { (row : ℕ) → row < length self.old.names
-            → Filled (IsPermitted (D.gives disk.now) (name_in self.old.names row)) (file_at self.old.base row) (file_at self.new.base row) }
-        ensures len { length self.new.base ≡ length self.old.names }
+        ensures from_fill { (row : ℕ) → row < length self.old.names
+            → Filled (IsPermitted (D.gives disk.now) (name_in self.old.names row)) (file_at self.old.filled row) (file_at self.new.filled row) }
+        ensures len { length self.new.filled ≡ length self.old.names }
         ensures full { OnOk result (IsFull self.new) }
     {
         let (alloc, profile) = (self.alloc, self.profile);
@@ -226,9 +226,9 @@ impl<D: Disk> Shelf<D> {
             → IsPermitted D.may (name_in self.old.names row) (readable (bytes_at contents row)) }
         ensures shelf { (self.new.names ≡ self.old.names) × (self.new.profile ≡ self.old.profile) × (self.new.cells ≡ self.old.cells) }
         ensures hashing { self.new.hashing ≡ self.old.hashing }
-        ensures base { (row : ℕ) → row < length self.old.names
-            → Filled (λ c. c ≡ readable (bytes_at contents row)) (file_at self.old.base row) (file_at self.new.base row) }
-        ensures len { length self.new.base ≡ length self.old.names }
+        ensures from_fill { (row : ℕ) → row < length self.old.names
+            → Filled (λ c. c ≡ readable (bytes_at contents row)) (file_at self.old.filled row) (file_at self.new.filled row) }
+        ensures len { length self.new.filled ≡ length self.old.names }
         ensures full { OnOk result (IsFull self.new) }
     {
         let (alloc, profile) = (self.alloc, self.profile);
@@ -279,10 +279,10 @@ impl<D: Disk> Shelf<D> {
         ensures knows { IfOk result (λ l. file_at pass.new.files row ≡ Some l.now.content) }
         ensures grows { Extends pass.new.files pass.old.files }
         ensures stays { IfSome (file_at pass.old.files row) (λ c. IsOkAnd result (λ l. l.now.content ≡ c)) }
-        ensures base { IfSome (file_at self.now.base row) (λ c. IsOkAnd result (λ l. l.now.content ≡ c)) }
+        ensures from_fill { IfSome (file_at self.now.filled row) (λ c. IsOkAnd result (λ l. l.now.content ≡ c)) }
         ensures err { OnErr result (pass.new ≡ pass.old) }
         ensures contents_permitted { AllPermitted D.may self.now.names pass.new.files }
-        ensures filled { Agree self.now.base pass.new.files }
+        ensures filled { Agree self.now.filled pass.new.files }
     {
         pass.contents_permitted();
         let shown = pass.look_at_row(self, row, disk);
@@ -303,7 +303,7 @@ impl<D: Disk> Shelf<D> {
         ensures grows { Extends pass.new.files pass.old.files }
         ensures theirs { Extends pass.new.files other.entry.files }
         ensures contents_permitted { AllPermitted D.may self.now.names pass.new.files }
-        ensures filled { Agree self.now.base pass.new.files }
+        ensures filled { Agree self.now.filled pass.new.files }
     {
         pass.merge(self, other);
         pass.contents_permitted();
@@ -313,7 +313,7 @@ impl<D: Disk> Shelf<D> {
 /// Creates empty rows with these names.
 fn empty_rows<D: Disk>(alloc: Global, names: Vec<String>) -> Result<Vec<Row<D>>, Memory>
     ensures names { IfOk result (λ rows. names_of rows.items ≡ map string_bytes names.items) }
-    ensures empty { IfOk result (λ rows. base_of rows.items ≡ replicate (length names.items) None) }
+    ensures empty { IfOk result (λ rows. filled_of rows.items ≡ replicate (length names.items) None) }
 {
     let mut rows = Vec::with_capacity(alloc, names.len())?;
     for name in names {
@@ -329,7 +329,7 @@ impl<'a, D: Disk> Pass<'a, D> {
     /// Does nothing.
     pub fn contents_permitted(&self)
         ensures contents_permitted { AllPermitted D.may self.now.shelf.names self.now.files }
-        ensures filled { Agree self.now.shelf.base self.now.files }
+        ensures filled { Agree self.now.shelf.filled self.now.files }
         ensures rows { length self.now.files ≡ length self.now.shelf.names }
     {
         let _rows = &self.rows;
@@ -348,7 +348,7 @@ impl<'a, D: Disk> Pass<'a, D> {
         ensures place { IfOk result (λ l. (l.now.row ≡ row) × (l.now.name ≡ name_in shelf.now.names row) × (l.now.profile ≡ shelf.now.profile)) }
         ensures known { IfOk result (λ l. self.new.files ≡ slice_set self.old.files row (Some l.now.content)) }
         ensures stays { IfSome (file_at self.old.files row) (λ c. IsOkAnd result (λ l. l.now.content ≡ c)) }
-        ensures base { IfSome (file_at shelf.now.base row) (λ c. IsOkAnd result (λ l. l.now.content ≡ c)) }
+        ensures from_fill { IfSome (file_at shelf.now.filled row) (λ c. IsOkAnd result (λ l. l.now.content ≡ c)) }
         ensures err { OnErr result (self.new ≡ self.old) }
     {
         let seen = &mut self.rows[row];

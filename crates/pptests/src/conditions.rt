@@ -19,12 +19,12 @@ const HASH: Place = Place {
 fn condition_of(
     rt: &impl Abort,
     alloc: Global,
-    left: Option<u64>,
+    remaining: Option<u64>,
     source: &Source,
 ) -> Result<(Result<bool, Fault>, Option<u64>), Memory> {
     let mut table = Table::new(alloc)?;
     let tokens = directed(rt, alloc, &mut table, source)?;
-    evaluate(alloc, &table, &env(0), left, HASH, tokens)
+    evaluate(alloc, &table, &env(0), remaining, HASH, tokens)
 }
 
 /// Returns whether a result is this condition, or a fault with this number.
@@ -61,11 +61,14 @@ const LEFT: &[(&str, Option<u64>, Result<bool, u8>, Option<u64>)] = &[
 
 #[test]
 fn leaves_what_a_condition_does_not_spend(rt: HostRuntime) -> Result<(), Fail> {
-    for &(expression, budget, wanted, left) in LEFT {
+    for &(expression, budget, wanted, remaining) in LEFT {
         let text = format!(in rt.alloc(); "{}{expression}", MACROS)?;
         let source = source_of(&rt, rt.alloc(), text.as_bytes())?;
         let (found, rest) = condition_of(&rt, rt.alloc(), budget, &source)?;
-        assert!(rt; is_wanted(&found, wanted) && rest == left, "{expression}");
+        assert!(rt;
+            is_wanted(&found, wanted) && rest == remaining,
+            "{expression}"
+        );
     }
     Ok(())
 }

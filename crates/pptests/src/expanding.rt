@@ -63,7 +63,7 @@ fn yields_all(alloc: Global, run: &TokenRope) -> Result<bool, AllocError> {
 }
 
 /// Returns an expansion as text: its parts, and ` same` if it is the unchanged input.
-fn told(alloc: Global, expanded: &Expanded) -> Result<Vec<u8>, AllocError> {
+fn as_text(alloc: Global, expanded: &Expanded) -> Result<Vec<u8>, AllocError> {
     let mut text = Vec::new(alloc);
     push_parts(&mut text, &expanded.tokens)?;
     if expanded.tokens.unchanged().is_some() {
@@ -77,19 +77,22 @@ fn told(alloc: Global, expanded: &Expanded) -> Result<Vec<u8>, AllocError> {
 type Case = (&'static str, Option<u64>, &'static str, u8, Option<u64>);
 
 /// Asserts the result of an expansion.
-fn assert_told(
+fn assert_text(
     rt: &impl Abort,
     alloc: Global,
     expanded: &Expanded,
-    (_text, _budget, wanted, number, left): Case,
+    (_text, _budget, wanted, number, remaining): Case,
 ) -> Result<(), AllocError> {
     assert!(rt; yields_all(alloc, &expanded.tokens)?);
-    assert_shown(rt, told(alloc, expanded)?.as_slice(), wanted);
+    assert_shown(rt, as_text(alloc, expanded)?.as_slice(), wanted);
     let found = match &expanded.fault {
         Some(fault) => fault.number,
         None => 0,
     };
-    assert!(rt; found == number && expanded.left == left, "at {wanted}");
+    assert!(rt;
+        found == number && expanded.remaining == remaining,
+        "at {wanted}"
+    );
     Ok(())
 }
 
@@ -102,7 +105,7 @@ fn assert_expanded_by(
     case: Case,
 ) -> Result<(), Memory> {
     let expanded = expand(alloc, table, &env(0), case.1, tokens)?;
-    Ok(assert_told(rt, alloc, &expanded, case)?)
+    Ok(assert_text(rt, alloc, &expanded, case)?)
 }
 
 /// Asserts the expansion of the lines after a file's last directive.

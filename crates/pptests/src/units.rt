@@ -140,7 +140,7 @@ fn push_end(
 }
 
 /// Returns a unit's result as text: its items and its end. Asserts that the items, one by one, are those of its list.
-fn told(alloc: Global, out: &UnitOut) -> Result<Vec<u8>, Fail> {
+fn as_text(alloc: Global, out: &UnitOut) -> Result<Vec<u8>, Fail> {
     let mut text = Vec::new(alloc);
     for item in &out.items.to_vec(alloc)? {
         push_item(alloc, &mut text, item)?;
@@ -191,7 +191,7 @@ fn given<'a>(
         return Err(Fail::new("no such unit"));
     }
     let out = preprocess_again(alloc, shelf, pass, disk, setting, unit)?;
-    told(alloc, &out)
+    as_text(alloc, &out)
 }
 
 /// Asserts the results of units, one after another with one pass.

@@ -15,12 +15,12 @@ use Rattle.pptext.proofs.Copies.{code_at, removed_at, removed_inside, at_end, ow
 
 -- the fields of the code's cursor are those that contracts see
 pub record Opened (a : Inside) (c : TextCursor) : Type 0 where
-  pub passed : a.passed ≡ c.passed
+  pub consumed : a.consumed ≡ c.consumed
   pub offset : a.offset ≡ c.offset
   pub plain : a.plain ≡ c.plain
 
-pub after_line : (a : Inside) (c : TextCursor) → record { passed = a.passed; offset = a.offset; plain = a.plain; next = a.next; at = a.at } ≡ c → Opened a c
-after_line a c e = record { passed = ap (λ (x : TextCursor). x.passed) e; offset = ap (λ (x : TextCursor). x.offset) e; plain = ap (λ (x : TextCursor). x.plain) e }
+pub after_line : (a : Inside) (c : TextCursor) → record { consumed = a.consumed; offset = a.offset; plain = a.plain; next = a.next; at = a.at } ≡ c → Opened a c
+after_line a c e = record { consumed = ap (λ (x : TextCursor). x.consumed) e; offset = ap (λ (x : TextCursor). x.offset) e; plain = ap (λ (x : TextCursor). x.plain) e }
 
 -- the bounds of a cursor's place
 pub record Bounds (file : ℕ) (c : TextCursor) : Type 0 where
@@ -44,7 +44,7 @@ moved file raw line_notes c n s = ap (λ p. place_after p (take n (drop c.offset
 
 -- a cursor at a line note, whose bytes it passes
 abbrev pub behind : List ℕ → List ℕ → TextCursor → ℕ → ℕ → TextCursor
-behind raw line_notes c passed n = record { passed = passed; offset = c.offset + n; plain = get_or line_notes c.next (length raw - (c.offset + n)); next = c.next + 1; at = place_after c.at (take n (drop c.offset raw)) }
+behind raw line_notes c consumed n = record { consumed = consumed; offset = c.offset + n; plain = get_or line_notes c.next (length raw - (c.offset + n)); next = c.next + 1; at = place_after c.at (take n (drop c.offset raw)) }
 
 -- the stretch after a line note, and what follows in the table
 pub record Onward (raw line_notes : List ℕ) (offset next n : ℕ) : Type 0 where
@@ -71,7 +71,7 @@ pub skip_removed : (file : ℕ) (raw line_notes : List ℕ) (c : TextCursor) (n 
     → c.plain ≡ 0
     → c.offset < length raw
     → step_of (lacks_newline raw) (drop c.offset raw) ≡ Removed n
-    → (c.offset < c.offset + n) × (c.offset + n ≤ length raw) × IsCursorAt file raw line_notes (behind raw line_notes c c.passed n)
+    → (c.offset < c.offset + n) × (c.offset + n ≤ length raw) × IsCursorAt file raw line_notes (behind raw line_notes c c.consumed n)
 skip_removed file raw line_notes c n s none lt is =
     let r = removed_at file raw c.offset n lt is in
     let inner = removed_inside file raw c.offset n lt is s.ends in
@@ -95,7 +95,7 @@ pub pass_code : (file : ℕ) (raw line_notes : List ℕ) (c : TextCursor) (code 
     → c.plain ≡ 0
     → c.offset < length raw
     → step_of (lacks_newline raw) (drop c.offset raw) ≡ Code code n
-    → (c.offset < c.offset + n) × (c.offset + n ≤ length raw) × IsCursorAt file raw line_notes (behind raw line_notes c (c.passed + 1) n)
+    → (c.offset < c.offset + n) × (c.offset + n ≤ length raw) × IsCursorAt file raw line_notes (behind raw line_notes c (c.consumed + 1) n)
 pass_code file raw line_notes c code n s none lt is =
     let r = code_at file raw c.offset code n lt is in
     let o = onward file raw line_notes c n s none (ap step_len is) in
@@ -105,7 +105,7 @@ pass_code file raw line_notes c code n s none lt is =
       record {
         within = r.fits;
         at = moved file raw line_notes c n s;
-        rest = sym (drop-drop 1 c.passed (text_from file raw 0)) ∙ ap (drop 1) (s.rest ∙ r.text);
+        rest = sym (drop-drop 1 c.consumed (text_from file raw 0)) ∙ ap (drop 1) (s.rest ∙ r.text);
         ends = sym r.ends ∙ s.ends;
         stretch = o.stretch;
         next = omega (arith, r.some);
@@ -118,7 +118,7 @@ pub pass_plain : (file : ℕ) (raw line_notes : List ℕ) (c : TextCursor) (n : 
     → n ≤ c.plain
     → (c.offset + n ≤ length raw)
     × IsCursorAt file raw line_notes
-    (record { passed = c.passed + n; offset = c.offset + n; plain = c.plain - n; next = c.next; at = place_after c.at (take n (drop c.offset raw)) })
+    (record { consumed = c.consumed + n; offset = c.offset + n; plain = c.plain - n; next = c.next; at = place_after c.at (take n (drop c.offset raw)) })
 pass_plain file raw line_notes c n s le =
     let prefix = own_less (lacks_newline raw) (drop c.offset raw) n c.plain le s.stretch.prefix in
     let p = own_from n file raw c.offset prefix in
@@ -131,7 +131,7 @@ pass_plain file raw line_notes c n s le =
       record {
         within = fits;
         at = moved file raw line_notes c n s;
-        rest = sym (drop-drop n c.passed (text_from file raw 0)) ∙ ap (drop n) s.rest ∙ p.0;
+        rest = sym (drop-drop n c.consumed (text_from file raw 0)) ∙ ap (drop n) s.rest ∙ p.0;
         ends = sym p.1 ∙ s.ends;
         stretch = stretch_rest (lacks_newline raw) raw c.offset n c.plain le s.stretch;
         next = omega arith;
@@ -142,7 +142,7 @@ pass_plain file raw line_notes c n s le =
 pub stands_first : (file : ℕ) (raw line_notes : List ℕ)
     → end_from file raw 0 ≡ None
     → IsTable (lacks_newline raw) raw line_notes
-    → IsCursorAt file raw line_notes (record { passed = 0; offset = 0; plain = get_or line_notes 0 (length raw); next = 1; at = start file })
+    → IsCursorAt file raw line_notes (record { consumed = 0; offset = 0; plain = get_or line_notes 0 (length raw); next = 1; at = start file })
 stands_first file raw line_notes ends table =
     let read = table_next (lacks_newline raw) raw line_notes 0 table in
     record { within = omega arith; at = refl; rest = refl; ends = ends; stretch = read.0; next = omega arith; table = rw zero-add read.1 }
@@ -154,49 +154,49 @@ pub stands_at_code : (file : ℕ) (raw line_notes : List ℕ) (c : TextCursor) (
     → IsCursorAt file raw line_notes c
     → c.offset < length raw
     → step_of (lacks_newline raw) (drop c.offset raw) ≡ Code code n
-    → c.at ≡ (get_or (text_from file raw 0) c.passed d).at
+    → c.at ≡ (get_or (text_from file raw 0) c.consumed d).at
 stands_at_code file raw line_notes c code n d s lt is =
     let r = code_at file raw c.offset code n lt is in
-    s.at ∙ sym (ap (λ (x : Char). x.at) (head_at (text_from file raw 0) c.passed d _ _ (s.rest ∙ r.text)))
+    s.at ∙ sym (ap (λ (x : Char). x.at) (head_at (text_from file raw 0) c.consumed d _ _ (s.rest ∙ r.text)))
 
 -- a plain byte is the character that is sought
-stands_at_plain : (file : ℕ) (raw line_notes : List ℕ) (c : TextCursor) (d : Char) → IsCursorAt file raw line_notes c → 0 < c.plain → c.at ≡ (get_or (text_from file raw 0) c.passed d).at
+stands_at_plain : (file : ℕ) (raw line_notes : List ℕ) (c : TextCursor) (d : Char) → IsCursorAt file raw line_notes c → 0 < c.plain → c.at ≡ (get_or (text_from file raw 0) c.consumed d).at
 stands_at_plain file raw line_notes c d s some =
     let one = own_at raw c.offset (c.plain - 1) (own_less (lacks_newline raw) (drop c.offset raw) (suc (c.plain - 1)) c.plain (omega arith) s.stretch.prefix) in
     stands_at_code file raw line_notes c (get_or raw c.offset 0) 1 d s one.room one.step
 
 -- a cursor before the character sought
 pub record InFront (file : ℕ) (raw line_notes : List ℕ) (to : ℕ) (c : TextCursor) : Type 0 where
-  pub stands : IsCursorAt file raw line_notes c
-  pub passed : c.passed ≡ to
+  pub is_there : IsCursorAt file raw line_notes c
+  pub consumed : c.consumed ≡ to
   pub same_file : c.at.file ≡ file
   pub place : (d : Char) → c.at ≡ (get_or (text_from file raw 0) to d).at
 
-in_front : (file : ℕ) (raw line_notes : List ℕ) (to : ℕ) (c : TextCursor) → IsCursorAt file raw line_notes c → 0 < c.plain → c.passed ≡ to → InFront file raw line_notes to c
-in_front file raw line_notes to c stands some passed = record {
-  stands = stands;
-  passed = passed;
-  same_file = (bounds file raw line_notes c stands).same_file;
-  place = λ d. stands_at_plain file raw line_notes c d stands some ∙ ap (λ k. (get_or (text_from file raw 0) k d).at) passed;
+in_front : (file : ℕ) (raw line_notes : List ℕ) (to : ℕ) (c : TextCursor) → IsCursorAt file raw line_notes c → 0 < c.plain → c.consumed ≡ to → InFront file raw line_notes to c
+in_front file raw line_notes to c is_there some consumed = record {
+  is_there = is_there;
+  consumed = consumed;
+  same_file = (bounds file raw line_notes c is_there).same_file;
+  place = λ d. stands_at_plain file raw line_notes c d is_there some ∙ ap (λ k. (get_or (text_from file raw 0) k d).at) consumed;
 }
 
 -- a cursor that is moved to the character sought, over this many plain bytes
 pub arrives : (file : ℕ) (raw line_notes : List ℕ) (c after : TextCursor) (to : ℕ)
     → IsCursorAt file raw line_notes c
-    → c.passed ≤ to
-    → to - c.passed < c.plain
+    → c.consumed ≤ to
+    → to - c.consumed < c.plain
     → after ≡ record {
-      passed = c.passed + (to - c.passed);
-      offset = c.offset + (to - c.passed);
-      plain = c.plain - (to - c.passed);
+      consumed = c.consumed + (to - c.consumed);
+      offset = c.offset + (to - c.consumed);
+      plain = c.plain - (to - c.consumed);
       next = c.next;
-      at = place_after c.at (take (to - c.passed) (drop c.offset raw));
+      at = place_after c.at (take (to - c.consumed) (drop c.offset raw));
     }
     → InFront file raw line_notes to after
-arrives file raw line_notes c after to stands forward near is =
-    let s = pass_plain file raw line_notes c (to - c.passed) stands (omega arith) in
-    let some : after.plain ≡ c.plain - (to - c.passed) = ap (λ (x : TextCursor). x.plain) is in
-    let passed : after.passed ≡ c.passed + (to - c.passed) = ap (λ (x : TextCursor). x.passed) is in
+arrives file raw line_notes c after to is_there forward near is =
+    let s = pass_plain file raw line_notes c (to - c.consumed) is_there (omega arith) in
+    let some : after.plain ≡ c.plain - (to - c.consumed) = ap (λ (x : TextCursor). x.plain) is in
+    let consumed : after.consumed ≡ c.consumed + (to - c.consumed) = ap (λ (x : TextCursor). x.consumed) is in
     in_front file raw line_notes to after (subst (IsCursorAt file raw line_notes) (sym is) s.1) (omega arith) (omega arith)
 
 code_of_head : (cs : List Char) (n : ℕ) (x : Char) (xs : List Char) → drop n cs ≡ x ∷ xs → get_or (codes_of cs) n 0 ≡ x.code
@@ -205,43 +205,43 @@ code_of_head cs n x xs e =
     ∙ ap (λ (z : List ℕ). get_or z 0 0) (drop-map (λ (c : Char). c.code) n cs ∙ ap codes_of e)
 
 -- and it is the byte that stands there
-code_at_plain : (file : ℕ) (raw line_notes : List ℕ) (c : TextCursor) → IsCursorAt file raw line_notes c → 0 < c.plain → get_or (codes_of (text_from file raw 0)) c.passed 0 ≡ get_or raw c.offset 0
+code_at_plain : (file : ℕ) (raw line_notes : List ℕ) (c : TextCursor) → IsCursorAt file raw line_notes c → 0 < c.plain → get_or (codes_of (text_from file raw 0)) c.consumed 0 ≡ get_or raw c.offset 0
 code_at_plain file raw line_notes c s some =
     let one = own_at raw c.offset (c.plain - 1) (own_less (lacks_newline raw) (drop c.offset raw) (suc (c.plain - 1)) c.plain (omega arith) s.stretch.prefix) in
     let r = code_at file raw c.offset (get_or raw c.offset 0) 1 one.room one.step in
-    code_of_head (text_from file raw 0) c.passed _ _ (s.rest ∙ r.text)
+    code_of_head (text_from file raw 0) c.consumed _ _ (s.rest ∙ r.text)
 
 -- the bytes that a cursor passes are no new-lines where those characters aren't
 bytes_in_line : (file : ℕ) (raw line_notes : List ℕ) (c : TextCursor) (line to k : ℕ)
     → IsCursorAt file raw line_notes c
-    → to - c.passed < c.plain
-    → line ≤ c.passed
+    → to - c.consumed < c.plain
+    → line ≤ c.consumed
     → InLine (codes_of (text_from file raw 0)) line to
-    → k < to - c.passed
-    → get_or (take (to - c.passed) (drop c.offset raw)) k 0 ≡ 10 → ⊥
+    → k < to - c.consumed
+    → get_or (take (to - c.consumed) (drop c.offset raw)) k 0 ≡ 10 → ⊥
 bytes_in_line file raw line_notes c line to k s near behind in_line lt e =
     let there = pass_plain file raw line_notes c k s (omega arith) in
-    let code = code_at_plain file raw line_notes (record { passed = c.passed + k; offset = c.offset + k; plain = c.plain - k; next = c.next; at = place_after c.at (take k (drop c.offset raw)) }) there.1 (omega arith) in
-    in_line (c.passed + k) (omega arith) (omega arith)
-    (code ∙ sym (get_or-drop c.offset raw k 0) ∙ sym (get_or-take (to - c.passed) (drop c.offset raw) k 0 lt) ∙ e)
+    let code = code_at_plain file raw line_notes (record { consumed = c.consumed + k; offset = c.offset + k; plain = c.plain - k; next = c.next; at = place_after c.at (take k (drop c.offset raw)) }) there.1 (omega arith) in
+    in_line (c.consumed + k) (omega arith) (omega arith)
+    (code ∙ sym (get_or-drop c.offset raw k 0) ∙ sym (get_or-take (to - c.consumed) (drop c.offset raw) k 0 lt) ∙ e)
 
 -- a cursor that is moved so, where no line ends among those bytes
 pub arrives_along : (file : ℕ) (raw line_notes : List ℕ) (c after : TextCursor) (to line : ℕ)
     → IsCursorAt file raw line_notes c
-    → c.passed ≤ to
-    → to - c.passed < c.plain
-    → line ≤ c.passed
+    → c.consumed ≤ to
+    → to - c.consumed < c.plain
+    → line ≤ c.consumed
     → InLine (codes_of (text_from file raw 0)) line to
     → after ≡ record {
-      passed = c.passed + (to - c.passed);
-      offset = c.offset + (to - c.passed);
-      plain = c.plain - (to - c.passed);
+      consumed = c.consumed + (to - c.consumed);
+      offset = c.offset + (to - c.consumed);
+      plain = c.plain - (to - c.consumed);
       next = c.next;
-      at = place c.at.file c.at.line (c.at.col + (to - c.passed));
+      at = place c.at.file c.at.line (c.at.col + (to - c.consumed));
     }
     → InFront file raw line_notes to after
 arrives_along file raw line_notes c after to line s forward near behind in_line is =
-    let n = to - c.passed in
+    let n = to - c.consumed in
     let bytes = take n (drop c.offset raw) in
     let room = (pass_plain file raw line_notes c n s (omega arith)).0 in
     let l = length-drop c.offset raw in
@@ -250,7 +250,7 @@ arrives_along file raw line_notes c after to line s forward near behind in_line 
     no_line_passed bytes c.at (λ k lt. bytes_in_line file raw line_notes c line to k s near behind in_line (omega (arith, long)))
     ∙ ap (λ m. place c.at.file c.at.line (c.at.col + m)) long in
     arrives file raw line_notes c after to s forward near
-    (is ∙ ap (λ (p : Place). record { passed = c.passed + n; offset = c.offset + n; plain = c.plain - n; next = c.next; at = p }) (sym moved))
+    (is ∙ ap (λ (p : Place). record { consumed = c.consumed + n; offset = c.offset + n; plain = c.plain - n; next = c.next; at = p }) (sym moved))
 
 -- At the end stands the supplied new-line.
 abbrev end_text : ℕ → List ℕ → Bool → List Char
@@ -259,23 +259,23 @@ end_text file raw t = splices (supply t (place_after (start file) raw))
 pub stands_at_end : (file : ℕ) (raw line_notes : List ℕ) (c : TextCursor) (to : ℕ)
     → IsCursorAt file raw line_notes c
     → length raw ≤ c.offset
-    → c.passed ≤ to
+    → c.consumed ≤ to
     → to < length (text_from file raw 0)
-    → (c.passed ≡ to) × ((d : Char) → c.at ≡ (get_or (text_from file raw 0) to d).at)
+    → (c.consumed ≡ to) × ((d : Char) → c.at ≡ (get_or (text_from file raw 0) to d).at)
 stands_at_end file raw line_notes c to s past forward within =
     let w = s.within in
     let e : c.offset ≡ length raw = omega arith in
-    let rest : drop c.passed (text_from file raw 0) ≡ end_text file raw (lacks_newline raw) = s.rest ∙ ap (text_from file raw) e ∙ ap splices (at_end file raw) in
+    let rest : drop c.consumed (text_from file raw 0) ≡ end_text file raw (lacks_newline raw) = s.rest ∙ ap (text_from file raw) e ∙ ap splices (at_end file raw) in
     let at : c.at ≡ place_after (start file) raw = s.at ∙ ap (λ k. place_after (start file) (take k raw)) e ∙ ap (place_after (start file)) (take_all (length raw) raw (omega arith)) in
     by (lacks_newline raw) rest at
   where
-    by : (t : Bool) → drop c.passed (text_from file raw 0) ≡ end_text file raw t → c.at ≡ place_after (start file) raw → (c.passed ≡ to) × ((d : Char) → c.at ≡ (get_or (text_from file raw 0) to d).at)
+    by : (t : Bool) → drop c.consumed (text_from file raw 0) ≡ end_text file raw t → c.at ≡ place_after (start file) raw → (c.consumed ≡ to) × ((d : Char) → c.at ≡ (get_or (text_from file raw 0) to d).at)
     by false rest at =
-        let l = length-drop c.passed (text_from file raw 0) in
-        let z : length (drop c.passed (text_from file raw 0)) ≡ 0 = ap length rest in
+        let l = length-drop c.consumed (text_from file raw 0) in
+        let z : length (drop c.consumed (text_from file raw 0)) ≡ 0 = ap length rest in
         absurd (omega arith)
     by true rest at =
-        let l = length-drop c.passed (text_from file raw 0) in
-        let z : length (drop c.passed (text_from file raw 0)) ≡ 1 = ap length rest in
-        let same : c.passed ≡ to = omega arith in
-        (same, λ d. at ∙ sym (ap (λ (x : Char). x.at) (ap (λ k. get_or (text_from file raw 0) k d) (sym same) ∙ head_at (text_from file raw 0) c.passed d (record { code = 10; at = place_after (start file) raw }) [] rest)))
+        let l = length-drop c.consumed (text_from file raw 0) in
+        let z : length (drop c.consumed (text_from file raw 0)) ≡ 1 = ap length rest in
+        let same : c.consumed ≡ to = omega arith in
+        (same, λ d. at ∙ sym (ap (λ (x : Char). x.at) (ap (λ k. get_or (text_from file raw 0) k d) (sym same) ∙ head_at (text_from file raw 0) c.consumed d (record { code = 10; at = place_after (start file) raw }) [] rest)))

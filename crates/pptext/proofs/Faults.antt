@@ -13,7 +13,7 @@ use Rattle.pptext.specs.declared.tokens.Kind.TheVariants.{Ident}
 use Rattle.pptext.specs.declared.sources.Profile.{Profile}
 use Rattle.pptext.specs.Clean.{place}
 use Rattle.pptext.specs.Lines.{LogicalLine, directive_of}
-use Rattle.pptext.specs.Tree.{Role, TextLine, ControlLine, Opens, Elses, Closes, role, role_by, Open, after_line, fault_at, fault_at_end, fault_or, group_fault, sign_place, name_of}
+use Rattle.pptext.specs.Tree.{Role, TextLine, ControlLine, Opens, Elses, Closes, role, role_by, Open, after_line, fault_at, fault_at_end, fault_or, group_fault, hash_place, name_of}
 use Rattle.pptext.specs.Sources.{lines_from}
 use Rattle.pptext.specs.code.Grouping.{AreLines, line_role, IsBranching}
 use Rattle.pptext.proofs.Spans.{line_at, line_from}
@@ -155,7 +155,7 @@ module _ (ts : List Token) (ls : List Line) (lines : AreLines ts ls) where
       let count : x.end - start ≡ suc (suc more) = omega (arith, n.tokens, two) in
       let rest : drop start ts ≡ get_or ts start e ∷ get_or ts (start + 1) e ∷ drop (start + 1 + 1) ts = drop_more ts start e (omega arith) ∙ ap (λ (z : List Token). get_or ts start e ∷ z) (drop_more ts (start + 1) e within) in
       let tokens : (line_from ts x).tokens ≡ get_or ts start e ∷ get_or ts (start + 1) e ∷ take more (drop (start + 1 + 1) ts) = ap (λ (z : ℕ). take z (drop start ts)) count ∙ ap (take (suc (suc more))) rest in
-      sym (ap (fault_at number) (n.line r) ∙ ap (λ (z : List Token). record { number = number; at = sign_place z; text = name_of z }) tokens)
+      sym (ap (fault_at number) (n.line r) ∙ ap (λ (z : List Token). record { number = number; at = hash_place z; text = name_of z }) tokens)
 
   pub fault_last : (at : ℕ) (o : ℕ × Bool) (os : List (ℕ × Bool)) (f : Fault)
       → length ls ≤ at

@@ -61,10 +61,10 @@ pub passed_more : (quote : ℕ) (text : List ℕ) (at n : ℕ)
     → IsOnly (IsElement quote) (drop at text) n
     → Passed quote text at
     → Passed quote text (at + n)
-passed_more quote text at n h apart p passed r lt e none = cases (cases_lt r at)
+passed_more quote text at n h apart p consumed r lt e none = cases (cases_lt r at)
   where
     cases : (r < at) ⊎ (at ≤ r) → NoPrefix (IsQuoted quote) (drop (r + 1) text)
-    cases (inl below) = passed r below e (lacks_later (IsElement quote) quote (drop at text) n apart p (rw drop-drop none))
+    cases (inl below) = consumed r below e (lacks_later (IsElement quote) quote (drop at text) n apart p (rw drop-drop none))
     cases (inr above) =
         let j : at + (r - at) ≡ r = omega arith in
         let here : get_or (drop at text) (r - at) 0 ≡ quote = get_or-drop at text (r - at) 0 ∙ ap (λ i. get_or text i 0) j ∙ e in

@@ -92,12 +92,12 @@ abbrev pub name_of : List Token → List ℕ
 name_of (a ∷ b ∷ ts) = b.text
 name_of ts = []
 
-abbrev pub sign_place : List Token → Place
-sign_place [] = place 0 0 0
-sign_place (t ∷ ts) = t.at
+abbrev pub hash_place : List Token → Place
+hash_place [] = place 0 0 0
+hash_place (t ∷ ts) = t.at
 
 abbrev pub fault_at : ℕ → LogicalLine → Fault
-fault_at number r = fault number (sign_place r.tokens) (name_of r.tokens)
+fault_at number r = fault number (hash_place r.tokens) (name_of r.tokens)
 
 -- what a line does to the open if-sections, or its fault: 3 outside an if-section, 4 after `#else`
 abbrev pub after_line : {L : Type 0} → Role → L → List (L × Bool) → Option ℕ × List (L × Bool)

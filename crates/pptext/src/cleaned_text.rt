@@ -27,7 +27,7 @@ pub(crate) struct ChangedText {
 /// location.
 #[derive(Clone, Copy)]
 struct TextCursor {
-    passed: usize,
+    consumed: usize,
     offset: usize,
     plain: usize,
     next: usize,
@@ -39,9 +39,9 @@ impl Model for TextCursor {
 
     ghost Value = { TextCursor };
 
-    ghost view = { λ c. record { passed = c.passed; offset = c.offset; plain = c.plain; next = c.next; at = c.at } };
+    ghost view = { λ c. record { consumed = c.consumed; offset = c.offset; plain = c.plain; next = c.next; at = c.at } };
 
-    ghost inverse = { λ c. record { passed = c.passed; offset = c.offset; plain = c.plain; next = c.next; at = c.at } };
+    ghost inverse = { λ c. record { consumed = c.consumed; offset = c.offset; plain = c.plain; next = c.next; at = c.at } };
 }
 
 impl TextCursor {
@@ -51,14 +51,14 @@ impl TextCursor {
         requires small { length raw.now ≤ longest }
         requires fits { self.old.offset + len ≤ length raw.now }
         requires plain { len ≤ self.old.plain }
-        requires counts { self.old.passed + len < 2 ^ 64 }
+        requires counts { self.old.consumed + len < 2 ^ 64 }
         requires line { self.old.at.line ≤ self.old.offset + 1 }
         requires col { self.old.at.col ≤ self.old.offset + 1 }
-        ensures { self.new ≡ record { passed = self.old.passed + len; offset = self.old.offset + len; plain = self.old.plain - len; next = self.old.next; at = place_after self.old.at (take len (drop self.old.offset raw.now)) } }
+        ensures { self.new ≡ record { consumed = self.old.consumed + len; offset = self.old.offset + len; plain = self.old.plain - len; next = self.old.next; at = place_after self.old.at (take len (drop self.old.offset raw.now)) } }
     {
         let offset = self.offset + len;
         move_after(&mut self.at, &raw[self.offset..offset]);
-        self.passed += len;
+        self.consumed += len;
         self.offset = offset;
         self.plain -= len;
     }
@@ -71,7 +71,7 @@ impl TextCursor {
         requires line { self.at.line ≤ self.offset + 1 }
         requires col { self.at.col ≤ self.offset + 1 }
         ensures { result ≡ record {
-          passed = self.passed;
+          consumed = self.consumed;
           offset = self.offset + len;
           plain = slice_index_or line_notes.now self.next (length raw.now - (self.offset + len));
           next = self.next + 1;
@@ -80,7 +80,7 @@ impl TextCursor {
     {
         let offset = self.offset + len;
         TextCursor {
-            passed: self.passed,
+            consumed: self.consumed,
             offset,
             plain: plain_run_at(line_notes, self.next, raw.len() - offset),
             next: self.next + 1,
@@ -93,12 +93,12 @@ impl TextCursor {
     fn pass_along(&mut self, len: usize)
         requires offset { self.old.offset + len ≤ longest }
         requires plain { len ≤ self.old.plain }
-        requires counts { self.old.passed + len < 2 ^ 64 }
+        requires counts { self.old.consumed + len < 2 ^ 64 }
         requires col { self.old.at.col ≤ self.old.offset + 1 }
-        ensures { self.new ≡ record { passed = self.old.passed + len; offset = self.old.offset + len; plain = self.old.plain - len; next = self.old.next; at = place self.old.at.file self.old.at.line (self.old.at.col + len) } }
+        ensures { self.new ≡ record { consumed = self.old.consumed + len; offset = self.old.offset + len; plain = self.old.plain - len; next = self.old.next; at = place self.old.at.file self.old.at.line (self.old.at.col + len) } }
     {
         self.at.col += len as u32;
-        self.passed += len;
+        self.consumed += len;
         self.offset += len;
         self.plain -= len;
     }
@@ -109,21 +109,21 @@ impl TextCursor {
     #[inline(always)]
     fn seek(&mut self, raw: &[u8], line_notes: &[u32], to: usize, line: usize)
         requires small { length raw.now ≤ longest }
-        requires stands { IsCursorAt self.old.at.file raw.now line_notes.now self.old }
-        requires forward { self.old.passed ≤ to }
+        requires is_there { IsCursorAt self.old.at.file raw.now line_notes.now self.old }
+        requires forward { self.old.consumed ≤ to }
         requires within { to < length (text_from self.old.at.file raw.now 0) }
         requires line { InLine (codes_of (text_from self.old.at.file raw.now 0)) line to }
-        ensures stands { IsCursorAt self.old.at.file raw.now line_notes.now self.new }
-        ensures passed { self.new.passed ≡ to }
+        ensures is_there { IsCursorAt self.old.at.file raw.now line_notes.now self.new }
+        ensures consumed { self.new.consumed ≡ to }
         ensures file { self.new.at.file ≡ self.old.at.file }
         ensures place { (d : Char) → self.new.at ≡ (slice_index_or (text_from self.old.at.file raw.now 0) to d).at }
     {
-        let ahead = to - self.passed;
+        let ahead = to - self.consumed;
         if ahead >= self.plain {
             self.advance_over_notes(raw, line_notes, to);
             return;
         }
-        if line <= self.passed {
+        if line <= self.consumed {
             self.pass_along(ahead);
             return;
         }
@@ -134,11 +134,11 @@ impl TextCursor {
     #[inline(never)]
     fn advance_over_notes(&mut self, raw: &[u8], line_notes: &[u32], to: usize)
         requires small { length raw.now ≤ longest }
-        requires stands { IsCursorAt self.old.at.file raw.now line_notes.now self.old }
-        requires forward { self.old.passed ≤ to }
+        requires is_there { IsCursorAt self.old.at.file raw.now line_notes.now self.old }
+        requires forward { self.old.consumed ≤ to }
         requires within { to < length (text_from self.old.at.file raw.now 0) }
-        ensures stands { IsCursorAt self.old.at.file raw.now line_notes.now self.new }
-        ensures passed { self.new.passed ≡ to }
+        ensures is_there { IsCursorAt self.old.at.file raw.now line_notes.now self.new }
+        ensures consumed { self.new.consumed ≡ to }
         ensures file { self.new.at.file ≡ self.old.at.file }
         ensures place { (d : Char) → self.new.at ≡ (slice_index_or (text_from self.old.at.file raw.now 0) to d).at }
     {
@@ -148,18 +148,18 @@ impl TextCursor {
     /// Returns the cursor at a character that may be after line notes.
     fn advanced_over_notes(self, raw: &[u8], line_notes: &[u32], to: usize) -> TextCursor
         requires small { length raw.now ≤ longest }
-        requires stands { IsCursorAt self.at.file raw.now line_notes.now self }
-        requires forward { self.passed ≤ to }
+        requires is_there { IsCursorAt self.at.file raw.now line_notes.now self }
+        requires forward { self.consumed ≤ to }
         requires within { to < length (text_from self.at.file raw.now 0) }
-        ensures stands { IsCursorAt self.at.file raw.now line_notes.now result }
-        ensures passed { result.passed ≡ to }
+        ensures is_there { IsCursorAt self.at.file raw.now line_notes.now result }
+        ensures consumed { result.consumed ≡ to }
         ensures file { result.at.file ≡ self.at.file }
         ensures place { (d : Char) → result.at ≡ (slice_index_or (text_from self.at.file raw.now 0) to d).at }
     {
         let supplied = lacks_newline(raw);
         let mut cursor = self;
         while cursor.offset < raw.len() {
-            let ahead = to - cursor.passed;
+            let ahead = to - cursor.consumed;
             if ahead < cursor.plain {
                 cursor.pass(raw, ahead);
                 return cursor;
@@ -172,11 +172,11 @@ impl TextCursor {
             match next_step(&raw[cursor.offset..], supplied) {
                 CharStep::Removed(len) => cursor = cursor.skip(raw, line_notes, len),
                 CharStep::Code(_, len) => {
-                    if cursor.passed == to {
+                    if cursor.consumed == to {
                         return cursor;
                     }
                     cursor = cursor.skip(raw, line_notes, len);
-                    cursor.passed += 1;
+                    cursor.consumed += 1;
                 }
             }
         }
@@ -249,12 +249,12 @@ impl<'a> CleanedText<'a> {
 
     /// Creates a reader of the characters' locations, from the first character on.
     pub(crate) fn places(&self) -> Places<'_>
-        ensures { result ≡ record { chars = self.now; passed = 0 } }
+        ensures { result ≡ record { chars = self.now; consumed = 0 } }
     {
         let raw = self.raw;
         let line_notes = notes_of(&self.cleaned);
         let cursor = TextCursor {
-            passed: 0,
+            consumed: 0,
             offset: 0,
             plain: plain_run_at(line_notes, 0, raw.len()),
             next: 1,
@@ -291,7 +291,7 @@ impl<'a> Model for Places<'a> {
 
     ghost use Rattle.pptext.specs.code.CleanedText.{IsCursorAt, text_from};
 
-    ghost view = { λ t. record { chars = text_from t.cursor.at.file t.raw.now 0; passed = t.cursor.passed } };
+    ghost view = { λ t. record { chars = text_from t.cursor.at.file t.raw.now 0; consumed = t.cursor.consumed } };
 
     ghost invariant = { λ t. (length t.raw.now ≤ longest) × IsCursorAt t.cursor.at.file t.raw.now t.line_notes.now t.cursor };
 }
@@ -302,10 +302,10 @@ impl<'a> Places<'a> {
     #[inline(always)]
     pub(crate) fn place(&mut self, at: usize, line: usize) -> Place
         requires within { at < length self.old.chars }
-        requires forward { self.old.passed ≤ at }
+        requires forward { self.old.consumed ≤ at }
         requires line { InLine (codes_of self.old.chars) line at }
         ensures place { (d : Char) → result ≡ (slice_index_or self.old.chars at d).at }
-        ensures after { self.new ≡ record { chars = self.old.chars; passed = at } }
+        ensures after { self.new ≡ record { chars = self.old.chars; consumed = at } }
     {
         let raw = self.raw;
         let line_notes = self.line_notes;

@@ -116,7 +116,7 @@ pub(crate) fn token_at(
     requires no_line { ¬ OpensLine text.now }
     requires unmatched { KnowsUnmatched text.now unmatched.old.single unmatched.old.double }
     ensures fits { (0 < result.1) × (result.1 ≤ length text.now) }
-    ensures stands { IsLexemeAt profile (spelled line.now) text.now result.1 (Spelled result.0) }
+    ensures is_there { IsLexemeAt profile (spelled line.now) text.now result.1 (Spelled result.0) }
     ensures unmatched { KnowsUnmatched text.now unmatched.new.single unmatched.new.double }
 {
     let header = header_at(text, line, profile);

@@ -44,7 +44,7 @@ fn universal_digits(text: &[u8]) -> usize
     ensures short { result ≡ 4 → BeginsWith text.now (92 ∷ 117 ∷ []) }
     ensures long { result ≡ 8 → BeginsWith text.now (92 ∷ 85 ∷ []) }
     ensures none { result ≡ 0 → (¬ BeginsWith text.now (92 ∷ 117 ∷ [])) × (¬ BeginsWith text.now (92 ∷ 85 ∷ [])) }
-    ensures room { 0 < result → 2 ≤ length text.now }
+    ensures begins { 0 < result → 2 ≤ length text.now }
     ensures values { (result ≡ 0) ⊎ ((result ≡ 4) ⊎ (result ≡ 8)) }
 {
     if text.len() < 2 || text[0] != b'\\' {

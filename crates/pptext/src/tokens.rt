@@ -75,9 +75,9 @@ impl Model for Spelling {
 
     ghost Value = { List ℕ };
 
-    ghost view = { λ s. elim s.bytes [ Short n room ↦ take n room | Long v ↦ v.value.items ] };
+    ghost view = { λ s. elim s.bytes [ Short n inline ↦ take n inline | Long v ↦ v.value.items ] };
 
-    ghost invariant = { λ s. elim s.bytes [ Short n room ↦ n ≤ 14 | Long v ↦ 14 < length v.value.items ] };
+    ghost invariant = { λ s. elim s.bytes [ Short n inline ↦ n ≤ 14 | Long v ↦ 14 < length v.value.items ] };
 }
 
 /// Copies at most 14 bytes into a spelling.
@@ -85,10 +85,10 @@ fn short(bytes: &[u8]) -> Spelling
     requires { length bytes.now ≤ 14 }
     ensures { result ≡ bytes.now }
 {
-    let mut room = [0; SHORT];
-    room[..bytes.len()].copy_from_slice(bytes);
+    let mut inline = [0; SHORT];
+    inline[..bytes.len()].copy_from_slice(bytes);
     Spelling {
-        bytes: Bytes::Short(bytes.len() as u8, room),
+        bytes: Bytes::Short(bytes.len() as u8, inline),
     }
 }
 
@@ -136,10 +136,10 @@ impl Spelling {
         }
         // Bytes after the spelling are copied too. A copy of constant length saves 2 % of the instructions of `deps` on
         // SQLite.
-        let mut room = [0; SHORT];
-        room.copy_from_slice(&text[..SHORT]);
+        let mut inline = [0; SHORT];
+        inline.copy_from_slice(&text[..SHORT]);
         Some(Self {
-            bytes: Bytes::Short(n as u8, room),
+            bytes: Bytes::Short(n as u8, inline),
         })
     }
 
@@ -174,7 +174,7 @@ impl Spelling {
         ensures { result.now ≡ self.now }
     {
         match &self.bytes {
-            Bytes::Short(len, room) => &room[..*len as usize],
+            Bytes::Short(len, inline) => &inline[..*len as usize],
             Bytes::Long(bytes) => bytes.as_slice(),
         }
     }
@@ -182,11 +182,11 @@ impl Spelling {
     /// Returns the array in the value itself, which begins with the spelling, and the spelling's length. Returns None
     /// if the spelling is longer than 14 bytes and is on the heap.
     pub fn in_place(&self) -> Option<(&[u8; 14], usize)>
-        ensures some { IfSome result (λ room. (room.1 ≤ 14) × (take room.1 room.0.now ≡ self.now)) }
+        ensures some { IfSome result (λ inline. (inline.1 ≤ 14) × (take inline.1 inline.0.now ≡ self.now)) }
         ensures none { IfNone result (14 < length self.now) }
     {
         match &self.bytes {
-            Bytes::Short(len, room) => Some((room, *len as usize)),
+            Bytes::Short(len, inline) => Some((inline, *len as usize)),
             Bytes::Long(_) => None,
         }
     }
@@ -197,8 +197,8 @@ impl Clone for Spelling {
 
     fn clone(&self) -> Result<Spelling, AllocError> {
         match &self.bytes {
-            Bytes::Short(len, room) => Ok(Self {
-                bytes: Bytes::Short(*len, *room),
+            Bytes::Short(len, inline) => Ok(Self {
+                bytes: Bytes::Short(*len, *inline),
             }),
             Bytes::Long(bytes) => Spelling::from_slice(*bytes.allocator(), bytes.as_slice()),
         }

@@ -8,7 +8,7 @@ use Rattle.ppshelf.specs.Files.{Files, Extends}
 use Rattle.ppunit.specs.declared.units.Unit.{Unit as UnitOfList}
 use Rattle.ppunit.specs.declared.units.Setting.{Setting}
 use Rattle.ppunit.specs.declared.units.UnitOut.{UnitOut}
-use Rattle.ppunit.specs.States.{State, Context, Reached, stopped, with_left, output}
+use Rattle.ppunit.specs.States.{State, Context, Reached, stopped, with_remaining, output}
 use Rattle.ppunit.specs.Unit.{initial_state, context_of_unit, Translates, IsUnit, count}
 use Rattle.ppunit.specs.Laws.{HasOneValue, HasSomeValue, Grows}
 use Rattle.ppunit.specs.Capped.{HasFault, AtMost, IsCapped, unlimited, BudgetCaps, OnlyBudgetsRefuse, with_budget, GivesNoLess, LargerBudgetsGiveNoLess}
@@ -63,10 +63,10 @@ unit_caps one grows only names files setting unit out are p b more whole budget 
     let start : State = initial_state (unlimited setting) in
     let c : ℕ = count q in
     let there : IsUnit names more setting unit out = (grows names files more setting unit out extends p).0 in
-    let same : (r : Reached) → Translates context texts unit.file (with_left start (Some b)) r → output r ≡ out =
+    let same : (r : Reached) → Translates context texts unit.file (with_remaining start (Some b)) r → output r ≡ out =
     λ r d.
     let within : IsUnit names more setting unit (output r) =
-    record { reached = r; translates = subst (λ l. Translates context texts unit.file (with_left start l) r) (sym budget) d; gives = refl } in
+    record { reached = r; translates = subst (λ l. Translates context texts unit.file (with_remaining start l) r) (sym budget) d; gives = refl } in
     (one names more setting unit (output r) out are within there).0 in
     elim (dec_lt b c) [
       | yes less ↦

@@ -6,11 +6,11 @@ use Rattle.pptext.specs.Tree.{Parts, Branches}
 use Rattle.pptext.specs.Tokens.{fault}
 use Rattle.ppexpand.specs.Expansion.{count_expansion}
 use Rattle.ppexpand.proofs.BudgetLemmas.{Covers, covers_less}
-use Rattle.ppunit.specs.States.{State, file_context, in_file_context, Context, Reached, stopped, with_dependency, with_left, with_one_spent, search_of}
+use Rattle.ppunit.specs.States.{State, file_context, in_file_context, Context, Reached, stopped, with_dependency, with_remaining, with_one_spent, search_of}
 use Rattle.ppunit.specs.DirectiveLines.{run_tokens}
-use Rattle.ppunit.specs.Group.{deepest, Group, Branched, Controls, Includes, Opened}
+use Rattle.ppunit.specs.Group.{deepest, Group, Branched, Controls, ExecutesInclude, Opened}
 use Rattle.ppunit.specs.Counts.{count_decides, count_names_header, count_group, count_branched, count_control, count_includes, count_opened}
-use Rattle.ppunit.specs.Unit.{Defines, unread, processed, Translates, undefined, translated, count_defines, count_translates}
+use Rattle.ppunit.specs.Unit.{Defines, unread, processed, Translates, definitions_fault, translated, count_defines, count_translates}
 use Rattle.ppunit.proofs.Kept.{Before, same_state, before_then, depends, group_before, branches_before, opened_before}
 use Rattle.ppunit.proofs.EnoughForLines.{holding, run_enough, asks_enough, asks_rest, decides_enough, decides_rest, run_rest}
 use Rattle.ppunit.proofs.Enough.{group_rest, branches_rest}
@@ -20,11 +20,11 @@ use Rattle.ppunit.proofs.CappedLines.{Stops, over_same, over_then, run_short, as
 
 module _ (context : Context) where
   -- a file that there is nothing left for
-  over_here : {depth row : ℕ} {directory : Option ℕ} {at : Place} (s t : State) → depth ≤ deepest → Before s t → Stops t (λ u f. Opened context depth at (with_left s (Some 0)) row directory (stopped u f))
-  over_here {at = at} s t fits h = (with_left s (Some 0), fault 35 at [], over_same s t (fault 35 at []) refl h, Opened.over fits refl)
+  over_here : {depth row : ℕ} {directory : Option ℕ} {at : Place} (s t : State) → depth ≤ deepest → Before s t → Stops t (λ u f. Opened context depth at (with_remaining s (Some 0)) row directory (stopped u f))
+  over_here {at = at} s t fits h = (with_remaining s (Some 0), fault 35 at [], over_same s t (fault 35 at []) refl h, Opened.exhausted fits refl)
 
   mutual
-    pub group_short : {depth row : ℕ} {r : Reached} {ps : Parts} {end : Reached} (b : ℕ) → Covers r.state.left b
+    pub group_short : {depth row : ℕ} {r : Reached} {ps : Parts} {end : Reached} (b : ℕ) → Covers r.state.remaining b
         → (d : Group context depth row r ps end)
         → b < count_group d
         → Stops end.state (λ t f. Group context depth row (holding b r) ps (stopped t f))
@@ -38,8 +38,8 @@ module _ (context : Context) where
               (x.0, x.1, over_then x.0 m.state end.state x.1 x.2 (group_before context rest), Group.run x.3 Group.stays))
           | no not_less ↦
               (let sum : b ≡ c + (b - c) = omega arith in
-              let left = run_rest s (run_tokens lines) m b (b - c) is gives sum in
-              let x = group_short (b - c) left rest (omega arith) in
+              let remaining = run_rest s (run_tokens lines) m b (b - c) is gives sum in
+              let x = group_short (b - c) remaining rest (omega arith) in
               (x.0, x.1, x.2, Group.run {end = stopped x.0 x.1} (run_enough s (run_tokens lines) m b is gives (b - c) sum) x.3))
         ]
     group_short {end = end} b is (Group.control {s = s} {m = m} here rest) less =
@@ -50,104 +50,104 @@ module _ (context : Context) where
               (x.0, x.1, over_then x.0 m.state end.state x.1 x.2 (group_before context rest), Group.control x.3 Group.stays))
           | no not_less ↦
               (let sum : b ≡ c + (b - c) = omega arith in
-              let left = control_rest context b (b - c) is here sum in
-              let x = group_short (b - c) left rest (omega arith) in
+              let remaining = control_rest context b (b - c) is here sum in
+              let x = group_short (b - c) remaining rest (omega arith) in
               (x.0, x.1, x.2, Group.control {end = stopped x.0 x.1} (control_enough context b is here (b - c) sum) x.3))
         ]
-    group_short {row = row} {end = end} b is (Group.taken {s = s} {line = line} {after = after} {m = m} decides here rest) less =
-        let c = count_decides (search_of context) row s line after (Ok true) decides in
+    group_short {row = row} {end = end} b is (Group.taken {s = s} {line = line} {remaining_after = remaining_after} {m = m} decides here rest) less =
+        let c = count_decides (search_of context) row s line remaining_after (Ok true) decides in
         let j = count_group here in
         let k = count_group rest in
         let one = group_before context here in
         let two = group_before context rest in
         elim (dec_lt b c) [
           | yes less ↦
-              (let x = decides_short (search_of context) row s line after (Ok true) b is decides less in
-              (with_left s (Some 0), x.0, over_same s end.state x.0 x.1 (before_then s m.state end.state one two), Group.refused x.2))
+              (let x = decides_short (search_of context) row s line remaining_after (Ok true) b is decides less in
+              (with_remaining s (Some 0), x.0, over_same s end.state x.0 x.1 (before_then s m.state end.state one two), Group.condition_fault x.2))
           | no not_less ↦
               (let sum : b ≡ c + (b - c) = omega arith in
-              let left = decides_rest (search_of context) row s line after (Ok true) b (b - c) is decides sum in
+              let remaining = decides_rest (search_of context) row s line remaining_after (Ok true) b (b - c) is decides sum in
               elim (dec_lt (b - c) j) [
                 | yes less ↦
-                    (let x = group_short (b - c) left here less in
-                    (x.0, x.1, over_then x.0 m.state end.state x.1 x.2 two, Group.taken {end = stopped x.0 x.1} (decides_enough (search_of context) row s line after (Ok true) b is decides (b - c) sum) x.3 Group.stays))
+                    (let x = group_short (b - c) remaining here less in
+                    (x.0, x.1, over_then x.0 m.state end.state x.1 x.2 two, Group.taken {end = stopped x.0 x.1} (decides_enough (search_of context) row s line remaining_after (Ok true) b is decides (b - c) sum) x.3 Group.stays))
                 | no not_less2 ↦
                     (let n = b - c - j in
                     let sum2 : b - c ≡ j + n = omega arith in
-                    let next = group_rest context (b - c) n left here sum2 in
+                    let next = group_rest context (b - c) n remaining here sum2 in
                     let x = group_short n next rest (omega arith) in
-                    (x.0, x.1, x.2, Group.taken {end = stopped x.0 x.1} (decides_enough (search_of context) row s line after (Ok true) b is decides (b - c) sum) (group_enough context (b - c) left here n sum2) x.3))
+                    (x.0, x.1, x.2, Group.taken {end = stopped x.0 x.1} (decides_enough (search_of context) row s line remaining_after (Ok true) b is decides (b - c) sum) (group_enough context (b - c) remaining here n sum2) x.3))
               ])
         ]
-    group_short {row = row} {end = end} b is (Group.skipped {s = s} {line = line} {after = after} {m = m} decides here rest) less =
-        let c = count_decides (search_of context) row s line after (Ok false) decides in
+    group_short {row = row} {end = end} b is (Group.skipped {s = s} {line = line} {remaining_after = remaining_after} {m = m} decides here rest) less =
+        let c = count_decides (search_of context) row s line remaining_after (Ok false) decides in
         let j = count_branched here in
         let k = count_group rest in
         let one = branches_before context here in
         let two = group_before context rest in
         elim (dec_lt b c) [
           | yes less ↦
-              (let x = decides_short (search_of context) row s line after (Ok false) b is decides less in
-              (with_left s (Some 0), x.0, over_same s end.state x.0 x.1 (before_then s m.state end.state one two), Group.refused x.2))
+              (let x = decides_short (search_of context) row s line remaining_after (Ok false) b is decides less in
+              (with_remaining s (Some 0), x.0, over_same s end.state x.0 x.1 (before_then s m.state end.state one two), Group.condition_fault x.2))
           | no not_less ↦
               (let sum : b ≡ c + (b - c) = omega arith in
-              let left = decides_rest (search_of context) row s line after (Ok false) b (b - c) is decides sum in
+              let remaining = decides_rest (search_of context) row s line remaining_after (Ok false) b (b - c) is decides sum in
               elim (dec_lt (b - c) j) [
                 | yes less ↦
-                    (let x = branches_short (b - c) left here less in
-                    (x.0, x.1, over_then x.0 m.state end.state x.1 x.2 two, Group.skipped {end = stopped x.0 x.1} (decides_enough (search_of context) row s line after (Ok false) b is decides (b - c) sum) x.3 Group.stays))
+                    (let x = branches_short (b - c) remaining here less in
+                    (x.0, x.1, over_then x.0 m.state end.state x.1 x.2 two, Group.skipped {end = stopped x.0 x.1} (decides_enough (search_of context) row s line remaining_after (Ok false) b is decides (b - c) sum) x.3 Group.stays))
                 | no not_less2 ↦
                     (let n = b - c - j in
                     let sum2 : b - c ≡ j + n = omega arith in
-                    let next = branches_rest context (b - c) n left here sum2 in
+                    let next = branches_rest context (b - c) n remaining here sum2 in
                     let x = group_short n next rest (omega arith) in
-                    (x.0, x.1, x.2, Group.skipped {end = stopped x.0 x.1} (decides_enough (search_of context) row s line after (Ok false) b is decides (b - c) sum) (branches_enough context (b - c) left here n sum2) x.3))
+                    (x.0, x.1, x.2, Group.skipped {end = stopped x.0 x.1} (decides_enough (search_of context) row s line remaining_after (Ok false) b is decides (b - c) sum) (branches_enough context (b - c) remaining here n sum2) x.3))
               ])
         ]
-    group_short {row = row} b is (Group.refused {s = s} {line = line} {after = after} {f = f} decides) less =
-        let x = decides_short (search_of context) row s line after (Err f) b is decides less in
-        (with_left s (Some 0), x.0, over_same s (with_left s after) x.0 x.1 (same_state s), Group.refused x.2)
+    group_short {row = row} b is (Group.condition_fault {s = s} {line = line} {remaining_after = remaining_after} {f = f} decides) less =
+        let x = decides_short (search_of context) row s line remaining_after (Err f) b is decides less in
+        (with_remaining s (Some 0), x.0, over_same s (with_remaining s remaining_after) x.0 x.1 (same_state s), Group.condition_fault x.2)
 
-    branches_short : {depth row : ℕ} {s : State} {bs : Branches} {m : Reached} (b : ℕ) → Covers s.left b
+    branches_short : {depth row : ℕ} {s : State} {bs : Branches} {m : Reached} (b : ℕ) → Covers s.remaining b
         → (d : Branched context depth row s bs m)
         → b < count_branched d
-        → Stops m.state (λ t f. Branched context depth row (with_left s (Some b)) bs (stopped t f))
+        → Stops m.state (λ t f. Branched context depth row (with_remaining s (Some b)) bs (stopped t f))
     branches_short b is Branched.ended less = absurd (omega arith)
     branches_short b is (Branched.otherwise e here) less =
         let x = group_short b is here less in
         (x.0, x.1, x.2, Branched.otherwise e x.3)
-    branches_short {row = row} {m = m} b is (Branched.branch_taken {s = s} {line = line} {after = after} e decides here) less =
-        let c = count_decides (search_of context) row s line after (Ok true) decides in
+    branches_short {row = row} {m = m} b is (Branched.branch_taken {s = s} {line = line} {remaining_after = remaining_after} e decides here) less =
+        let c = count_decides (search_of context) row s line remaining_after (Ok true) decides in
         elim (dec_lt b c) [
           | yes less ↦
-              (let x = decides_short (search_of context) row s line after (Ok true) b is decides less in
-              (with_left s (Some 0), x.0, over_same s m.state x.0 x.1 (group_before context here), Branched.branch_refused e x.2))
+              (let x = decides_short (search_of context) row s line remaining_after (Ok true) b is decides less in
+              (with_remaining s (Some 0), x.0, over_same s m.state x.0 x.1 (group_before context here), Branched.branch_condition_fault e x.2))
           | no not_less ↦
               (let sum : b ≡ c + (b - c) = omega arith in
-              let left = decides_rest (search_of context) row s line after (Ok true) b (b - c) is decides sum in
-              let x = group_short (b - c) left here (omega arith) in
-              (x.0, x.1, x.2, Branched.branch_taken {m = stopped x.0 x.1} e (decides_enough (search_of context) row s line after (Ok true) b is decides (b - c) sum) x.3))
+              let remaining = decides_rest (search_of context) row s line remaining_after (Ok true) b (b - c) is decides sum in
+              let x = group_short (b - c) remaining here (omega arith) in
+              (x.0, x.1, x.2, Branched.branch_taken {m = stopped x.0 x.1} e (decides_enough (search_of context) row s line remaining_after (Ok true) b is decides (b - c) sum) x.3))
         ]
-    branches_short {row = row} {m = m} b is (Branched.branch_skipped {s = s} {line = line} {after = after} e decides here) less =
-        let c = count_decides (search_of context) row s line after (Ok false) decides in
+    branches_short {row = row} {m = m} b is (Branched.branch_skipped {s = s} {line = line} {remaining_after = remaining_after} e decides here) less =
+        let c = count_decides (search_of context) row s line remaining_after (Ok false) decides in
         elim (dec_lt b c) [
           | yes less ↦
-              (let x = decides_short (search_of context) row s line after (Ok false) b is decides less in
-              (with_left s (Some 0), x.0, over_same s m.state x.0 x.1 (branches_before context here), Branched.branch_refused e x.2))
+              (let x = decides_short (search_of context) row s line remaining_after (Ok false) b is decides less in
+              (with_remaining s (Some 0), x.0, over_same s m.state x.0 x.1 (branches_before context here), Branched.branch_condition_fault e x.2))
           | no not_less ↦
               (let sum : b ≡ c + (b - c) = omega arith in
-              let left = decides_rest (search_of context) row s line after (Ok false) b (b - c) is decides sum in
-              let x = branches_short (b - c) left here (omega arith) in
-              (x.0, x.1, x.2, Branched.branch_skipped {m = stopped x.0 x.1} e (decides_enough (search_of context) row s line after (Ok false) b is decides (b - c) sum) x.3))
+              let remaining = decides_rest (search_of context) row s line remaining_after (Ok false) b (b - c) is decides sum in
+              let x = branches_short (b - c) remaining here (omega arith) in
+              (x.0, x.1, x.2, Branched.branch_skipped {m = stopped x.0 x.1} e (decides_enough (search_of context) row s line remaining_after (Ok false) b is decides (b - c) sum) x.3))
         ]
-    branches_short {row = row} b is (Branched.branch_refused {s = s} {line = line} {after = after} {f = f} e decides) less =
-        let x = decides_short (search_of context) row s line after (Err f) b is decides less in
-        (with_left s (Some 0), x.0, over_same s (with_left s after) x.0 x.1 (same_state s), Branched.branch_refused e x.2)
+    branches_short {row = row} b is (Branched.branch_condition_fault {s = s} {line = line} {remaining_after = remaining_after} {f = f} e decides) less =
+        let x = decides_short (search_of context) row s line remaining_after (Err f) b is decides less in
+        (with_remaining s (Some 0), x.0, over_same s (with_remaining s remaining_after) x.0 x.1 (same_state s), Branched.branch_condition_fault e x.2)
 
-    control_short : {depth row : ℕ} {s : State} {line : LogicalLine} {m : Reached} (b : ℕ) → Covers s.left b
+    control_short : {depth row : ℕ} {s : State} {line : LogicalLine} {m : Reached} (b : ℕ) → Covers s.remaining b
         → (d : Controls context depth row s line m)
         → b < count_control d
-        → Stops m.state (λ t f. Controls context depth row (with_left s (Some b)) line (stopped t f))
+        → Stops m.state (λ t f. Controls context depth row (with_remaining s (Some b)) line (stopped t f))
     control_short b is (Controls.error e) less = absurd (omega arith)
     control_short b is (Controls.ignored e) less = absurd (omega arith)
     control_short b is (Controls.quote e q) less = absurd (omega arith)
@@ -158,37 +158,37 @@ module _ (context : Context) where
         let x = includes_short b is here less in
         (x.0, x.1, x.2, Controls.include e q x.3)
 
-    includes_short : {depth row : ℕ} {following : Option ℕ} {s : State} {line : LogicalLine} {m : Reached} (b : ℕ) → Covers s.left b
-        → (d : Includes context depth row following s line m)
+    includes_short : {depth row : ℕ} {following : Option ℕ} {s : State} {line : LogicalLine} {m : Reached} (b : ℕ) → Covers s.remaining b
+        → (d : ExecutesInclude context depth row following s line m)
         → b < count_includes d
-        → Stops m.state (λ t f. Includes context depth row following (with_left s (Some b)) line (stopped t f))
-    includes_short b is (Includes.misnamed {s = s} {line = line} {after = after} {f = f} asks) less =
-        let x = asks_short s line.tokens after (Err f) b is asks less in
-        (with_left s (Some 0), x.0, over_same s (with_left s after) x.0 x.1 (same_state s), Includes.misnamed x.2)
-    includes_short b is (Includes.missing {s = s} {line = line} {after = after} a asks finds) less =
-        let x = asks_short s line.tokens after (Ok a) b is asks less in
-        (with_left s (Some 0), x.0, over_same s (with_left s after) x.0 x.1 (same_state s), Includes.misnamed x.2)
-    includes_short b is (Includes.included {s = s} {line = line} {after = after} a found {m = m} asks finds opens) less =
-        let c = count_names_header s line.tokens after (Ok a) asks in
+        → Stops m.state (λ t f. ExecutesInclude context depth row following (with_remaining s (Some b)) line (stopped t f))
+    includes_short b is (ExecutesInclude.misnamed {s = s} {line = line} {remaining_after = remaining_after} {f = f} asks) less =
+        let x = asks_short s line.tokens remaining_after (Err f) b is asks less in
+        (with_remaining s (Some 0), x.0, over_same s (with_remaining s remaining_after) x.0 x.1 (same_state s), ExecutesInclude.misnamed x.2)
+    includes_short b is (ExecutesInclude.missing {s = s} {line = line} {remaining_after = remaining_after} a asks finds) less =
+        let x = asks_short s line.tokens remaining_after (Ok a) b is asks less in
+        (with_remaining s (Some 0), x.0, over_same s (with_remaining s remaining_after) x.0 x.1 (same_state s), ExecutesInclude.misnamed x.2)
+    includes_short b is (ExecutesInclude.included {s = s} {line = line} {remaining_after = remaining_after} a found {m = m} asks finds opens) less =
+        let c = count_names_header s line.tokens remaining_after (Ok a) asks in
         elim (dec_lt b c) [
           | yes less ↦
-              (let x = asks_short s line.tokens after (Ok a) b is asks less in
-              (with_left s (Some 0), x.0, over_same s m.state x.0 x.1 (opened_before context opens), Includes.misnamed x.2))
+              (let x = asks_short s line.tokens remaining_after (Ok a) b is asks less in
+              (with_remaining s (Some 0), x.0, over_same s m.state x.0 x.1 (opened_before context opens), ExecutesInclude.misnamed x.2))
           | no not_less ↦
               (let sum : b ≡ c + (b - c) = omega arith in
-              let left = asks_rest s line.tokens after (Ok a) b (b - c) is asks sum in
-              let x = opened_short (b - c) left opens (omega arith) in
-              (x.0, x.1, x.2, Includes.included a found {m = stopped x.0 x.1} (asks_enough s line.tokens after (Ok a) b is asks (b - c) sum) finds x.3))
+              let remaining = asks_rest s line.tokens remaining_after (Ok a) b (b - c) is asks sum in
+              let x = opened_short (b - c) remaining opens (omega arith) in
+              (x.0, x.1, x.2, ExecutesInclude.included a found {m = stopped x.0 x.1} (asks_enough s line.tokens remaining_after (Ok a) b is asks (b - c) sum) finds x.3))
         ]
 
-    pub opened_short : {depth row : ℕ} {directory : Option ℕ} {at : Place} {s : State} {m : Reached} (b : ℕ) → Covers s.left b
+    pub opened_short : {depth row : ℕ} {directory : Option ℕ} {at : Place} {s : State} {m : Reached} (b : ℕ) → Covers s.remaining b
         → (d : Opened context depth at s row directory m)
         → b < count_opened d
-        → Stops m.state (λ t f. Opened context depth at (with_left s (Some b)) row directory (stopped t f))
+        → Stops m.state (λ t f. Opened context depth at (with_remaining s (Some b)) row directory (stopped t f))
     opened_short b is (Opened.too_deep deep) less = absurd (omega arith)
-    opened_short b is (Opened.over fits spent) less = absurd (omega arith)
-    opened_short {depth} {row} {directory} {at} zero is (Opened.known {s = s} fits more once) less = over_here {depth = depth} {row = row} {directory = directory} {at = at} s (with_dependency (with_one_spent s) row) fits (depends s row)
-    opened_short (suc b) is (Opened.known fits more once) less = absurd (omega arith)
+    opened_short b is (Opened.exhausted fits spent) less = absurd (omega arith)
+    opened_short {depth} {row} {directory} {at} zero is (Opened.read_once {s = s} fits more once) less = over_here {depth = depth} {row = row} {directory = directory} {at = at} s (with_dependency (with_one_spent s) row) fits (depends s row)
+    opened_short (suc b) is (Opened.read_once fits more once) less = absurd (omega arith)
     opened_short {depth} {row} {directory} {at} zero is (Opened.not_readable {s = s} fits more once file) less = over_here {depth = depth} {row = row} {directory = directory} {at = at} s (with_dependency (with_one_spent s) row) fits (depends s row)
     opened_short (suc b) is (Opened.not_readable fits more once file) less = absurd (omega arith)
     opened_short {depth} {row} {directory} {at} zero is (Opened.faulty {s = s} fits more once file reads) less = over_here {depth = depth} {row = row} {directory = directory} {at = at} s (with_dependency (with_one_spent s) row) fits (depends s row)
@@ -197,33 +197,33 @@ module _ (context : Context) where
         over_here {depth = depth} {row = row} {directory = directory} {at = at} s (in_file_context (file_context s) m.state) fits (before_then s (with_dependency s row) m.state (depends s row) (group_before context here))
     opened_short (suc b) is (Opened.read {s = s} {m = m} fits more once file reads tree here) less =
         let x = group_short b (covers_less is) here (omega arith) in
-        (in_file_context (file_context s) x.0, x.1, record { number = x.2.number; left = x.2.left; before = x.2.before }, Opened.read fits refl once file reads tree x.3)
+        (in_file_context (file_context s) x.0, x.1, record { number = x.2.number; remaining = x.2.remaining; before = x.2.before }, Opened.read fits refl once file reads tree x.3)
 
-  defines_short : {defines : List (List ℕ)} {s : State} {m : Reached} (b : ℕ) → Covers s.left b
+  defines_short : {defines : List (List ℕ)} {s : State} {m : Reached} (b : ℕ) → Covers s.remaining b
       → (d : Defines context defines s m)
       → b < count_defines d
-      → Stops m.state (λ t f. Defines context defines (with_left s (Some b)) (stopped t f))
+      → Stops m.state (λ t f. Defines context defines (with_remaining s (Some b)) (stopped t f))
   defines_short b is (unread reads) less = absurd (omega arith)
   defines_short b is (processed reads tree here) less =
       let x = group_short b is here less in
       (x.0, x.1, x.2, processed reads tree x.3)
 
-  pub unit_short : {defines : List (List ℕ)} {row : ℕ} {s : State} {m : Reached} (b : ℕ) → Covers s.left b
+  pub unit_short : {defines : List (List ℕ)} {row : ℕ} {s : State} {m : Reached} (b : ℕ) → Covers s.remaining b
       → (d : Translates context defines row s m)
       → b < count_translates d
-      → Stops m.state (λ t f. Translates context defines row (with_left s (Some b)) (stopped t f))
-  unit_short b is (undefined here) less =
+      → Stops m.state (λ t f. Translates context defines row (with_remaining s (Some b)) (stopped t f))
+  unit_short b is (definitions_fault here) less =
       let x = defines_short b is here less in
-      (x.0, x.1, x.2, undefined x.3)
+      (x.0, x.1, x.2, definitions_fault x.3)
   unit_short {m = m} b is (translated {t = t} here opens) less =
       let c = count_defines here in
       elim (dec_lt b c) [
         | yes less ↦
             (let x = defines_short b is here less in
-            (x.0, x.1, over_then x.0 t m.state x.1 x.2 (opened_before context opens), undefined x.3))
+            (x.0, x.1, over_then x.0 t m.state x.1 x.2 (opened_before context opens), definitions_fault x.3))
         | no not_less ↦
             (let sum : b ≡ c + (b - c) = omega arith in
-            let left = defines_rest context b (b - c) is here sum in
-            let x = opened_short (b - c) left opens (omega arith) in
+            let remaining = defines_rest context b (b - c) is here sum in
+            let x = opened_short (b - c) remaining opens (omega arith) in
             (x.0, x.1, x.2, translated (defines_enough context b is here (b - c) sum) x.3))
       ]

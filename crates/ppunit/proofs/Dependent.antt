@@ -9,7 +9,7 @@ use Rattle.pptext.specs.declared.sources.Profile.{Profile}
 use Rattle.pptext.specs.declared.sources.Directive.{Directive}
 use Rattle.pptext.specs.declared.sources.Directive.TheVariants.{Define, Undef, Line, Pragma, Null, Unknown}
 use Rattle.pptext.specs.Lines.{LogicalLine}
-use Rattle.pptext.specs.Tree.{sign_place, Parts, Branches}
+use Rattle.pptext.specs.Tree.{hash_place, Parts, Branches}
 use Rattle.ppmacro.specs.Names.{Macros}
 use Rattle.ppmacro.specs.Define.{after_define, after_undef}
 use Rattle.ppshelf.specs.Files.{Files}
@@ -18,12 +18,12 @@ use Rattle.ppunit.specs.declared.units.Setting.{Setting}
 use Rattle.ppunit.specs.declared.units.UnitOut.{UnitOut}
 use Rattle.ppunit.specs.declared.units.Item.TheVariants as item
 use Rattle.ppunit.specs.Dependencies.{with_row}
-use Rattle.ppunit.specs.States.{State, Context, Reached, emitted, with_once, with_left}
+use Rattle.ppunit.specs.States.{State, Context, Reached, emitted, with_once, with_remaining}
 use Rattle.ppunit.specs.DirectiveLines.{operands, run_tokens}
 use Rattle.ppunit.specs.LineControl.{Presumed, presumed}
 use Rattle.ppunit.specs.Directives.{EmitsRun, renumbered_by, with_macros, is_once, ControlBy}
-use Rattle.ppunit.specs.Group.{Group, Branched, Controls, Includes, Opened}
-use Rattle.ppunit.specs.Unit.{IsUnit, Defines, unread, processed, Translates, undefined, translated, context_of_unit}
+use Rattle.ppunit.specs.Group.{Group, Branched, Controls, ExecutesInclude, Opened}
+use Rattle.ppunit.specs.Unit.{IsUnit, Defines, unread, processed, Translates, definitions_fault, translated, context_of_unit}
 use Rattle.ppshelf.proofs.Finds.{first_within}
 
 -- ---- what leaves the dependencies as they are
@@ -48,13 +48,13 @@ control_keeps : (profile : Profile) (row : ℕ) (d : Option Directive) (s : Stat
     → ControlBy profile row d s r m
     → m.state.deps ≡ s.deps
 control_keeps profile row (Some Define) s r m does =
-    ap (λ (z : Reached). z.state.deps) does ∙ macros_keep s (after_define profile s.macros (sign_place r.tokens) (operands r.tokens))
+    ap (λ (z : Reached). z.state.deps) does ∙ macros_keep s (after_define profile s.macros (hash_place r.tokens) (operands r.tokens))
 control_keeps profile row (Some Undef) s r m does =
-    ap (λ (z : Reached). z.state.deps) does ∙ macros_keep s (after_undef profile s.macros (sign_place r.tokens) (operands r.tokens))
+    ap (λ (z : Reached). z.state.deps) does ∙ macros_keep s (after_undef profile s.macros (hash_place r.tokens) (operands r.tokens))
 control_keeps profile row (Some Line) s r m does =
-    ap (λ (z : Reached). z.state.deps) does.is ∙ renumbered_keeps (with_left s does.expanded.left) r does.expanded.fault (presumed does.expanded.tokens)
+    ap (λ (z : Reached). z.state.deps) does.is ∙ renumbered_keeps (with_remaining s does.expanded.remaining) r does.expanded.fault (presumed does.expanded.tokens)
 control_keeps profile row (Some Pragma) s r m does =
-    let t = emitted s (item.Pragma (sign_place r.tokens) (operands r.tokens) ∷ []) in
+    let t = emitted s (item.Pragma (hash_place r.tokens) (operands r.tokens) ∷ []) in
     ap (λ (z : Reached). z.state.deps) does ∙ noting_keeps (is_once profile (operands r.tokens)) t row
 control_keeps profile row (Some Null) s r m does = ap (λ (z : Reached). z.state.deps) does
 control_keeps profile row (Some Unknown) s r m does = ap (λ (z : Reached). z.state.deps) does
@@ -81,14 +81,14 @@ module _ (context : Context) where
     group_within (Group.control here rest) all = group_within rest (control_within here all)
     group_within (Group.taken decides here rest) all = group_within rest (group_within here all)
     group_within (Group.skipped decides here rest) all = group_within rest (branches_within here all)
-    group_within (Group.refused decides) all = all
+    group_within (Group.condition_fault decides) all = all
 
     branches_within : {depth row : ℕ} {s : State} {bs : Branches} {m : Reached} → Branched context depth row s bs m → Within s.deps → Within m.state.deps
     branches_within Branched.ended all = all
     branches_within (Branched.otherwise is here) all = group_within here all
     branches_within (Branched.branch_taken is decides here) all = group_within here all
     branches_within (Branched.branch_skipped is decides rest) all = branches_within rest all
-    branches_within (Branched.branch_refused is decides) all = all
+    branches_within (Branched.branch_condition_fault is decides) all = all
 
     control_within : {depth row : ℕ} {s : State} {line : LogicalLine} {m : Reached} → Controls context depth row s line m → Within s.deps → Within m.state.deps
     control_within (Controls.error is) all = all
@@ -98,15 +98,15 @@ module _ (context : Context) where
         subst Within (sym (control_keeps context.profile row line.directive s line m does)) all
     control_within (Controls.include is q here) all = includes_within here all
 
-    includes_within : {depth row : ℕ} {following : Option ℕ} {s : State} {line : LogicalLine} {m : Reached} → Includes context depth row following s line m → Within s.deps → Within m.state.deps
-    includes_within (Includes.misnamed asks) all = all
-    includes_within (Includes.missing a asks finds) all = all
-    includes_within (Includes.included a found asks finds opens) all = opened_within opens (first_within context.names _ (Some found) finds) all
+    includes_within : {depth row : ℕ} {following : Option ℕ} {s : State} {line : LogicalLine} {m : Reached} → ExecutesInclude context depth row following s line m → Within s.deps → Within m.state.deps
+    includes_within (ExecutesInclude.misnamed asks) all = all
+    includes_within (ExecutesInclude.missing a asks finds) all = all
+    includes_within (ExecutesInclude.included a found asks finds opens) all = opened_within opens (first_within context.names _ (Some found) finds) all
 
     opened_within : {depth row : ℕ} {directory : Option ℕ} {at : Place} {s : State} {m : Reached} → Opened context depth at s row directory m → row < length context.names → Within s.deps → Within m.state.deps
     opened_within (Opened.too_deep deep) within all = all
-    opened_within (Opened.over fits spent) within all = all
-    opened_within {row = row} {s = s} (Opened.known fits some known) within all = among_within row s.deps within all
+    opened_within (Opened.exhausted fits spent) within all = all
+    opened_within {row = row} {s = s} (Opened.read_once fits some known) within all = among_within row s.deps within all
     opened_within {row = row} {s = s} (Opened.not_readable fits some new is) within all = among_within row s.deps within all
     opened_within {row = row} {s = s} (Opened.faulty fits some new is reads) within all = among_within row s.deps within all
     opened_within {row = row} {s = s} (Opened.read fits some new is reads tree here) within all = group_within here (among_within row s.deps within all)
@@ -116,7 +116,7 @@ module _ (context : Context) where
   defines_within (processed reads tree here) all = group_within here all
 
   translates_within : {defines : List (List ℕ)} {row : ℕ} {s : State} {m : Reached} → Translates context defines row s m → row < length context.names → Within s.deps → Within m.state.deps
-  translates_within (undefined here) within all = defines_within here all
+  translates_within (definitions_fault here) within all = defines_within here all
   translates_within (translated here opens) within all = opened_within opens within (defines_within here all)
 
 pub unit_within : (names : List (List ℕ)) (files : Files) (setting : Setting) (unit : UnitOfList) (out : UnitOut) → IsUnit names files setting unit out → unit.file < length names → All (λ row. row < length names) out.deps

@@ -9,7 +9,7 @@ use Rattle.ppexpand.specs.Expansion.{ended, done, step_in_budget}
 use Rattle.ppunit.specs.States.{State}
 use Rattle.ppunit.specs.Directives.{EmitsRun}
 
-none_next : (macros : Macros) (env : Env) (left : Option ℕ) → step_in_budget macros env left [] ≡ Done
+none_next : (macros : Macros) (env : Env) (remaining : Option ℕ) → step_in_budget macros env remaining [] ≡ Done
 unfolding expansion_step
 none_next macros env None = refl
 none_next macros env (Some zero) = refl
@@ -17,13 +17,13 @@ none_next macros env (Some (suc n)) = refl
 
 without_tokens : (s : State) → EmitsRun s [] (record { state = s; fault = None })
 without_tokens s = record {
-  expanded = record { tokens = []; fault = None; left = s.left };
+  expanded = record { tokens = []; fault = None; remaining = s.remaining };
   expands = record {
-    outcome = ended s.left None;
-    expands = (0, done (none_next s.macros s.env s.left));
+    outcome = ended s.remaining None;
+    expands = (0, done (none_next s.macros s.env s.remaining));
     emitted = refl;
     ended = refl;
-    left_over = refl;
+    remains = refl;
   };
   is = λ i. record { state = record s { items = sym (append-nil s.items) i }; fault = None };
 }

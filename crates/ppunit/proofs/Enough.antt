@@ -5,41 +5,41 @@ use Rattle.pptext.specs.Lines.{LogicalLine}
 use Rattle.pptext.specs.Tree.{Parts, Branches, Done, End}
 use Rattle.pptext.specs.Tokens.{fault}
 use Rattle.ppexpand.proofs.BudgetLemmas.{Covers, without, covers_less, covers_rest}
-use Rattle.ppunit.specs.States.{State, Context, Reached, going, stopped, with_left, search_of}
+use Rattle.ppunit.specs.States.{State, Context, Reached, going, stopped, with_remaining, search_of}
 use Rattle.ppunit.specs.DirectiveLines.{run_tokens}
-use Rattle.ppunit.specs.Group.{Group, Branched, Controls, Includes, Opened}
+use Rattle.ppunit.specs.Group.{Group, Branched, Controls, ExecutesInclude, Opened}
 use Rattle.ppunit.specs.Counts.{count_group, count_branched, count_control, count_includes, count_opened}
-use Rattle.ppunit.specs.Unit.{Defines, unread, processed, Translates, undefined, translated, count_defines, count_translates}
+use Rattle.ppunit.specs.Unit.{Defines, unread, processed, Translates, definitions_fault, translated, count_defines, count_translates}
 use Rattle.ppunit.proofs.Spends.{group_spends, branches_spend, control_spends, defines_spends}
 use Rattle.ppunit.proofs.EnoughForLines.{holding, run_enough, asks_enough, decides_enough, control_by_enough, asks_rest, decides_rest, run_rest, covered}
 
 module _ (context : Context) where
-  pub group_rest : {depth row : ℕ} {r : Reached} {ps : Parts} {end : Reached} (b m : ℕ) → Covers r.state.left b
+  pub group_rest : {depth row : ℕ} {r : Reached} {ps : Parts} {end : Reached} (b m : ℕ) → Covers r.state.remaining b
       → (d : Group context depth row r ps end)
       → b ≡ count_group d + m
-      → Covers end.state.left m
-  group_rest {end = end} b m is d sum = covers_rest end.state.left (count_group d) m is (group_spends context d) sum
+      → Covers end.state.remaining m
+  group_rest {end = end} b m is d sum = covers_rest end.state.remaining (count_group d) m is (group_spends context d) sum
 
-  pub branches_rest : {depth row : ℕ} {s : State} {bs : Branches} {r : Reached} (b m : ℕ) → Covers s.left b
+  pub branches_rest : {depth row : ℕ} {s : State} {bs : Branches} {r : Reached} (b m : ℕ) → Covers s.remaining b
       → (d : Branched context depth row s bs r)
       → b ≡ count_branched d + m
-      → Covers r.state.left m
-  branches_rest {r = r} b m is d sum = covers_rest r.state.left (count_branched d) m is (branches_spend context d) sum
+      → Covers r.state.remaining m
+  branches_rest {r = r} b m is d sum = covers_rest r.state.remaining (count_branched d) m is (branches_spend context d) sum
 
-  pub control_rest : {depth row : ℕ} {s : State} {line : LogicalLine} {r : Reached} (b m : ℕ) → Covers s.left b
+  pub control_rest : {depth row : ℕ} {s : State} {line : LogicalLine} {r : Reached} (b m : ℕ) → Covers s.remaining b
       → (d : Controls context depth row s line r)
       → b ≡ count_control d + m
-      → Covers r.state.left m
-  control_rest {r = r} b m is d sum = covers_rest r.state.left (count_control d) m is (control_spends context d) sum
+      → Covers r.state.remaining m
+  control_rest {r = r} b m is d sum = covers_rest r.state.remaining (count_control d) m is (control_spends context d) sum
 
-  pub defines_rest : {defines : List (List ℕ)} {s : State} {r : Reached} (b m : ℕ) → Covers s.left b
+  pub defines_rest : {defines : List (List ℕ)} {s : State} {r : Reached} (b m : ℕ) → Covers s.remaining b
       → (d : Defines context defines s r)
       → b ≡ count_defines d + m
-      → Covers r.state.left m
-  defines_rest {r = r} b m is d sum = covers_rest r.state.left (count_defines d) m is (defines_spends context d) sum
+      → Covers r.state.remaining m
+  defines_rest {r = r} b m is d sum = covers_rest r.state.remaining (count_defines d) m is (defines_spends context d) sum
 
   mutual
-    pub group_enough : {depth row : ℕ} {r : Reached} {ps : Parts} {end : Reached} (b : ℕ) → Covers r.state.left b
+    pub group_enough : {depth row : ℕ} {r : Reached} {ps : Parts} {end : Reached} (b : ℕ) → Covers r.state.remaining b
         → (d : Group context depth row r ps end) (n : ℕ)
         → b ≡ count_group d + n
         → Group context depth row (holding b r) ps (holding n end)
@@ -55,115 +55,115 @@ module _ (context : Context) where
     group_enough b is (Group.control here rest) n sum =
         let k = count_group rest in
         Group.control (control_enough b is here (k + n) (omega arith)) (group_enough (k + n) (control_rest b (k + n) is here (omega arith)) rest n refl)
-    group_enough {row = row} b is (Group.taken {s = s} {line = line} {after = after} decides here rest) n sum =
+    group_enough {row = row} b is (Group.taken {s = s} {line = line} {remaining_after = remaining_after} decides here rest) n sum =
         let j = count_group here in
         let k = count_group rest in
-        let left = decides_rest (search_of context) row s line after (Ok true) b (j + (k + n)) is decides (omega arith) in
-        Group.taken (decides_enough (search_of context) row s line after (Ok true) b is decides (j + (k + n)) (omega arith)) (group_enough (j + (k + n)) left here (k + n) refl) (group_enough (k + n) (group_rest (j + (k + n)) (k + n) left here refl) rest n refl)
-    group_enough {row = row} b is (Group.skipped {s = s} {line = line} {after = after} decides here rest) n sum =
+        let remaining = decides_rest (search_of context) row s line remaining_after (Ok true) b (j + (k + n)) is decides (omega arith) in
+        Group.taken (decides_enough (search_of context) row s line remaining_after (Ok true) b is decides (j + (k + n)) (omega arith)) (group_enough (j + (k + n)) remaining here (k + n) refl) (group_enough (k + n) (group_rest (j + (k + n)) (k + n) remaining here refl) rest n refl)
+    group_enough {row = row} b is (Group.skipped {s = s} {line = line} {remaining_after = remaining_after} decides here rest) n sum =
         let j = count_branched here in
         let k = count_group rest in
-        let left = decides_rest (search_of context) row s line after (Ok false) b (j + (k + n)) is decides (omega arith) in
-        Group.skipped (decides_enough (search_of context) row s line after (Ok false) b is decides (j + (k + n)) (omega arith))
-        (branches_enough (j + (k + n)) left here (k + n) refl) (group_enough (k + n) (branches_rest (j + (k + n)) (k + n) left here refl) rest n refl)
-    group_enough {row = row} b is (Group.refused {s = s} {line = line} {after = after} {f = f} decides) n sum = Group.refused (decides_enough (search_of context) row s line after (Err f) b is decides n sum)
+        let remaining = decides_rest (search_of context) row s line remaining_after (Ok false) b (j + (k + n)) is decides (omega arith) in
+        Group.skipped (decides_enough (search_of context) row s line remaining_after (Ok false) b is decides (j + (k + n)) (omega arith))
+        (branches_enough (j + (k + n)) remaining here (k + n) refl) (group_enough (k + n) (branches_rest (j + (k + n)) (k + n) remaining here refl) rest n refl)
+    group_enough {row = row} b is (Group.condition_fault {s = s} {line = line} {remaining_after = remaining_after} {f = f} decides) n sum = Group.condition_fault (decides_enough (search_of context) row s line remaining_after (Err f) b is decides n sum)
 
-    pub branches_enough : {depth row : ℕ} {s : State} {bs : Branches} {m : Reached} (b : ℕ) → Covers s.left b
+    pub branches_enough : {depth row : ℕ} {s : State} {bs : Branches} {m : Reached} (b : ℕ) → Covers s.remaining b
         → (d : Branched context depth row s bs m) (n : ℕ)
         → b ≡ count_branched d + n
-        → Branched context depth row (with_left s (Some b)) bs (holding n m)
+        → Branched context depth row (with_remaining s (Some b)) bs (holding n m)
     branches_enough {depth} {row} b is (Branched.ended {s = s} {line = line}) n sum =
         let same : b ≡ n = omega arith in
-        subst (λ x. Branched context depth row (with_left s (Some b)) (End line) (holding x (going s))) same Branched.ended
+        subst (λ x. Branched context depth row (with_remaining s (Some b)) (End line) (holding x (going s))) same Branched.ended
     branches_enough b is (Branched.otherwise e here) n sum = Branched.otherwise e (group_enough b is here n sum)
-    branches_enough {row = row} b is (Branched.branch_taken {s = s} {line = line} {after = after} e decides here) n sum =
+    branches_enough {row = row} b is (Branched.branch_taken {s = s} {line = line} {remaining_after = remaining_after} e decides here) n sum =
         let j = count_group here in
-        Branched.branch_taken e (decides_enough (search_of context) row s line after (Ok true) b is decides (j + n) (omega arith)) (group_enough (j + n) (decides_rest (search_of context) row s line after (Ok true) b (j + n) is decides (omega arith)) here n refl)
-    branches_enough {row = row} b is (Branched.branch_skipped {s = s} {line = line} {after = after} e decides rest) n sum =
+        Branched.branch_taken e (decides_enough (search_of context) row s line remaining_after (Ok true) b is decides (j + n) (omega arith)) (group_enough (j + n) (decides_rest (search_of context) row s line remaining_after (Ok true) b (j + n) is decides (omega arith)) here n refl)
+    branches_enough {row = row} b is (Branched.branch_skipped {s = s} {line = line} {remaining_after = remaining_after} e decides rest) n sum =
         let j = count_branched rest in
-        Branched.branch_skipped e (decides_enough (search_of context) row s line after (Ok false) b is decides (j + n) (omega arith)) (branches_enough (j + n) (decides_rest (search_of context) row s line after (Ok false) b (j + n) is decides (omega arith)) rest n refl)
-    branches_enough {row = row} b is (Branched.branch_refused {s = s} {line = line} {after = after} {f = f} e decides) n sum =
-        Branched.branch_refused e (decides_enough (search_of context) row s line after (Err f) b is decides n sum)
+        Branched.branch_skipped e (decides_enough (search_of context) row s line remaining_after (Ok false) b is decides (j + n) (omega arith)) (branches_enough (j + n) (decides_rest (search_of context) row s line remaining_after (Ok false) b (j + n) is decides (omega arith)) rest n refl)
+    branches_enough {row = row} b is (Branched.branch_condition_fault {s = s} {line = line} {remaining_after = remaining_after} {f = f} e decides) n sum =
+        Branched.branch_condition_fault e (decides_enough (search_of context) row s line remaining_after (Err f) b is decides n sum)
 
-    pub control_enough : {depth row : ℕ} {s : State} {line : LogicalLine} {m : Reached} (b : ℕ) → Covers s.left b
+    pub control_enough : {depth row : ℕ} {s : State} {line : LogicalLine} {m : Reached} (b : ℕ) → Covers s.remaining b
         → (d : Controls context depth row s line m) (n : ℕ)
         → b ≡ count_control d + n
-        → Controls context depth row (with_left s (Some b)) line (holding n m)
+        → Controls context depth row (with_remaining s (Some b)) line (holding n m)
     control_enough {depth} {row} {s} {line} {m} b is (Controls.error e) n sum =
         let same : b ≡ n = omega arith in
-        subst (λ x. Controls context depth row (with_left s (Some b)) line (holding x m)) same (Controls.error e)
+        subst (λ x. Controls context depth row (with_remaining s (Some b)) line (holding x m)) same (Controls.error e)
     control_enough {depth} {row} {s} {line} {m} b is (Controls.ignored e) n sum =
         let same : b ≡ n = omega arith in
-        subst (λ x. Controls context depth row (with_left s (Some b)) line (holding x m)) same (Controls.ignored e)
+        subst (λ x. Controls context depth row (with_remaining s (Some b)) line (holding x m)) same (Controls.ignored e)
     control_enough {depth} {row} {s} {line} {m} b is (Controls.quote e q) n sum =
         let same : b ≡ n = omega arith in
-        subst (λ x. Controls context depth row (with_left s (Some b)) line (holding x m)) same (Controls.quote e q)
+        subst (λ x. Controls context depth row (with_remaining s (Some b)) line (holding x m)) same (Controls.quote e q)
     control_enough {row = row} b is (Controls.other {s = s} {line = line} {m = m} q does) n sum =
         Controls.other q (control_by_enough context.profile row line.directive s line m b is does n sum)
     control_enough b is (Controls.include e q here) n sum = Controls.include e q (includes_enough b is here n sum)
 
-    includes_enough : {depth row : ℕ} {following : Option ℕ} {s : State} {line : LogicalLine} {m : Reached} (b : ℕ) → Covers s.left b
-        → (d : Includes context depth row following s line m) (n : ℕ)
+    includes_enough : {depth row : ℕ} {following : Option ℕ} {s : State} {line : LogicalLine} {m : Reached} (b : ℕ) → Covers s.remaining b
+        → (d : ExecutesInclude context depth row following s line m) (n : ℕ)
         → b ≡ count_includes d + n
-        → Includes context depth row following (with_left s (Some b)) line (holding n m)
-    includes_enough b is (Includes.misnamed {s = s} {line = line} {after = after} {f = f} asks) n sum =
-        Includes.misnamed (asks_enough s line.tokens after (Err f) b is asks n sum)
-    includes_enough b is (Includes.missing {s = s} {line = line} {after = after} a asks finds) n sum =
-        Includes.missing a (asks_enough s line.tokens after (Ok a) b is asks n sum) finds
-    includes_enough b is (Includes.included {s = s} {line = line} {after = after} a found asks finds opens) n sum =
+        → ExecutesInclude context depth row following (with_remaining s (Some b)) line (holding n m)
+    includes_enough b is (ExecutesInclude.misnamed {s = s} {line = line} {remaining_after = remaining_after} {f = f} asks) n sum =
+        ExecutesInclude.misnamed (asks_enough s line.tokens remaining_after (Err f) b is asks n sum)
+    includes_enough b is (ExecutesInclude.missing {s = s} {line = line} {remaining_after = remaining_after} a asks finds) n sum =
+        ExecutesInclude.missing a (asks_enough s line.tokens remaining_after (Ok a) b is asks n sum) finds
+    includes_enough b is (ExecutesInclude.included {s = s} {line = line} {remaining_after = remaining_after} a found asks finds opens) n sum =
         let j = count_opened opens in
-        Includes.included a found (asks_enough s line.tokens after (Ok a) b is asks (j + n) (omega arith)) finds
-        (opened_enough (j + n) (asks_rest s line.tokens after (Ok a) b (j + n) is asks (omega arith)) opens n refl)
+        ExecutesInclude.included a found (asks_enough s line.tokens remaining_after (Ok a) b is asks (j + n) (omega arith)) finds
+        (opened_enough (j + n) (asks_rest s line.tokens remaining_after (Ok a) b (j + n) is asks (omega arith)) opens n refl)
 
-    pub opened_enough : {depth row : ℕ} {directory : Option ℕ} {at : Place} {s : State} {m : Reached} (b : ℕ) → Covers s.left b
+    pub opened_enough : {depth row : ℕ} {directory : Option ℕ} {at : Place} {s : State} {m : Reached} (b : ℕ) → Covers s.remaining b
         → (d : Opened context depth at s row directory m) (n : ℕ)
         → b ≡ count_opened d + n
-        → Opened context depth at (with_left s (Some b)) row directory (holding n m)
+        → Opened context depth at (with_remaining s (Some b)) row directory (holding n m)
     opened_enough {depth} {row} {directory} {at} {s} {m} b is (Opened.too_deep deep) n sum =
         let same : b ≡ n = omega arith in
-        subst (λ x. Opened context depth at (with_left s (Some b)) row directory (holding x m)) same (Opened.too_deep deep)
-    opened_enough {depth} {row} {directory} {at} {s} zero is (Opened.over fits spent) n sum =
+        subst (λ x. Opened context depth at (with_remaining s (Some b)) row directory (holding x m)) same (Opened.too_deep deep)
+    opened_enough {depth} {row} {directory} {at} {s} zero is (Opened.exhausted fits spent) n sum =
         let same : 0 ≡ n = omega arith in
-        subst (λ x. Opened context depth at (with_left s (Some 0)) row directory (holding x (stopped s (fault 35 at [])))) same (Opened.over fits refl)
-    opened_enough (suc b) is (Opened.over {s = s} fits spent) n sum = absurd (covered s.left b is spent)
-    opened_enough zero is (Opened.known fits more once) n sum = absurd (omega arith)
-    opened_enough {depth} {row} {directory} {at} {s} {m} (suc b) is (Opened.known fits more once) n sum =
+        subst (λ x. Opened context depth at (with_remaining s (Some 0)) row directory (holding x (stopped s (fault 35 at [])))) same (Opened.exhausted fits refl)
+    opened_enough (suc b) is (Opened.exhausted {s = s} fits spent) n sum = absurd (covered s.remaining b is spent)
+    opened_enough zero is (Opened.read_once fits more once) n sum = absurd (omega arith)
+    opened_enough {depth} {row} {directory} {at} {s} {m} (suc b) is (Opened.read_once fits more once) n sum =
         let same : b ≡ n = omega arith in
-        subst (λ x. Opened context depth at (with_left s (Some (suc b))) row directory (holding x m)) same (Opened.known fits refl once)
+        subst (λ x. Opened context depth at (with_remaining s (Some (suc b))) row directory (holding x m)) same (Opened.read_once fits refl once)
     opened_enough zero is (Opened.not_readable fits more once file) n sum = absurd (omega arith)
     opened_enough {depth} {row} {directory} {at} {s} {m} (suc b) is (Opened.not_readable fits more once file) n sum =
         let same : b ≡ n = omega arith in
-        subst (λ x. Opened context depth at (with_left s (Some (suc b))) row directory (holding x m)) same (Opened.not_readable fits refl once file)
+        subst (λ x. Opened context depth at (with_remaining s (Some (suc b))) row directory (holding x m)) same (Opened.not_readable fits refl once file)
     opened_enough zero is (Opened.faulty fits more once file reads) n sum = absurd (omega arith)
     opened_enough {depth} {row} {directory} {at} {s} {m} (suc b) is (Opened.faulty fits more once file reads) n sum =
         let same : b ≡ n = omega arith in
-        subst (λ x. Opened context depth at (with_left s (Some (suc b))) row directory (holding x m)) same (Opened.faulty fits refl once file reads)
+        subst (λ x. Opened context depth at (with_remaining s (Some (suc b))) row directory (holding x m)) same (Opened.faulty fits refl once file reads)
     opened_enough zero is (Opened.read fits more once file reads tree here) n sum = absurd (omega arith)
     opened_enough (suc b) is (Opened.read {s = s} fits more once file reads tree here) n sum =
         Opened.read fits refl once file reads tree (group_enough b (covers_less is) here n (omega arith))
 
-  pub defines_enough : {defines : List (List ℕ)} {s : State} {m : Reached} (b : ℕ) → Covers s.left b
+  pub defines_enough : {defines : List (List ℕ)} {s : State} {m : Reached} (b : ℕ) → Covers s.remaining b
       → (d : Defines context defines s m) (n : ℕ)
       → b ≡ count_defines d + n
-      → Defines context defines (with_left s (Some b)) (holding n m)
+      → Defines context defines (with_remaining s (Some b)) (holding n m)
   defines_enough {defines} {s} {m} b is (unread reads) n sum =
       let same : b ≡ n = omega arith in
-      subst (λ x. Defines context defines (with_left s (Some b)) (holding x m)) same (unread reads)
+      subst (λ x. Defines context defines (with_remaining s (Some b)) (holding x m)) same (unread reads)
   defines_enough b is (processed reads tree here) n sum = processed reads tree (group_enough b is here n sum)
 
   -- a budget that suffices changes nothing, and the rest of it is left
-  pub unit_suffices : {defines : List (List ℕ)} {row : ℕ} {s : State} {m : Reached} (b : ℕ) → Covers s.left b
+  pub unit_suffices : {defines : List (List ℕ)} {row : ℕ} {s : State} {m : Reached} (b : ℕ) → Covers s.remaining b
       → (d : Translates context defines row s m) (n : ℕ)
       → b ≡ count_translates d + n
-      → Translates context defines row (with_left s (Some b)) (holding n m)
-  unit_suffices b is (undefined here) n sum = undefined (defines_enough b is here n sum)
+      → Translates context defines row (with_remaining s (Some b)) (holding n m)
+  unit_suffices b is (definitions_fault here) n sum = definitions_fault (defines_enough b is here n sum)
   unit_suffices b is (translated here opens) n sum =
       let j = count_opened opens in
       translated (defines_enough b is here (j + n) (omega arith)) (opened_enough (j + n) (defines_rest b (j + n) is here (omega arith)) opens n refl)
 
   -- the same of a unit without a budget
-  pub unit_enough : {defines : List (List ℕ)} {row : ℕ} {s : State} {m : Reached} → s.left ≡ None
+  pub unit_enough : {defines : List (List ℕ)} {row : ℕ} {s : State} {m : Reached} → s.remaining ≡ None
       → (d : Translates context defines row s m) (b n : ℕ)
       → b ≡ count_translates d + n
-      → Translates context defines row (with_left s (Some b)) (holding n m)
-  unit_enough is d b n sum = unit_suffices b (subst (λ left. Covers left b) (sym is) without) d n sum
+      → Translates context defines row (with_remaining s (Some b)) (holding n m)
+  unit_enough is d b n sum = unit_suffices b (subst (λ remaining. Covers remaining b) (sym is) without) d n sum

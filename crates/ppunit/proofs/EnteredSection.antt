@@ -7,7 +7,7 @@ use Rattle.pptext.specs.Lines.{LogicalLine}
 use Rattle.pptext.specs.Tree.{Parts, Section, Branches, role, role_by}
 use Rattle.pptext.specs.Classes.{opens_section}
 use Rattle.pptext.proofs.Walks.{next_of_opening}
-use Rattle.ppunit.specs.States.{Search, State, Context, search_of, going, with_left}
+use Rattle.ppunit.specs.States.{Search, State, Context, search_of, going, with_remaining}
 use Rattle.ppunit.specs.Group.{Group}
 use Rattle.ppunit.specs.Conditions.{Decides}
 use Rattle.ppshelf.specs.Files.{Files}
@@ -51,60 +51,60 @@ section_at lines index d ps k within is opens stands =
     section_by lines index ps k (ap role_by is ∙ opening_role d opens) (first_at lines index ps k within stands) stands
 
 pub enter_taken : (context : Files → Context) (search : Search) (files : Files) (depth row : ℕ) (lines : List LogicalLine) (index : ℕ) (s : State)
-    (after : Option ℕ) (d : Directive)
+    (remaining_after : Option ℕ) (d : Directive)
     → index < length lines
     → (line_at lines index).directive ≡ Some d
     → opens_section d ≡ true
     → ((more : Files) → search_of (context more) ≡ search)
-    → Decides search row s (line_at lines index) after (Ok true)
-    → Advances context files depth row lines index s (with_left s after) (Ok (index + 1))
-enter_taken context search files depth row lines index s after d within is opens by decides ps k stands =
+    → Decides search row s (line_at lines index) remaining_after (Ok true)
+    → Advances context files depth row lines index s (with_remaining s remaining_after) (Ok (index + 1))
+enter_taken context search files depth row lines index s remaining_after d within is opens by decides ps k stands =
     let a = section_at lines index d ps k within is opens stands in
-    subst (λ (z : Parts). AdvancesFrom context files depth row lines s (with_left s after) (Ok (index + 1)) z k) (sym a.whole) (
+    subst (λ (z : Parts). AdvancesFrom context files depth row lines s (with_remaining s remaining_after) (Ok (index + 1)) z k) (sym a.whole) (
       a.first,
       (a.branches, a.following) ∷ k,
       a.stands,
       λ more grows end rest. ends_front (context more) depth row (going s) rest.0
-          (Section (line_at lines index) a.first a.branches a.following) a.following k end (λ o g. Group.taken (decides_around (context more) search row s (line_at lines index) after (Ok true) (by more) decides) rest.1 g) rest.2,
+          (Section (line_at lines index) a.first a.branches a.following) a.following k end (λ o g. Group.taken (decides_around (context more) search row s (line_at lines index) remaining_after (Ok true) (by more) decides) rest.1 g) rest.2,
     )
 
 skipped_to : (context : Files → Context) (search : Search) (files : Files) (depth row : ℕ) (lines : List LogicalLine) (index : ℕ) (s t : State)
-    (after : Option ℕ) (r : LogicalLine) (ps qs : Parts) (bs : Branches) (k : Outer) (found : Result ℕ Fault)
+    (remaining_after : Option ℕ) (r : LogicalLine) (ps qs : Parts) (bs : Branches) (k : Outer) (found : Result ℕ Fault)
     → ((more : Files) → search_of (context more) ≡ search)
-    → Decides search row s r after (Ok false)
-    → FindsBranch search row lines (with_left s after) t bs qs k found
+    → Decides search row s r remaining_after (Ok false)
+    → FindsBranch search row lines (with_remaining s remaining_after) t bs qs k found
     → AdvancesFrom context files depth row lines s t found (Section r ps bs qs) k
-skipped_to context search files depth row lines index s t after r ps qs bs k (Ok next) by decides finds =
-    (finds.0, finds.1, finds.2, λ more grows end rest. let f = finds.3 (context more) (by more) depth end rest in ends_front (context more) depth row (going s) f.0 (Section r ps bs qs) qs k end (λ o g. Group.skipped (decides_around (context more) search row s r after (Ok false) (by more) decides) f.1 g) f.2)
-skipped_to context search files depth row lines index s t after r ps qs bs k (Err f) by decides finds =
-    λ more grows. ends_stop (context more) depth row (going s) t f (Section r ps bs qs) k (Group.skipped (decides_around (context more) search row s r after (Ok false) (by more) decides) (finds (context more) (by more) depth) Group.stays)
+skipped_to context search files depth row lines index s t remaining_after r ps qs bs k (Ok next) by decides finds =
+    (finds.0, finds.1, finds.2, λ more grows end rest. let f = finds.3 (context more) (by more) depth end rest in ends_front (context more) depth row (going s) f.0 (Section r ps bs qs) qs k end (λ o g. Group.skipped (decides_around (context more) search row s r remaining_after (Ok false) (by more) decides) f.1 g) f.2)
+skipped_to context search files depth row lines index s t remaining_after r ps qs bs k (Err f) by decides finds =
+    λ more grows. ends_stop (context more) depth row (going s) t f (Section r ps bs qs) k (Group.skipped (decides_around (context more) search row s r remaining_after (Ok false) (by more) decides) (finds (context more) (by more) depth) Group.stays)
 
 pub enter_skipped : (context : Files → Context) (search : Search) (files : Files) (depth row : ℕ) (lines : List LogicalLine) (index : ℕ) (s t : State)
-    (after : Option ℕ) (d : Directive) (found : Result ℕ Fault)
+    (remaining_after : Option ℕ) (d : Directive) (found : Result ℕ Fault)
     → index < length lines
     → (line_at lines index).directive ≡ Some d
     → opens_section d ≡ true
     → ((more : Files) → search_of (context more) ≡ search)
-    → Decides search row s (line_at lines index) after (Ok false)
-    → ((ps : Parts) (bs : Branches) (qs : Parts) (k : Outer) → BranchesAt lines index ps bs qs k → FindsBranch search row lines (with_left s after) t bs qs k found)
+    → Decides search row s (line_at lines index) remaining_after (Ok false)
+    → ((ps : Parts) (bs : Branches) (qs : Parts) (k : Outer) → BranchesAt lines index ps bs qs k → FindsBranch search row lines (with_remaining s remaining_after) t bs qs k found)
     → Advances context files depth row lines index s t found
-enter_skipped context search files depth row lines index s t after d found within is opens by decides finds =
+enter_skipped context search files depth row lines index s t remaining_after d found within is opens by decides finds =
     advances context files depth row lines index s t found (λ ps k stands.
     let a = section_at lines index d ps k within is opens stands in
     subst (λ (z : Parts). AdvancesFrom context files depth row lines s t found z k) (sym a.whole)
-    (skipped_to context search files depth row lines index s t after (line_at lines index) a.first a.following a.branches k found by decides
+    (skipped_to context search files depth row lines index s t remaining_after (line_at lines index) a.first a.following a.branches k found by decides
     (finds a.first a.branches a.following k a.at)))
 
 pub enter_refused : (context : Files → Context) (search : Search) (files : Files) (depth row : ℕ) (lines : List LogicalLine) (index : ℕ) (s : State)
-    (after : Option ℕ) (d : Directive) (f : Fault)
+    (remaining_after : Option ℕ) (d : Directive) (f : Fault)
     → index < length lines
     → (line_at lines index).directive ≡ Some d
     → opens_section d ≡ true
     → ((more : Files) → search_of (context more) ≡ search)
-    → Decides search row s (line_at lines index) after (Err f)
-    → Advances context files depth row lines index s (with_left s after) (Err f)
-enter_refused context search files depth row lines index s after d f within is opens by decides ps k stands =
+    → Decides search row s (line_at lines index) remaining_after (Err f)
+    → Advances context files depth row lines index s (with_remaining s remaining_after) (Err f)
+enter_refused context search files depth row lines index s remaining_after d f within is opens by decides ps k stands =
     let a = section_at lines index d ps k within is opens stands in
-    subst (λ (z : Parts). AdvancesFrom context files depth row lines s (with_left s after) (Err f) z k) (sym a.whole)
-    (λ more grows. ends_stop (context more) depth row (going s) (with_left s after) f (Section (line_at lines index) a.first a.branches a.following) k
-    (Group.refused (decides_around (context more) search row s (line_at lines index) after (Err f) (by more) decides)))
+    subst (λ (z : Parts). AdvancesFrom context files depth row lines s (with_remaining s remaining_after) (Err f) z k) (sym a.whole)
+    (λ more grows. ends_stop (context more) depth row (going s) (with_remaining s remaining_after) f (Section (line_at lines index) a.first a.branches a.following) k
+    (Group.condition_fault (decides_around (context more) search row s (line_at lines index) remaining_after (Err f) (by more) decides)))

@@ -65,10 +65,10 @@ lines_spelled : (profile : Profile) (line : List (List ℕ)) (space : Bool) (tok
     → AllByRecursion (IsSpelledLine profile) (lines_after profile space tokens ps)
 lines_spelled profile line space tokens [] rest all each = tt
 lines_spelled profile line space tokens (p ∷ ps) rest all each =
-    let after = tokens_after space tokens p.chars p.kind in
-    both (IsSpelledLine profile) (lines_ended profile tokens p.chars p.kind) (lines_after profile (leaves_space p.kind) after ps)
+    let remaining_after = tokens_after space tokens p.chars p.kind in
+    both (IsSpelledLine profile) (lines_ended profile tokens p.chars p.kind) (lines_after profile (leaves_space p.kind) remaining_after ps)
     (ended_spelled profile tokens p.chars p.kind all)
-    (lines_spelled profile (with_lexeme line p p.kind) (leaves_space p.kind) after ps rest
+    (lines_spelled profile (with_lexeme line p p.kind) (leaves_space p.kind) remaining_after ps rest
     (after_spelled profile line space tokens p.chars (characters_of ps ++ rest) p.kind all each.0) each.1)
 
 pub source_spelled : (profile : Profile) (file : ℕ) (bytes : List ℕ) (lines : List LogicalLine)

@@ -10,7 +10,7 @@ use Rattle.pptext.specs.Lines.{LogicalLine}
 use Rattle.pptext.specs.Tree.{TextLine, ControlLine, Opens, Elses, Parts, Done, Run, Control, Section, Branches, End, Branch, part_lines, branch_lines, AreParts, AreBranches, role, role_in, role_by}
 use Rattle.ppunit.specs.States.{Search, State}
 use Rattle.ppunit.specs.Conditions.{Decides}
-use Rattle.ppunit.specs.code.Walk.{Outer, lay, AreOuter, EntersIf, EntersBy}
+use Rattle.ppunit.specs.code.Walk.{Outer, lay, AreOuter, ContinuesIf, ContinuesBy}
 
 -- ---- what is laid
 
@@ -61,13 +61,13 @@ elif_in : (c : Class) → role_in c ≡ Elses false → elifs c ≡ true
 elif_in (class.Elifs q) e = refl
 elif_in c e = absurd (cc)
 
-pub condition_decides : (search : Search) (row : ℕ) (d : Option Directive) (s : State) (r : LogicalLine) (after : Option ℕ) (taken : Result Bool Fault)
+pub condition_decides : (search : Search) (row : ℕ) (d : Option Directive) (s : State) (r : LogicalLine) (remaining_after : Option ℕ) (taken : Result Bool Fault)
     → role_by d ≡ role_by (Some Elif)
-    → EntersBy search row d s r after taken
-    → Decides search row s r after taken
-condition_decides search row None s r after taken e entered = absurd (cc)
-condition_decides search row (Some d) s r after taken e entered =
-    subst (λ (b : Bool). EntersIf search row b s r after taken) (elif_in (class_of d) e) entered
+    → ContinuesBy search row d s r remaining_after taken
+    → Decides search row s r remaining_after taken
+condition_decides search row None s r remaining_after taken e entered = absurd (cc)
+condition_decides search row (Some d) s r remaining_after taken e entered =
+    subst (λ (b : Bool). ContinuesIf search row b s r remaining_after taken) (elif_in (class_of d) e) entered
 
 control_in : (c : Class) → opens c ≡ false → ends c ≡ false → role_in c ≡ ControlLine
 control_in (class.Opens q) o e = absurd (cc)

@@ -7,9 +7,9 @@ use Rattle.ppexpand.specs.Expansion.{count_expansion}
 use Rattle.ppshelf.specs.Content.{unreadable}
 use Rattle.ppshelf.specs.Files.{Files, Extends}
 use Rattle.ppunit.specs.States.{State, Context, Reached, search_of}
-use Rattle.ppunit.specs.Group.{Group, Branched, Controls, Includes, Opened}
+use Rattle.ppunit.specs.Group.{Group, Branched, Controls, ExecutesInclude, Opened}
 use Rattle.ppunit.specs.Counts.{count_decides, count_names_header, count_group, count_branched, count_control, count_includes, count_opened}
-use Rattle.ppunit.specs.Unit.{Defines, unread, processed, Translates, undefined, translated, context_of_unit, count_defines, count_translates}
+use Rattle.ppunit.specs.Unit.{Defines, unread, processed, Translates, definitions_fault, translated, context_of_unit, count_defines, count_translates}
 use Rattle.ppunit.specs.Laws.{Grows}
 
 module _ (context : Context) (more : Files) (grows : Extends more context.files) where
@@ -31,26 +31,26 @@ module _ (context : Context) (more : Files) (grows : Extends more context.files)
         let h = control_grows here in
         let r = group_grows rest in
         (Group.control h.0 r.0, both h.1 r.1)
-    group_grows {row = row} (Group.taken {s = s} {line = line} {after = after} decides here rest) =
+    group_grows {row = row} (Group.taken {s = s} {line = line} {remaining_after = remaining_after} decides here rest) =
         let h = group_grows here in
         let r = group_grows rest in
-        (Group.taken decides h.0 r.0, ap (λ n. count_decides (search_of context) row s line after (Ok true) decides + n) (both h.1 r.1))
-    group_grows {row = row} (Group.skipped {s = s} {line = line} {after = after} decides here rest) =
+        (Group.taken decides h.0 r.0, ap (λ n. count_decides (search_of context) row s line remaining_after (Ok true) decides + n) (both h.1 r.1))
+    group_grows {row = row} (Group.skipped {s = s} {line = line} {remaining_after = remaining_after} decides here rest) =
         let h = branches_grow here in
         let r = group_grows rest in
-        (Group.skipped decides h.0 r.0, ap (λ n. count_decides (search_of context) row s line after (Ok false) decides + n) (both h.1 r.1))
-    group_grows (Group.refused decides) = (Group.refused decides, refl)
+        (Group.skipped decides h.0 r.0, ap (λ n. count_decides (search_of context) row s line remaining_after (Ok false) decides + n) (both h.1 r.1))
+    group_grows (Group.condition_fault decides) = (Group.condition_fault decides, refl)
 
     branches_grow : {depth row : ℕ} {s : State} {bs : Branches} {m : Reached} (d : Branched context depth row s bs m) → (e : Branched wider depth row s bs m) × (count_branched e ≡ count_branched d)
     branches_grow Branched.ended = (Branched.ended, refl)
     branches_grow (Branched.otherwise is here) = let h = group_grows here in (Branched.otherwise is h.0, h.1)
-    branches_grow {row = row} (Branched.branch_taken {s = s} {line = line} {after = after} is decides here) =
+    branches_grow {row = row} (Branched.branch_taken {s = s} {line = line} {remaining_after = remaining_after} is decides here) =
         let h = group_grows here in
-        (Branched.branch_taken is decides h.0, ap (λ n. count_decides (search_of context) row s line after (Ok true) decides + n) h.1)
-    branches_grow {row = row} (Branched.branch_skipped {s = s} {line = line} {after = after} is decides rest) =
+        (Branched.branch_taken is decides h.0, ap (λ n. count_decides (search_of context) row s line remaining_after (Ok true) decides + n) h.1)
+    branches_grow {row = row} (Branched.branch_skipped {s = s} {line = line} {remaining_after = remaining_after} is decides rest) =
         let r = branches_grow rest in
-        (Branched.branch_skipped is decides r.0, ap (λ n. count_decides (search_of context) row s line after (Ok false) decides + n) r.1)
-    branches_grow (Branched.branch_refused is decides) = (Branched.branch_refused is decides, refl)
+        (Branched.branch_skipped is decides r.0, ap (λ n. count_decides (search_of context) row s line remaining_after (Ok false) decides + n) r.1)
+    branches_grow (Branched.branch_condition_fault is decides) = (Branched.branch_condition_fault is decides, refl)
 
     control_grows : {depth row : ℕ} {s : State} {line : LogicalLine} {m : Reached} (d : Controls context depth row s line m) → (e : Controls wider depth row s line m) × (count_control e ≡ count_control d)
     control_grows (Controls.error is) = (Controls.error is, refl)
@@ -59,17 +59,17 @@ module _ (context : Context) (more : Files) (grows : Extends more context.files)
     control_grows (Controls.other q does) = (Controls.other q does, refl)
     control_grows (Controls.include is q here) = let h = includes_grow here in (Controls.include is q h.0, h.1)
 
-    includes_grow : {depth row : ℕ} {following : Option ℕ} {s : State} {line : LogicalLine} {m : Reached} (d : Includes context depth row following s line m) → (e : Includes wider depth row following s line m) × (count_includes e ≡ count_includes d)
-    includes_grow (Includes.misnamed asks) = (Includes.misnamed asks, refl)
-    includes_grow (Includes.missing a asks finds) = (Includes.missing a asks finds, refl)
-    includes_grow (Includes.included {s = s} {line = line} {after = after} a found asks finds opens) =
+    includes_grow : {depth row : ℕ} {following : Option ℕ} {s : State} {line : LogicalLine} {m : Reached} (d : ExecutesInclude context depth row following s line m) → (e : ExecutesInclude wider depth row following s line m) × (count_includes e ≡ count_includes d)
+    includes_grow (ExecutesInclude.misnamed asks) = (ExecutesInclude.misnamed asks, refl)
+    includes_grow (ExecutesInclude.missing a asks finds) = (ExecutesInclude.missing a asks finds, refl)
+    includes_grow (ExecutesInclude.included {s = s} {line = line} {remaining_after = remaining_after} a found asks finds opens) =
         let o = opened_grows opens in
-        (Includes.included a found asks finds o.0, ap (λ n. count_names_header s line.tokens after (Ok a) asks + n) o.1)
+        (ExecutesInclude.included a found asks finds o.0, ap (λ n. count_names_header s line.tokens remaining_after (Ok a) asks + n) o.1)
 
     pub opened_grows : {depth row : ℕ} {directory : Option ℕ} {at : Place} {s : State} {m : Reached} (d : Opened context depth at s row directory m) → (e : Opened wider depth at s row directory m) × (count_opened e ≡ count_opened d)
     opened_grows (Opened.too_deep deep) = (Opened.too_deep deep, refl)
-    opened_grows (Opened.over fits spent) = (Opened.over fits spent, refl)
-    opened_grows (Opened.known fits some known) = (Opened.known fits some known, refl)
+    opened_grows (Opened.exhausted fits spent) = (Opened.exhausted fits spent, refl)
+    opened_grows (Opened.read_once fits some known) = (Opened.read_once fits some known, refl)
     opened_grows {depth} {row} (Opened.not_readable fits some new is) = (Opened.not_readable fits some new (grows row unreadable is), refl)
     opened_grows {depth} {row} (Opened.faulty fits some new is reads) = (Opened.faulty fits some new (grows row _ is) reads, refl)
     opened_grows {depth} {row} (Opened.read fits some new is reads tree here) =
@@ -81,7 +81,7 @@ module _ (context : Context) (more : Files) (grows : Extends more context.files)
   defines_grow (processed reads tree here) = let h = group_grows here in (processed reads tree h.0, h.1)
 
   pub translates_grows : {defines : List (List ℕ)} {row : ℕ} {s : State} {m : Reached} (d : Translates context defines row s m) → (e : Translates wider defines row s m) × (count_translates e ≡ count_translates d)
-  translates_grows (undefined here) = let h = defines_grow here in (undefined h.0, h.1)
+  translates_grows (definitions_fault here) = let h = defines_grow here in (definitions_fault h.0, h.1)
   translates_grows (translated here opens) =
       let h = defines_grow here in
       let o = opened_grows opens in

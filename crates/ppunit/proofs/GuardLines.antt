@@ -39,13 +39,13 @@ use Rattle.ppunit.proofs.Unquoted.{is_quote, is_ident_kind, ident_unquoted, name
 
 -- the group after a line is not taken, and that costs nothing
 abbrev SkipsOf : Result (List Token) Fault → State → Place → Type 0
-SkipsOf tokens s at = (h : DecidesOf tokens s at s.left (Ok false)) × (count_decides_of tokens s at s.left (Ok false) h ≡ 0)
+SkipsOf tokens s at = (h : DecidesOf tokens s at s.remaining (Ok false)) × (count_decides_of tokens s at s.remaining (Ok false) h ≡ 0)
 
 abbrev SkipsBy : Search → ℕ → Option Question → State → List Token → Type 0
-SkipsBy search row q s tokens = (h : DecidesBy search row q s tokens s.left (Ok false)) × (count_decides_by search row q s tokens s.left (Ok false) h ≡ 0)
+SkipsBy search row q s tokens = (h : DecidesBy search row q s tokens s.remaining (Ok false)) × (count_decides_by search row q s tokens s.remaining (Ok false) h ≡ 0)
 
 abbrev SkipsUnless : Search → ℕ → Option Fault → Option Directive → State → List Token → Type 0
-SkipsUnless search row quote d s tokens = (h : DecidesUnless search row quote d s tokens s.left (Ok false)) × (count_decides_unless search row quote d s tokens s.left (Ok false) h ≡ 0)
+SkipsUnless search row quote d s tokens = (h : DecidesUnless search row quote d s tokens s.remaining (Ok false)) × (count_decides_unless search row quote d s tokens s.remaining (Ok false) h ≡ 0)
 
 -- of a line of these tokens
 abbrev Skips : Search → ℕ → State → Option Directive → List Token → Type 0
@@ -116,18 +116,18 @@ name_is t e = let k : Ident ≡ t.kind = sym e in λ i. record t { kind = k i }
 
 -- the condition is false, whatever is left of a budget, and leaves it as it is
 abbrev IsFalseFreely : State → Place → List Token → Type 0
-IsFalseFreely s at tokens = (left : Option ℕ) → IsCondition s.macros s.env at tokens left (Ok false) left
+IsFalseFreely s at tokens = (remaining : Option ℕ) → IsCondition s.macros s.env at tokens remaining (Ok false) remaining
 
 nothing_spent : (n count : ℕ) → Some n ≡ plus count (Some n) → count ≡ 0
 nothing_spent n count e = let same : n ≡ count + n = cc in omega arith
 
 -- so it costs nothing
-costs_nothing : (s : State) (at : Place) (tokens : List Token) (condition : IsFalseFreely s at tokens) (left : Option ℕ) → count_condition (condition left) ≡ 0
+costs_nothing : (s : State) (at : Place) (tokens : List Token) (condition : IsFalseFreely s at tokens) (remaining : Option ℕ) → count_condition (condition remaining) ≡ 0
 costs_nothing s at tokens condition (Some n) = nothing_spent n (count_condition (condition (Some n))) (condition_spends (condition (Some n)))
 costs_nothing s at tokens condition None =
     let k = count_condition (condition None) in
     let sufficed : IsCondition s.macros s.env at tokens (Some k) (Ok false) (Some 0) = condition_enough k without (condition None) 0 (omega arith) in
-    let lefts : Some k ≡ Some 0 = (same_condition s.macros s.env at tokens (Some k) (Some k) (Some 0) (Ok false) (Ok false) (condition (Some k)) sufficed).1 in
+    let remainders : Some k ≡ Some 0 = (same_condition s.macros s.env at tokens (Some k) (Some k) (Some 0) (Ok false) (Ok false) (condition (Some k)) sufficed).1 in
     let counts : k ≡ 0 = cc in
     counts
 
@@ -145,7 +145,7 @@ by_condition : (search : Search) (row : ℕ) (s : State) (h d : Token) (ts : Lis
     → SkipsBy search row (Some Value) s (h ∷ d ∷ ts)
 by_condition search row s h d ts stays condition =
     subst (λ (z : Result (List Token) Fault). SkipsOf z s h.at) (sym (unprobed search row h d ts stays))
-    (condition s.left, costs_nothing s h.at ts condition s.left)
+    (condition s.remaining, costs_nothing s h.at ts condition s.remaining)
 
 by_ifndef : (search : Search) (row : ℕ) (s : State) (profile : Profile) (h d t : Token) (x : List ℕ)
     → is_hash h.text ≡ true
@@ -178,7 +178,7 @@ by_bare search row s profile h d n f t x sn sf hash g known =
     let name = name_is t g.kind in
     let same : (punctuator (codes "!") n ∷ as_defined f ∷ as_name t ∷ []) ≡ (n ∷ f ∷ t ∷ []) = λ i. bang i ∷ asks i ∷ name i ∷ [] in
     let stays : probed search row None (n ∷ f ∷ t ∷ []) ≡ Some (n ∷ f ∷ t ∷ []) = subst (λ (z : List Token). probed search row None z ≡ Some z) same refl in
-    let condition : IsFalseFreely s h.at (n ∷ f ∷ t ∷ []) = subst (λ (z : List Token). IsFalseFreely s h.at z) same (λ left. bare_false s.macros s.env h.at left n f t (known_name s x t g.name known)) in
+    let condition : IsFalseFreely s h.at (n ∷ f ∷ t ∷ []) = subst (λ (z : List Token). IsFalseFreely s h.at z) same (λ remaining. bare_false s.macros s.env h.at remaining n f t (known_name s x t g.name known)) in
     decided search row s profile h d (n ∷ f ∷ t ∷ []) (codes "if") If hash p.0 (if_called profile) refl
     (named_unquoted n (codes "!") q.0 refl, (named_unquoted f (codes "defined") q.1 refl, (ident_unquoted t g.kind, tt)))
     (by_condition search row s h d (n ∷ f ∷ t ∷ []) stays condition)
@@ -205,7 +205,7 @@ by_parenthesized search row s profile h d n f l t r x sn sf sl sr hash g known =
     let same : (punctuator (codes "!") n ∷ as_defined f ∷ punctuator (codes "(") l ∷ as_name t ∷ punctuator (codes ")") r ∷ []) ≡ (n ∷ f ∷ l ∷ t ∷ r ∷ []) =
     λ i. bang i ∷ asks i ∷ opens i ∷ name i ∷ closes i ∷ [] in
     let stays : probed search row None (n ∷ f ∷ l ∷ t ∷ r ∷ []) ≡ Some (n ∷ f ∷ l ∷ t ∷ r ∷ []) = subst (λ (z : List Token). probed search row None z ≡ Some z) same refl in
-    let condition : IsFalseFreely s h.at (n ∷ f ∷ l ∷ t ∷ r ∷ []) = subst (λ (z : List Token). IsFalseFreely s h.at z) same (λ left. parenthesized_false s.macros s.env h.at left n f l t r (known_name s x t g.name known)) in
+    let condition : IsFalseFreely s h.at (n ∷ f ∷ l ∷ t ∷ r ∷ []) = subst (λ (z : List Token). IsFalseFreely s h.at z) same (λ remaining. parenthesized_false s.macros s.env h.at remaining n f l t r (known_name s x t g.name known)) in
     decided search row s profile h d (n ∷ f ∷ l ∷ t ∷ r ∷ []) (codes "if") If hash p.0 (if_called profile) refl (
       named_unquoted n (codes "!") q.0 refl,
       (
@@ -240,7 +240,7 @@ pub guard_line : (search : Search) (row : ℕ) (s : State) (profile : Profile) (
     → role r ≡ role_named If
     → guard_name r.tokens ≡ Some x
     → is_macro_name s.macros x ≡ true
-    → (h : Decides search row s r s.left (Ok false)) × (count_decides search row s r s.left (Ok false) h ≡ 0)
+    → (h : Decides search row s r s.remaining (Ok false)) × (count_decides search row s r s.remaining (Ok false) h ≡ 0)
 guard_line search row s profile r x (spelled, directed) opens is known =
     subst (λ (z : Option Directive). Skips search row s z r.tokens) (sym directed)
     (guard_decides search row s profile r.tokens x spelled (ap role_by (sym directed) ∙ opens) is known)

@@ -41,14 +41,14 @@ nothing_gives : (s : State) → GivesNothing s []
 unfolding expansion_step
 nothing_gives s = (
   record {
-    expanded = record { tokens = []; fault = None; left = s.left };
-    expands = record { outcome = ended s.left None; expands = (0, done (unspent s.left)); emitted = refl; ended = refl; left_over = refl };
+    expanded = record { tokens = []; fault = None; remaining = s.remaining };
+    expands = record { outcome = ended s.remaining None; expands = (0, done (unspent s.remaining)); emitted = refl; ended = refl; remains = refl };
     is = ap (λ (items : List Item). going (record s { items = items })) (sym (append-nil s.items));
   },
   refl,
 )
   where
-    unspent : (left : Option ℕ) → step_in_budget s.macros s.env left [] ≡ turns.Done
+    unspent : (remaining : Option ℕ) → step_in_budget s.macros s.env remaining [] ≡ turns.Done
     unspent None = refl
     unspent (Some zero) = refl
     unspent (Some (suc n)) = refl
@@ -101,7 +101,7 @@ guards_leave_out context depth row directory at s bytes lines x fits is reads (p
     spelled = subst (AllByRecursion (IsSpelledLine context.profile)) (sym tree.whole) (source_spelled context.profile row bytes lines reads)
 
     cases : (b : Bool) → has_row row s.once ≡ b → (d : Opened context depth at s row directory (going (with_dependency (with_one_spent s) row))) × (count_opened d ≡ 1)
-    cases true once = (Opened.known fits some once, refl)
+    cases true once = (Opened.read_once fits some once, refl)
     cases false new =
         let inside = guarded_group context depth row (entering context (with_one_spent s) row directory) parts x spelled tree.each guarded known in
         (Opened.read fits some new is reads tree inside.0, ap suc inside.1)
@@ -122,13 +122,13 @@ one_guard lines x y (parts, tree, guarded) (parts', tree', guarded') =
 
 pub opens_left_out : (context : Context) (depth row : ℕ) (directory : Option ℕ) (at : Place) (s a : State) (content : Content) (lines : List LogicalLine)
     → depth ≤ deepest
-    → is_exhausted s.left ≡ false
+    → is_exhausted s.remaining ≡ false
     → file_at context.files row ≡ Some content
     → IsRead context.profile row content (Ok lines)
     → a ≡ with_dependency (with_one_spent s) row
     → IsLeftOut a lines
     → Opened context depth at s row directory (going a)
-opens_left_out context depth row directory at s a unreadable lines fits some known reads is left = absurd reads
+opens_left_out context depth row directory at s a unreadable lines fits some known reads is remaining = absurd reads
 opens_left_out context depth row directory at s a (readable bytes) lines fits some known reads is (x, guarded, defined) =
     subst (λ (z : State). Opened context depth at s row directory (going z)) (sym is)
     (guards_leave_out context depth row directory at s bytes lines x fits known reads guarded (subst (λ (z : State). is_macro_name z.macros x ≡ true) is defined) some).0

@@ -7,16 +7,16 @@ use Rattle.pptext.specs.declared.sources.Directive.{Directive}
 use Rattle.pptext.specs.declared.sources.Directive.TheVariants.{Define, Undef, Line, Pragma, Null, Unknown}
 use Rattle.pptext.specs.declared.sources.Profile.{Profile}
 use Rattle.pptext.specs.Lines.{LogicalLine}
-use Rattle.pptext.specs.Tree.{Parts, Branches, sign_place}
+use Rattle.pptext.specs.Tree.{Parts, Branches, hash_place}
 use Rattle.ppmacro.specs.Names.{Macros}
 use Rattle.ppexpand.specs.Laws.{IsPrefix}
 use Rattle.ppunit.specs.declared.units.Item.{Item}
 use Rattle.ppunit.specs.Dependencies.{has_row}
-use Rattle.ppunit.specs.States.{State, Context, Reached, emitted, with_dependency, with_once, with_left}
+use Rattle.ppunit.specs.States.{State, Context, Reached, emitted, with_dependency, with_once, with_remaining}
 use Rattle.ppunit.specs.DirectiveLines.{operands, run_tokens}
 use Rattle.ppunit.specs.LineControl.{Presumed, presumed}
 use Rattle.ppunit.specs.Directives.{EmitsRun, ControlBy, with_macros, renumbered_by, is_once, pragma_emitted}
-use Rattle.ppunit.specs.Group.{Group, Branched, Controls, Includes, Opened}
+use Rattle.ppunit.specs.Group.{Group, Branched, Controls, ExecutesInclude, Opened}
 use Rattle.ppunit.specs.declared.units.Item.TheVariants as item
 
 pub same_beginning : {A : Type 0} (xs : List A) → IsPrefix xs xs
@@ -55,7 +55,7 @@ pragma_before : (profile : Profile) (row : ℕ) (s : State) (line : List Token) 
 pragma_before profile row s line = noted (is_once profile (operands line))
   where
     probe_result : List Item
-    probe_result = item.Pragma (sign_place line) (operands line) ∷ []
+    probe_result = item.Pragma (hash_place line) (operands line) ∷ []
 
     noted : (b : Bool) → Before s (if b then with_once (emitted s probe_result) row else emitted s probe_result)
     noted true = ((probe_result, refl), same_beginning s.deps)
@@ -66,7 +66,7 @@ control_by_before profile row (Some Null) s line m g = subst (λ x. Before s x.s
 control_by_before profile row (Some Define) s line m g = subst (λ x. Before s x.state) (sym g) (macros_before s _)
 control_by_before profile row (Some Undef) s line m g = subst (λ x. Before s x.state) (sym g) (macros_before s _)
 control_by_before profile row (Some Line) s line m g =
-    subst (λ x. Before s x.state) (sym g.is) (renumbered_before (with_left s g.expanded.left) line g.expanded.fault (presumed g.expanded.tokens))
+    subst (λ x. Before s x.state) (sym g.is) (renumbered_before (with_remaining s g.expanded.remaining) line g.expanded.fault (presumed g.expanded.tokens))
 control_by_before profile row (Some Pragma) s line m g = subst (λ x. Before s x.state) (sym g) (pragma_before profile row s line.tokens)
 control_by_before profile row (Some Unknown) s line m g = subst (λ x. Before s x.state) (sym g) (same_state s)
 control_by_before profile row _ s line m g = absurd g
@@ -83,14 +83,14 @@ module _ (context : Context) where
     group_before (Group.control {s = s} {m = m} {end = end} here rest) = before_then s m.state end.state (control_before here) (group_before rest)
     group_before (Group.taken {s = s} {m = m} {end = end} decides here rest) = before_then s m.state end.state (group_before here) (group_before rest)
     group_before (Group.skipped {s = s} {m = m} {end = end} decides here rest) = before_then s m.state end.state (branches_before here) (group_before rest)
-    group_before (Group.refused {s = s} decides) = same_state s
+    group_before (Group.condition_fault {s = s} decides) = same_state s
 
     pub branches_before : {depth row : ℕ} {s : State} {bs : Branches} {m : Reached} → Branched context depth row s bs m → Before s m.state
     branches_before (Branched.ended {s = s}) = same_state s
     branches_before (Branched.otherwise e here) = group_before here
     branches_before (Branched.branch_taken e decides here) = group_before here
     branches_before (Branched.branch_skipped e decides rest) = branches_before rest
-    branches_before (Branched.branch_refused {s = s} e decides) = same_state s
+    branches_before (Branched.branch_condition_fault {s = s} e decides) = same_state s
 
     pub control_before : {depth row : ℕ} {s : State} {line : LogicalLine} {m : Reached} → Controls context depth row s line m → Before s m.state
     control_before (Controls.error {s = s} e) = same_state s
@@ -99,15 +99,15 @@ module _ (context : Context) where
     control_before {row = row} (Controls.other {s = s} {line = line} {m = m} q does) = control_by_before context.profile row line.directive s line m does
     control_before (Controls.include e q here) = includes_before here
 
-    includes_before : {depth row : ℕ} {following : Option ℕ} {s : State} {line : LogicalLine} {m : Reached} → Includes context depth row following s line m → Before s m.state
-    includes_before (Includes.misnamed {s = s} asks) = same_state s
-    includes_before (Includes.missing {s = s} a asks finds) = same_state s
-    includes_before (Includes.included a found asks finds opens) = opened_before opens
+    includes_before : {depth row : ℕ} {following : Option ℕ} {s : State} {line : LogicalLine} {m : Reached} → ExecutesInclude context depth row following s line m → Before s m.state
+    includes_before (ExecutesInclude.misnamed {s = s} asks) = same_state s
+    includes_before (ExecutesInclude.missing {s = s} a asks finds) = same_state s
+    includes_before (ExecutesInclude.included a found asks finds opens) = opened_before opens
 
     pub opened_before : {depth row : ℕ} {directory : Option ℕ} {at : Place} {s : State} {m : Reached} → Opened context depth at s row directory m → Before s m.state
     opened_before (Opened.too_deep {s = s} deep) = same_state s
-    opened_before (Opened.over {s = s} fits spent) = same_state s
-    opened_before {row = row} (Opened.known {s = s} fits more once) = depends s row
+    opened_before (Opened.exhausted {s = s} fits spent) = same_state s
+    opened_before {row = row} (Opened.read_once {s = s} fits more once) = depends s row
     opened_before {row = row} (Opened.not_readable {s = s} fits more once file) = depends s row
     opened_before {row = row} (Opened.faulty {s = s} fits more once file reads) = depends s row
     opened_before {row = row} (Opened.read {s = s} {m = m} fits more once file reads tree here) = before_then s (with_dependency s row) m.state (depends s row) (group_before here)

@@ -7,16 +7,16 @@ use Rattle.pptext.specs.declared.sources.Directive.{Directive}
 use Rattle.pptext.specs.declared.directives.Class.TheVariants as class
 use Rattle.pptext.specs.declared.sources.Profile.{Profile}
 use Rattle.pptext.specs.Lines.{LogicalLine}
-use Rattle.pptext.specs.Tree.{sign_place}
+use Rattle.pptext.specs.Tree.{hash_place}
 use Rattle.pptext.specs.Classes.{class_by, opens_section, ends_group}
 use Rattle.ppshelf.specs.Files.{Files}
 use Rattle.ppunit.specs.Including.{IncludeName}
 use Rattle.ppunit.specs.code.Opening.{Entered}
 use Rattle.ppunit.specs.Directives.{NamesHeader, FindsFile, ControlBy}
-use Rattle.ppunit.specs.States.{State, Context, Reached, going, stopped, with_left}
+use Rattle.ppunit.specs.States.{State, Context, Reached, going, stopped, with_remaining}
 use Rattle.ppunit.specs.DirectiveLines.{directed}
 use Rattle.ppunit.specs.Quotes.{unmatched_quote}
-use Rattle.ppunit.specs.Group.{Controls, Includes, Opened}
+use Rattle.ppunit.specs.Group.{Controls, ExecutesInclude, Opened}
 use Rattle.ppunit.specs.code.Walk.{line_at, Advances, Leads, StepsTo, Steps, restored}
 use Rattle.ppunit.proofs.ControlLines.{control_advances, passes}
 
@@ -63,31 +63,31 @@ leads_on context files depth one other t (Ok (Some e)) expansion_step leads = re
 leads_on context files depth one other t (Err f) expansion_step leads = λ more grows. expansion_step more (stopped t f) (leads more grows)
 
 pub leads_included : (context : Files → Context) (files : Files) (depth deeper row : ℕ) (following : Option ℕ) (found : ℕ × ℕ) (at : Place)
-    (line : LogicalLine) (s t : State) (after : Option ℕ) (a : IncludeName) (r : Result (Option Entered) Fault)
+    (line : LogicalLine) (s t : State) (remaining_after : Option ℕ) (a : IncludeName) (r : Result (Option Entered) Fault)
     → deeper ≡ suc depth
-    → at ≡ sign_place line.tokens
-    → NamesHeader s line.tokens after (Ok a)
+    → at ≡ hash_place line.tokens
+    → NamesHeader s line.tokens remaining_after (Ok a)
     → ((more : Files) → FindsFile (context more) row following a (Some found))
-    → Leads context files deeper (λ more m. Opened (context more) deeper at (with_left s after) found.0 (Some found.1) m) t r
-    → Leads context files (suc depth) (λ more m. Includes (context more) depth row following s line m) t r
-leads_included context files depth deeper row following found at line s t after a r one place asks finds leads =
-    let u = with_left s after in
-    let here : Leads context files (suc depth) (λ more m. Opened (context more) (suc depth) (sign_place line.tokens) u found.0 (Some found.1) m) t r =
+    → Leads context files deeper (λ more m. Opened (context more) deeper at (with_remaining s remaining_after) found.0 (Some found.1) m) t r
+    → Leads context files (suc depth) (λ more m. ExecutesInclude (context more) depth row following s line m) t r
+leads_included context files depth deeper row following found at line s t remaining_after a r one place asks finds leads =
+    let u = with_remaining s remaining_after in
+    let here : Leads context files (suc depth) (λ more m. Opened (context more) (suc depth) (hash_place line.tokens) u found.0 (Some found.1) m) t r =
     subst (λ (z : Place). Leads context files (suc depth) (λ more m. Opened (context more) (suc depth) z u found.0 (Some found.1) m) t r) place
     (subst (λ (z : ℕ). Leads context files z (λ more m. Opened (context more) z at u found.0 (Some found.1) m) t r) one leads) in
-    leads_on context files (suc depth) (λ more m. Opened (context more) (suc depth) (sign_place line.tokens) u found.0 (Some found.1) m)
-    (λ more m. Includes (context more) depth row following s line m) t r (λ more m opened. Includes.included a found asks (finds more) opened) here
+    leads_on context files (suc depth) (λ more m. Opened (context more) (suc depth) (hash_place line.tokens) u found.0 (Some found.1) m)
+    (λ more m. ExecutesInclude (context more) depth row following s line m) t r (λ more m opened. ExecutesInclude.included a found asks (finds more) opened) here
 
 pub leads_include : (context : Files → Context) (files : Files) (depth row : ℕ) (next : Bool) (directory : Option ℕ) (line : LogicalLine) (s t : State)
     (r : Result (Option Entered) Fault)
     → directory ≡ (if next then s.directory else None)
     → class_by line.directive ≡ Some (class.Includes next)
     → unmatched_quote line.tokens ≡ None
-    → Leads context files (suc depth) (λ more m. Includes (context more) depth row directory s line m) t r
+    → Leads context files (suc depth) (λ more m. ExecutesInclude (context more) depth row directory s line m) t r
     → Leads context files (suc depth) (λ more m. Controls (context more) depth row s line m) t r
 leads_include context files depth row next directory line s t r its is alone leads =
-    leads_on context files (suc depth) (λ more m. Includes (context more) depth row directory s line m) (λ more m. Controls (context more) depth row s line m) t r
-    (λ more m here. Controls.include is alone (subst (λ (z : Option ℕ). Includes (context more) depth row z s line m) its here)) leads
+    leads_on context files (suc depth) (λ more m. ExecutesInclude (context more) depth row directory s line m) (λ more m. Controls (context more) depth row s line m) t r
+    (λ more m here. Controls.include is alone (subst (λ (z : Option ℕ). ExecutesInclude (context more) depth row z s line m) its here)) leads
 
 pub steps_line : (context : Files → Context) (files : Files) (depth row : ℕ) (lines : List LogicalLine) (index : ℕ) (s t : State)
     (next : ℕ) (r : ℕ × Option Entered)

@@ -6,14 +6,14 @@ use Rattle.pptext.specs.declared.directives.Class.{Class}
 use Rattle.pptext.specs.declared.directives.Class.TheVariants as class
 use Rattle.pptext.specs.Classes.{class_by}
 use Rattle.pptext.specs.Lines.{LogicalLine}
-use Rattle.pptext.specs.Tree.{sign_place}
+use Rattle.pptext.specs.Tree.{hash_place}
 use Rattle.ppshelf.specs.Names.{AreNames}
 use Rattle.ppunit.specs.Including.{IncludeName}
-use Rattle.ppunit.specs.States.{State, Context, Reached, going, stopped, with_left}
+use Rattle.ppunit.specs.States.{State, Context, Reached, going, stopped, with_remaining}
 use Rattle.ppunit.specs.DirectiveLines.{operands, line_fault}
 use Rattle.ppunit.specs.Quotes.{unmatched_quote}
 use Rattle.ppunit.specs.Directives.{ControlBy, message, looks_at_quotes, NamesHeader, FindsFile}
-use Rattle.ppunit.specs.Group.{Controls, Includes, Opened}
+use Rattle.ppunit.specs.Group.{Controls, ExecutesInclude, Opened}
 use Rattle.ppunit.proofs.OneLine.{OneExpansion, OneDecision, OneRow, control_by_once, asks_once}
 use Rattle.ppunit.proofs.OneSection.{stopped_again}
 use Rattle.ppunit.proofs.ControlKinds.{control_class}
@@ -83,7 +83,7 @@ module _ (expansions : OneExpansion) (decisions : OneDecision) (rows : OneRow) (
       → class_by line.directive ≡ Some (class.Includes next)
       → unmatched_quote line.tokens ≡ None
       → Controls context depth row s line m
-      → Includes context depth row (if next then s.directory else None) s line m
+      → ExecutesInclude context depth row (if next then s.directory else None) s line m
   at_include {next = next} e q (Controls.error is) = let differs : Some (class.Includes next) ≡ Some class.Error = sym e ∙ is in absurd (cc)
   at_include {next = next} e q (Controls.ignored is) = let differs : Some (class.Includes next) ≡ Some class.Ignored = sym e ∙ is in absurd (cc)
   at_include e q (Controls.quote is q') = absurd (cc)
@@ -92,54 +92,54 @@ module _ (expansions : OneExpansion) (decisions : OneDecision) (rows : OneRow) (
   at_include {depth = depth} {row = row} {next = next} {s = s} {line = line} {m = m} e q (Controls.include {next = other} is q' here) =
       let both : Some (class.Includes other) ≡ Some (class.Includes next) = sym is ∙ e in
       let same : other ≡ next = cc in
-      subst (λ (b : Bool). Includes context depth row (if b then s.directory else None) s line m) same here
+      subst (λ (b : Bool). ExecutesInclude context depth row (if b then s.directory else None) s line m) same here
 
   -- one line asks for one thing
-  same_asked : (s : State) (line : List Token) (after following : Option ℕ) (a b : IncludeName) → NamesHeader s line after (Ok a) → NamesHeader s line following (Ok b) → a ≡ b
-  same_asked s line after following a b p q = let one : Ok a ≡ Ok b = (asks_once expansions decisions s line after following (Ok a) (Ok b) p q).0 in cc
+  same_asked : (s : State) (line : List Token) (remaining_after following : Option ℕ) (a b : IncludeName) → NamesHeader s line remaining_after (Ok a) → NamesHeader s line following (Ok b) → a ≡ b
+  same_asked s line remaining_after following a b p q = let one : Ok a ≡ Ok b = (asks_once expansions decisions s line remaining_after following (Ok a) (Ok b) p q).0 in cc
 
-  pub after_misnamed : {depth row : ℕ} {start : Option ℕ} {s : State} {line : LogicalLine} {after : Option ℕ} {f : Fault} {m : Reached}
-      → NamesHeader s line.tokens after (Err f)
-      → Includes context depth row start s line m
-      → stopped (with_left s after) f ≡ m
-  after_misnamed {s = s} {line = line} {after = after} {f = f} asks (Includes.misnamed {after = following} {f = g} asks') =
-      let one = asks_once expansions decisions s line.tokens after following (Err f) (Err g) asks asks' in
-      stopped_again expansions decisions context {A = IncludeName} s after following f g one.0 one.1
-  after_misnamed {s = s} {line = line} {after = after} {f = f} asks (Includes.missing {after = following} a asks' finds) =
-      let one : Err f ≡ Ok a = (asks_once expansions decisions s line.tokens after following (Err f) (Ok a) asks asks').0 in absurd (cc)
-  after_misnamed {s = s} {line = line} {after = after} {f = f} asks (Includes.included {after = following} a found asks' finds opens) =
-      let one : Err f ≡ Ok a = (asks_once expansions decisions s line.tokens after following (Err f) (Ok a) asks asks').0 in absurd (cc)
+  pub after_misnamed : {depth row : ℕ} {start : Option ℕ} {s : State} {line : LogicalLine} {remaining_after : Option ℕ} {f : Fault} {m : Reached}
+      → NamesHeader s line.tokens remaining_after (Err f)
+      → ExecutesInclude context depth row start s line m
+      → stopped (with_remaining s remaining_after) f ≡ m
+  after_misnamed {s = s} {line = line} {remaining_after = remaining_after} {f = f} asks (ExecutesInclude.misnamed {remaining_after = following} {f = g} asks') =
+      let one = asks_once expansions decisions s line.tokens remaining_after following (Err f) (Err g) asks asks' in
+      stopped_again expansions decisions context {A = IncludeName} s remaining_after following f g one.0 one.1
+  after_misnamed {s = s} {line = line} {remaining_after = remaining_after} {f = f} asks (ExecutesInclude.missing {remaining_after = following} a asks' finds) =
+      let one : Err f ≡ Ok a = (asks_once expansions decisions s line.tokens remaining_after following (Err f) (Ok a) asks asks').0 in absurd (cc)
+  after_misnamed {s = s} {line = line} {remaining_after = remaining_after} {f = f} asks (ExecutesInclude.included {remaining_after = following} a found asks' finds opens) =
+      let one : Err f ≡ Ok a = (asks_once expansions decisions s line.tokens remaining_after following (Err f) (Ok a) asks asks').0 in absurd (cc)
 
-  pub after_missing : {depth row : ℕ} {start : Option ℕ} {s : State} {line : LogicalLine} {after : Option ℕ} {m : Reached} (a : IncludeName)
-      → NamesHeader s line.tokens after (Ok a)
+  pub after_missing : {depth row : ℕ} {start : Option ℕ} {s : State} {line : LogicalLine} {remaining_after : Option ℕ} {m : Reached} (a : IncludeName)
+      → NamesHeader s line.tokens remaining_after (Ok a)
       → FindsFile context row start a None
-      → Includes context depth row start s line m
-      → stopped (with_left s after) (line_fault 31 line.tokens a.name) ≡ m
-  after_missing {s = s} {line = line} {after = after} a asks finds (Includes.misnamed {after = following} {f = f} asks') =
-      let one : Ok a ≡ Err f = (asks_once expansions decisions s line.tokens after following (Ok a) (Err f) asks asks').0 in absurd (cc)
-  after_missing {s = s} {line = line} {after = after} a asks finds (Includes.missing {after = following} b asks' finds') =
-      let same = same_asked s line.tokens after following a b asks asks' in
-      let lefts = (asks_once expansions decisions s line.tokens after following (Ok a) (Ok b) asks asks').1 in
-      λ i. stopped (with_left s (lefts i)) (line_fault 31 line.tokens (same i).name)
-  after_missing {row = row} {start = start} {s = s} {line = line} {after = after} a asks finds (Includes.included {after = following} b found asks' finds' opens) =
-      let same = same_asked s line.tokens after following a b asks asks' in
+      → ExecutesInclude context depth row start s line m
+      → stopped (with_remaining s remaining_after) (line_fault 31 line.tokens a.name) ≡ m
+  after_missing {s = s} {line = line} {remaining_after = remaining_after} a asks finds (ExecutesInclude.misnamed {remaining_after = following} {f = f} asks') =
+      let one : Ok a ≡ Err f = (asks_once expansions decisions s line.tokens remaining_after following (Ok a) (Err f) asks asks').0 in absurd (cc)
+  after_missing {s = s} {line = line} {remaining_after = remaining_after} a asks finds (ExecutesInclude.missing {remaining_after = following} b asks' finds') =
+      let same = same_asked s line.tokens remaining_after following a b asks asks' in
+      let remainders = (asks_once expansions decisions s line.tokens remaining_after following (Ok a) (Ok b) asks asks').1 in
+      λ i. stopped (with_remaining s (remainders i)) (line_fault 31 line.tokens (same i).name)
+  after_missing {row = row} {start = start} {s = s} {line = line} {remaining_after = remaining_after} a asks finds (ExecutesInclude.included {remaining_after = following} b found asks' finds' opens) =
+      let same = same_asked s line.tokens remaining_after following a b asks asks' in
       let one : None ≡ Some found = finds_once row start b None (Some found) (subst (λ x. FindsFile context row start x None) same finds) finds' in absurd (cc)
 
-  pub after_included : {depth row : ℕ} {start : Option ℕ} {s : State} {line : LogicalLine} {after : Option ℕ} {m : Reached} (a : IncludeName) (found : ℕ × ℕ)
-      → NamesHeader s line.tokens after (Ok a)
+  pub after_included : {depth row : ℕ} {start : Option ℕ} {s : State} {line : LogicalLine} {remaining_after : Option ℕ} {m : Reached} (a : IncludeName) (found : ℕ × ℕ)
+      → NamesHeader s line.tokens remaining_after (Ok a)
       → FindsFile context row start a (Some found)
-      → Includes context depth row start s line m
-      → Opened context (suc depth) (sign_place line.tokens) (with_left s after) found.0 (Some found.1) m
-  after_included {s = s} {line = line} {after = after} a found asks finds (Includes.misnamed {after = following} {f = f} asks') =
-      let one : Ok a ≡ Err f = (asks_once expansions decisions s line.tokens after following (Ok a) (Err f) asks asks').0 in absurd (cc)
-  after_included {row = row} {start = start} {s = s} {line = line} {after = after} a found asks finds (Includes.missing {after = following} b asks' finds') =
-      let same = same_asked s line.tokens after following a b asks asks' in
+      → ExecutesInclude context depth row start s line m
+      → Opened context (suc depth) (hash_place line.tokens) (with_remaining s remaining_after) found.0 (Some found.1) m
+  after_included {s = s} {line = line} {remaining_after = remaining_after} a found asks finds (ExecutesInclude.misnamed {remaining_after = following} {f = f} asks') =
+      let one : Ok a ≡ Err f = (asks_once expansions decisions s line.tokens remaining_after following (Ok a) (Err f) asks asks').0 in absurd (cc)
+  after_included {row = row} {start = start} {s = s} {line = line} {remaining_after = remaining_after} a found asks finds (ExecutesInclude.missing {remaining_after = following} b asks' finds') =
+      let same = same_asked s line.tokens remaining_after following a b asks asks' in
       let one : Some found ≡ None = finds_once row start b (Some found) None (subst (λ x. FindsFile context row start x (Some found)) same finds) finds' in absurd (cc)
-  after_included {depth = depth} {row = row} {start = start} {s = s} {line = line} {after = after} {m = m} a found asks finds
-      (Includes.included {after = following} b other asks' finds' opens) =
-      let same = same_asked s line.tokens after following a b asks asks' in
+  after_included {depth = depth} {row = row} {start = start} {s = s} {line = line} {remaining_after = remaining_after} {m = m} a found asks finds
+      (ExecutesInclude.included {remaining_after = following} b other asks' finds' opens) =
+      let same = same_asked s line.tokens remaining_after following a b asks asks' in
       let one : Some found ≡ Some other = finds_once row start b (Some found) (Some other) (subst (λ x. FindsFile context row start x (Some found)) same finds) finds' in
       let same_row : other ≡ found = cc in
-      let lefts = sym (asks_once expansions decisions s line.tokens after following (Ok a) (Ok b) asks asks').1 in
-      subst (λ (x : Option ℕ). Opened context (suc depth) (sign_place line.tokens) (with_left s x) found.0 (Some found.1) m) lefts
-      (subst (λ (x : ℕ × ℕ). Opened context (suc depth) (sign_place line.tokens) (with_left s following) x.0 (Some x.1) m) same_row opens)
+      let remainders = sym (asks_once expansions decisions s line.tokens remaining_after following (Ok a) (Ok b) asks asks').1 in
+      subst (λ (x : Option ℕ). Opened context (suc depth) (hash_place line.tokens) (with_remaining s x) found.0 (Some found.1) m) remainders
+      (subst (λ (x : ℕ × ℕ). Opened context (suc depth) (hash_place line.tokens) (with_remaining s following) x.0 (Some x.1) m) same_row opens)

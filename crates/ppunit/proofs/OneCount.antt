@@ -12,7 +12,7 @@ use Rattle.ppunit.proofs.OneLine.{OneExpansion, OneDecision, OneReading, OneTree
 use Rattle.ppunit.proofs.OneUnit.{translates_once}
 
 -- what leaves the same of one budget is the same
-spent_once : (b m n : ℕ) (left : Option ℕ) → Some b ≡ plus m left → Some b ≡ plus n left → m ≡ n
+spent_once : (b m n : ℕ) (remaining : Option ℕ) → Some b ≡ plus m remaining → Some b ≡ plus n remaining → m ≡ n
 spent_once b m n None p q = absurd (cc)
 spent_once b m n (Some k) p q = let x : b ≡ m + k = cc in let y : b ≡ n + k = cc in omega arith
 
@@ -22,19 +22,19 @@ module _ (expansions : OneExpansion) (decisions : OneDecision) (readings : OneRe
     reached_once {z = z} d e = translates_once expansions decisions readings trees rows context names d z e
 
     -- without a budget both are run with one that suffices for both
-    counted_once : {defines : List (List ℕ)} {row : ℕ} {s : State} {y z : Reached} (left : Option ℕ)
-        → s.left ≡ left
+    counted_once : {defines : List (List ℕ)} {row : ℕ} {s : State} {y z : Reached} (remaining : Option ℕ)
+        → s.remaining ≡ remaining
         → (d : Translates context defines row s y) (e : Translates context defines row s z)
         → count_translates d ≡ count_translates e
     counted_once {y = y} (Some b) is d e =
-        let lefts = ap (λ (r : Reached). r.state.left) (reached_once d e) in
-        spent_once b (count_translates d) (count_translates e) y.state.left (sym is ∙ unit_spends context d)
-        (sym is ∙ unit_spends context e ∙ ap (plus (count_translates e)) (sym lefts))
+        let remainders = ap (λ (r : Reached). r.state.remaining) (reached_once d e) in
+        spent_once b (count_translates d) (count_translates e) y.state.remaining (sym is ∙ unit_spends context d)
+        (sym is ∙ unit_spends context e ∙ ap (plus (count_translates e)) (sym remainders))
     counted_once {y = y} {z = z} None is d e =
         let m = count_translates d in
         let n = count_translates e in
         let same : holding n y ≡ holding m z = reached_once (unit_enough context is d (m + n) n refl) (unit_enough context is e (m + n) m (omega arith)) in
-        let lefts : Some n ≡ Some m = ap (λ (r : Reached). r.state.left) same in
+        let remainders : Some n ≡ Some m = ap (λ (r : Reached). r.state.remaining) same in
         let counts : n ≡ m = cc in
         sym counts
 

@@ -11,7 +11,7 @@ use Rattle.pptext.specs.declared.directives.Question.TheVariants.{Defined, Value
 use Rattle.pptext.specs.Classes.{question_by}
 use Rattle.pptext.specs.Lines.{LogicalLine}
 use Rattle.pptext.specs.Sources.{Reads}
-use Rattle.pptext.specs.Tree.{sign_place, Parts, Tree}
+use Rattle.pptext.specs.Tree.{hash_place, Parts, Tree}
 use Rattle.ppmacro.specs.Names.{Macros}
 use Rattle.ppexpand.specs.declared.env.Env.{Env}
 use Rattle.ppexpand.specs.declared.expansion.Expanded.{Expanded}
@@ -19,7 +19,7 @@ use Rattle.ppexpand.specs.Expansion.{IsExpansion}
 use Rattle.ppexpr.specs.Conditions.{IsCondition}
 use Rattle.ppshelf.specs.Names.{AreNames}
 use Rattle.ppshelf.specs.Search.{Candidate, IsFirstRow}
-use Rattle.ppunit.specs.States.{State, Reached, emitted, with_left, Search}
+use Rattle.ppunit.specs.States.{State, Reached, emitted, with_remaining, Search}
 use Rattle.ppunit.specs.DirectiveLines.{operands, line_fault}
 use Rattle.ppunit.specs.Quotes.{unmatched_quote}
 use Rattle.ppunit.specs.LineControl.{presumed}
@@ -30,14 +30,14 @@ use Rattle.ppunit.specs.Directives.{EmitsRun, SetsLine, renumbered_by, ControlBy
 use Rattle.ppunit.specs.declared.units.Item.TheVariants as item
 
 abbrev pub OneExpansion : Type 0
-OneExpansion = (macros : Macros) (env : Env) (left : Option ℕ) (tokens : List Token) (a b : Expanded) → IsExpansion macros env left tokens a → IsExpansion macros env left tokens b → a ≡ b
+OneExpansion = (macros : Macros) (env : Env) (remaining : Option ℕ) (tokens : List Token) (a b : Expanded) → IsExpansion macros env remaining tokens a → IsExpansion macros env remaining tokens b → a ≡ b
 
 abbrev pub OneDecision : Type 0
 OneDecision =
-    (macros : Macros) (env : Env) (at : Place) (tokens : List Token) (left after following : Option ℕ) (a b : Result Bool Fault)
-    → IsCondition macros env at tokens left a after
-    → IsCondition macros env at tokens left b following
-    → (a ≡ b) × (after ≡ following)
+    (macros : Macros) (env : Env) (at : Place) (tokens : List Token) (remaining remaining_after following : Option ℕ) (a b : Result Bool Fault)
+    → IsCondition macros env at tokens remaining a remaining_after
+    → IsCondition macros env at tokens remaining b following
+    → (a ≡ b) × (remaining_after ≡ following)
 
 abbrev pub OneReading : Type 0
 OneReading =
@@ -54,15 +54,15 @@ module _ (expansions : OneExpansion) (decisions : OneDecision) where
   pub run_once : (s : State) (tokens : List Token) (a b : Reached) → EmitsRun s tokens a → EmitsRun s tokens b → a ≡ b
   run_once s tokens a b p q =
       p.is
-      ∙ ap (λ (e : Expanded). record { state = emitted (with_left s e.left) (map item.Token e.tokens); fault = e.fault })
-      (expansions s.macros s.env s.left tokens p.expanded q.expanded p.expands q.expands)
+      ∙ ap (λ (e : Expanded). record { state = emitted (with_remaining s e.remaining) (map item.Token e.tokens); fault = e.fault })
+      (expansions s.macros s.env s.remaining tokens p.expanded q.expanded p.expands q.expands)
       ∙ sym q.is
 
   line_once : (s : State) (r : LogicalLine) (a b : Reached) → SetsLine s r a → SetsLine s r b → a ≡ b
   line_once s r a b p q =
       p.is
-      ∙ ap (λ (e : Expanded). renumbered_by (with_left s e.left) r e.fault (presumed e.tokens))
-      (expansions s.macros s.env s.left (operands r.tokens) p.expanded q.expanded p.expands q.expands)
+      ∙ ap (λ (e : Expanded). renumbered_by (with_remaining s e.remaining) r e.fault (presumed e.tokens))
+      (expansions s.macros s.env s.remaining (operands r.tokens) p.expanded q.expanded p.expands q.expands)
       ∙ sym q.is
 
   pub control_by_once : (profile : Profile) (row : ℕ) (d : Option Directive) (s : State) (r : LogicalLine) (a b : Reached)
@@ -78,52 +78,52 @@ module _ (expansions : OneExpansion) (decisions : OneDecision) where
   control_by_once profile row d s r a b p q = absurd p
 
   -- one answer, and one rest of the budget
-  free_once : {A : Type 0} (left after following : Option ℕ) (is a b : A) → (after ≡ left) × (a ≡ is) → (following ≡ left) × (b ≡ is) → (a ≡ b) × (after ≡ following)
-  free_once left after following is a b p q = (p.1 ∙ sym q.1, p.0 ∙ sym q.0)
+  free_once : {A : Type 0} (remaining remaining_after following : Option ℕ) (is a b : A) → (remaining_after ≡ remaining) × (a ≡ is) → (following ≡ remaining) × (b ≡ is) → (a ≡ b) × (remaining_after ≡ following)
+  free_once remaining remaining_after following is a b p q = (p.1 ∙ sym q.1, p.0 ∙ sym q.0)
 
-  asks_by_once : (header : Bool) (s : State) (line : List Token) (after following : Option ℕ) (a b : Result IncludeName Fault)
-      → NamesHeaderBy header s line after a
+  asks_by_once : (header : Bool) (s : State) (line : List Token) (remaining_after following : Option ℕ) (a b : Result IncludeName Fault)
+      → NamesHeaderBy header s line remaining_after a
       → NamesHeaderBy header s line following b
-      → (a ≡ b) × (after ≡ following)
-  asks_by_once true s line after following a b p q = free_once s.left after following _ a b p q
-  asks_by_once false s line after following a b p q =
-      let one = expansions s.macros s.env s.left (operands line) p.expanded q.expanded p.expands q.expands in (
+      → (a ≡ b) × (remaining_after ≡ following)
+  asks_by_once true s line remaining_after following a b p q = free_once s.remaining remaining_after following _ a b p q
+  asks_by_once false s line remaining_after following a b p q =
+      let one = expansions s.macros s.env s.remaining (operands line) p.expanded q.expanded p.expands q.expands in (
         p.is ∙ ap (λ (e : Expanded). name_of_expansion_or (line_fault 30 line []) e.fault e.tokens) one ∙ sym q.is,
-        p.leaves ∙ ap (λ (e : Expanded). e.left) one ∙ sym q.leaves,
+        p.leaves ∙ ap (λ (e : Expanded). e.remaining) one ∙ sym q.leaves,
       )
 
-  pub asks_once : (s : State) (line : List Token) (after following : Option ℕ) (a b : Result IncludeName Fault)
-      → NamesHeader s line after a
+  pub asks_once : (s : State) (line : List Token) (remaining_after following : Option ℕ) (a b : Result IncludeName Fault)
+      → NamesHeader s line remaining_after a
       → NamesHeader s line following b
-      → (a ≡ b) × (after ≡ following)
-  asks_once s line after following a b p q = asks_by_once (begins_with_header (operands line)) s line after following a b p q
+      → (a ≡ b) × (remaining_after ≡ following)
+  asks_once s line remaining_after following a b p q = asks_by_once (begins_with_header (operands line)) s line remaining_after following a b p q
 
-  decides_of_once : (tokens : Result (List Token) Fault) (s : State) (at : Place) (after following : Option ℕ) (a b : Result Bool Fault)
-      → DecidesOf tokens s at after a
+  decides_of_once : (tokens : Result (List Token) Fault) (s : State) (at : Place) (remaining_after following : Option ℕ) (a b : Result Bool Fault)
+      → DecidesOf tokens s at remaining_after a
       → DecidesOf tokens s at following b
-      → (a ≡ b) × (after ≡ following)
-  decides_of_once (Err f) s at after following a b p q = free_once s.left after following _ a b p q
-  decides_of_once (Ok tokens) s at after following a b p q = decisions s.macros s.env at tokens s.left after following a b p q
+      → (a ≡ b) × (remaining_after ≡ following)
+  decides_of_once (Err f) s at remaining_after following a b p q = free_once s.remaining remaining_after following _ a b p q
+  decides_of_once (Ok tokens) s at remaining_after following a b p q = decisions s.macros s.env at tokens s.remaining remaining_after following a b p q
 
-  decides_by_once : (search : Search) (row : ℕ) (include_name : Option Question) (s : State) (line : List Token) (after following : Option ℕ) (a b : Result Bool Fault)
-      → DecidesBy search row include_name s line after a
+  decides_by_once : (search : Search) (row : ℕ) (include_name : Option Question) (s : State) (line : List Token) (remaining_after following : Option ℕ) (a b : Result Bool Fault)
+      → DecidesBy search row include_name s line remaining_after a
       → DecidesBy search row include_name s line following b
-      → (a ≡ b) × (after ≡ following)
-  decides_by_once search row (Some Value) s line after following a b p q =
-      decides_of_once (condition_tokens search row line) s (sign_place line) after following a b p q
-  decides_by_once search row (Some (Defined wanted)) s line after following a b p q = free_once s.left after following _ a b p q
-  decides_by_once search row None s line after following a b p q = absurd p
+      → (a ≡ b) × (remaining_after ≡ following)
+  decides_by_once search row (Some Value) s line remaining_after following a b p q =
+      decides_of_once (condition_tokens search row line) s (hash_place line) remaining_after following a b p q
+  decides_by_once search row (Some (Defined wanted)) s line remaining_after following a b p q = free_once s.remaining remaining_after following _ a b p q
+  decides_by_once search row None s line remaining_after following a b p q = absurd p
 
-  decides_unless_once : (search : Search) (row : ℕ) (quote : Option Fault) (d : Option Directive) (s : State) (line : List Token) (after following : Option ℕ) (a b : Result Bool Fault)
-      → DecidesUnless search row quote d s line after a
+  decides_unless_once : (search : Search) (row : ℕ) (quote : Option Fault) (d : Option Directive) (s : State) (line : List Token) (remaining_after following : Option ℕ) (a b : Result Bool Fault)
+      → DecidesUnless search row quote d s line remaining_after a
       → DecidesUnless search row quote d s line following b
-      → (a ≡ b) × (after ≡ following)
-  decides_unless_once search row None d s line after following a b p q = decides_by_once search row (question_by d) s line after following a b p q
-  decides_unless_once search row (Some f) d s line after following a b p q = free_once s.left after following _ a b p q
+      → (a ≡ b) × (remaining_after ≡ following)
+  decides_unless_once search row None d s line remaining_after following a b p q = decides_by_once search row (question_by d) s line remaining_after following a b p q
+  decides_unless_once search row (Some f) d s line remaining_after following a b p q = free_once s.remaining remaining_after following _ a b p q
 
-  pub decides_once : (search : Search) (row : ℕ) (s : State) (line : LogicalLine) (after following : Option ℕ) (a b : Result Bool Fault)
-      → Decides search row s line after a
+  pub decides_once : (search : Search) (row : ℕ) (s : State) (line : LogicalLine) (remaining_after following : Option ℕ) (a b : Result Bool Fault)
+      → Decides search row s line remaining_after a
       → Decides search row s line following b
-      → (a ≡ b) × (after ≡ following)
-  decides_once search row s line after following a b p q =
-      decides_unless_once search row (unmatched_quote line.tokens) line.directive s line.tokens after following a b p q
+      → (a ≡ b) × (remaining_after ≡ following)
+  decides_once search row s line remaining_after following a b p q =
+      decides_unless_once search row (unmatched_quote line.tokens) line.directive s line.tokens remaining_after following a b p q

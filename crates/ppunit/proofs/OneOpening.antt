@@ -21,8 +21,8 @@ module _ (readings : OneReading) (trees : OneTree) (context : Context) where
       → Opened context depth at s row directory m
       → stopped s (fault 32 at (name_in context.names row)) ≡ m
   at_deep deep (Opened.too_deep d) = refl
-  at_deep deep (Opened.over fits spent) = absurd (omega arith)
-  at_deep deep (Opened.known fits some known) = absurd (omega arith)
+  at_deep deep (Opened.exhausted fits spent) = absurd (omega arith)
+  at_deep deep (Opened.read_once fits some known) = absurd (omega arith)
   at_deep deep (Opened.not_readable fits some new is) = absurd (omega arith)
   at_deep deep (Opened.faulty fits some new is reads) = absurd (omega arith)
   at_deep deep (Opened.read fits some new is reads tree here) = absurd (omega arith)
@@ -33,39 +33,39 @@ module _ (readings : OneReading) (trees : OneTree) (context : Context) where
 
   pub at_over : {depth row : ℕ} {directory : Option ℕ} {at : Place} {s : State} {m : Reached}
       → depth ≤ deepest
-      → is_exhausted s.left ≡ true
+      → is_exhausted s.remaining ≡ true
       → Opened context depth at s row directory m
       → stopped s (fault 35 at []) ≡ m
   at_over fits e (Opened.too_deep d) = absurd (omega arith)
-  at_over fits e (Opened.over f spent) = refl
-  at_over {s = s} fits e (Opened.known f some known) = absurd (one_way (is_exhausted s.left) e some)
-  at_over {s = s} fits e (Opened.not_readable f some new is) = absurd (one_way (is_exhausted s.left) e some)
-  at_over {s = s} fits e (Opened.faulty f some new is reads) = absurd (one_way (is_exhausted s.left) e some)
-  at_over {s = s} fits e (Opened.read f some new is reads tree here) = absurd (one_way (is_exhausted s.left) e some)
+  at_over fits e (Opened.exhausted f spent) = refl
+  at_over {s = s} fits e (Opened.read_once f some known) = absurd (one_way (is_exhausted s.remaining) e some)
+  at_over {s = s} fits e (Opened.not_readable f some new is) = absurd (one_way (is_exhausted s.remaining) e some)
+  at_over {s = s} fits e (Opened.faulty f some new is reads) = absurd (one_way (is_exhausted s.remaining) e some)
+  at_over {s = s} fits e (Opened.read f some new is reads tree here) = absurd (one_way (is_exhausted s.remaining) e some)
 
   pub at_known : {depth row : ℕ} {directory : Option ℕ} {at : Place} {s : State} {m : Reached}
       → depth ≤ deepest
-      → is_exhausted s.left ≡ false
+      → is_exhausted s.remaining ≡ false
       → has_row row s.once ≡ true
       → Opened context depth at s row directory m
       → going (with_dependency (with_one_spent s) row) ≡ m
   at_known fits some e (Opened.too_deep d) = absurd (omega arith)
-  at_known {s = s} fits some e (Opened.over f spent) = absurd (one_way (is_exhausted s.left) spent some)
-  at_known fits some e (Opened.known f more known) = refl
+  at_known {s = s} fits some e (Opened.exhausted f spent) = absurd (one_way (is_exhausted s.remaining) spent some)
+  at_known fits some e (Opened.read_once f more known) = refl
   at_known {row = row} {s = s} fits some e (Opened.not_readable f more new is) = absurd (one_way (has_row row s.once) e new)
   at_known {row = row} {s = s} fits some e (Opened.faulty f more new is reads) = absurd (one_way (has_row row s.once) e new)
   at_known {row = row} {s = s} fits some e (Opened.read f more new is reads tree here) = absurd (one_way (has_row row s.once) e new)
 
   pub at_unreadable : {depth row : ℕ} {directory : Option ℕ} {at : Place} {s : State} {m : Reached}
       → depth ≤ deepest
-      → is_exhausted s.left ≡ false
+      → is_exhausted s.remaining ≡ false
       → has_row row s.once ≡ false
       → file_at context.files row ≡ Some unreadable
       → Opened context depth at s row directory m
       → stopped (with_dependency (with_one_spent s) row) (fault 6 at (name_in context.names row)) ≡ m
   at_unreadable fits some new e (Opened.too_deep d) = absurd (omega arith)
-  at_unreadable {s = s} fits some new e (Opened.over f spent) = absurd (one_way (is_exhausted s.left) spent some)
-  at_unreadable {row = row} {s = s} fits some new e (Opened.known f more known) = absurd (one_way (has_row row s.once) known new)
+  at_unreadable {s = s} fits some new e (Opened.exhausted f spent) = absurd (one_way (is_exhausted s.remaining) spent some)
+  at_unreadable {row = row} {s = s} fits some new e (Opened.read_once f more known) = absurd (one_way (has_row row s.once) known new)
   at_unreadable fits some new e (Opened.not_readable f more n is) = refl
   at_unreadable fits some new e (Opened.faulty {bytes = bytes} f more n is reads) =
       let differs : Some unreadable ≡ Some (readable bytes) = sym e ∙ is in absurd (cc)
@@ -92,15 +92,15 @@ module _ (readings : OneReading) (trees : OneTree) (context : Context) where
 
   pub at_reading : {depth row : ℕ} {directory : Option ℕ} {at : Place} {s : State} {m : Reached} (bytes : List ℕ) (x : Result (List LogicalLine) Fault)
       → depth ≤ deepest
-      → is_exhausted s.left ≡ false
+      → is_exhausted s.remaining ≡ false
       → has_row row s.once ≡ false
       → file_at context.files row ≡ Some (readable bytes)
       → Reads context.profile row bytes x
       → Opened context depth at s row directory m
       → AfterReading depth at s row directory x m
   at_reading bytes x fits some new e p (Opened.too_deep d) = absurd (omega arith)
-  at_reading {s = s} bytes x fits some new e p (Opened.over f spent) = absurd (one_way (is_exhausted s.left) spent some)
-  at_reading {row = row} {s = s} bytes x fits some new e p (Opened.known f more known) = absurd (one_way (has_row row s.once) known new)
+  at_reading {s = s} bytes x fits some new e p (Opened.exhausted f spent) = absurd (one_way (is_exhausted s.remaining) spent some)
+  at_reading {row = row} {s = s} bytes x fits some new e p (Opened.read_once f more known) = absurd (one_way (has_row row s.once) known new)
   at_reading bytes x fits some new e p (Opened.not_readable f more n is) =
       let differs : Some unreadable ≡ Some (readable bytes) = sym is ∙ e in absurd (cc)
   at_reading {depth = depth} {row = row} {directory = directory} {at = at} {s = s} bytes x fits some new e p (Opened.faulty {bytes = c} {f = g} f more n is reads) =

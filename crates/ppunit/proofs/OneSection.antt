@@ -4,7 +4,7 @@ use Rattle.pptext.specs.declared.tokens.Fault.{Fault}
 use Rattle.pptext.specs.declared.sources.Directive.TheVariants.{Else}
 use Rattle.pptext.specs.Lines.{LogicalLine}
 use Rattle.pptext.specs.Tree.{Parts, Done, Run, Control, Section, Branches, End, Branch}
-use Rattle.ppunit.specs.States.{State, Context, Reached, going, stopped, with_left, search_of}
+use Rattle.ppunit.specs.States.{State, Context, Reached, going, stopped, with_remaining, search_of}
 use Rattle.ppunit.specs.DirectiveLines.{run_tokens}
 use Rattle.ppunit.specs.Conditions.{Decides}
 use Rattle.ppunit.specs.Directives.{EmitsRun}
@@ -31,48 +31,48 @@ module _ (expansions : OneExpansion) (decisions : OneDecision) (context : Contex
   at_stop Group.stays = refl
 
   pub data AfterSection (depth row : ℕ) (s : State) (line : LogicalLine) (ps : Parts) (bs : Branches) (qs : Parts) : Reached → Type 0 where
-    is_taken : {after : Option ℕ} {m end : Reached}
-        → Decides (search_of context) row s line after (Ok true)
-        → Group context depth row (going (with_left s after)) ps m
+    is_taken : {remaining_after : Option ℕ} {m end : Reached}
+        → Decides (search_of context) row s line remaining_after (Ok true)
+        → Group context depth row (going (with_remaining s remaining_after)) ps m
         → Group context depth row m qs end
         → AfterSection depth row s line ps bs qs end
-    is_skipped : {after : Option ℕ} {m end : Reached}
-        → Decides (search_of context) row s line after (Ok false)
-        → Branched context depth row (with_left s after) bs m
+    is_skipped : {remaining_after : Option ℕ} {m end : Reached}
+        → Decides (search_of context) row s line remaining_after (Ok false)
+        → Branched context depth row (with_remaining s remaining_after) bs m
         → Group context depth row m qs end
         → AfterSection depth row s line ps bs qs end
-    is_refused : {after : Option ℕ} {f : Fault} → Decides (search_of context) row s line after (Err f) → AfterSection depth row s line ps bs qs (stopped (with_left s after) f)
+    is_refused : {remaining_after : Option ℕ} {f : Fault} → Decides (search_of context) row s line remaining_after (Err f) → AfterSection depth row s line ps bs qs (stopped (with_remaining s remaining_after) f)
 
   pub at_section : {depth row : ℕ} {s : State} {line : LogicalLine} {ps qs : Parts} {bs : Branches} {end : Reached} → Group context depth row (going s) (Section line ps bs qs) end → AfterSection depth row s line ps bs qs end
   at_section (Group.taken decides here rest) = is_taken decides here rest
   at_section (Group.skipped decides here rest) = is_skipped decides here rest
-  at_section (Group.refused decides) = is_refused decides
+  at_section (Group.condition_fault decides) = is_refused decides
 
   pub at_end : {depth row : ℕ} {s : State} {line : LogicalLine} {m : Reached} → Branched context depth row s (End line) m → going s ≡ m
   at_end Branched.ended = refl
 
   pub data AfterBranch (depth row : ℕ) (s : State) (line : LogicalLine) (ps : Parts) (bs : Branches) : Reached → Type 0 where
     is_else : {m : Reached} → line.directive ≡ Some Else → Group context depth row (going s) ps m → AfterBranch depth row s line ps bs m
-    is_elif : {after : Option ℕ} {m : Reached}
+    is_elif : {remaining_after : Option ℕ} {m : Reached}
         → line.directive ≢ Some Else
-        → Decides (search_of context) row s line after (Ok true)
-        → Group context depth row (going (with_left s after)) ps m
+        → Decides (search_of context) row s line remaining_after (Ok true)
+        → Group context depth row (going (with_remaining s remaining_after)) ps m
         → AfterBranch depth row s line ps bs m
-    is_passed : {after : Option ℕ} {m : Reached}
+    is_passed : {remaining_after : Option ℕ} {m : Reached}
         → line.directive ≢ Some Else
-        → Decides (search_of context) row s line after (Ok false)
-        → Branched context depth row (with_left s after) bs m
+        → Decides (search_of context) row s line remaining_after (Ok false)
+        → Branched context depth row (with_remaining s remaining_after) bs m
         → AfterBranch depth row s line ps bs m
-    is_faulty : {after : Option ℕ} {f : Fault}
+    is_faulty : {remaining_after : Option ℕ} {f : Fault}
         → line.directive ≢ Some Else
-        → Decides (search_of context) row s line after (Err f)
-        → AfterBranch depth row s line ps bs (stopped (with_left s after) f)
+        → Decides (search_of context) row s line remaining_after (Err f)
+        → AfterBranch depth row s line ps bs (stopped (with_remaining s remaining_after) f)
 
   pub at_branch : {depth row : ℕ} {s : State} {line : LogicalLine} {ps : Parts} {bs : Branches} {m : Reached} → Branched context depth row s (Branch line ps bs) m → AfterBranch depth row s line ps bs m
   at_branch (Branched.otherwise is here) = is_else is here
   at_branch (Branched.branch_taken is decides here) = is_elif is decides here
   at_branch (Branched.branch_skipped is decides rest) = is_passed is decides rest
-  at_branch (Branched.branch_refused is decides) = is_faulty is decides
+  at_branch (Branched.branch_condition_fault is decides) = is_faulty is decides
 
   -- ---- if-sections, by what was found of the first derivation
 
@@ -83,77 +83,77 @@ module _ (expansions : OneExpansion) (decisions : OneDecision) (context : Contex
   SameBranches depth row s bs y = (z : Reached) → Branched context depth row s bs z → y ≡ z
 
   -- the same decision leaves the same
-  taken_again : (depth row : ℕ) (s : State) (line : LogicalLine) (ps : Parts) (after following : Option ℕ) (into_output : Result Bool Fault) (z : Reached)
-      → Decides (search_of context) row s line after into_output
+  taken_again : (depth row : ℕ) (s : State) (line : LogicalLine) (ps : Parts) (remaining_after following : Option ℕ) (into_output : Result Bool Fault) (z : Reached)
+      → Decides (search_of context) row s line remaining_after into_output
       → Decides (search_of context) row s line following into_output
-      → Group context depth row (going (with_left s following)) ps z
-      → Group context depth row (going (with_left s after)) ps z
-  taken_again depth row s line ps after following into_output z decides decides' here =
-      let lefts = sym (decides_once expansions decisions (search_of context) row s line after following into_output into_output decides decides').1 in
-      subst (λ (x : Option ℕ). Group context depth row (going (with_left s x)) ps z) lefts here
+      → Group context depth row (going (with_remaining s following)) ps z
+      → Group context depth row (going (with_remaining s remaining_after)) ps z
+  taken_again depth row s line ps remaining_after following into_output z decides decides' here =
+      let remainders = sym (decides_once expansions decisions (search_of context) row s line remaining_after following into_output into_output decides decides').1 in
+      subst (λ (x : Option ℕ). Group context depth row (going (with_remaining s x)) ps z) remainders here
 
-  skipped_again : (depth row : ℕ) (s : State) (line : LogicalLine) (bs : Branches) (after following : Option ℕ) (into_output : Result Bool Fault) (z : Reached)
-      → Decides (search_of context) row s line after into_output
+  skipped_again : (depth row : ℕ) (s : State) (line : LogicalLine) (bs : Branches) (remaining_after following : Option ℕ) (into_output : Result Bool Fault) (z : Reached)
+      → Decides (search_of context) row s line remaining_after into_output
       → Decides (search_of context) row s line following into_output
-      → Branched context depth row (with_left s following) bs z
-      → Branched context depth row (with_left s after) bs z
-  skipped_again depth row s line bs after following into_output z decides decides' here =
-      let lefts = sym (decides_once expansions decisions (search_of context) row s line after following into_output into_output decides decides').1 in
-      subst (λ (x : Option ℕ). Branched context depth row (with_left s x) bs z) lefts here
+      → Branched context depth row (with_remaining s following) bs z
+      → Branched context depth row (with_remaining s remaining_after) bs z
+  skipped_again depth row s line bs remaining_after following into_output z decides decides' here =
+      let remainders = sym (decides_once expansions decisions (search_of context) row s line remaining_after following into_output into_output decides decides').1 in
+      subst (λ (x : Option ℕ). Branched context depth row (with_remaining s x) bs z) remainders here
 
   -- the same fault, where the same is left
-  pub stopped_again : {A : Type 0} (s : State) (after following : Option ℕ) (f g : Fault) → ◌≡◌ {A = Result A Fault} (Err f) (Err g) → after ≡ following → stopped (with_left s after) f ≡ stopped (with_left s following) g
-  stopped_again s after following f g faults lefts = let same : f ≡ g = cc in λ i. stopped (with_left s (lefts i)) (same i)
+  pub stopped_again : {A : Type 0} (s : State) (remaining_after following : Option ℕ) (f g : Fault) → ◌≡◌ {A = Result A Fault} (Err f) (Err g) → remaining_after ≡ following → stopped (with_remaining s remaining_after) f ≡ stopped (with_remaining s following) g
+  stopped_again s remaining_after following f g faults remainders = let same : f ≡ g = cc in λ i. stopped (with_remaining s (remainders i)) (same i)
 
-  refused_again : (row : ℕ) (s : State) (line : LogicalLine) (after following : Option ℕ) (f g : Fault)
-      → Decides (search_of context) row s line after (Err f)
+  refused_again : (row : ℕ) (s : State) (line : LogicalLine) (remaining_after following : Option ℕ) (f g : Fault)
+      → Decides (search_of context) row s line remaining_after (Err f)
       → Decides (search_of context) row s line following (Err g)
-      → stopped (with_left s after) f ≡ stopped (with_left s following) g
-  refused_again row s line after following f g decides decides' =
-      let one = decides_once expansions decisions (search_of context) row s line after following (Err f) (Err g) decides decides' in
-      stopped_again {A = Bool} s after following f g one.0 one.1
+      → stopped (with_remaining s remaining_after) f ≡ stopped (with_remaining s following) g
+  refused_again row s line remaining_after following f g decides decides' =
+      let one = decides_once expansions decisions (search_of context) row s line remaining_after following (Err f) (Err g) decides decides' in
+      stopped_again {A = Bool} s remaining_after following f g one.0 one.1
 
-  same_decision : (row : ℕ) (s : State) (line : LogicalLine) (after following : Option ℕ) (a b : Result Bool Fault) → Decides (search_of context) row s line after a → Decides (search_of context) row s line following b → a ≡ b
-  same_decision row s line after following a b p q = (decides_once expansions decisions (search_of context) row s line after following a b p q).0
+  same_decision : (row : ℕ) (s : State) (line : LogicalLine) (remaining_after following : Option ℕ) (a b : Result Bool Fault) → Decides (search_of context) row s line remaining_after a → Decides (search_of context) row s line following b → a ≡ b
+  same_decision row s line remaining_after following a b p q = (decides_once expansions decisions (search_of context) row s line remaining_after following a b p q).0
 
-  pub after_taken : {depth row : ℕ} {s : State} {line : LogicalLine} {ps qs : Parts} {bs : Branches} {after : Option ℕ} {m y : Reached}
-      → Decides (search_of context) row s line after (Ok true)
-      → SameGroup depth row (going (with_left s after)) ps m
+  pub after_taken : {depth row : ℕ} {s : State} {line : LogicalLine} {ps qs : Parts} {bs : Branches} {remaining_after : Option ℕ} {m y : Reached}
+      → Decides (search_of context) row s line remaining_after (Ok true)
+      → SameGroup depth row (going (with_remaining s remaining_after)) ps m
       → SameGroup depth row m qs y
       → (z : Reached)
       → AfterSection depth row s line ps bs qs z
       → y ≡ z
-  after_taken {depth = depth} {row = row} {s = s} {line = line} {ps = ps} {qs = qs} {after = after} decides here rest z (is_taken {after = following} {m = n} decides' here' rest') =
-      rest z (subst (λ x. Group context depth row x qs z) (sym (here n (taken_again depth row s line ps after following (Ok true) n decides decides' here'))) rest')
-  after_taken {row = row} {s = s} {line = line} {after = after} decides here rest z (is_skipped {after = following} decides' here' rest') =
-      let differs : Ok true ≡ Ok false = same_decision row s line after following (Ok true) (Ok false) decides decides' in absurd (cc)
-  after_taken {row = row} {s = s} {line = line} {after = after} decides here rest z (is_refused {after = following} {f = f} decides') =
-      let differs : Ok true ≡ Err f = same_decision row s line after following (Ok true) (Err f) decides decides' in absurd (cc)
+  after_taken {depth = depth} {row = row} {s = s} {line = line} {ps = ps} {qs = qs} {remaining_after = remaining_after} decides here rest z (is_taken {remaining_after = following} {m = n} decides' here' rest') =
+      rest z (subst (λ x. Group context depth row x qs z) (sym (here n (taken_again depth row s line ps remaining_after following (Ok true) n decides decides' here'))) rest')
+  after_taken {row = row} {s = s} {line = line} {remaining_after = remaining_after} decides here rest z (is_skipped {remaining_after = following} decides' here' rest') =
+      let differs : Ok true ≡ Ok false = same_decision row s line remaining_after following (Ok true) (Ok false) decides decides' in absurd (cc)
+  after_taken {row = row} {s = s} {line = line} {remaining_after = remaining_after} decides here rest z (is_refused {remaining_after = following} {f = f} decides') =
+      let differs : Ok true ≡ Err f = same_decision row s line remaining_after following (Ok true) (Err f) decides decides' in absurd (cc)
 
-  pub after_skipped : {depth row : ℕ} {s : State} {line : LogicalLine} {ps qs : Parts} {bs : Branches} {after : Option ℕ} {m y : Reached}
-      → Decides (search_of context) row s line after (Ok false)
-      → SameBranches depth row (with_left s after) bs m
+  pub after_skipped : {depth row : ℕ} {s : State} {line : LogicalLine} {ps qs : Parts} {bs : Branches} {remaining_after : Option ℕ} {m y : Reached}
+      → Decides (search_of context) row s line remaining_after (Ok false)
+      → SameBranches depth row (with_remaining s remaining_after) bs m
       → SameGroup depth row m qs y
       → (z : Reached)
       → AfterSection depth row s line ps bs qs z
       → y ≡ z
-  after_skipped {row = row} {s = s} {line = line} {after = after} decides here rest z (is_taken {after = following} decides' here' rest') =
-      let differs : Ok false ≡ Ok true = same_decision row s line after following (Ok false) (Ok true) decides decides' in absurd (cc)
-  after_skipped {depth = depth} {row = row} {s = s} {line = line} {qs = qs} {bs = bs} {after = after} decides here rest z (is_skipped {after = following} {m = n} decides' here' rest') =
-      rest z (subst (λ x. Group context depth row x qs z) (sym (here n (skipped_again depth row s line bs after following (Ok false) n decides decides' here'))) rest')
-  after_skipped {row = row} {s = s} {line = line} {after = after} decides here rest z (is_refused {after = following} {f = f} decides') =
-      let differs : Ok false ≡ Err f = same_decision row s line after following (Ok false) (Err f) decides decides' in absurd (cc)
+  after_skipped {row = row} {s = s} {line = line} {remaining_after = remaining_after} decides here rest z (is_taken {remaining_after = following} decides' here' rest') =
+      let differs : Ok false ≡ Ok true = same_decision row s line remaining_after following (Ok false) (Ok true) decides decides' in absurd (cc)
+  after_skipped {depth = depth} {row = row} {s = s} {line = line} {qs = qs} {bs = bs} {remaining_after = remaining_after} decides here rest z (is_skipped {remaining_after = following} {m = n} decides' here' rest') =
+      rest z (subst (λ x. Group context depth row x qs z) (sym (here n (skipped_again depth row s line bs remaining_after following (Ok false) n decides decides' here'))) rest')
+  after_skipped {row = row} {s = s} {line = line} {remaining_after = remaining_after} decides here rest z (is_refused {remaining_after = following} {f = f} decides') =
+      let differs : Ok false ≡ Err f = same_decision row s line remaining_after following (Ok false) (Err f) decides decides' in absurd (cc)
 
-  pub after_refused : {depth row : ℕ} {s : State} {line : LogicalLine} {ps qs : Parts} {bs : Branches} {after : Option ℕ} {f : Fault}
-      → Decides (search_of context) row s line after (Err f)
+  pub after_refused : {depth row : ℕ} {s : State} {line : LogicalLine} {ps qs : Parts} {bs : Branches} {remaining_after : Option ℕ} {f : Fault}
+      → Decides (search_of context) row s line remaining_after (Err f)
       → (z : Reached)
       → AfterSection depth row s line ps bs qs z
-      → stopped (with_left s after) f ≡ z
-  after_refused {row = row} {s = s} {line = line} {after = after} {f = f} decides z (is_taken {after = following} decides' here' rest') =
-      let differs : Err f ≡ Ok true = same_decision row s line after following (Err f) (Ok true) decides decides' in absurd (cc)
-  after_refused {row = row} {s = s} {line = line} {after = after} {f = f} decides z (is_skipped {after = following} decides' here' rest') =
-      let differs : Err f ≡ Ok false = same_decision row s line after following (Err f) (Ok false) decides decides' in absurd (cc)
-  after_refused {row = row} {s = s} {line = line} {after = after} {f = f} decides z (is_refused {after = following} {f = g} decides') = refused_again row s line after following f g decides decides'
+      → stopped (with_remaining s remaining_after) f ≡ z
+  after_refused {row = row} {s = s} {line = line} {remaining_after = remaining_after} {f = f} decides z (is_taken {remaining_after = following} decides' here' rest') =
+      let differs : Err f ≡ Ok true = same_decision row s line remaining_after following (Err f) (Ok true) decides decides' in absurd (cc)
+  after_refused {row = row} {s = s} {line = line} {remaining_after = remaining_after} {f = f} decides z (is_skipped {remaining_after = following} decides' here' rest') =
+      let differs : Err f ≡ Ok false = same_decision row s line remaining_after following (Err f) (Ok false) decides decides' in absurd (cc)
+  after_refused {row = row} {s = s} {line = line} {remaining_after = remaining_after} {f = f} decides z (is_refused {remaining_after = following} {f = g} decides') = refused_again row s line remaining_after following f g decides decides'
 
   not_both : (line : LogicalLine) → line.directive ≡ Some Else → line.directive ≢ Some Else → ⊥
   not_both line e f = f e
@@ -169,46 +169,46 @@ module _ (expansions : OneExpansion) (decisions : OneDecision) (context : Contex
   after_else {line = line} is here z (is_passed is' decides rest) = absurd (not_both line is is')
   after_else {line = line} is here z (is_faulty is' decides) = absurd (not_both line is is')
 
-  pub after_elif : {depth row : ℕ} {s : State} {line : LogicalLine} {ps : Parts} {bs : Branches} {after : Option ℕ} {y : Reached}
+  pub after_elif : {depth row : ℕ} {s : State} {line : LogicalLine} {ps : Parts} {bs : Branches} {remaining_after : Option ℕ} {y : Reached}
       → line.directive ≢ Some Else
-      → Decides (search_of context) row s line after (Ok true)
-      → SameGroup depth row (going (with_left s after)) ps y
+      → Decides (search_of context) row s line remaining_after (Ok true)
+      → SameGroup depth row (going (with_remaining s remaining_after)) ps y
       → (z : Reached)
       → AfterBranch depth row s line ps bs z
       → y ≡ z
   after_elif {line = line} is decides here z (is_else is' here') = absurd (not_both line is' is)
-  after_elif {depth = depth} {row = row} {s = s} {line = line} {ps = ps} {after = after} is decides here z (is_elif {after = following} is' decides' here') =
-      here z (taken_again depth row s line ps after following (Ok true) z decides decides' here')
-  after_elif {row = row} {s = s} {line = line} {after = after} is decides here z (is_passed {after = following} is' decides' rest) =
-      let differs : Ok true ≡ Ok false = same_decision row s line after following (Ok true) (Ok false) decides decides' in absurd (cc)
-  after_elif {row = row} {s = s} {line = line} {after = after} is decides here z (is_faulty {after = following} {f = f} is' decides') =
-      let differs : Ok true ≡ Err f = same_decision row s line after following (Ok true) (Err f) decides decides' in absurd (cc)
+  after_elif {depth = depth} {row = row} {s = s} {line = line} {ps = ps} {remaining_after = remaining_after} is decides here z (is_elif {remaining_after = following} is' decides' here') =
+      here z (taken_again depth row s line ps remaining_after following (Ok true) z decides decides' here')
+  after_elif {row = row} {s = s} {line = line} {remaining_after = remaining_after} is decides here z (is_passed {remaining_after = following} is' decides' rest) =
+      let differs : Ok true ≡ Ok false = same_decision row s line remaining_after following (Ok true) (Ok false) decides decides' in absurd (cc)
+  after_elif {row = row} {s = s} {line = line} {remaining_after = remaining_after} is decides here z (is_faulty {remaining_after = following} {f = f} is' decides') =
+      let differs : Ok true ≡ Err f = same_decision row s line remaining_after following (Ok true) (Err f) decides decides' in absurd (cc)
 
-  pub after_passed : {depth row : ℕ} {s : State} {line : LogicalLine} {ps : Parts} {bs : Branches} {after : Option ℕ} {y : Reached}
+  pub after_passed : {depth row : ℕ} {s : State} {line : LogicalLine} {ps : Parts} {bs : Branches} {remaining_after : Option ℕ} {y : Reached}
       → line.directive ≢ Some Else
-      → Decides (search_of context) row s line after (Ok false)
-      → SameBranches depth row (with_left s after) bs y
+      → Decides (search_of context) row s line remaining_after (Ok false)
+      → SameBranches depth row (with_remaining s remaining_after) bs y
       → (z : Reached)
       → AfterBranch depth row s line ps bs z
       → y ≡ z
   after_passed {line = line} is decides rest z (is_else is' here') = absurd (not_both line is' is)
-  after_passed {row = row} {s = s} {line = line} {after = after} is decides rest z (is_elif {after = following} is' decides' here') =
-      let differs : Ok false ≡ Ok true = same_decision row s line after following (Ok false) (Ok true) decides decides' in absurd (cc)
-  after_passed {depth = depth} {row = row} {s = s} {line = line} {bs = bs} {after = after} is decides rest z (is_passed {after = following} is' decides' rest') =
-      rest z (skipped_again depth row s line bs after following (Ok false) z decides decides' rest')
-  after_passed {row = row} {s = s} {line = line} {after = after} is decides rest z (is_faulty {after = following} {f = f} is' decides') =
-      let differs : Ok false ≡ Err f = same_decision row s line after following (Ok false) (Err f) decides decides' in absurd (cc)
+  after_passed {row = row} {s = s} {line = line} {remaining_after = remaining_after} is decides rest z (is_elif {remaining_after = following} is' decides' here') =
+      let differs : Ok false ≡ Ok true = same_decision row s line remaining_after following (Ok false) (Ok true) decides decides' in absurd (cc)
+  after_passed {depth = depth} {row = row} {s = s} {line = line} {bs = bs} {remaining_after = remaining_after} is decides rest z (is_passed {remaining_after = following} is' decides' rest') =
+      rest z (skipped_again depth row s line bs remaining_after following (Ok false) z decides decides' rest')
+  after_passed {row = row} {s = s} {line = line} {remaining_after = remaining_after} is decides rest z (is_faulty {remaining_after = following} {f = f} is' decides') =
+      let differs : Ok false ≡ Err f = same_decision row s line remaining_after following (Ok false) (Err f) decides decides' in absurd (cc)
 
-  pub after_faulty : {depth row : ℕ} {s : State} {line : LogicalLine} {ps : Parts} {bs : Branches} {after : Option ℕ} {f : Fault}
+  pub after_faulty : {depth row : ℕ} {s : State} {line : LogicalLine} {ps : Parts} {bs : Branches} {remaining_after : Option ℕ} {f : Fault}
       → line.directive ≢ Some Else
-      → Decides (search_of context) row s line after (Err f)
+      → Decides (search_of context) row s line remaining_after (Err f)
       → (z : Reached)
       → AfterBranch depth row s line ps bs z
-      → stopped (with_left s after) f ≡ z
+      → stopped (with_remaining s remaining_after) f ≡ z
   after_faulty {line = line} is decides z (is_else is' here') = absurd (not_both line is' is)
-  after_faulty {row = row} {s = s} {line = line} {after = after} {f = f} is decides z (is_elif {after = following} is' decides' here') =
-      let differs : Err f ≡ Ok true = same_decision row s line after following (Err f) (Ok true) decides decides' in absurd (cc)
-  after_faulty {row = row} {s = s} {line = line} {after = after} {f = f} is decides z (is_passed {after = following} is' decides' rest) =
-      let differs : Err f ≡ Ok false = same_decision row s line after following (Err f) (Ok false) decides decides' in absurd (cc)
-  after_faulty {row = row} {s = s} {line = line} {after = after} {f = f} is decides z (is_faulty {after = following} {f = g} is' decides') =
-      refused_again row s line after following f g decides decides'
+  after_faulty {row = row} {s = s} {line = line} {remaining_after = remaining_after} {f = f} is decides z (is_elif {remaining_after = following} is' decides' here') =
+      let differs : Err f ≡ Ok true = same_decision row s line remaining_after following (Err f) (Ok true) decides decides' in absurd (cc)
+  after_faulty {row = row} {s = s} {line = line} {remaining_after = remaining_after} {f = f} is decides z (is_passed {remaining_after = following} is' decides' rest) =
+      let differs : Err f ≡ Ok false = same_decision row s line remaining_after following (Err f) (Ok false) decides decides' in absurd (cc)
+  after_faulty {row = row} {s = s} {line = line} {remaining_after = remaining_after} {f = f} is decides z (is_faulty {remaining_after = following} {f = g} is' decides') =
+      refused_again row s line remaining_after following f g decides decides'

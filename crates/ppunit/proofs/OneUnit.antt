@@ -8,8 +8,8 @@ use Rattle.pptext.specs.Tree.{Parts, Branches, Tree}
 use Rattle.ppshelf.specs.Names.{AreNames}
 use Rattle.ppunit.specs.States.{State, Context, Reached, going, stopped, leaving}
 use Rattle.ppunit.specs.DirectiveLines.{run_tokens}
-use Rattle.ppunit.specs.Group.{Group, Branched, Controls, Includes, Opened}
-use Rattle.ppunit.specs.Unit.{Defines, unread, processed, Translates, undefined, translated, command_file, command_text, first_place}
+use Rattle.ppunit.specs.Group.{Group, Branched, Controls, ExecutesInclude, Opened}
+use Rattle.ppunit.specs.Unit.{Defines, unread, processed, Translates, definitions_fault, translated, command_file, command_text, first_place}
 use Rattle.ppunit.proofs.OneLine.{OneExpansion, OneDecision, OneReading, OneTree, OneRow, run_once}
 use Rattle.ppunit.proofs.OneSection.{AfterRun, at_run, AfterControl, at_control, at_done, at_stop, at_section, at_end, at_branch, after_taken, after_skipped, after_refused, after_else, after_elif, after_passed, after_faulty}
 use Rattle.ppunit.proofs.OneControl.{at_error, at_ignored, at_quote, at_other, at_include, after_misnamed, after_missing, after_included}
@@ -29,14 +29,14 @@ module _ (expansions : OneExpansion) (decisions : OneDecision) (readings : OneRe
           group_once rest z (subst (λ x. Group context depth row x ps z) (sym (control_once here h.0 h.1)) h.2)
       group_once (Group.taken decides here rest) z d = after_taken expansions decisions context decides (λ n g. group_once here n g) (λ n g. group_once rest n g) z (at_section expansions decisions context d)
       group_once (Group.skipped decides here rest) z d = after_skipped expansions decisions context decides (λ n g. branches_once here n g) (λ n g. group_once rest n g) z (at_section expansions decisions context d)
-      group_once (Group.refused decides) z d = after_refused expansions decisions context decides z (at_section expansions decisions context d)
+      group_once (Group.condition_fault decides) z d = after_refused expansions decisions context decides z (at_section expansions decisions context d)
 
       branches_once : {depth row : ℕ} {s : State} {bs : Branches} {y : Reached} → Branched context depth row s bs y → (z : Reached) → Branched context depth row s bs z → y ≡ z
       branches_once Branched.ended z d = at_end expansions decisions context d
       branches_once (Branched.otherwise is here) z d = after_else expansions decisions context is (λ n g. group_once here n g) z (at_branch expansions decisions context d)
       branches_once (Branched.branch_taken is decides here) z d = after_elif expansions decisions context is decides (λ n g. group_once here n g) z (at_branch expansions decisions context d)
       branches_once (Branched.branch_skipped is decides rest) z d = after_passed expansions decisions context is decides (λ n g. branches_once rest n g) z (at_branch expansions decisions context d)
-      branches_once (Branched.branch_refused is decides) z d = after_faulty expansions decisions context is decides z (at_branch expansions decisions context d)
+      branches_once (Branched.branch_condition_fault is decides) z d = after_faulty expansions decisions context is decides z (at_branch expansions decisions context d)
 
       control_once : {depth row : ℕ} {s : State} {line : LogicalLine} {y : Reached} → Controls context depth row s line y → (z : Reached) → Controls context depth row s line z → y ≡ z
       control_once (Controls.error is) z d = at_error expansions decisions rows context once is d
@@ -45,15 +45,15 @@ module _ (expansions : OneExpansion) (decisions : OneDecision) (readings : OneRe
       control_once (Controls.other q does) z d = at_other expansions decisions rows context once q does d
       control_once (Controls.include is q here) z d = includes_once here z (at_include expansions decisions rows context once is q d)
 
-      includes_once : {depth row : ℕ} {following : Option ℕ} {s : State} {line : LogicalLine} {y : Reached} → Includes context depth row following s line y → (z : Reached) → Includes context depth row following s line z → y ≡ z
-      includes_once (Includes.misnamed asks) z d = after_misnamed expansions decisions rows context once asks d
-      includes_once (Includes.missing a asks finds) z d = after_missing expansions decisions rows context once a asks finds d
-      includes_once (Includes.included a found asks finds opens) z d = opened_once opens z (after_included expansions decisions rows context once a found asks finds d)
+      includes_once : {depth row : ℕ} {following : Option ℕ} {s : State} {line : LogicalLine} {y : Reached} → ExecutesInclude context depth row following s line y → (z : Reached) → ExecutesInclude context depth row following s line z → y ≡ z
+      includes_once (ExecutesInclude.misnamed asks) z d = after_misnamed expansions decisions rows context once asks d
+      includes_once (ExecutesInclude.missing a asks finds) z d = after_missing expansions decisions rows context once a asks finds d
+      includes_once (ExecutesInclude.included a found asks finds opens) z d = opened_once opens z (after_included expansions decisions rows context once a found asks finds d)
 
       pub opened_once : {depth row : ℕ} {directory : Option ℕ} {at : Place} {s : State} {y : Reached} → Opened context depth at s row directory y → (z : Reached) → Opened context depth at s row directory z → y ≡ z
       opened_once (Opened.too_deep deep) z d = at_deep readings trees context deep d
-      opened_once (Opened.over fits spent) z d = at_over readings trees context fits spent d
-      opened_once (Opened.known fits some known) z d = at_known readings trees context fits some known d
+      opened_once (Opened.exhausted fits spent) z d = at_over readings trees context fits spent d
+      opened_once (Opened.read_once fits some known) z d = at_known readings trees context fits some known d
       opened_once (Opened.not_readable fits some new is) z d = at_unreadable readings trees context fits some new is d
       opened_once (Opened.faulty {bytes = bytes} {f = f} fits some new is reads) z d = after_fault readings trees context refl (at_reading readings trees context bytes (Err f) fits some new is reads d)
       opened_once {depth} {row} {directory} {at} {s} (Opened.read {bytes = bytes} {lines = lines} {parts = parts} {m = m} fits some new is reads tree here) z d =
@@ -96,13 +96,13 @@ module _ (expansions : OneExpansion) (decisions : OneDecision) (readings : OneRe
     defines_once (processed {lines = lines} reads tree here) z d = processed_once refl tree here (at_commands (Ok lines) reads d)
 
     undefined_once : {defines : List (List ℕ)} {row : ℕ} {s t : State} {f : Fault} {m : Reached} → Defines context defines s (stopped t f) → Translates context defines row s m → stopped t f ≡ m
-    undefined_once here (undefined {t = t'} {f = f'} here') = defines_once here (stopped t' f') here'
+    undefined_once here (definitions_fault {t = t'} {f = f'} here') = defines_once here (stopped t' f') here'
     undefined_once {t = t} {f = f} here (translated {t = t'} here' opens) =
         let one = defines_once here (going t') here' in
         let no_fault : Some f ≡ None = λ i. (one i).fault in absurd (cc)
 
     translated_once : {defines : List (List ℕ)} {row : ℕ} {s t : State} {y m : Reached} → Defines context defines s (going t) → Opened context 0 (first_place row) t row None y → Translates context defines row s m → y ≡ m
-    translated_once {t = t} here opens (undefined {t = t'} {f = f'} here') =
+    translated_once {t = t} here opens (definitions_fault {t = t'} {f = f'} here') =
         let one = defines_once here (stopped t' f') here' in
         let no_fault : None ≡ Some f' = λ i. (one i).fault in absurd (cc)
     translated_once {row = row} {t = t} {m = m} here opens (translated {t = t'} here' opens') =
@@ -111,5 +111,5 @@ module _ (expansions : OneExpansion) (decisions : OneDecision) (readings : OneRe
         opened_once opens m (subst (λ z. Opened context 0 (first_place row) z row None m) states opens')
 
     pub translates_once : {defines : List (List ℕ)} {row : ℕ} {s : State} {y : Reached} → Translates context defines row s y → (z : Reached) → Translates context defines row s z → y ≡ z
-    translates_once (undefined here) z d = undefined_once here d
+    translates_once (definitions_fault here) z d = undefined_once here d
     translates_once (translated here opens) z d = translated_once here opens d

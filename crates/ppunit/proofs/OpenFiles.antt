@@ -53,7 +53,7 @@ enters_at : (context : Files → Context) (old new : Files) (whole : Files → R
     → Passes (length ws) file.row file.lines file.index t next
     → EntersFile context new (suc (length ws)) (λ more m. Controls (context more) (length ws) file.row t (line_at file.lines file.index) m) u e
     → StackAt context new whole (record { file = record file { index = next }; file_context = e.outer } ∷ ws) e.file u
-enters_at context old new whole next t u ws file e at wider passes enters =
+enters_at context old new whole next t u ws file e at wider passes continues_after =
     let f = at.file_so_far in
     let g = passes f.parts f.outer f.stands in
     record {
@@ -61,9 +61,9 @@ enters_at context old new whole next t u ws file e at wider passes enters =
       waits = (g.2, at.waits);
       file_so_far =
           file_start context new (Owes context whole (record { file = record file { index = next }; file_context = e.outer } ∷ ws) ((g.0, g.1) ∷ at.rests))
-          (suc (length ws)) e.file.row e.file.lines e.file.index u enters.parts enters.begins enters.tree
+          (suc (length ws)) e.file.row e.file.lines e.file.index u continues_after.parts continues_after.begins continues_after.tree
           (λ more grows m group end rest. f.ends more (extends_trans more new old grows wider) end
-          (g.3 (context more) (restored e.outer m) end (enters.group more grows m group) rest));
+          (g.3 (context more) (restored e.outer m) end (continues_after.group more grows m group) rest));
     }
 
 next_at : (context : Files → Context) (old new : Files) (whole : Files → Reached → Type 0) (next : ℕ) (t u : State) (ws : List SuspendedFile)

@@ -28,7 +28,7 @@ opens_unpaid context depth row directory at s t f unpaid =
   where
     by : IsRefusedOpening depth at (name_in context.names row) s f → Opened context depth at s row directory (stopped s f)
     by (inl (deep, is)) = subst (λ (z : Fault). Opened context depth at s row directory (stopped s z)) (sym is) (Opened.too_deep deep)
-    by (inr (fits, spent, is)) = subst (λ (z : Fault). Opened context depth at s row directory (stopped s z)) (sym is) (Opened.over fits spent)
+    by (inr (fits, spent, is)) = subst (λ (z : Fault). Opened context depth at s row directory (stopped s z)) (sym is) (Opened.exhausted fits spent)
 
 -- a file that is read once and was read
 pub opens_known : (context : Context) (depth row : ℕ) (directory : Option ℕ) (at : Place) (name : List ℕ) (s a t : State) (known : Bool)
@@ -38,13 +38,13 @@ pub opens_known : (context : Context) (depth row : ℕ) (directory : Option ℕ)
     → known ≡ true
     → Opened context depth at s row directory (going t)
 opens_known context depth row directory at name s a t known (fits, some, pays) joins is true-is =
-    let here = Opened.known {depth = depth} {row = row} {directory = directory} {at = at} {s = s} fits some
+    let here = Opened.read_once {depth = depth} {row = row} {directory = directory} {at = at} {s = s} fits some
     (ap (λ (z : State). has_row row z.once) (sym pays) ∙ sym is ∙ true-is) in
     subst (λ (z : State). Opened context depth at s row directory (going z)) (sym (joins ∙ ap (λ (z : State). with_dependency z row) pays)) here
 
 -- an opening is paid for, and the file, which is to be read, is a dependency
 abbrev pub IsReady : ℕ → ℕ → State → State → Type 0
-IsReady depth row s t = (depth ≤ deepest) × (is_exhausted s.left ≡ false) × (has_row row s.once ≡ false) × (t ≡ with_dependency (with_one_spent s) row)
+IsReady depth row s t = (depth ≤ deepest) × (is_exhausted s.remaining ≡ false) × (has_row row s.once ≡ false) × (t ≡ with_dependency (with_one_spent s) row)
 
 pub ready : (depth row : ℕ) (at : Place) (name : List ℕ) (s a t : State) (known : Bool)
     → SpendsOpening depth at name s a None
@@ -95,12 +95,12 @@ pub opens_begun : (library : UnitContext) (files : Files) (depth row : ℕ) (dir
     → name ≡ name_in library.shelf.names row
     → Begins name row directory lines t u entered
     → Leads (context_over library) files depth (λ more m. Opened (context_over library more) depth at s row directory m) u (Ok entered)
-opens_begun library files depth row directory at s t u name lines None (fits, some, new, is) (content, known, reads) named (left, same) =
+opens_begun library files depth row directory at s t u name lines None (fits, some, new, is) (content, known, reads) named (remaining, same) =
     λ more grows. subst (λ (z : State). Opened (context_over library more) depth at s row directory (going z)) (sym same)
-    (opens_left_out (context_over library more) depth row directory at s t content lines fits some (grows row content known) reads is left)
+    (opens_left_out (context_over library more) depth row directory at s t content lines fits some (grows row content known) reads is remaining)
 opens_begun library files depth row directory at s t u name lines (Some e) noted (unreadable, known, reads) named begins = absurd reads
 opens_begun library files depth row directory at s t u name lines (Some e) (fits, some, new, is) (readable bytes, known, reads) named
-    (file, few, enters) =
+    (file, few, continues_after) =
     let tree = tree_of library.shelf.profile row bytes lines reads in
     let whole : Files → Reached → Type 0 = λ more m. Opened (context_over library more) depth at s row directory m in
     subst (λ (z : Entered). EntersFile (context_over library) files depth whole u z) (sym file) (record {
@@ -111,7 +111,7 @@ opens_begun library files depth row directory at s t u name lines (Some e) (fits
       tree = tree.1;
       group = λ more grows m group.
           let inside = subst (λ (z : State). Group (context_over library more) depth row (going z) tree.0 m)
-          (entering_is (context_over library more) row directory (with_one_spent s) t u name is enters named) group in
+          (entering_is (context_over library more) row directory (with_one_spent s) t u name is continues_after named) group in
           subst (λ (z : FileContext). Opened (context_over library more) depth at s row directory (restored z m)) (sym (ap file_context is))
           (Opened.read fits some new (grows row (readable bytes) known) reads tree.1 inside);
     })

@@ -14,7 +14,7 @@ use Rattle.ppunit.specs.declared.units.Unit.{Unit as UnitOfList}
 use Rattle.ppunit.specs.declared.units.Setting.{Setting}
 use Rattle.ppunit.specs.declared.units.UnitOut.{UnitOut}
 use Rattle.ppunit.specs.Group.{Opened}
-use Rattle.ppunit.specs.Unit.{IsUnit, initial_state, command_file, command_text, unread, processed, Translates, undefined, translated, first_place}
+use Rattle.ppunit.specs.Unit.{IsUnit, initial_state, command_file, command_text, unread, processed, Translates, definitions_fault, translated, first_place}
 use Rattle.ppunit.specs.code.Opening.{Entered}
 use Rattle.ppunit.specs.code.Walk.{EntersFile, Walks, DefinesOver}
 use Rattle.ppunit.proofs.WholeFile.{extends_trans}
@@ -71,13 +71,13 @@ pub entered_file : (context : Files → Context) (files new : Files) (depth : �
     → (more : Files)
     → Extends more new
     → whole more (record { state = in_file_context e.outer u; fault = fault })
-entered_file context files new depth whole t u e fault wider enters walks more grows =
-    enters.group more (extends_trans more new files grows wider) (record { state = u; fault = fault }) (walks enters.parts enters.tree more grows)
+entered_file context files new depth whole t u e fault wider continues_after walks more grows =
+    continues_after.group more (extends_trans more new files grows wider) (record { state = u; fault = fault }) (walks continues_after.parts continues_after.tree more grows)
 
 pub undefined_unit : (context : Files → Context) (files : Files) (defines : List (List ℕ)) (row : ℕ) (s t : State) (f : Fault)
     → DefinesOver context files defines s (stopped t f)
     → Translates (context files) defines row s (stopped t f)
-undefined_unit context files defines row s t f over = undefined (over files (extends_itself files))
+undefined_unit context files defines row s t f over = definitions_fault (over files (extends_itself files))
 
 pub translated_unit : (context : Files → Context) (files more : Files) (defines : List (List ℕ)) (row : ℕ) (s t u : State) (g : Option Fault)
     → DefinesOver context files defines s (going t)

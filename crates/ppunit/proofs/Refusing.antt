@@ -7,63 +7,63 @@ use Rattle.pptext.specs.Tree.{Parts, Branches}
 use Rattle.ppexpand.specs.Budget.{spend_one, is_exhausted}
 use Rattle.ppunit.specs.States.{State, Context, Reached, search_of}
 use Rattle.ppunit.specs.DirectiveLines.{run_tokens}
-use Rattle.ppunit.specs.Group.{Group, Branched, Controls, Includes, Opened}
-use Rattle.ppunit.specs.Unit.{context_of_unit, Defines, unread, processed, Translates, undefined, translated}
+use Rattle.ppunit.specs.Group.{Group, Branched, Controls, ExecutesInclude, Opened}
+use Rattle.ppunit.specs.Unit.{context_of_unit, Defines, unread, processed, Translates, definitions_fault, translated}
 use Rattle.ppunit.specs.Capped.{OnlyBudgetsRefuse}
 use Rattle.ppunit.proofs.RefusingLines.{asks_none, decides_none, run_none, group_none, branches_none, control_none, defines_none, IsOther, reads_other, run_other, quote_other, decides_other, asks_other, control_by_other}
 
-never_spent : (left : Option ℕ) → left ≡ None → is_exhausted left ≡ true → ⊥
+never_spent : (remaining : Option ℕ) → remaining ≡ None → is_exhausted remaining ≡ true → ⊥
 never_spent None is e = cc
 never_spent (Some n) is e = absurd (cc)
 
 module _ (context : Context) where
   mutual
-    group_other : {depth row : ℕ} {r : Reached} {ps : Parts} {end : Reached} → r.state.left ≡ None → IsOther r.fault → Group context depth row r ps end → IsOther end.fault
+    group_other : {depth row : ℕ} {r : Reached} {ps : Parts} {end : Reached} → r.state.remaining ≡ None → IsOther r.fault → Group context depth row r ps end → IsOther end.fault
     group_other is h Group.stays = h
     group_other is h Group.done = tt
     group_other is h (Group.run {s = s} {lines = lines} {m = m} gives rest) = group_other (run_none s (run_tokens lines) m is gives) (run_other s (run_tokens lines) m is gives) rest
     group_other is h (Group.control here rest) = group_other (control_none context is here) (control_other is here) rest
-    group_other {row = row} is h (Group.taken {s = s} {line = line} {after = after} decides here rest) =
-        let left = decides_none (search_of context) row s line after (Ok true) is decides in
-        group_other (group_none context left here) (group_other left tt here) rest
-    group_other {row = row} is h (Group.skipped {s = s} {line = line} {after = after} decides here rest) =
-        let left = decides_none (search_of context) row s line after (Ok false) is decides in
-        group_other (branches_none context left here) (branches_other left here) rest
-    group_other {row = row} is h (Group.refused {s = s} {line = line} {after = after} {f = f} decides) = decides_other (search_of context) row s line after f is decides
+    group_other {row = row} is h (Group.taken {s = s} {line = line} {remaining_after = remaining_after} decides here rest) =
+        let remaining = decides_none (search_of context) row s line remaining_after (Ok true) is decides in
+        group_other (group_none context remaining here) (group_other remaining tt here) rest
+    group_other {row = row} is h (Group.skipped {s = s} {line = line} {remaining_after = remaining_after} decides here rest) =
+        let remaining = decides_none (search_of context) row s line remaining_after (Ok false) is decides in
+        group_other (branches_none context remaining here) (branches_other remaining here) rest
+    group_other {row = row} is h (Group.condition_fault {s = s} {line = line} {remaining_after = remaining_after} {f = f} decides) = decides_other (search_of context) row s line remaining_after f is decides
 
-    branches_other : {depth row : ℕ} {s : State} {bs : Branches} {m : Reached} → s.left ≡ None → Branched context depth row s bs m → IsOther m.fault
+    branches_other : {depth row : ℕ} {s : State} {bs : Branches} {m : Reached} → s.remaining ≡ None → Branched context depth row s bs m → IsOther m.fault
     branches_other is Branched.ended = tt
     branches_other is (Branched.otherwise e here) = group_other is tt here
-    branches_other {row = row} is (Branched.branch_taken {s = s} {line = line} {after = after} e decides here) = group_other (decides_none (search_of context) row s line after (Ok true) is decides) tt here
-    branches_other {row = row} is (Branched.branch_skipped {s = s} {line = line} {after = after} e decides rest) = branches_other (decides_none (search_of context) row s line after (Ok false) is decides) rest
-    branches_other {row = row} is (Branched.branch_refused {s = s} {line = line} {after = after} {f = f} e decides) = decides_other (search_of context) row s line after f is decides
+    branches_other {row = row} is (Branched.branch_taken {s = s} {line = line} {remaining_after = remaining_after} e decides here) = group_other (decides_none (search_of context) row s line remaining_after (Ok true) is decides) tt here
+    branches_other {row = row} is (Branched.branch_skipped {s = s} {line = line} {remaining_after = remaining_after} e decides rest) = branches_other (decides_none (search_of context) row s line remaining_after (Ok false) is decides) rest
+    branches_other {row = row} is (Branched.branch_condition_fault {s = s} {line = line} {remaining_after = remaining_after} {f = f} e decides) = decides_other (search_of context) row s line remaining_after f is decides
 
-    control_other : {depth row : ℕ} {s : State} {line : LogicalLine} {m : Reached} → s.left ≡ None → Controls context depth row s line m → IsOther m.fault
+    control_other : {depth row : ℕ} {s : State} {line : LogicalLine} {m : Reached} → s.remaining ≡ None → Controls context depth row s line m → IsOther m.fault
     control_other is (Controls.error e) = λ h. absurd (omega arith)
     control_other is (Controls.ignored e) = tt
     control_other is (Controls.quote {line = line} e q) = subst IsOther q (quote_other line.tokens)
     control_other {row = row} is (Controls.other {s = s} {line = line} {m = m} q does) = control_by_other context.profile row line.directive s line m is does
     control_other is (Controls.include e q here) = includes_other is here
 
-    includes_other : {depth row : ℕ} {following : Option ℕ} {s : State} {line : LogicalLine} {m : Reached} → s.left ≡ None → Includes context depth row following s line m → IsOther m.fault
-    includes_other is (Includes.misnamed {s = s} {line = line} {after = after} {f = f} asks) = asks_other s line.tokens after f is asks
-    includes_other is (Includes.missing a asks finds) = λ h. absurd (omega arith)
-    includes_other is (Includes.included {s = s} {line = line} {after = after} a found asks finds opens) = opened_other (asks_none s line.tokens after (Ok a) is asks) opens
+    includes_other : {depth row : ℕ} {following : Option ℕ} {s : State} {line : LogicalLine} {m : Reached} → s.remaining ≡ None → ExecutesInclude context depth row following s line m → IsOther m.fault
+    includes_other is (ExecutesInclude.misnamed {s = s} {line = line} {remaining_after = remaining_after} {f = f} asks) = asks_other s line.tokens remaining_after f is asks
+    includes_other is (ExecutesInclude.missing a asks finds) = λ h. absurd (omega arith)
+    includes_other is (ExecutesInclude.included {s = s} {line = line} {remaining_after = remaining_after} a found asks finds opens) = opened_other (asks_none s line.tokens remaining_after (Ok a) is asks) opens
 
-    opened_other : {depth row : ℕ} {directory : Option ℕ} {at : Place} {s : State} {m : Reached} → s.left ≡ None → Opened context depth at s row directory m → IsOther m.fault
+    opened_other : {depth row : ℕ} {directory : Option ℕ} {at : Place} {s : State} {m : Reached} → s.remaining ≡ None → Opened context depth at s row directory m → IsOther m.fault
     opened_other is (Opened.too_deep deep) = λ e. absurd (omega arith)
-    opened_other is (Opened.over {s = s} fits spent) = absurd (never_spent s.left is spent)
-    opened_other is (Opened.known fits more once) = tt
+    opened_other is (Opened.exhausted {s = s} fits spent) = absurd (never_spent s.remaining is spent)
+    opened_other is (Opened.read_once fits more once) = tt
     opened_other is (Opened.not_readable fits more once file) = λ e. absurd (omega arith)
     opened_other is (Opened.faulty fits more once file reads) = reads_other reads
     opened_other is (Opened.read fits more once file reads tree here) = group_other (ap spend_one is) tt here
 
-  defines_other : {defines : List (List ℕ)} {s : State} {m : Reached} → s.left ≡ None → Defines context defines s m → IsOther m.fault
+  defines_other : {defines : List (List ℕ)} {s : State} {m : Reached} → s.remaining ≡ None → Defines context defines s m → IsOther m.fault
   defines_other is (unread reads) = reads_other reads
   defines_other is (processed reads tree here) = group_other is tt here
 
-  unit_other : {defines : List (List ℕ)} {row : ℕ} {s : State} {m : Reached} → s.left ≡ None → Translates context defines row s m → IsOther m.fault
-  unit_other is (undefined here) = defines_other is here
+  unit_other : {defines : List (List ℕ)} {row : ℕ} {s : State} {m : Reached} → s.remaining ≡ None → Translates context defines row s m → IsOther m.fault
+  unit_other is (definitions_fault here) = defines_other is here
   unit_other is (translated here opens) = opened_other (defines_none context is here) opens
 
 never : (o : Option Fault) (f : Fault) → o ≡ Some f → IsOther o → f.number ≢ 35

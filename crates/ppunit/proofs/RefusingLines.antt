@@ -11,7 +11,7 @@ use Rattle.pptext.specs.Classes.{question_by}
 use Rattle.pptext.specs.declared.sources.Profile.{Profile}
 use Rattle.pptext.specs.Lines.{LogicalLine, lines_of}
 use Rattle.pptext.specs.Sources.{IsFaultOf}
-use Rattle.pptext.specs.Tree.{Role, Elses, Closes, role, Open, after_line, fault_at_end, fault_or, group_fault, Parts, Branches, sign_place}
+use Rattle.pptext.specs.Tree.{Role, Elses, Closes, role, Open, after_line, fault_at_end, fault_or, group_fault, Parts, Branches, hash_place}
 use Rattle.pptext.specs.Profiles.{is_gnu}
 use Rattle.pptext.specs.Tokens.{is_unmatched_quote}
 use Rattle.ppmacro.specs.Names.{Macros}
@@ -22,7 +22,7 @@ use Rattle.ppexpand.specs.declared.expansion.Expanded.{Expanded}
 use Rattle.ppexpand.specs.Expansion.{IsExpansion}
 use Rattle.ppexpand.proofs.Refusing.{expansion_never_refused}
 use Rattle.ppexpr.proofs.Capped.{IsOther as IsOtherOr, condition_never_refused}
-use Rattle.ppunit.specs.States.{State, Context, Reached, with_left, Search}
+use Rattle.ppunit.specs.States.{State, Context, Reached, with_remaining, Search}
 use Rattle.ppunit.specs.DirectiveLines.{operands, line_fault, one_identifier}
 use Rattle.ppunit.specs.Quotes.{quote_fault, unmatched_quote}
 use Rattle.ppunit.specs.LineControl.{Presumed, presumed}
@@ -38,26 +38,26 @@ use Rattle.ppunit.proofs.Spends.{still_none, asks_spends, decides_spends, run_sp
 
 -- ---- where there is no budget there is none after
 
-pub asks_none : (s : State) (line : List Token) (after : Option ℕ) (include_name : Result IncludeName Fault) → s.left ≡ None → NamesHeader s line after include_name → after ≡ None
-asks_none s line after include_name is g = still_none (count_names_header s line after include_name g) is (asks_spends s line after include_name g)
+pub asks_none : (s : State) (line : List Token) (remaining_after : Option ℕ) (include_name : Result IncludeName Fault) → s.remaining ≡ None → NamesHeader s line remaining_after include_name → remaining_after ≡ None
+asks_none s line remaining_after include_name is g = still_none (count_names_header s line remaining_after include_name g) is (asks_spends s line remaining_after include_name g)
 
-pub decides_none : (search : Search) (row : ℕ) (s : State) (line : LogicalLine) (after : Option ℕ) (taken : Result Bool Fault) → s.left ≡ None → Decides search row s line after taken → after ≡ None
-decides_none search row s line after taken is g = still_none (count_decides search row s line after taken g) is (decides_spends search row s line after taken g)
+pub decides_none : (search : Search) (row : ℕ) (s : State) (line : LogicalLine) (remaining_after : Option ℕ) (taken : Result Bool Fault) → s.remaining ≡ None → Decides search row s line remaining_after taken → remaining_after ≡ None
+decides_none search row s line remaining_after taken is g = still_none (count_decides search row s line remaining_after taken g) is (decides_spends search row s line remaining_after taken g)
 
-pub run_none : (s : State) (tokens : List Token) (m : Reached) → s.left ≡ None → EmitsRun s tokens m → m.state.left ≡ None
+pub run_none : (s : State) (tokens : List Token) (m : Reached) → s.remaining ≡ None → EmitsRun s tokens m → m.state.remaining ≡ None
 run_none s tokens m is g = still_none (count_expansion g.expands) is (run_spends s tokens m g)
 
 module _ (context : Context) where
-  pub group_none : {depth row : ℕ} {r : Reached} {ps : Parts} {end : Reached} → r.state.left ≡ None → Group context depth row r ps end → end.state.left ≡ None
+  pub group_none : {depth row : ℕ} {r : Reached} {ps : Parts} {end : Reached} → r.state.remaining ≡ None → Group context depth row r ps end → end.state.remaining ≡ None
   group_none is d = still_none (count_group d) is (group_spends context d)
 
-  pub branches_none : {depth row : ℕ} {s : State} {bs : Branches} {m : Reached} → s.left ≡ None → Branched context depth row s bs m → m.state.left ≡ None
+  pub branches_none : {depth row : ℕ} {s : State} {bs : Branches} {m : Reached} → s.remaining ≡ None → Branched context depth row s bs m → m.state.remaining ≡ None
   branches_none is d = still_none (count_branched d) is (branches_spend context d)
 
-  pub control_none : {depth row : ℕ} {s : State} {line : LogicalLine} {m : Reached} → s.left ≡ None → Controls context depth row s line m → m.state.left ≡ None
+  pub control_none : {depth row : ℕ} {s : State} {line : LogicalLine} {m : Reached} → s.remaining ≡ None → Controls context depth row s line m → m.state.remaining ≡ None
   control_none is d = still_none (count_control d) is (control_spends context d)
 
-  pub defines_none : {defines : List (List ℕ)} {s : State} {m : Reached} → s.left ≡ None → Defines context defines s m → m.state.left ≡ None
+  pub defines_none : {defines : List (List ℕ)} {s : State} {m : Reached} → s.remaining ≡ None → Defines context defines s m → m.state.remaining ≡ None
   defines_none is d = still_none (count_defines d) is (defines_spends context d)
 
 -- the fault, if there is one, is another
@@ -102,10 +102,10 @@ reads_other {profile} (IsFaultOf.bad_groups {lexemes = lexemes} e c g) = subst I
 
 -- ---- what replaces: the same as expansion
 
-expansion_other : {macros : Macros} {env : Env} {left : Option ℕ} {tokens : List Token} {e : Expanded} → left ≡ None → IsExpansion macros env left tokens e → IsOther e.fault
+expansion_other : {macros : Macros} {env : Env} {remaining : Option ℕ} {tokens : List Token} {e : Expanded} → remaining ≡ None → IsExpansion macros env remaining tokens e → IsOther e.fault
 expansion_other {macros} {env} {tokens = tokens} {e = e} is x = each_other e.fault (λ f faulty. expansion_never_refused macros env (subst (λ l. IsExpansion macros env l tokens e) is x) faulty)
 
-pub run_other : (s : State) (tokens : List Token) (m : Reached) → s.left ≡ None → EmitsRun s tokens m → IsOther m.fault
+pub run_other : (s : State) (tokens : List Token) (m : Reached) → s.remaining ≡ None → EmitsRun s tokens m → IsOther m.fault
 run_other s tokens m is g = subst (λ r. IsOther r.fault) (sym g.is) (expansion_other is g.expands)
 
 -- ---- `#define` and `#undef`: 9 to 16
@@ -142,21 +142,21 @@ condition_tokens_other search row line = chosen (is_gnu search.profile)
     chosen true = tokens_or_other (line_fault 30 line []) (probed search row None (operands line)) (λ e. absurd (omega arith))
     chosen false = tt
 
-decides_of_other : (tokens : Result (List Token) Fault) (s : State) (at : Place) (after : Option ℕ) (f : Fault) → IsOtherOr tokens → s.left ≡ None → DecidesOf tokens s at after (Err f) → f.number ≢ 35
-decides_of_other (Err e) s at after f h is g = subst IsOtherOr (sym g.1) h
-decides_of_other (Ok tokens) s at after f h is g = condition_never_refused is g
+decides_of_other : (tokens : Result (List Token) Fault) (s : State) (at : Place) (remaining_after : Option ℕ) (f : Fault) → IsOtherOr tokens → s.remaining ≡ None → DecidesOf tokens s at remaining_after (Err f) → f.number ≢ 35
+decides_of_other (Err e) s at remaining_after f h is g = subst IsOtherOr (sym g.1) h
+decides_of_other (Ok tokens) s at remaining_after f h is g = condition_never_refused is g
 
-decides_by_other : (search : Search) (row : ℕ) (q : Option Question) (s : State) (line : List Token) (after : Option ℕ) (f : Fault) → s.left ≡ None → DecidesBy search row q s line after (Err f) → f.number ≢ 35
-decides_by_other search row (Some Value) s line after f is g = decides_of_other (condition_tokens search row line) s (sign_place line) after f (condition_tokens_other search row line) is g
-decides_by_other search row (Some (Defined wanted)) s line after f is g = by_name_decides wanted s.macros line (one_identifier (operands line)) f g.1
-decides_by_other search row None s line after f is g = absurd g
+decides_by_other : (search : Search) (row : ℕ) (q : Option Question) (s : State) (line : List Token) (remaining_after : Option ℕ) (f : Fault) → s.remaining ≡ None → DecidesBy search row q s line remaining_after (Err f) → f.number ≢ 35
+decides_by_other search row (Some Value) s line remaining_after f is g = decides_of_other (condition_tokens search row line) s (hash_place line) remaining_after f (condition_tokens_other search row line) is g
+decides_by_other search row (Some (Defined wanted)) s line remaining_after f is g = by_name_decides wanted s.macros line (one_identifier (operands line)) f g.1
+decides_by_other search row None s line remaining_after f is g = absurd g
 
-decides_unless_other : (search : Search) (row : ℕ) (quote : Option Fault) (d : Option Directive) (s : State) (line : List Token) (after : Option ℕ) (f : Fault) → IsOther quote → s.left ≡ None → DecidesUnless search row quote d s line after (Err f) → f.number ≢ 35
-decides_unless_other search row (Some q) d s line after f h is g = subst IsOtherOr (sym g.1) h
-decides_unless_other search row None d s line after f h is g = decides_by_other search row (question_by d) s line after f is g
+decides_unless_other : (search : Search) (row : ℕ) (quote : Option Fault) (d : Option Directive) (s : State) (line : List Token) (remaining_after : Option ℕ) (f : Fault) → IsOther quote → s.remaining ≡ None → DecidesUnless search row quote d s line remaining_after (Err f) → f.number ≢ 35
+decides_unless_other search row (Some q) d s line remaining_after f h is g = subst IsOtherOr (sym g.1) h
+decides_unless_other search row None d s line remaining_after f h is g = decides_by_other search row (question_by d) s line remaining_after f is g
 
-pub decides_other : (search : Search) (row : ℕ) (s : State) (line : LogicalLine) (after : Option ℕ) (f : Fault) → s.left ≡ None → Decides search row s line after (Err f) → f.number ≢ 35
-decides_other search row s line after f is g = decides_unless_other search row (unmatched_quote line.tokens) line.directive s line.tokens after f (quote_other line.tokens) is g
+pub decides_other : (search : Search) (row : ℕ) (s : State) (line : LogicalLine) (remaining_after : Option ℕ) (f : Fault) → s.remaining ≡ None → Decides search row s line remaining_after (Err f) → f.number ≢ 35
+decides_other search row s line remaining_after f is g = decides_unless_other search row (unmatched_quote line.tokens) line.directive s line.tokens remaining_after f (quote_other line.tokens) is g
 
 asked_or_other : (f : Fault) (a : Option IncludeName) → f.number ≢ 35 → IsOtherOr (name_or f a)
 asked_or_other f None h = h
@@ -166,13 +166,13 @@ asked_behind_other : (f : Fault) (o : Option Fault) (ts : List Token) → f.numb
 asked_behind_other f (Some g) ts h k = k
 asked_behind_other f None ts h k = asked_or_other f (if_possible_name (name_of_expansion ts)) h
 
-asks_by_other : (header : Bool) (s : State) (line : List Token) (after : Option ℕ) (f : Fault) → s.left ≡ None → NamesHeaderBy header s line after (Err f) → f.number ≢ 35
-asks_by_other true s line after f is g = subst IsOtherOr (sym g.1) (asked_or_other (line_fault 30 line []) (if_possible_name (name_of_header (operands line))) (λ e. absurd (omega arith)))
-asks_by_other false s line after f is g =
+asks_by_other : (header : Bool) (s : State) (line : List Token) (remaining_after : Option ℕ) (f : Fault) → s.remaining ≡ None → NamesHeaderBy header s line remaining_after (Err f) → f.number ≢ 35
+asks_by_other true s line remaining_after f is g = subst IsOtherOr (sym g.1) (asked_or_other (line_fault 30 line []) (if_possible_name (name_of_header (operands line))) (λ e. absurd (omega arith)))
+asks_by_other false s line remaining_after f is g =
     subst IsOtherOr (sym g.is) (asked_behind_other (line_fault 30 line []) g.expanded.fault g.expanded.tokens (λ e. absurd (omega arith)) (expansion_other is g.expands))
 
-pub asks_other : (s : State) (line : List Token) (after : Option ℕ) (f : Fault) → s.left ≡ None → NamesHeader s line after (Err f) → f.number ≢ 35
-asks_other s line after f is g = asks_by_other (begins_with_header (operands line)) s line after f is g
+pub asks_other : (s : State) (line : List Token) (remaining_after : Option ℕ) (f : Fault) → s.remaining ≡ None → NamesHeader s line remaining_after (Err f) → f.number ≢ 35
+asks_other s line remaining_after f is g = asks_by_other (begins_with_header (operands line)) s line remaining_after f is g
 
 renumbered_other : (s : State) (r : LogicalLine) (o : Option Fault) (p : Option Presumed) → IsOther o → IsOther (renumbered_by s r o p).fault
 renumbered_other s r (Some f) p h = h
@@ -182,14 +182,14 @@ renumbered_other s r None (Some p) h = tt
 of_reached : {m n : Reached} → m ≡ n → IsOther n.fault → IsOther m.fault
 of_reached e h = subst (λ r. IsOther r.fault) (sym e) h
 
-pub control_by_other : (profile : Profile) (row : ℕ) (d : Option Directive) (s : State) (line : LogicalLine) (m : Reached) → s.left ≡ None → ControlBy profile row d s line m → IsOther m.fault
+pub control_by_other : (profile : Profile) (row : ℕ) (d : Option Directive) (s : State) (line : LogicalLine) (m : Reached) → s.remaining ≡ None → ControlBy profile row d s line m → IsOther m.fault
 control_by_other profile row (Some Null) s line m is g = of_reached g tt
 control_by_other profile row (Some Define) s line m is g =
-    of_reached g (macros_other s (after_define profile s.macros (sign_place line.tokens) (operands line.tokens)) (define_number profile s.macros (sign_place line.tokens) (operands line.tokens)))
+    of_reached g (macros_other s (after_define profile s.macros (hash_place line.tokens) (operands line.tokens)) (define_number profile s.macros (hash_place line.tokens) (operands line.tokens)))
 control_by_other profile row (Some Undef) s line m is g =
-    of_reached g (macros_other s (after_undef profile s.macros (sign_place line.tokens) (operands line.tokens)) (undef_number profile s.macros (sign_place line.tokens) (operands line.tokens)))
+    of_reached g (macros_other s (after_undef profile s.macros (hash_place line.tokens) (operands line.tokens)) (undef_number profile s.macros (hash_place line.tokens) (operands line.tokens)))
 control_by_other profile row (Some Line) s line m is g =
-    of_reached g.is (renumbered_other (with_left s g.expanded.left) line g.expanded.fault (presumed g.expanded.tokens) (expansion_other is g.expands))
+    of_reached g.is (renumbered_other (with_remaining s g.expanded.remaining) line g.expanded.fault (presumed g.expanded.tokens) (expansion_other is g.expands))
 control_by_other profile row (Some Pragma) s line m is g = of_reached g tt
 control_by_other profile row (Some Unknown) s line m is g = of_reached g (λ e. absurd (omega arith))
 control_by_other profile row _ s line m is g = absurd g

@@ -15,7 +15,7 @@ use Rattle.pptext.specs.Classes.{class_of, asked_by, class_by, question_by}
 use Rattle.pptext.specs.Lines.{LogicalLine}
 use Rattle.pptext.specs.Sources.{Reads, IsSource}
 use Rattle.pptext.specs.Tokens.{fault}
-use Rattle.pptext.specs.Tree.{sign_place, ControlLine, Opens, Elses, role, role_in, role_by, Parts, Done, Run, Control, Section, Branches, End, Branch, AreParts, AreBranches, Tree, group_fault}
+use Rattle.pptext.specs.Tree.{hash_place, ControlLine, Opens, Elses, role, role_in, role_by, Parts, Done, Run, Control, Section, Branches, End, Branch, AreParts, AreBranches, Tree, group_fault}
 use Rattle.ppmacro.specs.Names.{Macros}
 use Rattle.ppmacro.specs.Define.{after_define, after_undef}
 use Rattle.ppexpand.specs.declared.env.Env.{Env}
@@ -31,7 +31,7 @@ use Rattle.ppshelf.proofs.Finds.{first_within}
 use Rattle.ppunit.proofs.FirstLine.{else_directive, not_else}
 use Rattle.ppunit.specs.Dependencies.{has_row}
 use Rattle.ppunit.specs.declared.units.Item.TheVariants as item
-use Rattle.ppunit.specs.States.{State, Search, Context, search_of, Reached, going, stopped, output, emitted, with_left, with_dependency, entering, leaving, with_one_spent}
+use Rattle.ppunit.specs.States.{State, Search, Context, search_of, Reached, going, stopped, output, emitted, with_remaining, with_dependency, entering, leaving, with_one_spent}
 use Rattle.ppunit.specs.DirectiveLines.{operands, line_fault, named_fault, one_identifier, run_tokens}
 use Rattle.ppunit.specs.Quotes.{unmatched_quote}
 use Rattle.ppunit.specs.LineControl.{presumed}
@@ -39,17 +39,17 @@ use Rattle.ppunit.specs.Including.{IncludeName, begins_with_header, name_of_head
 use Rattle.ppunit.specs.Probing.{condition_tokens}
 use Rattle.ppunit.specs.Conditions.{Decides, DecidesFreely, DecidesOf, DecidesBy, DecidesUnless, by_name}
 use Rattle.ppunit.specs.Directives.{EmitsRun, SetsLine, renumbered_by, with_macros, pragma_emitted, ControlBy, NamesHeader, NamesHeaderBy, candidates_for, FindsFile, message, looks_at_quotes}
-use Rattle.ppunit.specs.Group.{deepest, Group, Branched, Controls, Includes, Opened}
+use Rattle.ppunit.specs.Group.{deepest, Group, Branched, Controls, ExecutesInclude, Opened}
 use Rattle.ppunit.specs.Laws.{KnowsAll, HasSomeValue}
-use Rattle.ppunit.specs.Unit.{Defines, unread, processed, Translates, undefined, translated, command_file, command_text, first_place, context_of_unit, initial_state}
+use Rattle.ppunit.specs.Unit.{Defines, unread, processed, Translates, definitions_fault, translated, command_file, command_text, first_place, context_of_unit, initial_state}
 
 abbrev pub SomeExpansion : Type 0
-SomeExpansion = (macros : Macros) (env : Env) (left : Option ℕ) (tokens : List Token) → (e : Expanded) × IsExpansion macros env left tokens e
+SomeExpansion = (macros : Macros) (env : Env) (remaining : Option ℕ) (tokens : List Token) → (e : Expanded) × IsExpansion macros env remaining tokens e
 
 abbrev pub SomeDecision : Type 0
 SomeDecision =
-    (macros : Macros) (env : Env) (at : Place) (tokens : List Token) (left : Option ℕ)
-    → (c : Result Bool Fault) × (after : Option ℕ) × IsCondition macros env at tokens left c after
+    (macros : Macros) (env : Env) (at : Place) (tokens : List Token) (remaining : Option ℕ)
+    → (c : Result Bool Fault) × (remaining_after : Option ℕ) × IsCondition macros env at tokens remaining c remaining_after
 
 abbrev pub SomeReading : Type 0
 SomeReading = (profile : Profile) (file : ℕ) (bytes : List ℕ) → (r : Result (List LogicalLine) Fault) × Reads profile file bytes r
@@ -86,51 +86,51 @@ elif_conditional (Some d) e = elif_asks (class_of d) e
 module _ (expansions : SomeExpansion) (decisions : SomeDecision) where
   some_run : (s : State) (tokens : List Token) → (m : Reached) × EmitsRun s tokens m
   some_run s tokens =
-      let e = expansions s.macros s.env s.left tokens in
-      (record { state = emitted (with_left s e.0.left) (map item.Token e.0.tokens); fault = e.0.fault }, record { expanded = e.0; expands = e.1; is = refl })
+      let e = expansions s.macros s.env s.remaining tokens in
+      (record { state = emitted (with_remaining s e.0.remaining) (map item.Token e.0.tokens); fault = e.0.fault }, record { expanded = e.0; expands = e.1; is = refl })
 
   some_renumbering : (s : State) (line : LogicalLine) → (m : Reached) × SetsLine s line m
   some_renumbering s line =
-      let e = expansions s.macros s.env s.left (operands line.tokens) in
-      (renumbered_by (with_left s e.0.left) line e.0.fault (presumed e.0.tokens), record { expanded = e.0; expands = e.1; is = refl })
+      let e = expansions s.macros s.env s.remaining (operands line.tokens) in
+      (renumbered_by (with_remaining s e.0.remaining) line e.0.fault (presumed e.0.tokens), record { expanded = e.0; expands = e.1; is = refl })
 
-  asks_by : (header : Bool) (s : State) (line : List Token) → (include_name : Result IncludeName Fault) × (after : Option ℕ) × NamesHeaderBy header s line after include_name
-  asks_by true s line = (name_or (line_fault 30 line []) (if_possible_name (name_of_header (operands line))), s.left, (refl, refl))
+  asks_by : (header : Bool) (s : State) (line : List Token) → (include_name : Result IncludeName Fault) × (remaining_after : Option ℕ) × NamesHeaderBy header s line remaining_after include_name
+  asks_by true s line = (name_or (line_fault 30 line []) (if_possible_name (name_of_header (operands line))), s.remaining, (refl, refl))
   asks_by false s line =
-      let e = expansions s.macros s.env s.left (operands line) in
-      (name_of_expansion_or (line_fault 30 line []) e.0.fault e.0.tokens, e.0.left, record { expanded = e.0; expands = e.1; leaves = refl; is = refl })
+      let e = expansions s.macros s.env s.remaining (operands line) in
+      (name_of_expansion_or (line_fault 30 line []) e.0.fault e.0.tokens, e.0.remaining, record { expanded = e.0; expands = e.1; leaves = refl; is = refl })
 
-  some_asking : (s : State) (line : List Token) → (include_name : Result IncludeName Fault) × (after : Option ℕ) × NamesHeader s line after include_name
+  some_asking : (s : State) (line : List Token) → (include_name : Result IncludeName Fault) × (remaining_after : Option ℕ) × NamesHeader s line remaining_after include_name
   some_asking s line = asks_by (begins_with_header (operands line)) s line
 
-  decides_freely : (s : State) (into_output : Result Bool Fault) → (taken : Result Bool Fault) × (after : Option ℕ) × DecidesFreely s into_output after taken
-  decides_freely s into_output = (into_output, s.left, (refl, refl))
+  decides_freely : (s : State) (into_output : Result Bool Fault) → (taken : Result Bool Fault) × (remaining_after : Option ℕ) × DecidesFreely s into_output remaining_after taken
+  decides_freely s into_output = (into_output, s.remaining, (refl, refl))
 
-  decides_of : (tokens : Result (List Token) Fault) (s : State) (at : Place) → (taken : Result Bool Fault) × (after : Option ℕ) × DecidesOf tokens s at after taken
+  decides_of : (tokens : Result (List Token) Fault) (s : State) (at : Place) → (taken : Result Bool Fault) × (remaining_after : Option ℕ) × DecidesOf tokens s at remaining_after taken
   decides_of (Err f) s at = decides_freely s (Err f)
-  decides_of (Ok tokens) s at = decisions s.macros s.env at tokens s.left
+  decides_of (Ok tokens) s at = decisions s.macros s.env at tokens s.remaining
 
   decides_by : (search : Search) (row : ℕ) (q : Option Question) (s : State) (line : List Token)
       → IsSome q
-      → (taken : Result Bool Fault) × (after : Option ℕ) × DecidesBy search row q s line after taken
-  decides_by search row (Some Value) s line has = decides_of (condition_tokens search row line) s (sign_place line)
+      → (taken : Result Bool Fault) × (remaining_after : Option ℕ) × DecidesBy search row q s line remaining_after taken
+  decides_by search row (Some Value) s line has = decides_of (condition_tokens search row line) s (hash_place line)
   decides_by search row (Some (Defined wanted)) s line has = decides_freely s (by_name wanted s.macros line (one_identifier (operands line)))
   decides_by search row None s line has = absurd (cc)
 
   decides_unless : (search : Search) (row : ℕ) (q : Option Fault) (d : Option Directive) (s : State) (line : List Token)
       → HasCondition d
-      → (taken : Result Bool Fault) × (after : Option ℕ) × DecidesUnless search row q d s line after taken
+      → (taken : Result Bool Fault) × (remaining_after : Option ℕ) × DecidesUnless search row q d s line remaining_after taken
   decides_unless search row None d s line has = decides_by search row (question_by d) s line has
   decides_unless search row (Some f) d s line has = decides_freely s (Err f)
 
   some_deciding : (search : Search) (row : ℕ) (s : State) (line : LogicalLine)
       → HasCondition line.directive
-      → (taken : Result Bool Fault) × (after : Option ℕ) × Decides search row s line after taken
+      → (taken : Result Bool Fault) × (remaining_after : Option ℕ) × Decides search row s line remaining_after taken
   some_deciding search row s line has = decides_unless search row (unmatched_quote line.tokens) line.directive s line.tokens has
 
   control_gives : (profile : Profile) (row : ℕ) (d : Directive) → class_of d ≡ class.Control → (s : State) (line : LogicalLine) → (m : Reached) × ControlBy profile row (Some d) s line m
-  control_gives profile row Define e s line = (with_macros s (after_define profile s.macros (sign_place line.tokens) (operands line.tokens)), refl)
-  control_gives profile row Undef e s line = (with_macros s (after_undef profile s.macros (sign_place line.tokens) (operands line.tokens)), refl)
+  control_gives profile row Define e s line = (with_macros s (after_define profile s.macros (hash_place line.tokens) (operands line.tokens)), refl)
+  control_gives profile row Undef e s line = (with_macros s (after_undef profile s.macros (hash_place line.tokens) (operands line.tokens)), refl)
   control_gives profile row Line e s line = some_renumbering s line
   control_gives profile row Pragma e s line = (going (pragma_emitted profile row s line.tokens), refl)
   control_gives profile row Null e s line = (going s, refl)
@@ -162,27 +162,27 @@ module _ (expansions : SomeExpansion) (decisions : SomeDecision) where
         → (m : Reached) × Opened context depth at s row directory m
 
     module _ (depth : ℕ) (deeper : SomeOpened (suc depth)) where
-      finding : (row : ℕ) (from : Option ℕ) (s : State) (line : LogicalLine) (after : Option ℕ) (a : IncludeName)
-          → NamesHeader s line.tokens after (Ok a)
+      finding : (row : ℕ) (from : Option ℕ) (s : State) (line : LogicalLine) (remaining_after : Option ℕ) (a : IncludeName)
+          → NamesHeader s line.tokens remaining_after (Ok a)
           → (found : Option (ℕ × ℕ))
           → FindsFile context row from a found
-          → (m : Reached) × Includes context depth row from s line m
-      finding row from s line after a asking None finds =
-          (stopped (with_left s after) (line_fault 31 line.tokens a.name), Includes.missing a asking finds)
-      finding row from s line after a asking (Some found) finds =
+          → (m : Reached) × ExecutesInclude context depth row from s line m
+      finding row from s line remaining_after a asking None finds =
+          (stopped (with_remaining s remaining_after) (line_fault 31 line.tokens a.name), ExecutesInclude.missing a asking finds)
+      finding row from s line remaining_after a asking (Some found) finds =
           let within : found.0 < length context.names = first_within context.names (candidates_for context row from a) (Some found) finds in
-          let o = deeper (sign_place line.tokens) (with_left s after) found.0 (Some found.1) within in
-          (o.0, Includes.included a found asking finds o.1)
+          let o = deeper (hash_place line.tokens) (with_remaining s remaining_after) found.0 (Some found.1) within in
+          (o.0, ExecutesInclude.included a found asking finds o.1)
 
-      including : (row : ℕ) (from : Option ℕ) (s : State) (line : LogicalLine) (after : Option ℕ) (include_name : Result IncludeName Fault)
-          → NamesHeader s line.tokens after include_name
-          → (m : Reached) × Includes context depth row from s line m
-      including row from s line after (Err f) asking = (stopped (with_left s after) f, Includes.misnamed asking)
-      including row from s line after (Ok a) asking =
+      including : (row : ℕ) (from : Option ℕ) (s : State) (line : LogicalLine) (remaining_after : Option ℕ) (include_name : Result IncludeName Fault)
+          → NamesHeader s line.tokens remaining_after include_name
+          → (m : Reached) × ExecutesInclude context depth row from s line m
+      including row from s line remaining_after (Err f) asking = (stopped (with_remaining s remaining_after) f, ExecutesInclude.misnamed asking)
+      including row from s line remaining_after (Ok a) asking =
           let r = rows context.names (candidates_for context row from a) in
-          finding row from s line after a asking r.0 r.1
+          finding row from s line remaining_after a asking r.0 r.1
 
-      some_include : (row : ℕ) (from : Option ℕ) (s : State) (line : LogicalLine) → (m : Reached) × Includes context depth row from s line m
+      some_include : (row : ℕ) (from : Option ℕ) (s : State) (line : LogicalLine) → (m : Reached) × ExecutesInclude context depth row from s line m
       some_include row from s line = let a = some_asking s line.tokens in including row from s line a.1 a.0 a.2
 
       control_by : (row : ℕ) (s : State) (line : LogicalLine) (q : Option Fault)
@@ -225,31 +225,31 @@ module _ (expansions : SomeExpansion) (decisions : SomeDecision) where
           let g = goes_on row ps rest m.0 in
           (g.0, Group.control m.1 g.1)
 
-      at_section : (row : ℕ) (s : State) (line : LogicalLine) (ps qs : Parts) (bs : Branches) (taken : Result Bool Fault) (after : Option ℕ)
-          → Decides (search_of context) row s line after taken
+      at_section : (row : ℕ) (s : State) (line : LogicalLine) (ps qs : Parts) (bs : Branches) (taken : Result Bool Fault) (remaining_after : Option ℕ)
+          → Decides (search_of context) row s line remaining_after taken
           → ((t : State) → SomeGroup row (going t) ps)
           → ((t : State) → SomeBranched row t bs)
           → ((t : State) → SomeGroup row (going t) qs)
           → SomeGroup row (going s) (Section line ps bs qs)
-      at_section row s line ps qs bs (Err f) after decides here branches rest = (stopped (with_left s after) f, Group.refused decides)
-      at_section row s line ps qs bs (Ok true) after decides here branches rest =
-          let m = here (with_left s after) in
+      at_section row s line ps qs bs (Err f) remaining_after decides here branches rest = (stopped (with_remaining s remaining_after) f, Group.condition_fault decides)
+      at_section row s line ps qs bs (Ok true) remaining_after decides here branches rest =
+          let m = here (with_remaining s remaining_after) in
           let g = goes_on row qs rest m.0 in
           (g.0, Group.taken decides m.1 g.1)
-      at_section row s line ps qs bs (Ok false) after decides here branches rest =
-          let m = branches (with_left s after) in
+      at_section row s line ps qs bs (Ok false) remaining_after decides here branches rest =
+          let m = branches (with_remaining s remaining_after) in
           let g = goes_on row qs rest m.0 in
           (g.0, Group.skipped decides m.1 g.1)
 
-      at_elif : (row : ℕ) (s : State) (line : LogicalLine) (ps : Parts) (bs : Branches) (taken : Result Bool Fault) (after : Option ℕ)
+      at_elif : (row : ℕ) (s : State) (line : LogicalLine) (ps : Parts) (bs : Branches) (taken : Result Bool Fault) (remaining_after : Option ℕ)
           → line.directive ≢ Some Else
-          → Decides (search_of context) row s line after taken
+          → Decides (search_of context) row s line remaining_after taken
           → ((t : State) → SomeGroup row (going t) ps)
           → ((t : State) → SomeBranched row t bs)
           → SomeBranched row s (Branch line ps bs)
-      at_elif row s line ps bs (Err f) after is decides here more = (stopped (with_left s after) f, Branched.branch_refused is decides)
-      at_elif row s line ps bs (Ok true) after is decides here more = let m = here (with_left s after) in (m.0, Branched.branch_taken is decides m.1)
-      at_elif row s line ps bs (Ok false) after is decides here more = let m = more (with_left s after) in (m.0, Branched.branch_skipped is decides m.1)
+      at_elif row s line ps bs (Err f) remaining_after is decides here more = (stopped (with_remaining s remaining_after) f, Branched.branch_condition_fault is decides)
+      at_elif row s line ps bs (Ok true) remaining_after is decides here more = let m = here (with_remaining s remaining_after) in (m.0, Branched.branch_taken is decides m.1)
+      at_elif row s line ps bs (Ok false) remaining_after is decides here more = let m = more (with_remaining s remaining_after) in (m.0, Branched.branch_skipped is decides m.1)
 
       at_branch : (row : ℕ) (s : State) (line : LogicalLine) (ps : Parts) (bs : Branches) (final : Bool)
           → role line ≡ Elses final
@@ -291,7 +291,7 @@ module _ (expansions : SomeExpansion) (decisions : SomeDecision) where
 
       reading_file : (at : Place) (s : State) (row : ℕ) (directory : Option ℕ) (bytes : List ℕ)
           → depth ≤ deepest
-          → is_exhausted s.left ≡ false
+          → is_exhausted s.remaining ≡ false
           → has_row row s.once ≡ false
           → file_at context.files row ≡ Some (readable bytes)
           → (r : Result (List LogicalLine) Fault)
@@ -305,7 +305,7 @@ module _ (expansions : SomeExpansion) (decisions : SomeDecision) where
 
       at_content : (at : Place) (s : State) (row : ℕ) (directory : Option ℕ)
           → depth ≤ deepest
-          → is_exhausted s.left ≡ false
+          → is_exhausted s.remaining ≡ false
           → has_row row s.once ≡ false
           → (c : Option Content)
           → file_at context.files row ≡ c
@@ -320,20 +320,20 @@ module _ (expansions : SomeExpansion) (decisions : SomeDecision) where
 
       at_once : (at : Place) (s : State) (row : ℕ) (directory : Option ℕ) → row < length context.names
           → depth ≤ deepest
-          → is_exhausted s.left ≡ false
+          → is_exhausted s.remaining ≡ false
           → (b : Bool)
           → has_row row s.once ≡ b
           → (m : Reached) × Opened context depth at s row directory m
-      at_once at s row directory within fits some true e = (going (with_dependency (with_one_spent s) row), Opened.known fits some e)
+      at_once at s row directory within fits some true e = (going (with_dependency (with_one_spent s) row), Opened.read_once fits some e)
       at_once at s row directory within fits some false e = at_content at s row directory fits some e (file_at context.files row) refl (known row within)
 
-      at_budget : (at : Place) (s : State) (row : ℕ) (directory : Option ℕ) → row < length context.names → depth ≤ deepest → (b : Bool) → is_exhausted s.left ≡ b → (m : Reached) × Opened context depth at s row directory m
-      at_budget at s row directory within fits true e = (stopped s (fault 35 at []), Opened.over fits e)
+      at_budget : (at : Place) (s : State) (row : ℕ) (directory : Option ℕ) → row < length context.names → depth ≤ deepest → (b : Bool) → is_exhausted s.remaining ≡ b → (m : Reached) × Opened context depth at s row directory m
+      at_budget at s row directory within fits true e = (stopped s (fault 35 at []), Opened.exhausted fits e)
       at_budget at s row directory within fits false e = at_once at s row directory within fits e (has_row row s.once) refl
 
       at_depth : (at : Place) (s : State) (row : ℕ) (directory : Option ℕ) → row < length context.names → (deepest < depth) ⊎ (depth ≤ deepest) → (m : Reached) × Opened context depth at s row directory m
       at_depth at s row directory within (inl deep) = (stopped s (fault 32 at (name_in context.names row)), Opened.too_deep deep)
-      at_depth at s row directory within (inr fits) = at_budget at s row directory within fits (is_exhausted s.left) refl
+      at_depth at s row directory within (inr fits) = at_budget at s row directory within fits (is_exhausted s.remaining) refl
 
       some_opened : SomeOpened depth
       some_opened at s row directory within = at_depth at s row directory within (cases_lt deepest depth)
@@ -356,7 +356,7 @@ module _ (expansions : SomeExpansion) (decisions : SomeDecision) where
         (g.0, processed reads t.1 g.1)
 
     after_defines : (defines : List (List ℕ)) (row : ℕ) → row < length context.names → (s t : State) (f : Option Fault) → Defines context defines s (record { state = t; fault = f }) → (m : Reached) × Translates context defines row s m
-    after_defines defines row within s t (Some f) d = (stopped t f, undefined d)
+    after_defines defines row within s t (Some f) d = (stopped t f, definitions_fault d)
     after_defines defines row within s t None d = let o = opening 201 0 (omega arith) (first_place row) t row None within in (o.0, translated d o.1)
 
     some_translation : (defines : List (List ℕ)) (row : ℕ) → row < length context.names → (s : State) → (m : Reached) × Translates context defines row s m

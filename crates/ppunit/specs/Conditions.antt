@@ -10,7 +10,7 @@ use Rattle.pptext.specs.declared.directives.Question.{Question}
 use Rattle.pptext.specs.declared.directives.Question.TheVariants.{Defined, Value}
 use Rattle.pptext.specs.Classes.{question_of, question_by}
 use Rattle.pptext.specs.Lines.{LogicalLine}
-use Rattle.pptext.specs.Tree.{sign_place}
+use Rattle.pptext.specs.Tree.{hash_place}
 use Rattle.ppmacro.specs.Names.{Macros}
 use Rattle.ppmacro.specs.Define.{same_bool}
 use Rattle.ppexpr.specs.Conditions.{IsCondition}
@@ -31,26 +31,26 @@ by_name wanted macros line (Some name) = Ok (same_bool wanted (is_macro_name mac
 
 -- the decision spends nothing from the budget
 abbrev pub DecidesFreely : State → Result Bool Fault → Option ℕ → Result Bool Fault → Type 0
-DecidesFreely s into_output after taken = (after ≡ s.left) × (taken ≡ into_output)
+DecidesFreely s into_output remaining_after taken = (remaining_after ≡ s.remaining) × (taken ≡ into_output)
 
 -- the value of a condition of these tokens, or the fault of the step before it, which spends nothing
 abbrev pub DecidesOf : Result (List Token) Fault → State → Place → Option ℕ → Result Bool Fault → Type 0
-DecidesOf (Err f) s at after taken = DecidesFreely s (Err f) after taken
-DecidesOf (Ok tokens) s at after taken = IsCondition s.macros s.env at tokens s.left taken after
+DecidesOf (Err f) s at remaining_after taken = DecidesFreely s (Err f) remaining_after taken
+DecidesOf (Ok tokens) s at remaining_after taken = IsCondition s.macros s.env at tokens s.remaining taken remaining_after
 
 -- by what a line without unmatched quotes asks, in the file at index `row`
 abbrev pub DecidesBy : Search → ℕ → Option Question → State → List Token → Option ℕ → Result Bool Fault → Type 0
-DecidesBy search row (Some Value) s line after taken = DecidesOf (condition_tokens search row line) s (sign_place line) after taken
-DecidesBy search row (Some (Defined wanted)) s line after taken = DecidesFreely s (by_name wanted s.macros line (one_identifier (operands line))) after taken
-DecidesBy search row None s line after taken = ⊥
+DecidesBy search row (Some Value) s line remaining_after taken = DecidesOf (condition_tokens search row line) s (hash_place line) remaining_after taken
+DecidesBy search row (Some (Defined wanted)) s line remaining_after taken = DecidesFreely s (by_name wanted s.macros line (one_identifier (operands line))) remaining_after taken
+DecidesBy search row None s line remaining_after taken = ⊥
 
 abbrev pub DecidesUnless : Search → ℕ → Option Fault → Option Directive → State → List Token → Option ℕ → Result Bool Fault → Type 0
-DecidesUnless search row (Some f) d s line after taken = DecidesFreely s (Err f) after taken
-DecidesUnless search row None d s line after taken = DecidesBy search row (question_by d) s line after taken
+DecidesUnless search row (Some f) d s line remaining_after taken = DecidesFreely s (Err f) remaining_after taken
+DecidesUnless search row None d s line remaining_after taken = DecidesBy search row (question_by d) s line remaining_after taken
 
 -- whether the group after a line is taken, or the line's fault, and the remaining budget
 abbrev pub Decides : Search → ℕ → State → LogicalLine → Option ℕ → Result Bool Fault → Type 0
-Decides search row s line after taken = DecidesUnless search row (unmatched_quote line.tokens) line.directive s line.tokens after taken
+Decides search row s line remaining_after taken = DecidesUnless search row (unmatched_quote line.tokens) line.directive s line.tokens remaining_after taken
 
 -- the lines that have a condition
 abbrev pub IsConditional : Directive → Type 0

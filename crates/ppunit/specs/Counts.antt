@@ -10,7 +10,7 @@ use Rattle.pptext.specs.declared.directives.Question.TheVariants.{Value}
 use Rattle.pptext.specs.Classes.{question_by}
 use Rattle.pptext.specs.declared.sources.Profile.{Profile}
 use Rattle.pptext.specs.Lines.{LogicalLine}
-use Rattle.pptext.specs.Tree.{sign_place, Parts, Branches}
+use Rattle.pptext.specs.Tree.{hash_place, Parts, Branches}
 use Rattle.ppexpand.specs.Expansion.{count_expansion}
 use Rattle.ppexpr.specs.Conditions.{count_condition}
 use Rattle.ppunit.specs.States.{Search, search_of, State, Context, Reached}
@@ -20,44 +20,44 @@ use Rattle.ppunit.specs.Probing.{condition_tokens}
 use Rattle.ppunit.specs.Including.{IncludeName, begins_with_header}
 use Rattle.ppunit.specs.Conditions.{DecidesOf, DecidesBy, DecidesUnless, Decides}
 use Rattle.ppunit.specs.Directives.{NamesHeaderBy, NamesHeader, ControlBy}
-use Rattle.ppunit.specs.Group.{Group, Branched, Controls, Includes, Opened}
+use Rattle.ppunit.specs.Group.{Group, Branched, Controls, ExecutesInclude, Opened}
 
 -- ---- lines: the replacements in their operands
 
-abbrev pub count_decides_of : (tokens : Result (List Token) Fault) (s : State) (at : Place) (after : Option ℕ) (taken : Result Bool Fault)
-    → DecidesOf tokens s at after taken
+abbrev pub count_decides_of : (tokens : Result (List Token) Fault) (s : State) (at : Place) (remaining_after : Option ℕ) (taken : Result Bool Fault)
+    → DecidesOf tokens s at remaining_after taken
     → ℕ
-count_decides_of (Err f) s at after taken h = 0
-count_decides_of (Ok tokens) s at after taken h = count_condition h
+count_decides_of (Err f) s at remaining_after taken h = 0
+count_decides_of (Ok tokens) s at remaining_after taken h = count_condition h
 
-abbrev pub count_decides_by : (search : Search) (row : ℕ) (q : Option Question) (s : State) (line : List Token) (after : Option ℕ)
+abbrev pub count_decides_by : (search : Search) (row : ℕ) (q : Option Question) (s : State) (line : List Token) (remaining_after : Option ℕ)
     (taken : Result Bool Fault)
-    → DecidesBy search row q s line after taken
+    → DecidesBy search row q s line remaining_after taken
     → ℕ
-count_decides_by search row (Some Value) s line after taken h = count_decides_of (condition_tokens search row line) s (sign_place line) after taken h
-count_decides_by search row _ s line after taken h = 0
+count_decides_by search row (Some Value) s line remaining_after taken h = count_decides_of (condition_tokens search row line) s (hash_place line) remaining_after taken h
+count_decides_by search row _ s line remaining_after taken h = 0
 
 abbrev pub count_decides_unless : (search : Search) (row : ℕ) (quote : Option Fault) (d : Option Directive) (s : State) (line : List Token)
-    (after : Option ℕ) (taken : Result Bool Fault)
-    → DecidesUnless search row quote d s line after taken
+    (remaining_after : Option ℕ) (taken : Result Bool Fault)
+    → DecidesUnless search row quote d s line remaining_after taken
     → ℕ
-count_decides_unless search row (Some f) d s line after taken h = 0
-count_decides_unless search row None d s line after taken h = count_decides_by search row (question_by d) s line after taken h
+count_decides_unless search row (Some f) d s line remaining_after taken h = 0
+count_decides_unless search row None d s line remaining_after taken h = count_decides_by search row (question_by d) s line remaining_after taken h
 
-abbrev pub count_decides : (search : Search) (row : ℕ) (s : State) (line : LogicalLine) (after : Option ℕ) (taken : Result Bool Fault)
-    → Decides search row s line after taken
+abbrev pub count_decides : (search : Search) (row : ℕ) (s : State) (line : LogicalLine) (remaining_after : Option ℕ) (taken : Result Bool Fault)
+    → Decides search row s line remaining_after taken
     → ℕ
-count_decides search row s line after taken h =
-    count_decides_unless search row (unmatched_quote line.tokens) line.directive s line.tokens after taken h
+count_decides search row s line remaining_after taken h =
+    count_decides_unless search row (unmatched_quote line.tokens) line.directive s line.tokens remaining_after taken h
 
-abbrev pub count_names_header_by : (header : Bool) (s : State) (line : List Token) (after : Option ℕ) (include_name : Result IncludeName Fault)
-    → NamesHeaderBy header s line after include_name
+abbrev pub count_names_header_by : (header : Bool) (s : State) (line : List Token) (remaining_after : Option ℕ) (include_name : Result IncludeName Fault)
+    → NamesHeaderBy header s line remaining_after include_name
     → ℕ
-count_names_header_by true s line after include_name h = 0
-count_names_header_by false s line after include_name h = count_expansion h.expands
+count_names_header_by true s line remaining_after include_name h = 0
+count_names_header_by false s line remaining_after include_name h = count_expansion h.expands
 
-abbrev pub count_names_header : (s : State) (line : List Token) (after : Option ℕ) (include_name : Result IncludeName Fault) → NamesHeader s line after include_name → ℕ
-count_names_header s line after include_name h = count_names_header_by (begins_with_header (operands line)) s line after include_name h
+abbrev pub count_names_header : (s : State) (line : List Token) (remaining_after : Option ℕ) (include_name : Result IncludeName Fault) → NamesHeader s line remaining_after include_name → ℕ
+count_names_header s line remaining_after include_name h = count_names_header_by (begins_with_header (operands line)) s line remaining_after include_name h
 
 abbrev pub count_control_by : (profile : Profile) (row : ℕ) (d : Option Directive) (s : State) (line : LogicalLine) (m : Reached)
     → ControlBy profile row d s line m
@@ -73,22 +73,22 @@ abbrev mutual
   count_group Group.done = 0
   count_group (Group.run gives rest) = count_expansion gives.expands + count_group rest
   count_group (Group.control here rest) = count_control here + count_group rest
-  count_group {context} {depth} {row} (Group.taken {s = s} {line = line} {after = after} decides here rest) =
-      count_decides (search_of context) row s line after (Ok true) decides + (count_group here + count_group rest)
-  count_group {context} {depth} {row} (Group.skipped {s = s} {line = line} {after = after} decides here rest) =
-      count_decides (search_of context) row s line after (Ok false) decides + (count_branched here + count_group rest)
-  count_group {context} {depth} {row} (Group.refused {s = s} {line = line} {after = after} {f = f} decides) = count_decides (search_of context) row s line after (Err f) decides
+  count_group {context} {depth} {row} (Group.taken {s = s} {line = line} {remaining_after = remaining_after} decides here rest) =
+      count_decides (search_of context) row s line remaining_after (Ok true) decides + (count_group here + count_group rest)
+  count_group {context} {depth} {row} (Group.skipped {s = s} {line = line} {remaining_after = remaining_after} decides here rest) =
+      count_decides (search_of context) row s line remaining_after (Ok false) decides + (count_branched here + count_group rest)
+  count_group {context} {depth} {row} (Group.condition_fault {s = s} {line = line} {remaining_after = remaining_after} {f = f} decides) = count_decides (search_of context) row s line remaining_after (Err f) decides
 
   pub count_branched : {context : Context} {depth row : ℕ} {s : State} {bs : Branches} {m : Reached}
       → Branched context depth row s bs m
       → ℕ
   count_branched Branched.ended = 0
   count_branched (Branched.otherwise is here) = count_group here
-  count_branched {context} {depth} {row} (Branched.branch_taken {s = s} {line = line} {after = after} is decides here) =
-      count_decides (search_of context) row s line after (Ok true) decides + count_group here
-  count_branched {context} {depth} {row} (Branched.branch_skipped {s = s} {line = line} {after = after} is decides rest) =
-      count_decides (search_of context) row s line after (Ok false) decides + count_branched rest
-  count_branched {context} {depth} {row} (Branched.branch_refused {s = s} {line = line} {after = after} {f = f} is decides) = count_decides (search_of context) row s line after (Err f) decides
+  count_branched {context} {depth} {row} (Branched.branch_taken {s = s} {line = line} {remaining_after = remaining_after} is decides here) =
+      count_decides (search_of context) row s line remaining_after (Ok true) decides + count_group here
+  count_branched {context} {depth} {row} (Branched.branch_skipped {s = s} {line = line} {remaining_after = remaining_after} is decides rest) =
+      count_decides (search_of context) row s line remaining_after (Ok false) decides + count_branched rest
+  count_branched {context} {depth} {row} (Branched.branch_condition_fault {s = s} {line = line} {remaining_after = remaining_after} {f = f} is decides) = count_decides (search_of context) row s line remaining_after (Err f) decides
 
   pub count_control : {context : Context} {depth row : ℕ} {s : State} {line : LogicalLine} {m : Reached}
       → Controls context depth row s line m
@@ -100,20 +100,20 @@ abbrev mutual
       count_control_by context.profile row line.directive s line m does
   count_control (Controls.include is q here) = count_includes here
 
-  pub count_includes : {context : Context} {depth row : ℕ} {following : Option ℕ} {s : State} {line : LogicalLine} {m : Reached}
-      → Includes context depth row following s line m
+  pub count_includes : {context : Context} {depth row : ℕ} {search_after : Option ℕ} {s : State} {line : LogicalLine} {m : Reached}
+      → ExecutesInclude context depth row search_after s line m
       → ℕ
-  count_includes (Includes.misnamed {s = s} {line = line} {after = after} {f = f} asks) = count_names_header s line.tokens after (Err f) asks
-  count_includes (Includes.missing {s = s} {line = line} {after = after} a asks finds) = count_names_header s line.tokens after (Ok a) asks
-  count_includes (Includes.included {s = s} {line = line} {after = after} a found asks finds opens) =
-      count_names_header s line.tokens after (Ok a) asks + count_opened opens
+  count_includes (ExecutesInclude.misnamed {s = s} {line = line} {remaining_after = remaining_after} {f = f} asks) = count_names_header s line.tokens remaining_after (Err f) asks
+  count_includes (ExecutesInclude.missing {s = s} {line = line} {remaining_after = remaining_after} a asks finds) = count_names_header s line.tokens remaining_after (Ok a) asks
+  count_includes (ExecutesInclude.included {s = s} {line = line} {remaining_after = remaining_after} a found asks finds opens) =
+      count_names_header s line.tokens remaining_after (Ok a) asks + count_opened opens
 
   pub count_opened : {context : Context} {depth row : ℕ} {directory : Option ℕ} {at : Place} {s : State} {m : Reached}
       → Opened context depth at s row directory m
       → ℕ
   count_opened (Opened.too_deep deep) = 0
-  count_opened (Opened.over fits spent) = 0
-  count_opened (Opened.known fits more once) = 1
+  count_opened (Opened.exhausted fits spent) = 0
+  count_opened (Opened.read_once fits more once) = 1
   count_opened (Opened.not_readable fits more once is) = 1
   count_opened (Opened.faulty fits more once is reads) = 1
   count_opened (Opened.read fits more once is reads tree here) = suc (count_group here)

@@ -4,7 +4,7 @@ use Rattle.pptext.specs.declared.tokens.Token.{Token}
 use Rattle.pptext.specs.declared.tokens.Fault.{Fault}
 use Rattle.pptext.specs.declared.sources.Directive.{Directive}
 use Rattle.pptext.specs.Lines.{LogicalLine}
-use Rattle.pptext.specs.Tree.{sign_place, name_of}
+use Rattle.pptext.specs.Tree.{hash_place, name_of}
 use Rattle.pptext.specs.Tokens.{is_identifier, fault}
 
 -- a line of these tokens with this directive
@@ -17,7 +17,7 @@ operands line = drop 2 line
 
 -- a fault located at the line's `#`
 abbrev pub line_fault : ℕ → List Token → List ℕ → Fault
-line_fault number line text = fault number (sign_place line) text
+line_fault number line text = fault number (hash_place line) text
 
 -- a fault with the directive's name as its text
 abbrev pub named_fault : ℕ → List Token → Fault

@@ -12,7 +12,7 @@ use Rattle.pptext.specs.declared.directives.Class.TheVariants as class
 use Rattle.pptext.specs.Classes.{class_of}
 use Rattle.pptext.specs.Profiles.{has_later}
 use Rattle.pptext.specs.Lines.{LogicalLine}
-use Rattle.pptext.specs.Tree.{sign_place}
+use Rattle.pptext.specs.Tree.{hash_place}
 use Rattle.ppmacro.specs.Names.{Macros}
 use Rattle.ppmacro.specs.Define.{after_define, after_undef}
 use Rattle.ppexpand.specs.declared.expansion.Expanded.{Expanded}
@@ -20,7 +20,7 @@ use Rattle.ppexpand.specs.Expansion.{IsExpansion}
 use Rattle.ppshelf.specs.Names.{name_in}
 use Rattle.ppshelf.specs.Search.{Candidate, candidates, candidates_after, IsFirstRow}
 use Rattle.ppunit.specs.declared.units.Item.TheVariants as item
-use Rattle.ppunit.specs.States.{State, Context, Reached, going, stopped, emitted, with_once, with_left}
+use Rattle.ppunit.specs.States.{State, Context, Reached, going, stopped, emitted, with_once, with_remaining}
 use Rattle.ppunit.specs.DirectiveLines.{operands, line_fault, named_fault, spaced}
 use Rattle.ppunit.specs.LineControl.{Presumed, presumed, renumbered}
 use Rattle.ppunit.specs.Including.{IncludeName, begins_with_header, name_of_header, name_or, name_of_expansion_or, if_possible_name}
@@ -28,8 +28,8 @@ use Rattle.ppunit.specs.Including.{IncludeName, begins_with_header, name_of_head
 -- a run of text lines emits its expansion (6.10.3), up to its first fault
 pub record EmitsRun (s : State) (tokens : List Token) (r : Reached) : Type 0 where
   pub expanded : Expanded
-  pub expands : IsExpansion s.macros s.env s.left tokens expanded
-  pub is : r ≡ record { state = emitted (with_left s expanded.left) (map item.Token expanded.tokens); fault = expanded.fault }
+  pub expands : IsExpansion s.macros s.env s.remaining tokens expanded
+  pub is : r ≡ record { state = emitted (with_remaining s expanded.remaining) (map item.Token expanded.tokens); fault = expanded.fault }
 
 -- ---- `#define`, `#undef`
 
@@ -53,27 +53,27 @@ renumbered_by s line None (Some p) = going (renumbered s line p)
 
 pub record SetsLine (s : State) (line : LogicalLine) (reached : Reached) : Type 0 where
   pub expanded : Expanded
-  pub expands : IsExpansion s.macros s.env s.left (operands line.tokens) expanded
-  pub is : reached ≡ renumbered_by (with_left s expanded.left) line expanded.fault (presumed expanded.tokens)
+  pub expands : IsExpansion s.macros s.env s.remaining (operands line.tokens) expanded
+  pub is : reached ≡ renumbered_by (with_remaining s expanded.remaining) line expanded.fault (presumed expanded.tokens)
 
 -- ---- `#include` (6.10.2)
 
 -- if no header name is after `include`: the header that the operands name once their macros are replaced, and the
 -- remaining budget
-pub record NamesHeaderByExpansion (s : State) (line : List Token) (after : Option ℕ) (include_name : Result IncludeName Fault) : Type 0 where
+pub record NamesHeaderByExpansion (s : State) (line : List Token) (remaining_after : Option ℕ) (include_name : Result IncludeName Fault) : Type 0 where
   pub expanded : Expanded
-  pub expands : IsExpansion s.macros s.env s.left (operands line) expanded
-  pub leaves : after ≡ expanded.left
+  pub expands : IsExpansion s.macros s.env s.remaining (operands line) expanded
+  pub leaves : remaining_after ≡ expanded.remaining
   pub is : include_name ≡ name_of_expansion_or (line_fault 30 line []) expanded.fault expanded.tokens
 
 -- the header that an include line names, or its fault, and the remaining budget; the flag says whether a header name is
 -- after `include`
 abbrev pub NamesHeaderBy : Bool → State → List Token → Option ℕ → Result IncludeName Fault → Type 0
-NamesHeaderBy true s line after include_name = (after ≡ s.left) × (include_name ≡ name_or (line_fault 30 line []) (if_possible_name (name_of_header (operands line))))
-NamesHeaderBy false s line after include_name = NamesHeaderByExpansion s line after include_name
+NamesHeaderBy true s line remaining_after include_name = (remaining_after ≡ s.remaining) × (include_name ≡ name_or (line_fault 30 line []) (if_possible_name (name_of_header (operands line))))
+NamesHeaderBy false s line remaining_after include_name = NamesHeaderByExpansion s line remaining_after include_name
 
 abbrev pub NamesHeader : State → List Token → Option ℕ → Result IncludeName Fault → Type 0
-NamesHeader s line after include_name = NamesHeaderBy (begins_with_header (operands line)) s line after include_name
+NamesHeader s line remaining_after include_name = NamesHeaderBy (begins_with_header (operands line)) s line remaining_after include_name
 
 -- the candidates for a header in the file at index `from`; with the number of a directory, only those in the
 -- directories after it (gcc's manual, "Wrapper Headers")
@@ -84,7 +84,7 @@ candidates_for context from (Some number) a = candidates_after number context.un
 -- the index of the file that is found for the header, if there is one, and the number of the directory in which it is
 -- found
 abbrev pub FindsFile : Context → ℕ → Option ℕ → IncludeName → Option (ℕ × ℕ) → Type 0
-FindsFile context from following a found = IsFirstRow context.names (candidates_for context from following a) found
+FindsFile context from search_after a found = IsFirstRow context.names (candidates_for context from search_after a) found
 
 -- ---- `#pragma` (6.10.6)
 
@@ -98,7 +98,7 @@ abbrev pub noting_pragma_once : Profile → ℕ → List Token → State → Sta
 noting_pragma_once profile row ts s = if is_once profile ts then with_once s row else s
 
 abbrev pub pragma_emitted : Profile → ℕ → State → List Token → State
-pragma_emitted profile row s line = noting_pragma_once profile row (operands line) (emitted s (item.Pragma (sign_place line) (operands line) ∷ []))
+pragma_emitted profile row s line = noting_pragma_once profile row (operands line) (emitted s (item.Pragma (hash_place line) (operands line) ∷ []))
 
 -- ---- the other control lines
 
@@ -112,8 +112,8 @@ looks_at_quotes _ = true
 -- a control line without unmatched quotes that includes no file, in the file at index `row`
 abbrev pub ControlBy : Profile → ℕ → Option Directive → State → LogicalLine → Reached → Type 0
 ControlBy profile row (Some Null) s line reached = reached ≡ going s
-ControlBy profile row (Some Define) s line reached = reached ≡ with_macros s (after_define profile s.macros (sign_place line.tokens) (operands line.tokens))
-ControlBy profile row (Some Undef) s line reached = reached ≡ with_macros s (after_undef profile s.macros (sign_place line.tokens) (operands line.tokens))
+ControlBy profile row (Some Define) s line reached = reached ≡ with_macros s (after_define profile s.macros (hash_place line.tokens) (operands line.tokens))
+ControlBy profile row (Some Undef) s line reached = reached ≡ with_macros s (after_undef profile s.macros (hash_place line.tokens) (operands line.tokens))
 ControlBy profile row (Some Line) s line reached = SetsLine s line reached
 ControlBy profile row (Some Pragma) s line reached = reached ≡ going (pragma_emitted profile row s line.tokens)
 ControlBy profile row (Some Unknown) s line reached = reached ≡ stopped s (named_fault 8 line.tokens)

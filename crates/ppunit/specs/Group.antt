@@ -9,13 +9,13 @@ use Rattle.pptext.specs.Classes.{class_by}
 use Rattle.pptext.specs.Lines.{LogicalLine}
 use Rattle.pptext.specs.Sources.{Reads}
 use Rattle.pptext.specs.Tokens.{fault}
-use Rattle.pptext.specs.Tree.{sign_place, Parts, Done, Run, Control, Section, Branches, End, Branch, Tree}
+use Rattle.pptext.specs.Tree.{hash_place, Parts, Done, Run, Control, Section, Branches, End, Branch, Tree}
 use Rattle.ppexpand.specs.Budget.{is_exhausted}
 use Rattle.ppshelf.specs.Content.{unreadable, readable}
 use Rattle.ppshelf.specs.Files.{file_at}
 use Rattle.ppshelf.specs.Names.{name_in}
 use Rattle.ppunit.specs.Dependencies.{has_row}
-use Rattle.ppunit.specs.States.{State, Context, search_of, Reached, going, stopped, with_dependency, entering, leaving, with_left, with_one_spent}
+use Rattle.ppunit.specs.States.{State, Context, search_of, Reached, going, stopped, with_dependency, entering, leaving, with_remaining, with_one_spent}
 use Rattle.ppunit.specs.DirectiveLines.{operands, line_fault, run_tokens}
 use Rattle.ppunit.specs.Quotes.{unmatched_quote}
 use Rattle.ppunit.specs.Conditions.{Decides}
@@ -39,19 +39,19 @@ mutual
         → Controls context depth row s line m
         → Group context depth row m ps end
         → Group context depth row (going s) (Control line ps) end
-    taken : {depth row : ℕ} {s : State} {line : LogicalLine} {ps qs : Parts} {bs : Branches} {after : Option ℕ} {m end : Reached}
-        → Decides (search_of context) row s line after (Ok true)
-        → Group context depth row (going (with_left s after)) ps m
+    taken : {depth row : ℕ} {s : State} {line : LogicalLine} {ps qs : Parts} {bs : Branches} {remaining_after : Option ℕ} {m end : Reached}
+        → Decides (search_of context) row s line remaining_after (Ok true)
+        → Group context depth row (going (with_remaining s remaining_after)) ps m
         → Group context depth row m qs end
         → Group context depth row (going s) (Section line ps bs qs) end
-    skipped : {depth row : ℕ} {s : State} {line : LogicalLine} {ps qs : Parts} {bs : Branches} {after : Option ℕ} {m end : Reached}
-        → Decides (search_of context) row s line after (Ok false)
-        → Branched context depth row (with_left s after) bs m
+    skipped : {depth row : ℕ} {s : State} {line : LogicalLine} {ps qs : Parts} {bs : Branches} {remaining_after : Option ℕ} {m end : Reached}
+        → Decides (search_of context) row s line remaining_after (Ok false)
+        → Branched context depth row (with_remaining s remaining_after) bs m
         → Group context depth row m qs end
         → Group context depth row (going s) (Section line ps bs qs) end
-    refused : {depth row : ℕ} {s : State} {line : LogicalLine} {ps qs : Parts} {bs : Branches} {after : Option ℕ} {f : Fault}
-        → Decides (search_of context) row s line after (Err f)
-        → Group context depth row (going s) (Section line ps bs qs) (stopped (with_left s after) f)
+    condition_fault : {depth row : ℕ} {s : State} {line : LogicalLine} {ps qs : Parts} {bs : Branches} {remaining_after : Option ℕ} {f : Fault}
+        → Decides (search_of context) row s line remaining_after (Err f)
+        → Group context depth row (going s) (Section line ps bs qs) (stopped (with_remaining s remaining_after) f)
 
   -- the branches of an if-section, up to the first that is taken (6.10.1)
   pub data Branched (context : Context) : ℕ → ℕ → State → Branches → Reached → Type 0 where
@@ -60,20 +60,20 @@ mutual
         → line.directive ≡ Some Else
         → Group context depth row (going s) ps m
         → Branched context depth row s (Branch line ps bs) m
-    branch_taken : {depth row : ℕ} {s : State} {line : LogicalLine} {ps : Parts} {bs : Branches} {after : Option ℕ} {m : Reached}
+    branch_taken : {depth row : ℕ} {s : State} {line : LogicalLine} {ps : Parts} {bs : Branches} {remaining_after : Option ℕ} {m : Reached}
         → line.directive ≢ Some Else
-        → Decides (search_of context) row s line after (Ok true)
-        → Group context depth row (going (with_left s after)) ps m
+        → Decides (search_of context) row s line remaining_after (Ok true)
+        → Group context depth row (going (with_remaining s remaining_after)) ps m
         → Branched context depth row s (Branch line ps bs) m
-    branch_skipped : {depth row : ℕ} {s : State} {line : LogicalLine} {ps : Parts} {bs : Branches} {after : Option ℕ} {m : Reached}
+    branch_skipped : {depth row : ℕ} {s : State} {line : LogicalLine} {ps : Parts} {bs : Branches} {remaining_after : Option ℕ} {m : Reached}
         → line.directive ≢ Some Else
-        → Decides (search_of context) row s line after (Ok false)
-        → Branched context depth row (with_left s after) bs m
+        → Decides (search_of context) row s line remaining_after (Ok false)
+        → Branched context depth row (with_remaining s remaining_after) bs m
         → Branched context depth row s (Branch line ps bs) m
-    branch_refused : {depth row : ℕ} {s : State} {line : LogicalLine} {ps : Parts} {bs : Branches} {after : Option ℕ} {f : Fault}
+    branch_condition_fault : {depth row : ℕ} {s : State} {line : LogicalLine} {ps : Parts} {bs : Branches} {remaining_after : Option ℕ} {f : Fault}
         → line.directive ≢ Some Else
-        → Decides (search_of context) row s line after (Err f)
-        → Branched context depth row s (Branch line ps bs) (stopped (with_left s after) f)
+        → Decides (search_of context) row s line remaining_after (Err f)
+        → Branched context depth row s (Branch line ps bs) (stopped (with_remaining s remaining_after) f)
 
   -- A control line. `#include_next` searches the directories after the one in which the file of this line was found, or
   -- all of them if that is the unit's own file.
@@ -95,25 +95,25 @@ mutual
     include : {depth row : ℕ} {next : Bool} {s : State} {line : LogicalLine} {m : Reached}
         → class_by line.directive ≡ Some (class.Includes next)
         → unmatched_quote line.tokens ≡ None
-        → Includes context depth row (if next then s.directory else None) s line m
+        → ExecutesInclude context depth row (if next then s.directory else None) s line m
         → Controls context depth row s line m
 
   -- An include line without unmatched quotes (6.10.2): its operands have a fault, or no file is found for the header, or
   -- the file that is found is opened one level deeper. The search begins after the directory with the number `following`, or
   -- at the first directory if there is none.
-  pub data Includes (context : Context) : ℕ → ℕ → Option ℕ → State → LogicalLine → Reached → Type 0 where
-    misnamed : {depth row : ℕ} {following : Option ℕ} {s : State} {line : LogicalLine} {after : Option ℕ} {f : Fault}
-        → NamesHeader s line.tokens after (Err f)
-        → Includes context depth row following s line (stopped (with_left s after) f)
-    missing : {depth row : ℕ} {following : Option ℕ} {s : State} {line : LogicalLine} {after : Option ℕ} (a : IncludeName)
-        → NamesHeader s line.tokens after (Ok a)
-        → FindsFile context row following a None
-        → Includes context depth row following s line (stopped (with_left s after) (line_fault 31 line.tokens a.name))
-    included : {depth row : ℕ} {following : Option ℕ} {s : State} {line : LogicalLine} {after : Option ℕ} (a : IncludeName) (found : ℕ × ℕ) {m : Reached}
-        → NamesHeader s line.tokens after (Ok a)
-        → FindsFile context row following a (Some found)
-        → Opened context (suc depth) (sign_place line.tokens) (with_left s after) found.0 (Some found.1) m
-        → Includes context depth row following s line m
+  pub data ExecutesInclude (context : Context) : ℕ → ℕ → Option ℕ → State → LogicalLine → Reached → Type 0 where
+    misnamed : {depth row : ℕ} {search_after : Option ℕ} {s : State} {line : LogicalLine} {remaining_after : Option ℕ} {f : Fault}
+        → NamesHeader s line.tokens remaining_after (Err f)
+        → ExecutesInclude context depth row search_after s line (stopped (with_remaining s remaining_after) f)
+    missing : {depth row : ℕ} {search_after : Option ℕ} {s : State} {line : LogicalLine} {remaining_after : Option ℕ} (a : IncludeName)
+        → NamesHeader s line.tokens remaining_after (Ok a)
+        → FindsFile context row search_after a None
+        → ExecutesInclude context depth row search_after s line (stopped (with_remaining s remaining_after) (line_fault 31 line.tokens a.name))
+    included : {depth row : ℕ} {search_after : Option ℕ} {s : State} {line : LogicalLine} {remaining_after : Option ℕ} (a : IncludeName) (found : ℕ × ℕ) {m : Reached}
+        → NamesHeader s line.tokens remaining_after (Ok a)
+        → FindsFile context row search_after a (Some found)
+        → Opened context (suc depth) (hash_place line.tokens) (with_remaining s remaining_after) found.0 (Some found.1) m
+        → ExecutesInclude context depth row search_after s line m
 
   -- The file at index `row` is opened for the line at location `at`, if the budget isn't exhausted. The number is that
   -- of the directory in which it was found; a unit's own file has none. If the file has `#pragma once` and was already
@@ -123,31 +123,31 @@ mutual
     too_deep : {depth row : ℕ} {directory : Option ℕ} {at : Place} {s : State}
         → deepest < depth
         → Opened context depth at s row directory (stopped s (fault 32 at (name_in context.names row)))
-    over : {depth row : ℕ} {directory : Option ℕ} {at : Place} {s : State}
+    exhausted : {depth row : ℕ} {directory : Option ℕ} {at : Place} {s : State}
         → depth ≤ deepest
-        → is_exhausted s.left ≡ true
+        → is_exhausted s.remaining ≡ true
         → Opened context depth at s row directory (stopped s (fault 35 at []))
-    known : {depth row : ℕ} {directory : Option ℕ} {at : Place} {s : State}
+    read_once : {depth row : ℕ} {directory : Option ℕ} {at : Place} {s : State}
         → depth ≤ deepest
-        → is_exhausted s.left ≡ false
+        → is_exhausted s.remaining ≡ false
         → has_row row s.once ≡ true
         → Opened context depth at s row directory (going (with_dependency (with_one_spent s) row))
     not_readable : {depth row : ℕ} {directory : Option ℕ} {at : Place} {s : State}
         → depth ≤ deepest
-        → is_exhausted s.left ≡ false
+        → is_exhausted s.remaining ≡ false
         → has_row row s.once ≡ false
         → file_at context.files row ≡ Some unreadable
         → Opened context depth at s row directory (stopped (with_dependency (with_one_spent s) row) (fault 6 at (name_in context.names row)))
     faulty : {depth row : ℕ} {directory : Option ℕ} {at : Place} {s : State} {bytes : List ℕ} {f : Fault}
         → depth ≤ deepest
-        → is_exhausted s.left ≡ false
+        → is_exhausted s.remaining ≡ false
         → has_row row s.once ≡ false
         → file_at context.files row ≡ Some (readable bytes)
         → Reads context.profile row bytes (Err f)
         → Opened context depth at s row directory (stopped (with_dependency (with_one_spent s) row) f)
     read : {depth row : ℕ} {directory : Option ℕ} {at : Place} {s : State} {bytes : List ℕ} {lines : List LogicalLine} {parts : Parts} {m : Reached}
         → depth ≤ deepest
-        → is_exhausted s.left ≡ false
+        → is_exhausted s.remaining ≡ false
         → has_row row s.once ≡ false
         → file_at context.files row ≡ Some (readable bytes)
         → Reads context.profile row bytes (Ok lines)

@@ -23,7 +23,7 @@ GuardsLeaveOut =
     → Reads context.profile row bytes (Ok lines)
     → GuardedBy lines x
     → is_macro_name s.macros x ≡ true
-    → is_exhausted s.left ≡ false
+    → is_exhausted s.remaining ≡ false
     → (d : Opened context depth at s row directory (going (with_dependency (with_one_spent s) row))) × (count_opened d ≡ 1)
 
 -- and if file names are distinct, it has no other outcome
@@ -37,7 +37,7 @@ GuardsOnlyLeaveOut =
     → Reads context.profile row bytes (Ok lines)
     → GuardedBy lines x
     → is_macro_name s.macros x ≡ true
-    → is_exhausted s.left ≡ false
+    → is_exhausted s.remaining ≡ false
     → Opened context depth at s row directory end
     → end ≡ going (with_dependency (with_one_spent s) row)
 

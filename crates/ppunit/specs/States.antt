@@ -6,7 +6,7 @@ use Rattle.ppmacro.specs.Substitution.{escaped}
 use Rattle.ppmacro.specs.Names.{Macros}
 use Rattle.ppexpand.specs.declared.env.Env.{Env}
 use Rattle.ppexpand.specs.Budget.{spend_one}
-use Rattle.ppshelf.specs.Files.{Files, TableView}
+use Rattle.ppshelf.specs.Files.{Files, ShelfView}
 use Rattle.ppshelf.specs.Names.{name_in}
 use Rattle.ppunit.specs.Dependencies.{with_row}
 use Rattle.ppunit.specs.declared.states.FileContext.{FileContext}
@@ -15,7 +15,7 @@ use Rattle.ppunit.specs.declared.units.UnitOut.{UnitOut}
 
 -- a unit's file table, and the directories that are searched, the unit's before the setting's
 pub record UnitContext : Type 0 where
-  pub shelf : TableView
+  pub shelf : ShelfView
   pub unit_directories : List (List ℕ)
   pub setting_directories : List (List ℕ)
 
@@ -75,7 +75,7 @@ pub record State : Type 0 where
   -- those of them that are not read again
   pub once : List ℕ
   -- the remaining budget
-  pub left : Option ℕ
+  pub remaining : Option ℕ
   -- the values of the predefined names
   pub env : Env
   -- the number of the directory in which the current file was found; a unit's own file has none
@@ -112,12 +112,12 @@ abbrev pub with_once : State → ℕ → State
 with_once s row = record s { once = with_row row s.once }
 
 -- the state with this remaining budget
-abbrev pub with_left : State → Option ℕ → State
-with_left s left = record s { left = left }
+abbrev pub with_remaining : State → Option ℕ → State
+with_remaining s remaining = record s { remaining = remaining }
 
 -- one opened file is spent from the budget
 abbrev pub with_one_spent : State → State
-with_one_spent s = with_left s (spend_one s.left)
+with_one_spent s = with_remaining s (spend_one s.remaining)
 
 -- the output of a unit
 abbrev pub output : Reached → UnitOut

@@ -24,7 +24,7 @@ initial_state setting =
       items = [];
       deps = [];
       once = [];
-      left = setting.budget;
+      remaining = setting.budget;
       env = record
           { name = []; shift = pos 0; date = setting.date; time = setting.time };
       directory = None;
@@ -47,7 +47,7 @@ pub data Defines (context : Context) (defines : List (List ℕ)) : State → Rea
 
 -- the definitions, and then the unit's file
 pub data Translates (context : Context) (defines : List (List ℕ)) (row : ℕ) : State → Reached → Type 0 where
-  undefined : {s t : State} {f : Fault}
+  definitions_fault : {s t : State} {f : Fault}
       → Defines context defines s (stopped t f)
       → Translates context defines row s (stopped t f)
   translated : {s t : State} {m : Reached}
@@ -72,7 +72,7 @@ count_defines (processed reads tree here) = count_group here
 abbrev pub count_translates : {context : Context} {defines : List (List ℕ)} {row : ℕ} {s : State} {m : Reached}
     → Translates context defines row s m
     → ℕ
-count_translates (undefined here) = count_defines here
+count_translates (definitions_fault here) = count_defines here
 count_translates (translated here opens) = count_defines here + count_opened opens
 
 -- ---- the value

@@ -2,12 +2,12 @@
 //! ISO/IEC 9899:2024).
 ghost use Rattle.std.specs.Prelude.{◌≡◌, ◌<◌, ℕ, true, false, length};
 ghost use Rattle.pptext.specs.Errors.{UnlessOutOfMemory};
-ghost use Rattle.pptext.specs.Tree.{sign_place};
+ghost use Rattle.pptext.specs.Tree.{hash_place};
 ghost use Rattle.ppexpr.specs.Conditions.{IsCondition};
 ghost use Rattle.ppunit.specs.Conditions as spec;
 ghost use Rattle.ppunit.specs.DirectiveLines as spec_lines;
 ghost use Rattle.ppunit.specs.Probing.{condition_tokens};
-ghost use Rattle.ppunit.specs.States.{search_in_unit, with_left};
+ghost use Rattle.ppunit.specs.States.{search_in_unit, with_remaining};
 
 use crate::directive_line::{DirectiveTokens, line_fault, one_identifier, refuse_unmatched_quote};
 use crate::open_file::UnitContext;
@@ -30,10 +30,10 @@ pub(crate) fn decide<D: Disk>(
 ) -> Result<bool, Error>
     requires rows { 0 < length context.now.shelf.names }
     requires condition { spec.IsConditional directive }
-    ensures rest { state.new ≡ with_left state.old state.new.left }
+    ensures rest { state.new ≡ with_remaining state.old state.new.remaining }
     ensures decides { UnlessOutOfMemory result (λ taken.
         (number : ℕ)
-        → spec.Decides (search_in_unit context.now) row state.old (spec_lines.directed directive line.now number) state.new.left taken) }
+        → spec.Decides (search_in_unit context.now) row state.old (spec_lines.directed directive line.now number) state.new.remaining taken) }
 {
     refuse_unmatched_quote(line)?;
     match directive.question() {
@@ -65,9 +65,9 @@ fn by_condition<D: Disk>(
     line: &DirectiveTokens<'_>,
 ) -> Result<bool, Error>
     requires { 0 < length context.now.shelf.names }
-    ensures rest { state.new ≡ with_left state.old state.new.left }
+    ensures rest { state.new ≡ with_remaining state.old state.new.remaining }
     ensures is { UnlessOutOfMemory result (λ taken.
-        spec.DecidesOf (condition_tokens (search_in_unit context.now) row line.now) state.old (sign_place line.now) state.new.left taken) }
+        spec.DecidesOf (condition_tokens (search_in_unit context.now) row line.now) state.old (hash_place line.now) state.new.remaining taken) }
 {
     let at = line.hash_place();
     let operands = line.operands();
@@ -83,11 +83,18 @@ fn by_condition<D: Disk>(
 
 /// Evaluates a condition, and spends its replacements from the budget.
 fn value(alloc: Global, state: &mut State, at: Place, tokens: &[Token]) -> Result<bool, Error>
-    ensures rest { state.new ≡ with_left state.old state.new.left }
+    ensures rest { state.new ≡ with_remaining state.old state.new.remaining }
     ensures is { UnlessOutOfMemory result (λ taken.
-        IsCondition state.old.macros state.old.env at tokens.now state.old.left taken state.new.left) }
+        IsCondition state.old.macros state.old.env at tokens.now state.old.remaining taken state.new.remaining) }
 {
-    let (taken, left) = evaluate(alloc, &state.macros, &state.env, state.left, at, tokens)?;
-    state.left = left;
+    let (taken, remaining) = evaluate(
+        alloc,
+        &state.macros,
+        &state.env,
+        state.remaining,
+        at,
+        tokens,
+    )?;
+    state.remaining = remaining;
     taken.map_err(Error::Fault)
 }

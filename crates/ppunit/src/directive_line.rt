@@ -3,7 +3,7 @@ ghost use Rattle.std.specs.Prelude.{◌≡◌, ◌<◌, ◌++◌, length, IfOk, 
 ghost use Rattle.std.specs.Option.{option_copied};
 ghost use Rattle.std.specs.Result.{result_err};
 ghost use Rattle.pptext.specs.Errors.{UnlessOutOfMemory};
-ghost use Rattle.pptext.specs.Tree.{sign_place, name_of};
+ghost use Rattle.pptext.specs.Tree.{hash_place, name_of};
 ghost use Rattle.ppmacro.specs.Substitution.{spelled_space};
 ghost use Rattle.ppunit.specs.DirectiveLines as spec;
 ghost use Rattle.ppunit.specs.Quotes as quotes;
@@ -40,7 +40,7 @@ impl<'x> DirectiveTokens<'x> {
 
     /// Returns the location of the `#`.
     pub(crate) fn hash_place(&self) -> Place
-        ensures { result ≡ sign_place self.now }
+        ensures { result ≡ hash_place self.now }
     {
         self.tokens[0].at
     }

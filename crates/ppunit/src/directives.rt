@@ -4,7 +4,7 @@ ghost use Rattle.std.specs.Result.{result_err};
 ghost use Rattle.pptext.specs.Errors.{UnlessOutOfMemory};
 ghost use Rattle.ppunit.specs.Directives as spec;
 ghost use Rattle.ppunit.specs.DirectiveLines as spec_lines;
-ghost use Rattle.pptext.specs.Tree.{sign_place};
+ghost use Rattle.pptext.specs.Tree.{hash_place};
 ghost use Rattle.ppmacro.specs.Define.{after_define, after_undef};
 ghost use Rattle.ppunit.specs.States.{going};
 
@@ -28,8 +28,8 @@ pub(crate) fn emit_run<'x>(
     if tokens.is_empty() {
         return Ok(());
     }
-    let expanded = expand(alloc, &state.macros, &state.env, state.left, tokens)?;
-    state.left = expanded.left;
+    let expanded = expand(alloc, &state.macros, &state.env, state.remaining, tokens)?;
+    state.remaining = expanded.remaining;
     state.items.extend(expanded.tokens)?;
     match expanded.fault {
         None => Ok(()),
@@ -105,7 +105,7 @@ fn define_by<'x>(
     line: &DirectiveTokens<'x>,
 ) -> Result<(), Error>
     ensures { UnlessOutOfMemory result (λ r.
-        record { state = state.new; fault = result_err r } ≡ spec.with_macros state.old (after_define profile state.old.macros (sign_place line.now) (spec_lines.operands line.now))) }
+        record { state = state.new; fault = result_err r } ≡ spec.with_macros state.old (after_define profile state.old.macros (hash_place line.now) (spec_lines.operands line.now))) }
 {
     match define(
         alloc,
@@ -127,7 +127,7 @@ fn undef_by<'x>(
     line: &DirectiveTokens<'x>,
 ) -> Result<(), Error>
     ensures { UnlessOutOfMemory result (λ r.
-        record { state = state.new; fault = result_err r } ≡ spec.with_macros state.old (after_undef profile state.old.macros (sign_place line.now) (spec_lines.operands line.now))) }
+        record { state = state.new; fault = result_err r } ≡ spec.with_macros state.old (after_undef profile state.old.macros (hash_place line.now) (spec_lines.operands line.now))) }
 {
     match undef(
         alloc,

@@ -5,7 +5,7 @@ ghost use Rattle.pptext.specs.Errors.{UnlessOutOfMemory};
 ghost use Rattle.ppunit.specs.DirectiveLines.{line_fault};
 ghost use Rattle.ppunit.specs.Including as spec;
 ghost use Rattle.ppunit.specs.Directives.{NamesHeader, NamesHeaderByExpansion};
-ghost use Rattle.ppunit.specs.States.{with_left};
+ghost use Rattle.ppunit.specs.States.{with_remaining};
 
 use crate::directive_line::{DirectiveTokens, line_fault, push_space};
 use crate::line_control::is_plain_string;
@@ -187,8 +187,8 @@ fn expand_include_name<'x>(
     state: &mut State<'x>,
     line: &DirectiveTokens<'x>,
 ) -> Result<IncludeName, Error>
-    ensures rest { state.new ≡ with_left state.old state.new.left }
-    ensures asks { UnlessOutOfMemory result (λ include_name. NamesHeaderByExpansion state.old line.now state.new.left include_name) }
+    ensures rest { state.new ≡ with_remaining state.old state.new.remaining }
+    ensures asks { UnlessOutOfMemory result (λ include_name. NamesHeaderByExpansion state.old line.now state.new.remaining include_name) }
 {
     let tokens = expand_operands(alloc, state, line.operands())?;
     name_of_expansion_or(alloc, line, tokens.as_slice())
@@ -201,8 +201,8 @@ pub(crate) fn read_include_name<'x>(
     state: &mut State<'x>,
     line: &DirectiveTokens<'x>,
 ) -> Result<IncludeName, Error>
-    ensures rest { state.new ≡ with_left state.old state.new.left }
-    ensures asks { UnlessOutOfMemory result (λ include_name. NamesHeader state.old line.now state.new.left include_name) }
+    ensures rest { state.new ≡ with_remaining state.old state.new.remaining }
+    ensures asks { UnlessOutOfMemory result (λ include_name. NamesHeader state.old line.now state.new.remaining include_name) }
 {
     let rest = line.operands();
     if let Some(first) = rest.first() {

@@ -63,7 +63,7 @@ impl<'r, 'a> PartsLeft<'r, 'a> {
 #[derive(Drop)]
 pub struct ItemsIter<'r, 'a> {
     run: Option<RopeIter<'r, 'a>>,
-    left: PartsLeft<'r, 'a>,
+    remaining: PartsLeft<'r, 'a>,
 }
 
 impl<'r, 'a> Model for ItemsIter<'r, 'a> {
@@ -75,7 +75,7 @@ impl<'r, 'a> Model for ItemsIter<'r, 'a> {
     ghost use Rattle.ppunit.specs.Parts.{part_items};
     ghost use Rattle.ppunit.specs.BorrowedItems.{run_items};
 
-    ghost view = { λ i. run_items i.run ++ flat_map part_items i.left };
+    ghost view = { λ i. run_items i.run ++ flat_map part_items i.remaining };
 }
 
 impl<'r, 'a> Iterator for ItemsIter<'r, 'a> {
@@ -92,7 +92,7 @@ impl<'r, 'a> Iterator for ItemsIter<'r, 'a> {
                     return Some(ItemRef::Token(token));
                 }
             }
-            match self.left.next()? {
+            match self.remaining.next()? {
                 Part::Run(run) => self.run = Some(run.iter()),
                 Part::Pragma(at, tokens) => {
                     self.run = None;
@@ -110,7 +110,7 @@ impl<'a> Items<'a> {
     {
         ItemsIter {
             run: None,
-            left: PartsLeft {
+            remaining: PartsLeft {
                 parts: self.parts(),
             },
         }

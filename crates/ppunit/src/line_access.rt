@@ -8,7 +8,7 @@ use crate::directive_line::DirectiveTokens;
 use pptext::{Line, Source, Token};
 
 /// Returns the number of lines.
-pub(crate) fn count(source: &Source) -> usize
+pub(crate) fn line_count(source: &Source) -> usize
     ensures { result ≡ length source.now }
 {
     source.lines().len()

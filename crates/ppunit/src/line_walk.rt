@@ -10,18 +10,18 @@ ghost use Rattle.pptext.specs.Tree.{Parts, Branches, branch_lines, AreBranches};
 ghost use Rattle.pptext.specs.Classes.{opens_section, ends_group};
 ghost use Rattle.pptext.specs.declared.sources.Directive.{Directive};
 ghost use Rattle.ppshelf.specs.Files.{Files};
-ghost use Rattle.ppunit.specs.Group.{Controls, Includes};
-ghost use Rattle.ppunit.specs.States.{Context, Reached, context_over, search_in_unit, with_left};
+ghost use Rattle.ppunit.specs.Group.{Controls, ExecutesInclude};
+ghost use Rattle.ppunit.specs.States.{Context, Reached, context_over, search_in_unit, with_remaining};
 ghost use Rattle.ppunit.specs.DirectiveLines.{directed};
 ghost use Rattle.ppunit.specs.code.Preprocessor.{Continues};
-ghost use Rattle.ppunit.specs.code.Walk.{line_at, IsTextLine, IsRest, Outer, BranchesAt, Enters, FindsBranch, Advances, Leads, Steps, Walks};
+ghost use Rattle.ppunit.specs.code.Walk.{line_at, IsTextLine, IsRest, Outer, BranchesAt, ContinuesAfter, FindsBranch, Advances, Leads, Steps, Walks};
 
 use crate::conditions::decide;
 use crate::directive_line::{DirectiveLine, DirectiveTokens, line_fault, refuse_unmatched_quote};
 use crate::directives::{control, emit_run, error};
 use crate::include_stack::Stack;
 use crate::including::read_include_name;
-use crate::line_access::{count, line, tokens_at, tokens_between};
+use crate::line_access::{line, line_count, tokens_at, tokens_between};
 use crate::open_file::{Entered, OpenFile, Opening, UnitContext, resolve_in};
 use crate::preprocessor::Preprocessor;
 use crate::states::State;
@@ -42,7 +42,7 @@ fn run_end(source: &Source, start: usize) -> usize
         → IsRest rest
         → (result ≡ start + length run) × (drop result source.now ≡ rest) }
 {
-    let lines = count(source);
+    let lines = line_count(source);
     let mut end = start + 1;
     while end < lines && line(source, end).directive.is_none() {
         end += 1;
@@ -52,7 +52,7 @@ fn run_end(source: &Source, start: usize) -> usize
 
 /// Returns whether processing continues at the line after this `#elif`, `#else` or `#endif` of the file at index `row`: its
 /// group is taken, or the if-section ends. Changes nothing in `state` but the remaining budget.
-fn enters<D: Disk>(
+fn continues_after<D: Disk>(
     context: &UnitContext<'_, '_, D>,
     state: &mut State,
     row: usize,
@@ -61,8 +61,8 @@ fn enters<D: Disk>(
 ) -> Result<bool, Error>
     requires rows { 0 < length context.now.shelf.names }
     requires index { index < length source.now }
-    ensures rest { state.new ≡ with_left state.old state.new.left }
-    ensures enters { UnlessOutOfMemory result (λ taken. Enters (search_in_unit context.now) row state.old (line_at source.now index) state.new.left taken) }
+    ensures rest { state.new ≡ with_remaining state.old state.new.remaining }
+    ensures continues_after { UnlessOutOfMemory result (λ taken. ContinuesAfter (search_in_unit context.now) row state.old (line_at source.now index) state.new.remaining taken) }
 {
     let Some(directive) = line(source, index).directive else {
         return Ok(true);
@@ -92,7 +92,7 @@ fn find_branch<D: Disk>(
 {
     let mut index = start;
     while let Some(next) = line(source, index).next_branch {
-        if enters(context, state, row, source, next)? {
+        if continues_after(context, state, row, source, next)? {
             return Ok(next + 1);
         }
         index = next;
@@ -117,7 +117,7 @@ fn section_end(source: &Source, branch: usize) -> usize
 }
 
 /// Executes a line that opens an if-section of the file at index `row`. Returns the line at which processing continues.
-fn enter_section<D: Disk>(
+fn execute_if_line<D: Disk>(
     context: &UnitContext<'_, '_, D>,
     state: &mut State,
     row: usize,
@@ -206,7 +206,7 @@ impl<'x, 'a: 'x, D: Disk> Preprocessor<'_, 'x, 'a, D> {
         ensures includes { UnlessOutOfMemory result (λ leads.
             (directive : Directive) (number : ℕ)
             → Leads (context_over self.old.context.now) self.new.pass.now.files (suc depth)
-            (λ (more : Files) (m : Reached). Includes (context_over self.old.context.now more) depth from.row from.directory self.old.state (directed directive line.now number) m)
+            (λ (more : Files) (m : Reached). ExecutesInclude (context_over self.old.context.now more) depth from.row from.directory self.old.state (directed directive line.now number) m)
             self.new.state leads) }
     {
         let context = self.context;
@@ -270,7 +270,7 @@ impl<'x, 'a: 'x, D: Disk> Preprocessor<'_, 'x, 'a, D> {
             return Ok(next_line(execute_run(context.alloc, &mut self.state, source, index)?));
         };
         if directive.opens_section() {
-            let next = enter_section(context, &mut self.state, row, source, directive, index)?;
+            let next = execute_if_line(context, &mut self.state, row, source, directive, index)?;
             return Ok(next_line(next));
         }
         if directive.ends_group() {
@@ -303,7 +303,7 @@ impl<'x, 'a: 'x, D: Disk> Preprocessor<'_, 'x, 'a, D> {
         let mut suspended = Stack::new(context.alloc);
         let mut file = first;
         loop {
-            if file.index < count(file.source) {
+            if file.index < line_count(file.source) {
                 match self.step(suspended.depth(), &file) {
                     Ok(next) => {
                         let NextLine { line, entered } = next;

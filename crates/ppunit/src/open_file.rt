@@ -14,7 +14,7 @@ ghost use Rattle.ppunit.specs.code.Walk.{Leads};
 
 use crate::guards::is_left_out;
 use crate::including::IncludeName;
-use crate::line_access::count;
+use crate::line_access::line_count;
 use crate::preprocessor::Preprocessor;
 use crate::states::{FileContext, State, literal};
 use ppexpand::Env;
@@ -127,7 +127,7 @@ impl<'a> OpenFile<'a> {
         ensures few { length source.now < 2 ^ 64 }
     {
         // For proofs: the number of lines fits.
-        let _lines = count(source);
+        let _lines = line_count(source);
         OpenFile {
             row,
             source,

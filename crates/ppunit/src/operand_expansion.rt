@@ -2,7 +2,7 @@
 ghost use Rattle.std.specs.Prelude.{◌≡◌};
 ghost use Rattle.pptext.specs.Errors.{UnlessOutOfMemory};
 ghost use Rattle.ppunit.specs.code.OperandExpansion.{ExpandsOperands};
-ghost use Rattle.ppunit.specs.States.{with_left};
+ghost use Rattle.ppunit.specs.States.{with_remaining};
 
 use crate::states::State;
 use ppexpand::{Expanded, expand};
@@ -16,15 +16,15 @@ pub(crate) fn expand_operands<'x>(
     state: &mut State<'x>,
     operands: &'x [Token],
 ) -> Result<Tokens, Error>
-    ensures rest { state.new ≡ with_left state.old state.new.left }
-    ensures replaces { UnlessOutOfMemory result (λ r. ExpandsOperands state.old operands.now state.new.left r) }
+    ensures rest { state.new ≡ with_remaining state.old state.new.remaining }
+    ensures replaces { UnlessOutOfMemory result (λ r. ExpandsOperands state.old operands.now state.new.remaining r) }
 {
     let Expanded {
         tokens,
         fault,
-        left,
-    } = expand(alloc, &state.macros, &state.env, state.left, operands)?;
-    state.left = left;
+        remaining,
+    } = expand(alloc, &state.macros, &state.env, state.remaining, operands)?;
+    state.remaining = remaining;
     if let Some(fault) = fault {
         return Err(Error::Fault(fault));
     }

@@ -124,7 +124,7 @@ fn into_output<'x>(
     let State {
         macros: _,
         once: _,
-        left: _,
+        remaining: _,
         items,
         deps,
         env: _,
@@ -192,7 +192,7 @@ pub fn preprocess<'x, 'a: 'x, D: Disk>(
     ensures within { IfOk result (λ out. IsInBudget shelf.now.names pass.new.files setting.now unit.now out) }
     ensures capped { IfOk result (λ out. IsCappedOver shelf.now.names pass.new.files setting.now unit.now out) }
     ensures contents_permitted { AllPermitted D.may shelf.now.names pass.new.files }
-    ensures filled { Agree shelf.now.base pass.new.files }
+    ensures filled { Agree shelf.now.filled pass.new.files }
 {
     let directories = Directories {
         unit: unit.search.as_slice(),

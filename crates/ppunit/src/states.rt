@@ -31,7 +31,7 @@ pub(crate) struct State<'x> {
     pub items: Items<'x>,
     pub deps: Rows,
     pub once: Rows,
-    pub left: Option<u64>,
+    pub remaining: Option<u64>,
     pub env: Env,
     pub directory: Option<usize>,
 }
@@ -56,7 +56,7 @@ impl<'x> Model for State<'x> {
       items = s.items;
       deps = s.deps;
       once = s.once;
-      left = s.left;
+      remaining = s.remaining;
       env = s.env;
       directory = s.directory;
     } };
@@ -77,15 +77,15 @@ impl<'x> State<'x> {
     }
 
     /// Creates a state with no items and no opened files.
-    fn initial(alloc: Global, macros: Table<'x>, left: Option<u64>, env: Env) -> State<'x>
-        ensures { result ≡ record { macros = macros.entry.macros; items = []; deps = []; once = []; left = left; env = env; directory = None } }
+    fn initial(alloc: Global, macros: Table<'x>, remaining: Option<u64>, env: Env) -> State<'x>
+        ensures { result ≡ record { macros = macros.entry.macros; items = []; deps = []; once = []; remaining = remaining; env = env; directory = None } }
     {
         State {
             macros,
             items: Items::new(alloc),
             deps: Rows::new(alloc),
             once: Rows::new(alloc),
-            left,
+            remaining,
             env,
             directory: None,
         }
@@ -119,16 +119,16 @@ impl<'x> State<'x> {
 
     /// Returns whether there is a budget and it is exhausted.
     pub(crate) fn is_exhausted(&self) -> bool
-        ensures { result ≡ is_exhausted self.now.left }
+        ensures { result ≡ is_exhausted self.now.remaining }
     {
-        is_exhausted(self.left)
+        is_exhausted(self.remaining)
     }
 
     /// Spends one of the budget for an opened file.
     pub(crate) fn spend(&mut self)
         ensures { self.new ≡ with_one_spent self.old }
     {
-        self.left = spend_one(self.left);
+        self.remaining = spend_one(self.remaining);
     }
 
     /// Adds the file at index `row` to the dependencies, unless it is one.

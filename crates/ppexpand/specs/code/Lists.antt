@@ -13,10 +13,10 @@ abbrev pub with_set : ℕ → Token → Hidden
 with_set hide t = record { token = t; hide = hide; extra = None }
 
 -- the first token gets the leading-space flag, if the flag is set
-abbrev pub marked : Bool → List Hidden → List Hidden
-marked true (h ∷ hs) = record h { token = record h.token { space = true } } ∷ hs
-marked true [] = []
-marked false hs = hs
+abbrev pub spaced : Bool → List Hidden → List Hidden
+spaced true (h ∷ hs) = record h { token = record h.token { space = true } } ∷ hs
+spaced true [] = []
+spaced false hs = hs
 
 -- a token that is emitted unchanged, whatever its hide set is
 abbrev pub never_expands : Macros → Token → Bool

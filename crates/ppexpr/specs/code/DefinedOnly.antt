@@ -13,9 +13,9 @@ use Rattle.ppexpr.specs.Conditions.{EvaluatesSymbols}
 
 -- a list begins with a punctuator of this spelling, and the rest follows
 pub record BeginsPunct (text : List ℕ) (ts rest : List Token) : Type 0 where
-  pub mark : Token
-  pub is : ts ≡ mark ∷ rest
-  pub spelled : is_punct text mark ≡ true
+  pub punctuator : Token
+  pub is : ts ≡ punctuator ∷ rest
+  pub spelled : is_punct text punctuator ≡ true
 
 -- a list begins with an expression of this level that has this truth value, and the rest follows
 pub record BeginsTruth (macros : Macros) (level : ℕ) (ts : List Token) (holds : Bool) (rest : List Token) : Type 0 where
@@ -29,5 +29,5 @@ pub record BeginsTruth (macros : Macros) (level : ℕ) (ts : List Token) (holds 
 -- the symbols of a list are an expression with this truth value
 pub record HasTruth (macros : Macros) (ts : List Token) (holds : Bool) : Type 0 where
   pub symbols : List Symbol
-  pub stands : StandFor macros ts symbols
+  pub stand_for : StandFor macros ts symbols
   pub evaluated : (at : Place) → EvaluatesSymbols at symbols (Ok holds)

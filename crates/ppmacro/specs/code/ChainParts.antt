@@ -16,7 +16,7 @@ led_by kind t None ts = parts_after kind (Some (hash_sign t)) ts
 -- A chain joined to the first of others.
 abbrev pub joined_to : Chain → List Chain → List Chain
 joined_to c [] = c ∷ []
-joined_to c (d ∷ ds) = record { flag = c.flag; operands = c.operands ++ d.operands } ∷ ds
+joined_to c (d ∷ ds) = record { space = c.space; operands = c.operands ++ d.operands } ∷ ds
 
 -- Chains before other chains. If `##` is between them, the last of the one is joined to the first of the other.
 abbrev pub followed : Bool → List Chain → List Chain → List Chain

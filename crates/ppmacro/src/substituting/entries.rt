@@ -13,17 +13,17 @@ use crate::invocation::{Arguments, MacroName};
 use crate::patterns::{Entry, Pattern};
 use crate::substituting::hsadd::hsadd_names;
 use crate::substituting::operands::expansion;
-use crate::substituting::{flag_before, push_chain, push_token, substitute};
+use crate::substituting::{push_spaced, push_token, space_before, substitute};
 use pptext::{Fault, Memory};
 use std::alloc::{AllocError, Global};
 
 /// Returns the leading-space flag of an entry.
-fn flag_of(entry: &Entry) -> bool
-    ensures { result ≡ (entry_chain entry.now).flag }
+fn space_of(entry: &Entry) -> bool
+    ensures { result ≡ (entry_chain entry.now).space }
 {
     match entry {
         Entry::Tok(token) => token.token().space,
-        Entry::Param(flag, _) => *flag,
+        Entry::Param(space, _) => *space,
     }
 }
 
@@ -48,25 +48,25 @@ fn count_all(arguments: Arguments, entries: &[Entry]) -> usize {
 fn push_entry<'x, 'a: 'x>(
     sets: &HideSets,
     arguments: Arguments<'_, 'x>,
-    flag: bool,
+    space: bool,
     entry: &Entry<'a>,
     tokens: &mut Vec<Hidden<'x>>,
 ) -> Result<bool, AllocError>
     requires arguments { ArgumentsKnown sets.now arguments.given.now arguments.expanded.now }
     requires tokens { AllKnown sets.now tokens.old.items }
     ensures is { IfOk result (λ pending. (used : Place) → Ok (left_with sets.now tokens.new.items pending)
-        ≡ pushed (hidings sets.now tokens.old.items) flag (chain_tokens (arguments_in sets.now arguments.entry.given.now arguments.entry.expanded.now) used (entry_chain entry.now))) }
+        ≡ pushed (hidings sets.now tokens.old.items) space (chain_tokens (arguments_in sets.now arguments.entry.given.now arguments.entry.expanded.now) used (entry_chain entry.now))) }
     ensures known { OnOk result (AllKnown sets.now tokens.new.items) }
 {
     match entry {
         Entry::Tok(token) => {
-            push_token(sets, tokens, flag, token.token())?;
+            push_token(sets, tokens, space, token.token())?;
             Ok(false)
         }
         Entry::Param(_, index) => {
-            let pending = push_chain(
+            let pending = push_spaced(
                 tokens,
-                flag,
+                space,
                 expansion(arguments.given, arguments.expanded, *index),
             )?;
             Ok(pending)
@@ -91,8 +91,8 @@ fn entries_tokens<'x, 'a: 'x>(
     let mut pending = space;
     let mut first = true;
     for entry in entries {
-        let flag = flag_before(pending, first, flag_of(entry));
-        pending = push_entry(sets, arguments, flag, entry, &mut tokens)?;
+        let leading = space_before(pending, first, space_of(entry));
+        pending = push_entry(sets, arguments, leading, entry, &mut tokens)?;
         first = false;
     }
     Ok((tokens, pending))

@@ -5,7 +5,7 @@ ghost use Rattle.ppmacro.specs.Substitution.{argument_at, expanded_at, plain, af
 ghost use Rattle.pptext.specs.Errors.{Returns};
 ghost use Rattle.ppmacro.specs.Substituting.{lists_of, option_of, options_of, ArgumentsKnown, arguments_in, tokens_of, ListsKnown};
 
-use crate::hidden_token::{Expansion, Hidden};
+use crate::hidden_token::{ArgumentExpansion, Hidden};
 use crate::hide_sets::HideSets;
 use crate::invocation::Arguments;
 use crate::macros::Operand;
@@ -27,24 +27,24 @@ fn argument<'g, 'a>(given: &'g [Vec<Hidden<'a>>], index: usize) -> &'g [Hidden<'
 /// Returns the tokens of an argument's expansion.
 fn expansion_tokens<'g, 'a>(
     argument: &'g [Hidden<'a>],
-    expansion: &'g Expansion<'a>,
+    expansion: &'g ArgumentExpansion<'a>,
 ) -> &'g [Hidden<'a>]
     ensures { result.now ≡ unwrap_or (option_of argument.now expansion.now) [] }
 {
     match expansion {
-        Expansion::Unused => {
+        ArgumentExpansion::Unused => {
             let none: &'g [Hidden<'a>] = Default::default();
             none
         }
-        Expansion::AsGiven => argument,
-        Expansion::Made(tokens) => tokens.as_slice(),
+        ArgumentExpansion::AsGiven => argument,
+        ArgumentExpansion::Made(tokens) => tokens.as_slice(),
     }
 }
 
 /// Returns the tokens of the expansion of the argument with this index.
 pub(crate) fn expansion<'g, 'a>(
     given: &'g [Vec<Hidden<'a>>],
-    expanded: &'g [Expansion<'a>],
+    expanded: &'g [ArgumentExpansion<'a>],
     index: usize,
 ) -> &'g [Hidden<'a>]
     ensures { result.now ≡ expanded_at (options_of given.now expanded.now) index }
@@ -116,7 +116,7 @@ pub(crate) fn operand_tokens<'x, 'a: 'x>(
             }
             Ok(Vec::from_clones(alloc, expansion(given, expanded, *index))?)
         }
-        Operand::Rest(index) => Ok(Vec::from_clones(alloc, argument(given, *index))?),
+        Operand::VariadicAfterComma(index) => Ok(Vec::from_clones(alloc, argument(given, *index))?),
     }
 }
 

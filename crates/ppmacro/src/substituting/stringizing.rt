@@ -45,7 +45,7 @@ fn push_spelled(text: &mut Vec<u8>, token: &Hidden) -> Result<(), AllocError>
 }
 
 /// Appends a token's spelling, after a space if the token has a leading-space flag and isn't the first.
-fn push_with_flag(text: &mut Vec<u8>, first: bool, token: &Hidden) -> Result<(), AllocError>
+fn push_with_space(text: &mut Vec<u8>, first: bool, token: &Hidden) -> Result<(), AllocError>
     ensures { OnOk result (text.new.items ≡ text.old.items ++ (spelled_space first token.now.token ++ spelled_in_string token.now.token)) }
 {
     if token.space() && !first {
@@ -62,7 +62,7 @@ fn string_text(alloc: Global, argument: &[Hidden]) -> Result<Vec<u8>, AllocError
     text.push(b'"')?;
     let mut first = true;
     for hidden in argument {
-        push_with_flag(&mut text, first, hidden)?;
+        push_with_space(&mut text, first, hidden)?;
         first = false;
     }
     text.push(b'"')?;

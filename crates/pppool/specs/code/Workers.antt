@@ -2,7 +2,7 @@
 -- of private types cite this.
 use Rattle.std.specs.Prelude.{◌≡◌, ℕ, ◌<◌, ◌/◌, List, [], ◌∷◌, length, All, Option, Some, None, IfSome, IsSome, true, slice_index_or, slice_set}
 use Rattle.std.specs.List.{AllZip}
-use Rattle.ppshelf.specs.Files.{Files, TableView, PassView}
+use Rattle.ppshelf.specs.Files.{Files, ShelfView, PassView}
 use Rattle.ppunit.specs.declared.units.Unit.{Unit as UnitOfList}
 use Rattle.ppunit.specs.declared.units.Setting.{Setting}
 use Rattle.ppunit.specs.declared.units.UnitOut.{UnitOut}
@@ -16,12 +16,12 @@ pub record UnitResult : Type 0 where
   pub out : UnitOut
 
 -- the output is what is kept of the value of the unit with its number
-pub record IsUnitResult (retain : Retain) (stock : TableView) (files : Files) (setting : Setting) (units : List UnitOfList) (a : UnitResult) : Type 0 where
+pub record IsUnitResult (retain : Retain) (shelf : ShelfView) (files : Files) (setting : Setting) (units : List UnitOfList) (a : UnitResult) : Type 0 where
   pub within : a.unit < length units
-  pub value : (d : UnitOfList) → IsRetained retain stock.names files setting (slice_index_or units a.unit d) a.out
+  pub value : (d : UnitOfList) → IsRetained retain shelf.names files setting (slice_index_or units a.unit d) a.out
 
-abbrev pub AreUnitResults : Retain → TableView → Files → Setting → List UnitOfList → List UnitResult → Type 0
-AreUnitResults retain stock files setting units results = All (λ a. IsUnitResult retain stock files setting units a) results
+abbrev pub AreUnitResults : Retain → ShelfView → Files → Setting → List UnitOfList → List UnitResult → Type 0
+AreUnitResults retain shelf files setting units results = All (λ a. IsUnitResult retain shelf files setting units a) results
 
 -- the numbers of the units that have outputs
 abbrev pub result_units : List UnitResult → List ℕ
@@ -34,17 +34,17 @@ AllHaveResults count block blocks units = (i : ℕ) → i < count → 0 < times 
 
 -- The result of a worker: a seat that found no block left, a pass, and outputs, over what the pass knows, of all units
 -- of the blocks that the seat claimed.
-pub record IsDone (retain : Retain) (desk : DeskId) (stock : TableView) (setting : Setting)
+pub record IsDone (retain : Retain) (desk : DeskId) (shelf : ShelfView) (setting : Setting)
     (units : List UnitOfList) (block : ℕ) (seat : SeatView) (pass : PassView) (results : List UnitResult) : Type 0 where
   pub at_desk : seat.desk ≡ desk
   pub found_empty : seat.found_empty ≡ true
-  pub of_shelf : pass.shelf ≡ stock
-  pub values : AreUnitResults retain stock pass.files setting units results
+  pub of_shelf : pass.shelf ≡ shelf
+  pub values : AreUnitResults retain shelf pass.files setting units results
   pub all : AllHaveResults (length units) block seat.claims (result_units results)
 
 -- each slot is empty or has what is kept of its unit's value
-abbrev pub FitSlots : Retain → TableView → Files → Setting → List UnitOfList → List (Option UnitOut) → Type 0
-FitSlots retain stock files setting units slots = AllZip (λ unit slot. IfSome slot (λ out. IsRetained retain stock.names files setting unit out)) units slots
+abbrev pub FitSlots : Retain → ShelfView → Files → Setting → List UnitOfList → List (Option UnitOut) → Type 0
+FitSlots retain shelf files setting units slots = AllZip (λ unit slot. IfSome slot (λ out. IsRetained retain shelf.names files setting unit out)) units slots
 
 -- the slots with these outputs in the slots of their units
 abbrev pub filled_slots : List (Option UnitOut) → List UnitResult → List (Option UnitOut)

@@ -135,7 +135,7 @@ pub(crate) fn push_unit(
 }
 
 /// Returns the texts that `push_unit` writes of these units: `1 x | 0 2 | ok; | 0 | 6 0:1:1 a.c; `.
-pub(crate) fn told(alloc: Global, outs: &[UnitOut]) -> Result<Vec<u8>, AllocError> {
+pub(crate) fn as_text(alloc: Global, outs: &[UnitOut]) -> Result<Vec<u8>, AllocError> {
     let mut text = Vec::new(alloc);
     for out in outs {
         push_unit(alloc, &mut text, out)?;

@@ -5,7 +5,7 @@ ghost use Rattle.pptext.specs.declared.sources.Profile.TheVariants.{C11};
 ghost use Rattle.ppshelf.specs.Files.{most_rows};
 ghost use Rattle.ppunit.specs.Unit.{IsUnitOf};
 
-use super::lists::{setting_of, shelf_of, told, units_of};
+use super::lists::{as_text, setting_of, shelf_of, units_of};
 use super::stage::{Change, Meeting, Scene, Stage};
 use pppool::{Batch, Retain, run, run_retaining};
 use ppshelf::{Pass, ReadFault, Shelf};
@@ -19,7 +19,7 @@ use std::thread::Threads;
 
 /// The number of workers, the size of their blocks, and what is kept of the outputs.
 #[derive(Clone, Copy)]
-struct Crew {
+struct Parallelism {
     workers: usize,
     block: usize,
     retain: Retain,
@@ -32,7 +32,7 @@ pub(crate) struct Case {
     pub names: &'static [&'static str],
     pub scene: Scene,
     pub units: &'static [(usize, &'static [&'static str])],
-    pub told: &'static str,
+    pub as_text: &'static str,
 }
 
 /// Runs units, by `run` if everything is kept, and otherwise by `run_retaining`.
@@ -44,7 +44,7 @@ fn run_once<'a, R: Threads + Sync>(
     disk: &Stage,
     setting: &Setting,
     units: &'a [Unit],
-    crew: Crew,
+    parallelism: Parallelism,
 ) -> Result<Vec<UnitOut<'a>>, Memory>
     requires pass { pass.old.shelf ≡ shelf.now }
     requires count { length units.now ≤ most_rows }
@@ -52,7 +52,10 @@ fn run_once<'a, R: Threads + Sync>(
     requires rows { All (IsUnitOf (length shelf.now.names) setting.now.profile) units.now }
     ensures { pass.new.shelf ≡ shelf.now }
 {
-    let (workers, block) = (crew.workers.clamp(1, 64), crew.block.clamp(1, 1024));
+    let (workers, block) = (
+        parallelism.workers.clamp(1, 64),
+        parallelism.block.clamp(1, 1024),
+    );
     let batch = Batch {
         shelf,
         disk,
@@ -62,7 +65,7 @@ fn run_once<'a, R: Threads + Sync>(
         workers,
         block,
     };
-    match crew.retain {
+    match parallelism.retain {
         Retain::Everything => run(rt, alloc, pass, &batch),
         Retain::WithoutItems => run_retaining(rt, alloc, pass, &batch, Retain::WithoutItems),
     }
@@ -77,14 +80,23 @@ fn run_over<'a, R: Threads + Sync + Abort>(
     disk: &Stage,
     setting: &Setting,
     units: &'a [Unit],
-    crew: Crew,
+    parallelism: Parallelism,
 ) -> Result<Vec<UnitOut<'a>>, Memory>
     requires count { length units.now ≤ most_rows }
     requires profile { shelf.now.profile ≡ setting.now.profile }
     requires rows { All (IsUnitOf (length shelf.now.names) setting.now.profile) units.now }
 {
     let mut pass = shelf.pass()?;
-    let first = run_once(rt, alloc, shelf, &mut pass, disk, setting, units, crew);
+    let first = run_once(
+        rt,
+        alloc,
+        shelf,
+        &mut pass,
+        disk,
+        setting,
+        units,
+        parallelism,
+    );
     if first.is_ok() || disk.fault == ReadFault::Unreadable {
         // A run fails if one of its reads has no memory.
         assert!(rt;
@@ -94,41 +106,58 @@ fn run_over<'a, R: Threads + Sync + Abort>(
         );
         return first;
     }
-    run_once(rt, alloc, shelf, &mut pass, disk, setting, units, crew)
+    run_once(
+        rt,
+        alloc,
+        shelf,
+        &mut pass,
+        disk,
+        setting,
+        units,
+        parallelism,
+    )
 }
 
 /// Runs units, and returns the text of their outputs.
-fn told_over<R: Threads + Sync + Abort>(
+fn text_over<R: Threads + Sync + Abort>(
     rt: &R,
     alloc: Global,
     shelf: &Shelf<Stage>,
     disk: &Stage,
     setting: &Setting,
     units: &[Unit],
-    crew: Crew,
+    parallelism: Parallelism,
 ) -> Result<Vec<u8>, Memory>
     requires count { length units.now ≤ most_rows }
     requires profile { shelf.now.profile ≡ setting.now.profile }
     requires rows { All (IsUnitOf (length shelf.now.names) setting.now.profile) units.now }
 {
-    let outs = run_over(rt, alloc, shelf, disk, setting, units, crew)?;
-    Ok(told(alloc, outs.as_slice())?)
+    let outs = run_over(rt, alloc, shelf, disk, setting, units, parallelism)?;
+    Ok(as_text(alloc, outs.as_slice())?)
 }
 
 /// Runs the units with these files and definitions, and returns the text of their outputs.
-fn told_by<R: Threads + Sync + Abort>(
+fn text_by<R: Threads + Sync + Abort>(
     rt: &R,
     alloc: Global,
     shelf: &Shelf<Stage>,
     disk: &Stage,
     rows: &[(usize, &[&str])],
-    crew: Crew,
+    parallelism: Parallelism,
 ) -> Result<Vec<u8>, Fail>
     requires { shelf.now.profile ≡ C11 }
 {
     let setting = setting_of(alloc)?;
     let units = units_of(alloc, shelf, rows)?;
-    Ok(told_over(rt, alloc, shelf, disk, &setting, units.as_slice(), crew)?)
+    Ok(text_over(
+        rt,
+        alloc,
+        shelf,
+        disk,
+        &setting,
+        units.as_slice(),
+        parallelism,
+    )?)
 }
 
 /// Runs a case over a new file table, and returns the text of its outputs.
@@ -137,10 +166,10 @@ fn given<R: Threads + Sync + Abort>(
     alloc: Global,
     case: &Case,
     disk: &Stage,
-    crew: Crew,
+    parallelism: Parallelism,
 ) -> Result<Vec<u8>, Fail> {
     let shelf = shelf_of(alloc, case.names)?;
-    told_by(rt, alloc, &shelf, disk, case.units, crew)
+    text_by(rt, alloc, &shelf, disk, case.units, parallelism)
 }
 
 /// Asserts the outputs of a case.
@@ -149,10 +178,10 @@ fn assert_gives<R: Threads + Sync + Abort>(
     alloc: Global,
     case: &Case,
     disk: &Stage,
-    crew: Crew,
+    parallelism: Parallelism,
 ) -> Result<(), Fail> {
-    let text = given(rt, alloc, case, disk, crew)?;
-    let (found, wanted) = (text.as_slice(), case.told);
+    let text = given(rt, alloc, case, disk, parallelism)?;
+    let (found, wanted) = (text.as_slice(), case.as_text);
     assert!(rt; found == wanted.as_bytes(), "{found:?} for {wanted}");
     Ok(())
 }
@@ -170,12 +199,12 @@ const SEVEN: Case = Case {
         (5, &[]),
         (6, &[]),
     ],
-    told: "0 | 0 | ok; 1 | 1 | ok; 2 | 2 | ok; 3 | 3 | ok; 4 | 4 | ok; 5 | 5 | ok; | 6 | 6 6:1:1 u6.c; ",
+    as_text: "0 | 0 | ok; 1 | 1 | ok; 2 | 2 | ok; 3 | 3 | ok; 4 | 4 | ok; 5 | 5 | ok; | 6 | 6 6:1:1 u6.c; ",
 };
 
 /// The case `SEVEN` without items.
 const BARE: Case = Case {
-    told: "| 0 | ok; | 1 | ok; | 2 | ok; | 3 | ok; | 4 | ok; | 5 | ok; | 6 | 6 6:1:1 u6.c; ",
+    as_text: "| 0 | ok; | 1 | ok; | 2 | ok; | 3 | ok; | 4 | ok; | 5 | ok; | 6 | 6 6:1:1 u6.c; ",
     ..SEVEN
 };
 
@@ -196,18 +225,18 @@ const CREWS: &[(usize, usize, Retain, Case)] = &[
 #[test]
 fn answers_come_in_the_lists_order(rt: HostRuntime) -> Result<(), Fail> {
     for &(workers, block, retain, case) in CREWS {
-        let crew = Crew {
+        let parallelism = Parallelism {
             workers,
             block,
             retain,
         };
-        assert_gives(&rt, rt.alloc(), &case, &Stage::new(case.scene), crew)?;
+        assert_gives(&rt, rt.alloc(), &case, &Stage::new(case.scene), parallelism)?;
     }
     Ok(())
 }
 
 /// Two workers with blocks of one unit.
-const TWO: Crew = Crew {
+const TWO: Parallelism = Parallelism {
     workers: 2,
     block: 1,
     retain: Retain::Everything,
@@ -248,7 +277,7 @@ pub(crate) const OVER_ONE_HEADER: Case = Case {
     names: &["a.c", "b.c", "h.h"],
     scene: Scene::OneHeader,
     units: &[(0, &[]), (1, &[])],
-    told: "1 | 0 2 | ok; 1 | 1 2 | ok; ",
+    as_text: "1 | 0 2 | ok; 1 | 1 2 | ok; ",
 };
 
 #[test]
@@ -264,14 +293,14 @@ fn workers_find_one_content(rt: HostRuntime) -> Result<(), Fail> {
 /// Two units of the first file, one with no definition and one with `H`.
 const TWICE: &[(usize, &[&str])] = &[(0, &[]), (0, &["H"])];
 
-const GUARDED_TOLD: &str = "int a ; | 0 1 | ok; | 0 1 | ok; ";
+const GUARDED_TEXT: &str = "int a ; | 0 1 | ok; | 0 1 | ok; ";
 
 /// A file that includes a guarded header twice.
 const GUARDED: Case = Case {
     names: &["a.c", "h.h"],
     scene: Scene::Guarded,
     units: TWICE,
-    told: GUARDED_TOLD,
+    as_text: GUARDED_TEXT,
 };
 
 /// Reads that fail, the number of reads, and the outputs of the two units. A file that was read keeps its content. A
@@ -289,19 +318,19 @@ const FAILING: &[(u64, ReadFault, u64, &str)] = &[
         2,
         "| 0 1 | 6 0:1:1 h.h; | 0 1 | 6 0:1:1 h.h; ",
     ),
-    (3, ReadFault::Unreadable, 2, GUARDED_TOLD),
-    (1, ReadFault::Memory, 3, GUARDED_TOLD),
-    (2, ReadFault::Memory, 3, GUARDED_TOLD),
+    (3, ReadFault::Unreadable, 2, GUARDED_TEXT),
+    (1, ReadFault::Memory, 3, GUARDED_TEXT),
+    (2, ReadFault::Memory, 3, GUARDED_TEXT),
 ];
 
 #[test]
 fn a_read_fails(rt: HostRuntime) -> Result<(), Fail> {
     let alloc = rt.alloc();
-    for &(failing, fault, reads, told) in FAILING {
+    for &(failing, fault, reads, as_text) in FAILING {
         let mut disk = Stage::new(GUARDED.scene);
         (disk.failing, disk.fault) = (failing, fault);
-        let crew = Crew { workers: 1, ..TWO };
-        assert_gives(&rt, alloc, &Case { told, ..GUARDED }, &disk, crew)?;
+        let parallelism = Parallelism { workers: 1, ..TWO };
+        assert_gives(&rt, alloc, &Case { as_text, ..GUARDED }, &disk, parallelism)?;
         assert!(rt; disk.reads.load(SeqCst) == reads, "read {failing}");
     }
     Ok(())
@@ -314,30 +343,30 @@ const AGAIN: &[Case] = &[
         names: &["a.c"],
         scene: Scene::OneToken,
         units: TWICE,
-        told: "x | 0 | ok; x | 0 | ok; ",
+        as_text: "x | 0 | ok; x | 0 | ok; ",
     },
     Case {
         names: &["a.c"],
         scene: Scene::Invocation,
         units: TWICE,
-        told: "2 * 9 * g | 0 | ok; 2 * 9 * g | 0 | ok; ",
+        as_text: "2 * 9 * g | 0 | ok; 2 * 9 * g | 0 | ok; ",
     },
     GUARDED,
     Case {
         names: &["src/a.c", "src/x.h", "inc/x.h"],
         scene: Scene::Searched,
         units: TWICE,
-        told: "1 2 2 | 0 1 2 | 31 0:4:1 y.h; 1 2 2 | 0 1 2 | 31 0:4:1 y.h; ",
+        as_text: "1 2 2 | 0 1 2 | 31 0:4:1 y.h; 1 2 2 | 0 1 2 | 31 0:4:1 y.h; ",
     },
 ];
 
 #[test]
-fn a_run_is_made_again_after_want_of_memory(rt: HostRuntime) -> Result<(), Fail> {
+fn a_run_is_repeated_after_out_of_memory(rt: HostRuntime) -> Result<(), Fail> {
     for case in AGAIN {
         for workers in 1..=2 {
             let mut disk = Stage::new(case.scene);
             disk.fault = ReadFault::Memory;
-            assert_gives(&rt, rt.alloc(), case, &disk, Crew { workers, ..TWO })?;
+            assert_gives(&rt, rt.alloc(), case, &disk, Parallelism { workers, ..TWO })?;
         }
     }
     Ok(())

@@ -98,7 +98,7 @@ fn assert_hashed(rt: &impl Abort, alloc: Global, hashing: Hashing) -> Result<(),
 }
 
 #[test]
-fn joins_sets_also_where_memory_is_refused(rt: HostRuntime) -> Result<(), Fail> {
+fn joins_sets_if_an_allocation_fails(rt: HostRuntime) -> Result<(), Fail> {
     for hashing in [Hashing::fixed(), drawn(&rt)?] {
         assert_hashed(&rt, rt.alloc(), hashing)?;
     }

@@ -28,7 +28,7 @@ fn made_and_turned<'a>(
 ) -> Result<Hidden<'a>, Memory> {
     let hide = set_of(rt, sets, b"a")?;
     let mut hidden = Hidden::synthesized(alloc, name_at_hash(alloc)?, sets.empty())?;
-    hidden.flag(true);
+    hidden.set_space(true);
     hidden.set_use(USED, hide);
     Ok(hidden)
 }
@@ -56,7 +56,7 @@ fn push_words(
 }
 
 #[test]
-fn tokens_in_flight_are_those_of_the_file(rt: HostRuntime) -> Result<(), Fail> {
+fn hidden_tokens_are_those_of_the_file(rt: HostRuntime) -> Result<(), Fail> {
     let source = source_of(&rt, rt.alloc(), b"a +1")?;
     let sets = HideSets::new(rt.alloc())?;
     let mut text = Vec::new(rt.alloc());

@@ -2,14 +2,14 @@
 ghost use Rattle.std.specs.Prelude.{◌≡◌, IfOk, map, Some};
 ghost use Rattle.ppmacro.specs.HideSets.{IsKnown, AllKnown};
 ghost use Rattle.ppmacro.specs.Substituting.{ListsKnown, ArgumentsKnown};
-ghost use Rattle.ppmacro.specs.declared.hidden_token.Expansion.TheVariants.{Made};
+ghost use Rattle.ppmacro.specs.declared.hidden_token.ArgumentExpansion.TheVariants.{Made};
 
 use super::{HASH, has, is_hidden_by, macro_of, push_spelled, set_of, sources_of, table_of};
 use crate::defining::{direct, source_of};
 use crate::showing::{assert_shown, push_fault, push_fields};
 use ppmacro::{
-    Arguments, Chain, Expansion, Hidden, HideSets, Macro, MacroName, Pattern, Set, Table, paste,
-    stringize, substitute, substitute_pattern, tells_each_kind,
+    ArgumentExpansion, Arguments, Chain, Hidden, HideSets, Macro, MacroName, Pattern, Set, Table,
+    paste, stringize, substitute, substitute_pattern, tells_each_kind,
 };
 use pptext::{Fault, Memory, Place, Profile, Source, Token};
 use std::alloc::{AllocError, Global};
@@ -64,12 +64,12 @@ fn lists_of<'a>(
 fn as_they_are<'a>(
     alloc: Global,
     lists: Vec<Vec<Hidden<'a>>>,
-) -> Result<Vec<Expansion<'a>>, AllocError>
+) -> Result<Vec<ArgumentExpansion<'a>>, AllocError>
     ensures { IfOk result (λ v. v.items ≡ map (λ l. Made l) lists.entry.items) }
 {
     lists
         .into_iter()
-        .map(|list| Expansion::Made(list))
+        .map(|list| ArgumentExpansion::Made(list))
         .collect(alloc)
 }
 
@@ -217,7 +217,7 @@ fn push_all_placed(
 
 /// Returns a replacement as text, with `+` if a flag is pending. If arguments are hidden by `g`, the locations follow. Or returns
 /// the fault as text.
-fn told(
+fn as_text(
     rt: &impl Abort,
     alloc: Global,
     sets: &HideSets,
@@ -251,11 +251,11 @@ fn told_over(
     let hide = set_of(rt, sets, names)?;
     let base = set_of(rt, sets, b"b")?;
     let answer = replaced(rt, alloc, sets, of, texts, by, (hide, base, space))?;
-    Ok(told(rt, alloc, sets, &answer, hides)?)
+    Ok(as_text(rt, alloc, sets, &answer, hides)?)
 }
 
 /// Returns the replacement of an invocation as text, with new hide sets.
-fn told_of(
+fn text_of(
     rt: &impl Abort,
     alloc: Global,
     of: (&Table, &Macro),
@@ -289,12 +289,12 @@ fn told_in(
 ) -> Result<Vec<u8>, Fail> {
     let table = table_by(rt, alloc, profile, line)?;
     let named = macro_of(&table, line.tokens()).ok_or("no macro")?;
-    Ok(told_of(rt, alloc, (&table, named), texts, with)?)
+    Ok(text_of(rt, alloc, (&table, named), texts, with)?)
 }
 
 /// Asserts the replacement of an invocation as text with the pending flag, or its fault. The macro is defined with the rules of
 /// this profile.
-fn assert_told(
+fn assert_text(
     rt: &impl Abort,
     alloc: Global,
     profile: Profile,
@@ -582,7 +582,7 @@ fn replaces_by_the_replacement_list(rt: HostRuntime) -> Result<(), Fail> {
         for cases in [REPLACED, MARKED, REFUSED, PATTERNS, PASTED] {
             for &(line, texts, space, wanted) in cases {
                 let with = (by, false, space);
-                assert_told(&rt, rt.alloc(), Profile::C11, (line, texts), with, wanted)?;
+                assert_text(&rt, rt.alloc(), Profile::C11, (line, texts), with, wanted)?;
             }
         }
     }
@@ -594,7 +594,7 @@ fn lays_a_rest_or_takes_the_comma_away(rt: HostRuntime) -> Result<(), Fail> {
     for by in [By::Chains, By::Pattern] {
         for &(line, texts, space, wanted) in RESTS {
             let with = (by, false, space);
-            assert_told(&rt, rt.alloc(), Profile::Gnu, (line, texts), with, wanted)?;
+            assert_text(&rt, rt.alloc(), Profile::Gnu, (line, texts), with, wanted)?;
         }
     }
     Ok(())
@@ -605,7 +605,7 @@ fn hides_and_places_what_it_gives(rt: HostRuntime) -> Result<(), Fail> {
     let line = "#define f(a,b) a a##a a##1 #a x b##a";
     let wanted = "y yy y1 \"y\" x y |- g1 g1 -1 -28 -31 g1";
     for by in [By::Chains, By::Pattern] {
-        assert_told(
+        assert_text(
             &rt,
             rt.alloc(),
             Profile::C11,
@@ -619,11 +619,11 @@ fn hides_and_places_what_it_gives(rt: HostRuntime) -> Result<(), Fail> {
 
 /// The tokens of a rest keep their hide sets, and the comma before them has the empty one.
 #[test]
-fn lays_a_rest_behind_the_comma(rt: HostRuntime) -> Result<(), Fail> {
+fn puts_a_variable_argument_after_the_comma(rt: HostRuntime) -> Result<(), Fail> {
     let line = "#define e(f,a...) f,##a";
     let wanted = "1, 2+ |- g1 -20 g1 g2";
     for by in [By::Chains, By::Pattern] {
-        assert_told(
+        assert_text(
             &rt,
             rt.alloc(),
             Profile::Gnu,

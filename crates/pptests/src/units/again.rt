@@ -33,6 +33,6 @@ const GIVEN: &[Case] = &[
 ];
 
 #[test]
-fn gives_the_same_after_want_of_memory(rt: HostRuntime) -> Result<(), Fail> {
+fn gives_the_same_after_out_of_memory(rt: HostRuntime) -> Result<(), Fail> {
     assert_units(&rt, rt.alloc(), READ, GIVEN)
 }

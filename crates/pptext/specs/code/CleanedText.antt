@@ -14,7 +14,7 @@ InLine codes line at = (k : ℕ) → line ≤ k → k < at → slice_index codes
 -- the characters, and the index of the last one whose location was asked for
 pub record Reading : Type 0 where
   pub chars : List Char
-  pub passed : ℕ
+  pub consumed : ℕ
 
 -- the text of a file's bytes, or the location of the backslash that ends them
 abbrev pub Cleans : ℕ → List ℕ → Result (List Char) Place → Type 0
@@ -46,7 +46,7 @@ end_from file raw offset = splice_at_end (logical_from file raw offset)
 -- A position in a text: the index of the next character, the index of the byte in the file from which it is sought, the number of bytes between
 -- that byte and the next line note, the table's entry after that line note, and the byte's location.
 pub record TextCursor : Type 0 where
-  pub passed : ℕ
+  pub consumed : ℕ
   pub offset : ℕ
   pub plain : ℕ
   pub next : ℕ
@@ -57,7 +57,7 @@ pub record TextCursor : Type 0 where
 pub record IsCursorAt (file : ℕ) (raw line_notes : List ℕ) (c : TextCursor) : Type 0 where
   pub within : c.offset ≤ length raw
   pub at : c.at ≡ place_after (start file) (take c.offset raw)
-  pub rest : drop c.passed (text_from file raw 0) ≡ text_from file raw c.offset
+  pub rest : drop c.consumed (text_from file raw 0) ≡ text_from file raw c.offset
   pub ends : end_from file raw c.offset ≡ None
   pub stretch : PlainRun (lacks_newline raw) (drop c.offset raw) c.plain
   pub next : c.next ≤ c.offset + 1

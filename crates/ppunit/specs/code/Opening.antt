@@ -6,7 +6,7 @@ use Rattle.pptext.specs.Lines.{LogicalLine}
 use Rattle.pptext.specs.Tokens.{fault}
 use Rattle.ppexpand.specs.Budget.{is_exhausted}
 use Rattle.ppshelf.specs.Content.{Content, unreadable, IsRead}
-use Rattle.ppshelf.specs.Files.{Files, TableView, file_at}
+use Rattle.ppshelf.specs.Files.{Files, ShelfView, file_at}
 use Rattle.ppshelf.specs.Names.{name_in}
 use Rattle.ppunit.specs.declared.states.FileContext.{FileContext}
 use Rattle.ppunit.specs.States.{State, file_context, with_one_spent, literal}
@@ -27,19 +27,19 @@ pub record Entered : Type 0 where
 -- why a file of this name isn't opened: it is too deep, or else the budget is exhausted
 abbrev pub IsRefusedOpening : ℕ → Place → List ℕ → State → Fault → Type 0
 IsRefusedOpening depth at name s f =
-    ((deepest < depth) × (f ≡ fault 32 at name)) ⊎ ((depth ≤ deepest) × (is_exhausted s.left ≡ true) × (f ≡ fault 35 at []))
+    ((deepest < depth) × (f ≡ fault 32 at name)) ⊎ ((depth ≤ deepest) × (is_exhausted s.remaining ≡ true) × (f ≡ fault 35 at []))
 
 -- one opening is spent from the budget, unless there is such a fault, which changes nothing
 abbrev pub SpendsOpening : ℕ → Place → List ℕ → State → State → Option Fault → Type 0
-SpendsOpening depth at name s t None = (depth ≤ deepest) × (is_exhausted s.left ≡ false) × (t ≡ with_one_spent s)
+SpendsOpening depth at name s t None = (depth ≤ deepest) × (is_exhausted s.remaining ≡ false) × (t ≡ with_one_spent s)
 SpendsOpening depth at name s t (Some f) = (t ≡ s) × IsRefusedOpening depth at name s f
 
 -- the file at index `row` has these lines
-abbrev pub HasLines : TableView → Files → ℕ → List LogicalLine → Type 0
+abbrev pub HasLines : ShelfView → Files → ℕ → List LogicalLine → Type 0
 HasLines shelf files row lines = (content : Content) × (file_at files row ≡ Some content) × IsRead shelf.profile row content (Ok lines)
 
 -- the file can't be read, a fault located at `at`, or its lines have a fault
-abbrev pub HasFault : TableView → Files → ℕ → Place → Fault → Type 0
+abbrev pub HasFault : ShelfView → Files → ℕ → Place → Fault → Type 0
 HasFault shelf files row at f =
     ((file_at files row ≡ Some unreadable) × (f ≡ fault 6 at (name_in shelf.names row)))
     ⊎ ((content : Content) × (file_at files row ≡ Some content) × IsRead shelf.profile row content (Err f))

@@ -8,9 +8,9 @@ use Rattle.ppexpand.specs.Expansion.{IsExpansion}
 use Rattle.ppunit.specs.States.{State}
 
 -- the expansion of the operands, or the fault of the expansion, and the remaining budget
-pub record ExpandsOperands (s : State) (operands : List Token) (after : Option ℕ) (r : Result (List Token) Fault) : Type 0 where
+pub record ExpandsOperands (s : State) (operands : List Token) (remaining_after : Option ℕ) (r : Result (List Token) Fault) : Type 0 where
   pub expanded : Expanded
-  pub expands : IsExpansion s.macros s.env s.left operands expanded
-  pub leaves : after ≡ expanded.left
+  pub expands : IsExpansion s.macros s.env s.remaining operands expanded
+  pub leaves : remaining_after ≡ expanded.remaining
   pub fault : expanded.fault ≡ result_err r
   pub tokens : IfOk r (λ tokens. tokens ≡ expanded.tokens)

@@ -157,16 +157,16 @@ pub record BranchesAt (lines : List LogicalLine) (index : ℕ) (ps : Parts) (bs 
 
 -- whether processing continues after a branch line or `#endif` of the file at index `row`, or the line's fault, and the
 -- remaining budget; a condition decides if the line has one
-abbrev pub EntersIf : Search → ℕ → Bool → State → LogicalLine → Option ℕ → Result Bool Fault → Type 0
-EntersIf search row true s line after taken = Decides search row s line after taken
-EntersIf search row false s line after taken = DecidesFreely s (Ok true) after taken
+abbrev pub ContinuesIf : Search → ℕ → Bool → State → LogicalLine → Option ℕ → Result Bool Fault → Type 0
+ContinuesIf search row true s line remaining_after taken = Decides search row s line remaining_after taken
+ContinuesIf search row false s line remaining_after taken = DecidesFreely s (Ok true) remaining_after taken
 
-abbrev pub EntersBy : Search → ℕ → Option Directive → State → LogicalLine → Option ℕ → Result Bool Fault → Type 0
-EntersBy search row None s line after taken = EntersIf search row false s line after taken
-EntersBy search row (Some d) s line after taken = EntersIf search row (has_condition d) s line after taken
+abbrev pub ContinuesBy : Search → ℕ → Option Directive → State → LogicalLine → Option ℕ → Result Bool Fault → Type 0
+ContinuesBy search row None s line remaining_after taken = ContinuesIf search row false s line remaining_after taken
+ContinuesBy search row (Some d) s line remaining_after taken = ContinuesIf search row (has_condition d) s line remaining_after taken
 
-abbrev pub Enters : Search → ℕ → State → LogicalLine → Option ℕ → Result Bool Fault → Type 0
-Enters search row s line after taken = EntersBy search row line.directive s line after taken
+abbrev pub ContinuesAfter : Search → ℕ → State → LogicalLine → Option ℕ → Result Bool Fault → Type 0
+ContinuesAfter search row s line remaining_after taken = ContinuesBy search row line.directive s line remaining_after taken
 
 -- the line at which processing continues after a group that isn't taken, and the state then
 abbrev pub FindsBranch : Search → ℕ → List LogicalLine → State → State → Branches → Parts → Outer → Result ℕ Fault → Type 0

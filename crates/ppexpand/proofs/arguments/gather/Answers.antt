@@ -49,18 +49,18 @@ loop-hidden-preserved-in-Comma c =
 pub loop-hidden-preserved : goal.loop-hidden-preserved
 loop-hidden-preserved c =
     let prefix = c.loop-hidden in
-    let flag : argument_role c.in-Some.hidden.token ≡ shown_mark c.argument_role.result = sym c.argument_role.ensures in
+    let space : argument_role c.in-Some.hidden.token ≡ shown_mark c.argument_role.result = sym c.argument_role.ensures in
     let list : (sets : HideSetPool) → AllKnown sets c.args.list.now → AllKnown sets (c.in-Some.hidden ∷ c.next.new.self) = λ sets known. subst (AllKnown sets) c.in-Some.ensures (c.loop-hidden.invariant.list_known sets known) in
     let step : (sets : HideSetPool)
     → gather prefix.depth prefix.commas (hiding sets c.in-Some.hidden ∷ hidings sets c.next.new.self)
     ≡ with_token (hiding sets c.in-Some.hidden) (gather c.match-argument_role.depth prefix.commas (hidings sets c.next.new.self)) = λ sets.
     elim c.match-argument_role.branch [
       | in-Close-2 w ↦ (let deeper : prefix.depth ≡ suc c.match-argument_role.depth = omega (arith, w.depth-is, w.if-depth-eq0.false) in
-          rw deeper (at_close c.match-argument_role.depth prefix.commas (hiding sets c.in-Some.hidden) (hidings sets c.next.new.self) (flag ∙ ap shown_mark w.in-Close.is)))
-      | in-Comma+else-separates w ↦ rw w.depth-is (at_comma prefix.depth prefix.commas (hiding sets c.in-Some.hidden) (hidings sets c.next.new.self) (flag ∙ ap shown_mark w.in-Comma.is) (sym w.separates.ensures ∙ w.if-separates.false))
+          rw deeper (at_close c.match-argument_role.depth prefix.commas (hiding sets c.in-Some.hidden) (hidings sets c.next.new.self) (space ∙ ap shown_mark w.in-Close.is)))
+      | in-Comma+else-separates w ↦ rw w.depth-is (at_comma prefix.depth prefix.commas (hiding sets c.in-Some.hidden) (hidings sets c.next.new.self) (space ∙ ap shown_mark w.in-Comma.is) (sym w.separates.ensures ∙ w.if-separates.false))
       | in-Open w ↦ (let deeper : c.match-argument_role.depth ≡ suc prefix.depth = omega (arith, w.depth-is) in
-          rw deeper (at_open prefix.depth prefix.commas (hiding sets c.in-Some.hidden) (hidings sets c.next.new.self) (flag ∙ ap shown_mark w.in-Open.is)))
-      | in-Inner w ↦ rw w.depth-is (at_inner prefix.depth prefix.commas (hiding sets c.in-Some.hidden) (hidings sets c.next.new.self) (flag ∙ ap shown_mark w.in-Inner.is))
+          rw deeper (at_open prefix.depth prefix.commas (hiding sets c.in-Some.hidden) (hidings sets c.next.new.self) (space ∙ ap shown_mark w.in-Open.is)))
+      | in-Inner w ↦ rw w.depth-is (at_inner prefix.depth prefix.commas (hiding sets c.in-Some.hidden) (hidings sets c.next.new.self) (space ∙ ap shown_mark w.in-Inner.is))
     ] in
     let within : c.match-argument_role.depth ≤ suc (length prefix.argument.items) = elim c.match-argument_role.branch [
       | in-Close-2 w ↦ omega (arith, w.depth-is, prefix.invariant.within)

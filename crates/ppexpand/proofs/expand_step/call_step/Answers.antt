@@ -13,7 +13,7 @@ returns-in_default-clause-is c =
     let s = c.args.sets.now in
     IfOk-weaker c.failed_at.result _ _
     (λ n is rest known. ap (step_in s rest) is
-    ∙ ap (λ a. call_step (hiding s c.args.head) c.args.replaced.now (fitting_in s a) (hiding s c.args.close.now) (hidings s rest)) (sym c.in_default.is))
+    ∙ ap (λ a. call_step (hiding s c.args.head) c.args.definition.now (fitting_in s a) (hiding s c.args.close.now) (hidings s rest)) (sym c.in_default.is))
     c.failed_at.ensures
 
 pub returns-in_default-clause-known : goal.returns-in_default-clause-known
@@ -23,19 +23,19 @@ pub returns-clause-is : goal.returns-clause-is
 returns-clause-is c rest rest_known =
     let s = c.args.sets.now in
     let head = c.args.head in
-    let keeps = c.in_ok-both.ensures.keeps in
-    let gains : set.insert (set_at c.common_hide_set.new.self c.in_ok-both.both) head.token.text ≡ gain_of (hide_of s head) (hide_of s c.args.close.now) head.token.text = ap (λ b. set.insert b head.token.text) c.in_ok-both.ensures.set in
-    ap Called (call_made (record { head = head; replaced = c.args.replaced; arguments = c.in-Some.arguments; both = c.in_ok-both.both })
+    let keeps = c.in_ok-base.ensures.keeps in
+    let gains : set.insert (set_at c.common_hide_set.new.self c.in_ok-base.base) head.token.text ≡ gain_of (hide_of s head) (hide_of s c.args.close.now) head.token.text = ap (λ b. set.insert b head.token.text) c.in_ok-base.ensures.set in
+    ap Called (call_made (record { head = head; definition = c.args.definition; arguments = c.in-Some.arguments; base = c.in_ok-base.base })
     rest _ keeps c.requires.head (subst (FittingKnown s) c.in-Some.is c.requires.arguments) rest_known gains)
-    ∙ ap (λ a. call_step (hiding s head) c.args.replaced.now (fitting_in s a) (hiding s c.args.close.now) (hidings s rest)) (sym c.in-Some.is)
+    ∙ ap (λ a. call_step (hiding s head) c.args.definition.now (fitting_in s a) (hiding s c.args.close.now) (hidings s rest)) (sym c.in-Some.is)
 
 pub returns-clause-known : goal.returns-clause-known
 returns-clause-known c rest rest_known =
-    let keeps = c.in_ok-both.ensures.keeps in (
+    let keeps = c.in_ok-base.ensures.keeps in (
       record {
         head = known-sets c.args.head keeps c.requires.head;
         arguments = given_known-keeps c.in-Some.arguments.items keeps (subst (FittingKnown c.args.sets.now) c.in-Some.is c.requires.arguments);
-        both = c.in_ok-both.ensures.known;
+        base_known = c.in_ok-base.ensures.known;
       },
       known-keeps rest keeps rest_known,
     )

@@ -3,11 +3,11 @@ use Rattle.std.proofs.lemmas.List.{nil_from_length}
 use Rattle.std.specs.FinSet as set
 use Rattle.ppmacro.specs.HideSets.{set_at, hiding, hidings, AllKnown}
 use Rattle.ppmacro.specs.PasteFree.{lone_chain}
-use Rattle.ppmacro.specs.Substitution.{chains_replacement, hsadd, with_flag, plain}
-use Rattle.ppexpand.proofs.SpaceFlags.{hidings-marked, known-marked}
+use Rattle.ppmacro.specs.Substitution.{chains_replacement, hsadd, with_space, plain}
+use Rattle.ppexpand.proofs.SpaceFlags.{hidings-spaced, known-spaced}
 use Rattle.ppmacro.proofs.KeepLemmas.{hidings-keeps, known-keeps}
 use Rattle.ppmacro.proofs.Lonely.{lone_substituted}
-use Rattle.ppexpand.specs.ExpansionStep.{Replaced, mark_next, replaced_by}
+use Rattle.ppexpand.specs.ExpansionStep.{Replaced, space_next, replaced_by}
 use Rattle.ppexpand.proofs.expand_step.replace_by.Goals as goal
 
 pub returns-in_default-clause-is : goal.returns-in_default-clause-is
@@ -17,12 +17,12 @@ returns-in_default-clause-is c arguments =
     let space = c.args.head.now.token.space in
     let names = set.insert (set_at s c.args.base) c.args.head.now.token.text in
     let none : c.args.body.now ≡ [] = nil_from_length c.args.body.now c.in_default.ensures.cases in
-    let marked : hidings s c.mark_next.new.self ≡ mark_next space (hidings s list) =
-    ap (hidings s) c.mark_next.ensures ∙ hidings-marked s c.space.result list ∙ (λ i. mark_next (c.space.ensures i) (hidings s list)) in
-    ap Replaced marked ∙ (λ i. replaced_by (chains_replacement (map lone_chain (sym none i)) arguments names c.args.head.now.token.used space) (hidings s list))
+    let spaced : hidings s c.space_next.new.self ≡ space_next space (hidings s list) =
+    ap (hidings s) c.space_next.ensures ∙ hidings-spaced s c.space.result list ∙ (λ i. space_next (c.space.ensures i) (hidings s list)) in
+    ap Replaced spaced ∙ (λ i. replaced_by (chains_replacement (map lone_chain (sym none i)) arguments names c.args.head.now.token.used space) (hidings s list))
 
 pub returns-in_default-clause-known : goal.returns-in_default-clause-known
-returns-in_default-clause-known c = subst (AllKnown c.args.sets.now) (sym c.mark_next.ensures) (known-marked c.args.sets.now c.space.result c.args.list.now c.requires.list)
+returns-in_default-clause-known c = subst (AllKnown c.args.sets.now) (sym c.space_next.ensures) (known-spaced c.args.sets.now c.space.result c.args.list.now c.requires.list)
 
 pub returns-clause-is : goal.returns-clause-is
 returns-clause-is c arguments =
@@ -40,9 +40,9 @@ returns-clause-is c arguments =
     let kept : hidings t list ≡ hidings s list = hidings-keeps list c.in_ok-gain.ensures.keeps c.requires.list in
     let following : hidings t c.push_gained.new.list ≡ map (λ x. hsadd names used (plain x)) others ++ hidings s list =
     c.in_ok-push_gained.ensures.is t ∙ (λ i. map (λ x. hsadd (gain i) (c.used.ensures i) (plain x)) others ++ kept i) in
-    let here : hiding t c.gained_token.result ≡ hsadd names used (with_flag space (plain first)) =
-    c.gained_token.ensures.is t ∙ (λ i. hsadd (gain i) (c.used-2.ensures i) (with_flag (c.space-2.ensures i) (plain first))) in
-    let all : hidings t c.push.new.self ≡ hsadd names used (with_flag space (plain first)) ∷ (map (λ x. hsadd names used (plain x)) others ++ hidings s list) =
+    let here : hiding t c.gained_token.result ≡ hsadd names used (with_space space (plain first)) =
+    c.gained_token.ensures.is t ∙ (λ i. hsadd (gain i) (c.used-2.ensures i) (with_space (c.space-2.ensures i) (plain first))) in
+    let all : hidings t c.push.new.self ≡ hsadd names used (with_space space (plain first)) ∷ (map (λ x. hsadd names used (plain x)) others ++ hidings s list) =
     ap (hidings t) c.in_ok-push.ensures ∙ (λ i. here i ∷ following i) in
     ap Replaced all
     ∙ sym (ap (λ r. replaced_by r (hidings s list)) ((λ i. chains_replacement (map lone_chain (body i)) arguments names used space) ∙ lone_substituted arguments names used space first others))

@@ -18,8 +18,8 @@ returns c =
     let t = c.expand_list-ended.new.self.replacer.sets in
     let rest = c.args.tokens.now in
     let context = c.args.context.now in
-    let whole : Option Fault → Outcome = λ o. record { tokens = hidings t c.expand_list-ended.new.emitted; fault = o; left = c.expand_list-ended.new.self.left } in
+    let whole : Option Fault → Outcome = λ o. record { tokens = hidings t c.expand_list-ended.new.emitted; fault = o; remaining = c.expand_list-ended.new.self.remaining } in
     let start : hidings s c.over-list.result ≡ map plain rest = ap (hidings s) c.over-list.ensures ∙ hidings-with_set s c.empty.result rest c.empty.ensures.set in
     let ended = rw (sym c.in_ok-split_memory.ensures) at (settles c.expand_list-ended.result _ c.expand_list-ended.ensures.outcome) in
-    let outcome : ExpandsTo context.table.now.macros context.env.now context.level c.args.left (hidings s c.over-list.result) (whole c.err.result) = rw c.err.ensures.value ended in
-    (t, subst (λ l. ExpandsTo context.table.now.macros context.env.now 0 c.args.left l (whole c.err.result)) start (subst (λ n. ExpandsTo context.table.now.macros context.env.now n c.args.left (hidings s c.over-list.result) (whole c.err.result)) c.requires.level outcome))
+    let outcome : ExpandsTo context.table.now.macros context.env.now context.level c.args.remaining (hidings s c.over-list.result) (whole c.err.result) = rw c.err.ensures.value ended in
+    (t, subst (λ l. ExpandsTo context.table.now.macros context.env.now 0 c.args.remaining l (whole c.err.result)) start (subst (λ n. ExpandsTo context.table.now.macros context.env.now n c.args.remaining (hidings s c.over-list.result) (whole c.err.result)) c.requires.level outcome))

@@ -3,4 +3,4 @@ use Rattle.ppexpand.proofs.Bounds.{ends_within}
 use Rattle.ppexpand.proofs.laws.expansion_terminates.Goals as goal
 
 pub returns : goal.returns
-returns c = λ macros env level left list. ((total macros env level left list).0, ends_within macros env level left list)
+returns c = λ macros env level remaining list. ((total macros env level remaining list).0, ends_within macros env level remaining list)

@@ -3,7 +3,7 @@ use Rattle.ppexpand.proofs.Termination as fronts
 use Rattle.ppexpand.proofs.laws.prefixes_terminate.Goals as goal
 
 pub returns-clause-steps : goal.returns-clause-steps
-returns-clause-steps c = λ macros env level left after list next step. leads_step macros env level step
+returns-clause-steps c = λ macros env level remaining remaining_after list next step. leads_step macros env level step
 
 pub returns-clause-gains : goal.returns-clause-gains
 returns-clause-gains c = gained_more

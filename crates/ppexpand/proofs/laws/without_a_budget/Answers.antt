@@ -1,13 +1,13 @@
 use Rattle.std.proofs.Common.{refl}
-use Rattle.ppexpand.proofs.BudgetLemmas.{left_none}
+use Rattle.ppexpand.proofs.BudgetLemmas.{remaining_none}
 use Rattle.ppexpand.proofs.Standard.{list_standard, expansion_standard}
 use Rattle.ppexpand.proofs.laws.without_a_budget.Goals as goal
 
 pub returns-clause-steps : goal.returns-clause-steps
 returns-clause-steps c = λ macros env list. refl
 
-pub returns-clause-left : goal.returns-clause-left
-returns-clause-left c = λ macros env level list out d. left_none macros env refl d.1
+pub returns-clause-remaining : goal.returns-clause-remaining
+returns-clause-remaining c = λ macros env level list out d. remaining_none macros env refl d.1
 
 pub returns-clause-rules : goal.returns-clause-rules
 returns-clause-rules c = list_standard

@@ -6,6 +6,6 @@ use Rattle.ppexpand.proofs.pre_expansion.parameters_in_entries.Given as goal
 -- what the entries before this one are is marked
 abbrev pub invariant-loop-entry : goal.invariant-loop-entry
 invariant-loop-entry l = record {
-  len : length l.used.items ≡ l.parameters;
-  used : (i : ℕ) → i < l.parameters → get_or l.used.items i false ≡ pre_expands i (map entry_chain (take l.entry-index l.entries));
+  len : length l.pre_expanded.items ≡ l.parameters;
+  pre_expanded : (i : ℕ) → i < l.parameters → get_or l.pre_expanded.items i false ≡ pre_expands i (map entry_chain (take l.entry-index l.entries));
 }

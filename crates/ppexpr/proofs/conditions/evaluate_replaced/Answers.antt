@@ -18,4 +18,4 @@ pub returns : goal.returns
 returns c =
     let asks = rw c.in-Some.is at c.in_ok-without_defined.ensures in
     let expands = rw c.as_slice-without_defined.ensures.value at c.in_ok-tokens.ensures in
-    IfOk-weaker c.with_rest.result _ _ (λ r h. replaced asks expands (sym h.1) c.in-None.is (split_memory-at_ok c.evaluate_rope.result _ _ h.0 c.evaluate_rope.ensures)) c.with_rest.ensures
+    IfOk-weaker c.with_remaining.result _ _ (λ r h. replaced asks expands (sym h.1) c.in-None.is (split_memory-at_ok c.evaluate_rope.result _ _ h.0 c.evaluate_rope.ensures)) c.with_remaining.ensures

@@ -2,4 +2,4 @@ use Rattle.ppexpr.proofs.CappedLaw.{capped}
 use Rattle.ppexpr.proofs.laws.budget_caps.Goals as goal
 
 pub returns : goal.returns
-returns c = λ macros env at tokens whole rest d b answer after other. capped d b answer after other
+returns c = λ macros env at tokens whole rest d b answer remaining_after other. capped d b answer remaining_after other

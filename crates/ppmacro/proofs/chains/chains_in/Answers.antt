@@ -11,7 +11,7 @@ use Rattle.ppmacro.proofs.chains.chains_in.Goals as goal
 
 -- The meaning of a part.
 abbrev meant : code.ChainPart → ChainPart
-meant = elim [ variant.Operates flag operand ↦ Operates flag operand | variant.Joins ↦ Joins ]
+meant = elim [ variant.Operates space operand ↦ Operates space operand | variant.Joins ↦ Joins ]
 
 pub returns : goal.returns
 returns c =

@@ -8,13 +8,13 @@ use Rattle.ppmacro.proofs.chains.put.Goals as goal
 pub returns-then-not-joined : goal.returns-then-not-joined
 returns-then-not-joined c =
     let apart : c.args.joined ≡ false = c.if-not-joined.true in
-    let more : c.begin_chain.new.chains.items ≡ c.args.chains.now.items ++ record { flag = c.args.flag; operands = c.args.operand ∷ [] } ∷ []
+    let more : c.begin_chain.new.chains.items ≡ c.args.chains.now.items ++ record { space = c.args.space; operands = c.args.operand ∷ [] } ∷ []
     → (is : List ChainPart)
-    → resumed false c.begin_chain.new.chains.items is ≡ resumed c.args.joined c.args.chains.now.items (Operates c.args.flag c.args.operand ∷ is) =
+    → resumed false c.begin_chain.new.chains.items is ≡ resumed c.args.joined c.args.chains.now.items (Operates c.args.space c.args.operand ∷ is) =
     λ e is.
     ap (λ cs. resumed false cs is) e
-    ∙ resumed-begin c.args.chains.now.items c.args.flag c.args.operand is
-    ∙ ap (λ j. resumed j c.args.chains.now.items (Operates c.args.flag c.args.operand ∷ is)) (sym apart) in
+    ∙ resumed-begin c.args.chains.now.items c.args.space c.args.operand is
+    ∙ ap (λ j. resumed j c.args.chains.now.items (Operates c.args.space c.args.operand ∷ is)) (sym apart) in
     on_ok_weaker _ more c.begin_chain.ensures
 
 pub returns : goal.returns
@@ -23,6 +23,6 @@ returns c = λ is.
     let last = c.in-Some.last in
     let chain = c.index_mut-chain.result.now in
     let counted : length c.args.chains.now.items ≡ suc last = omega (arith, c.args.chains.now.ok, c.len.ensures, c.in-Some.ensures.0, c.in-Some.ensures.1) in
-    ap (λ os. resumed false (set c.args.chains.now.items last (record { flag = chain.flag; operands = os })) is) c.in_ok-push.ensures.ok
-    ∙ resumed-joined c.args.chains.now.items last chain c.args.flag c.args.operand is counted c.index_mut-chain.ensures.value
-    ∙ ap (λ j. resumed j c.args.chains.now.items (Operates c.args.flag c.args.operand ∷ is)) (sym joined)
+    ap (λ os. resumed false (set c.args.chains.now.items last (record { space = chain.space; operands = os })) is) c.in_ok-push.ensures.ok
+    ∙ resumed-joined c.args.chains.now.items last chain c.args.space c.args.operand is counted c.index_mut-chain.ensures.value
+    ∙ ap (λ j. resumed j c.args.chains.now.items (Operates c.args.space c.args.operand ∷ is)) (sym joined)

@@ -16,11 +16,11 @@ returns-in_err-pending-clause-is c =
     let chain = c.chain-item.result in
     let front = hidings t c.loop-chain.tokens.items in
     let args = arguments_in s c.args.arguments.given.now c.args.arguments.expanded.now in
-    let flag = c.loop-chain.pending || (not c.loop-chain.first && chain.flag) in
+    let space = c.loop-chain.pending || (not c.loop-chain.first && chain.space) in
     let next : drop i cs ≡ chain ∷ drop (i + 1) cs = drop-item cs i chain c.loop-chain-test.true c.chain-item.is in
     let kept = arguments-keeps c.args.arguments.given.now c.args.arguments.expanded.now c.loop-chain.invariant.keeps c.requires in
     stops _ _ _ _ _ _ c.from_residual-in_err-pending.ensures.1 c.in_err-pending.ensures.is (λ fault e.
-    let refused : Err fault ≡ pushed front flag (chain_tokens args c.args.used chain) = e ∙ (λ j. pushed front (c.flag_before-flag.ensures j) (chain_tokens (kept j) c.args.used chain)) in
+    let refused : Err fault ≡ pushed front space (chain_tokens args c.args.used chain) = e ∙ (λ j. pushed front (c.space_before-leading.ensures j) (chain_tokens (kept j) c.args.used chain)) in
     chains-refused-pushed args c.args.used c.loop-chain.pending c.loop-chain.first chain (drop (i + 1) cs) front fault (chain_tokens args c.args.used chain) refl refused
     ∙ ap (λ ds. marked_behind front (chains_tokens args c.args.used c.loop-chain.pending c.loop-chain.first ds)) (sym next)
     ∙ c.loop-chain.invariant.same)
@@ -29,18 +29,18 @@ pub loop-chain-preserved : goal.loop-chain-preserved
 loop-chain-preserved c =
     let s = c.args.sets.now in
     let t = c.loop-chain.sets in
-    let u = c.push_chain_tokens.new.sets in
+    let u = c.push_chain.new.sets in
     let i = c.loop-chain.chain-index in
     let cs = c.args.chains.now in
     let chain = c.chain-item.result in
     let front = hidings t c.loop-chain.tokens.items in
-    let new = c.push_chain_tokens.new.tokens.items in
+    let new = c.push_chain.new.tokens.items in
     let args = arguments_in s c.args.arguments.given.now c.args.arguments.expanded.now in
-    let flag = c.loop-chain.pending || (not c.loop-chain.first && chain.flag) in
+    let space = c.loop-chain.pending || (not c.loop-chain.first && chain.space) in
     let next : drop i cs ≡ chain ∷ drop (i + 1) cs = drop-item cs i chain c.loop-chain-test.true c.chain-item.is in
     let kept = arguments-keeps c.args.arguments.given.now c.args.arguments.expanded.now c.loop-chain.invariant.keeps c.requires in
-    let made : Ok (record { tokens = hidings u new; pending = c.in_ok-pending.pending }) ≡ pushed front flag (chain_tokens args c.args.used chain) =
-    c.in_ok-pending.ensures.is ∙ (λ j. pushed front (c.flag_before-flag.ensures j) (chain_tokens (kept j) c.args.used chain)) in
+    let made : Ok (record { tokens = hidings u new; pending = c.in_ok-pending.pending }) ≡ pushed front space (chain_tokens args c.args.used chain) =
+    c.in_ok-pending.ensures.is ∙ (λ j. pushed front (c.space_before-leading.ensures j) (chain_tokens (kept j) c.args.used chain)) in
     record {
       same =
           chains-pushed args c.args.used c.loop-chain.pending c.loop-chain.first chain (drop (i + 1) cs) front (hidings u new) c.in_ok-pending.pending (chain_tokens args c.args.used chain) refl made
@@ -50,5 +50,5 @@ loop-chain-preserved c =
       keeps = keeps-after c.loop-chain.invariant.keeps c.in_ok-pending.ensures.keeps;
     }
 
-pub push_chain_tokens-requires-clause-arguments : goal.push_chain_tokens-requires-clause-arguments
-push_chain_tokens-requires-clause-arguments c = arguments-known c.args.arguments.given.now c.args.arguments.expanded.now c.loop-chain.invariant.keeps c.requires
+pub push_chain-requires-clause-arguments : goal.push_chain-requires-clause-arguments
+push_chain-requires-clause-arguments c = arguments-known c.args.arguments.given.now c.args.arguments.expanded.now c.loop-chain.invariant.keeps c.requires

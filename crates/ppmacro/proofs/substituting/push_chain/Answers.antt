@@ -1,48 +1,31 @@
-use Rattle.std.proofs.Common.{◌≡◌, ◌∙◌, sym, ap, subst, Bool, List, [], ◌∷◌, ◌++◌, append_assoc, rules}
-use Rattle.std.proofs.lemmas.List.{map-append}
-use Rattle.ppmacro.specs.HideSetPool.{HideSetPool}
-use Rattle.ppmacro.specs.HideSets.{hiding, hidings, HasSets, AllKnown}
-use Rattle.ppmacro.specs.Substitution.{flag_first}
-use Rattle.ppmacro.specs.declared.hidden_token.Hidden.{Hidden}
-use Rattle.ppmacro.proofs.KeepLemmas.{known-append}
+use Rattle.std.proofs.Common.{◌≡◌, ◌∙◌, sym, ap, subst, ◌++◌, Ok}
+use Rattle.ppmacro.specs.HideSets.{hidings, AllKnown}
+use Rattle.ppmacro.specs.Substitution.{chain_tokens, space_first}
+use Rattle.ppmacro.specs.Substituting.{arguments_in, pushed}
+use Rattle.ppmacro.proofs.KeepLemmas.{hidings-keeps, known-keeps}
 use Rattle.ppmacro.proofs.substituting.push_chain.Goals as goal
 
-abbrev marked : Bool → Hidden → Hidden
-marked flag h = record h { token = record h.token { space = flag } }
+pub returns-in-Param-clause-known : goal.returns-in-Param-clause-known
+returns-in-Param-clause-known c =
+    let s = c.args.sets.now in
+    c.in_ok-pending-in-Param.ensures.known s c.requires.tokens (subst (AllKnown s) (sym c.expansion.ensures) (c.requires.arguments.expanded_known _))
 
--- A list with others after it, the first of them with this flag.
-tokens-following : (s : HideSetPool) (front : List Hidden) (flag : Bool) (first : Hidden) (others : List Hidden)
-    → hidings s ((front ++ marked flag first ∷ []) ++ others) ≡ hidings s front ++ (flag_first flag (hidings s (first ∷ others))).tokens
-tokens-following s front flag first others =
-    ap (hidings s) (append_assoc front (marked flag first ∷ []) others) ∙ map-append (hiding s) front (marked flag first ∷ others)
-
-known-rest : (s : HideSetPool) (front : List Hidden) (flag : Bool) (first : Hidden) (others : List Hidden)
-    → AllKnown s front
-    → AllKnown s (first ∷ others)
-    → AllKnown s ((front ++ marked flag first ∷ []) ++ others)
-known-rest s front flag first others known more =
-    let here : HasSets s (marked flag first) = record { hide = more.each.0.hide; extra = more.each.0.extra } in
-    known-append (front ++ marked flag first ∷ []) others (known-append front (marked flag first ∷ []) known (record { each = (here, tt) })) (record { each = more.each.1 })
-
-pub returns-clause-tokens : goal.returns-clause-tokens
-returns-clause-tokens c = λ s.
+pub returns-clause-is : goal.returns-clause-is
+returns-clause-is c =
+    let s = c.args.sets.now in
+    let u = c.chain_tokens.new.sets in
     let front = c.args.tokens.now.items in
-    let first = c.in-Some.first.now in
-    let others = c.in-Some.others.now in
-    let whole : c.push_all.new.tokens.items ≡ (front ++ marked c.args.pending first ∷ []) ++ others =
-    c.in_ok-push_all.ensures ∙ ap (λ hs. hs ++ others) (c.in_ok-push_one.ensures ∙ (λ i. c.in_ok-reserve.ensures.items i ++ c.in_ok-copy_with_flag.ensures i ∷ [])) in
-    ap (hidings s) whole
-    ∙ tokens-following s front c.args.pending first others
-    ∙ ap (λ hs. hidings s front ++ (flag_first c.args.pending (hidings s hs)).tokens) (sym c.in-Some.ensures.cases.0)
+    let more = c.in_ok-more.more.items in
+    let space = c.args.space in
+    let args = arguments_in s c.args.arguments.given.now c.args.arguments.expanded.now in
+    let made : Ok (hidings u more) ≡ chain_tokens args c.args.used c.args.chain.now = c.in_ok-more.ensures.is in
+    let tokens : hidings u c.push_spaced-2.new.tokens.items ≡ hidings s front ++ (space_first space (hidings u more)).tokens =
+    c.in_ok-pending.ensures.tokens u ∙ (λ i. hidings-keeps front c.in_ok-more.ensures.keeps c.requires.tokens i ++ (space_first space (hidings u (c.as_slice-2.ensures.value i))).tokens) in
+    let pending : c.in_ok-pending.pending ≡ (space_first space (hidings u more)).pending =
+    c.in_ok-pending.ensures.pending u ∙ ap (λ hs. (space_first space (hidings u hs)).pending) c.as_slice-2.ensures.value in
+    (λ i. Ok (record { tokens = tokens i; pending = pending i })) ∙ ap (pushed (hidings s front) space) made
 
 pub returns-clause-known : goal.returns-clause-known
-returns-clause-known c = λ s known more.
-    let front = c.args.tokens.now.items in
-    let first = c.in-Some.first.now in
-    let others = c.in-Some.others.now in
-    let whole : c.push_all.new.tokens.items ≡ (front ++ marked c.args.pending first ∷ []) ++ others =
-    c.in_ok-push_all.ensures ∙ ap (λ hs. hs ++ others) (c.in_ok-push_one.ensures ∙ (λ i. c.in_ok-reserve.ensures.items i ++ c.in_ok-copy_with_flag.ensures i ∷ [])) in
-    subst (AllKnown s) (sym whole) (known-rest s front c.args.pending first others known (subst (AllKnown s) c.in-Some.ensures.cases.0 more))
-
-pub returns-clause-pending : goal.returns-clause-pending
-returns-clause-pending c = search rules
+returns-clause-known c =
+    let u = c.chain_tokens.new.sets in
+    c.in_ok-pending.ensures.known u (known-keeps c.args.tokens.now.items c.in_ok-more.ensures.keeps c.requires.tokens) (subst (AllKnown u) (sym c.as_slice-2.ensures.value) c.in_ok-more.ensures.known)

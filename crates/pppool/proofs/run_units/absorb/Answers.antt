@@ -19,16 +19,16 @@ fill_slots-requires g c =
 pub returns-clause-slots : goal.returns-clause-slots
 returns-clause-slots g c =
     let job = c.args.job.now in
-    let stock = job.shelf.now in
+    let shelf = job.shelf.now in
     let setting = job.setting.now in
     let units = job.units.now in
     let new = c.meet.new.pass.files in
     let theirs : Extends new c.args.worker.pass.files = let P : PassView → Type 0 = λ k. Extends new k.files in subst P c.into_parts-seat.ensures.1 c.meet.ensures.theirs in
-    let all : AreUnitResults job.retain stock new setting units c.args.worker.results.items = answers_grow c.growth.ensures job.retain stock c.args.worker.pass.files new setting units c.args.worker.results.items theirs c.requires.done.values in
-    let old : FitSlots job.retain stock new setting units c.args.slots.now.items = slots_grow c.growth.ensures job.retain stock c.args.pass.now.files new setting units c.args.slots.now.items c.meet.ensures.grows c.requires.slots in
-    let P : List (Option UnitOut) → Type 0 = FitSlots job.retain stock new setting units in
+    let all : AreUnitResults job.retain shelf new setting units c.args.worker.results.items = answers_grow c.growth.ensures job.retain shelf c.args.worker.pass.files new setting units c.args.worker.results.items theirs c.requires.done.values in
+    let old : FitSlots job.retain shelf new setting units c.args.slots.now.items = slots_grow c.growth.ensures job.retain shelf c.args.pass.now.files new setting units c.args.slots.now.items c.meet.ensures.grows c.requires.slots in
+    let P : List (Option UnitOut) → Type 0 = FitSlots job.retain shelf new setting units in
     let e : c.fill_slots.new.slots.items ≡ filled_slots c.args.slots.now.items c.args.worker.results.items = c.fill_slots.ensures ∙ ap (λ v. filled_slots c.args.slots.now.items v.items) c.into_parts-seat.ensures.2 in
-    subst P (sym e) (slots_placed job.retain stock new setting units c.args.slots.now.items c.args.worker.results.items old all)
+    subst P (sym e) (slots_placed job.retain shelf new setting units c.args.slots.now.items c.args.worker.results.items old all)
 
 pub returns-clause-stay : goal.returns-clause-stay
 returns-clause-stay g c i h =

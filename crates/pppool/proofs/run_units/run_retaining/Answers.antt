@@ -1,6 +1,6 @@
 use Rattle.std.proofs.Common.{ℕ, ◌≡◌, ◌<◌, ◌/◌, ◌∙◌, List, length, ap, sym, subst, Option, arith}
 use Rattle.std.proofs.lemmas.Bool.{false≢true}
-use Rattle.ppshelf.specs.Files.{Agree, TableView}
+use Rattle.ppshelf.specs.Files.{Agree, ShelfView}
 use Rattle.ppunit.specs.declared.units.UnitOut.{UnitOut}
 use Rattle.pppool.specs.declared.seat_state.Plan.{Plan}
 use Rattle.pppool.specs.Desk.{claims_of}
@@ -51,5 +51,5 @@ returns-clause-capped g c =
 
 pub returns-clause-filled : goal.returns-clause-filled
 returns-clause-filled g c =
-    let P : TableView → Type 0 = λ s. Agree (s.base) c.gather-gathered.new.pass.files in
+    let P : ShelfView → Type 0 = λ s. Agree (s.filled) c.gather-gathered.new.pass.files in
     subst P c.gather-gathered.ensures.shelf c.contents_permitted-2.ensures.filled

@@ -2,5 +2,5 @@ use Rattle.std.proofs.Common.{◌++◌}
 use Rattle.ppshelf.proofs.Finds.{Passed}
 use Rattle.ppshelf.proofs.search.row_in_directories.Given as goal
 
-abbrev pub invariant-loop-passed : goal.invariant-loop-passed
-invariant-loop-passed g l = Passed l.shelf.names (l.directories.unit.now ++ l.directories.setting.now) l.name l.number l.passed
+abbrev pub invariant-loop-index : goal.invariant-loop-index
+invariant-loop-index g l = Passed l.shelf.names (l.directories.unit.now ++ l.directories.setting.now) l.name l.number l.index

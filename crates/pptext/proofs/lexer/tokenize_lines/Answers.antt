@@ -21,7 +21,7 @@ first = record { code = 0; at = place 0 0 0 }
 pub loop-at-init : goal.loop-at-init
 loop-at-init c = record {
   same = ap (λ (r : Reading). r.chars) c.places-places.ensures;
-  passed = omega (arith, ap (λ (r : Reading). r.passed) c.places-places.ensures);
+  consumed = omega (arith, ap (λ (r : Reading). r.consumed) c.places-places.ensures);
   in_line = line_start (codes_of c.args.text.now) 0;
   state = rw (c.requires.no_tokens, c.requires.no_lines) (state_start c.args.profile c.args.text.now);
   unmatched = rw c.unknown-unmatched.ensures (knows_nothing (codes_of c.args.text.now) (length c.codes-codes.result.now) (ap length c.codes-codes.ensures));
@@ -42,7 +42,7 @@ loop-at-preserved-in-NewLine c =
     let known : KnowsUnmatched (drop c.loop-at.at (codes_of chars)) c.lexeme_at-found.new.unmatched.single c.lexeme_at-found.new.unmatched.double = simp (take_rest, same) at c.lexeme_at-found.ensures.unmatched in
     record {
       same = ap (λ (r : Reading). r.chars) c.place-number.ensures.after ∙ c.loop-at.invariant.same;
-      passed = omega (arith, ap (λ (r : Reading). r.passed) c.place-number.ensures.after);
+      consumed = omega (arith, ap (λ (r : Reading). r.consumed) c.place-number.ensures.after);
       in_line = line_start (codes_of chars) (c.loop-at.at + 1);
       state = rw (c.in_ok-push-in-NewLine.ensures.items, c.unlinked_line.ensures, c.deref-in-NewLine.ensures.value)
           (end_line c.args.profile chars c.loop-at.at c.loop-at.start c.len-start.result c.loop-at.space c.loop-at.tokens.items c.loop-at.lines.items
@@ -60,7 +60,7 @@ loop-at-preserved-in-Blank c =
     let known : KnowsUnmatched (drop c.loop-at.at (codes_of chars)) c.lexeme_at-found.new.unmatched.single c.lexeme_at-found.new.unmatched.double = simp (take_rest, same) at c.lexeme_at-found.ensures.unmatched in
     record {
       same = c.loop-at.invariant.same;
-      passed = omega (arith, c.loop-at.invariant.passed);
+      consumed = omega (arith, c.loop-at.invariant.consumed);
       in_line = line_over_blanks (codes_of chars) c.loop-at.line c.loop-at.at c.in-Blank.n c.loop-at.invariant.in_line found.2;
       state = skip_blanks c.args.profile chars c.in-Blank.n c.loop-at.at c.loop-at.start c.loop-at.space c.loop-at.tokens.items c.loop-at.lines.items
           c.loop-at.invariant.state found.1 (omega (arith, found.0, c.loop-at.invariant.state.within)) (λ k lt. simp get_or-drop at (found.2 k lt));
@@ -75,7 +75,7 @@ loop-at-preserved-in-Comment c =
     let known : KnowsUnmatched (drop c.loop-at.at (codes_of chars)) c.lexeme_at-found.new.unmatched.single c.lexeme_at-found.new.unmatched.double = simp (take_rest, same) at c.lexeme_at-found.ensures.unmatched in
     record {
       same = c.loop-at.invariant.same;
-      passed = omega (arith, c.loop-at.invariant.passed);
+      consumed = omega (arith, c.loop-at.invariant.consumed);
       in_line = line_start (codes_of chars) (c.loop-at.at + c.in-Comment.n);
       state = skip_comment c.args.profile chars c.loop-at.at c.loop-at.start c.in-Comment.n c.loop-at.space c.loop-at.tokens.items c.loop-at.lines.items c.loop-at.invariant.state found.0 found.2;
       unmatched = knows_later (codes_of chars) c.loop-at.at c.in-Comment.n c.lexeme_at-found.new.unmatched.single c.lexeme_at-found.new.unmatched.double known;
@@ -95,7 +95,7 @@ loop-at-preserved c =
     let tokens = told ∙ ap (λ (t : Token). c.loop-at.tokens.items ++ t ∷ []) is in
     record {
       same = ap (λ (r : Reading). r.chars) c.place-place.ensures.after ∙ c.loop-at.invariant.same;
-      passed = omega (arith, ap (λ (r : Reading). r.passed) c.place-place.ensures.after);
+      consumed = omega (arith, ap (λ (r : Reading). r.consumed) c.place-place.ensures.after);
       in_line = line_over_token (codes_of chars) c.args.profile (spelled (drop c.loop-at.start c.loop-at.tokens.items)) c.loop-at.line c.loop-at.at c.in-Token.n c.in-Token.kind c.loop-at.invariant.in_line found.0 found.2;
       state = rw tokens
           (add_token c.args.profile chars c.loop-at.at c.loop-at.start c.in-Token.n c.loop-at.space c.loop-at.tokens.items c.loop-at.lines.items c.in-Token.kind

@@ -8,7 +8,7 @@ use Rattle.pptext.proofs.lexer.tokenize_lines.Given as goal
 abbrev pub invariant-loop-at : goal.invariant-loop-at
 invariant-loop-at l = record {
   same : l.places.chars ≡ l.text;
-  passed : l.places.passed ≤ l.at;
+  consumed : l.places.consumed ≤ l.at;
   in_line : InLine (codes_of l.text) l.line l.at;
   state : State l.profile l.text l.at l.start l.space l.tokens.items l.lines.items;
   unmatched : KnowsUnmatched (drop l.at (codes_of l.text)) l.unmatched.single l.unmatched.double;

@@ -26,4 +26,4 @@ returns c =
     let text = c.args.text.now in
     let e = c.universal_digits-digits.ensures in
     universal_of text c.universal_digits-digits.result (record { short = e.short; long = e.long; values = some_values _ e.values c.if-digits-eq0.false })
-    ((simp take_rest at c.begins_with_hexes.ensures.0) c.if-not-begins_with_hexes.false) (e.room (nonzero _ c.if-digits-eq0.false))
+    ((simp take_rest at c.begins_with_hexes.ensures.0) c.if-not-begins_with_hexes.false) (e.begins (nonzero _ c.if-digits-eq0.false))

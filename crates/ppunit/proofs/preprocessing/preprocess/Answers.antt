@@ -1,6 +1,6 @@
 use Rattle.std.proofs.Common.{◌≡◌, ◌∙◌, ap, subst}
 use Rattle.std.proofs.lemmas.Result.{IfOk-weaker}
-use Rattle.ppshelf.specs.Files.{Agree, TableView}
+use Rattle.ppshelf.specs.Files.{Agree, ShelfView}
 use Rattle.ppunit.specs.States.{UnitContext, Reached, context_over, output}
 use Rattle.ppunit.specs.Unit.{IsUnit, Translates, initial_state}
 use Rattle.ppunit.proofs.Preprocessed.{whole_unit}
@@ -37,5 +37,5 @@ returns-clause-within g c =
 
 pub returns-clause-filled : goal.returns-clause-filled
 returns-clause-filled g c =
-    let P : TableView → Type 0 = λ s. Agree (s.base) c.run_unit-output.new.pass.files in
+    let P : ShelfView → Type 0 = λ s. Agree (s.filled) c.run_unit-output.new.pass.files in
     subst P (c.run_unit-output.ensures.shelf ∙ ap (λ (l : UnitContext). l.shelf) c.new-context.ensures) c.contents_permitted-2.ensures.filled

@@ -19,7 +19,7 @@ returns-in-Ok-clause-is c =
     let call = c.args.call.now in
     (ap (replaced_in c.replace.new.self.sets c.replace.new.list) (sym c.in-Ok.is) ∙ c.in_ok-replace.ensures.is
     ∙ (λ i. replaced_by (chains_replacement (c.requires.chains i) (arguments_in s (c.as_slice.ensures.value i) c.args.expanded.now)
-    (set.insert (set_at s call.both) call.head.token.text) call.head.token.used call.head.token.space)
+    (set.insert (set_at s call.base) call.head.token.text) call.head.token.used call.head.token.space)
     (hidings s c.args.list.now)))
 
 pub returns-in-Err-clause-is : goal.returns-in-Err-clause-is
@@ -29,5 +29,5 @@ returns-in-Err-clause-is c =
     let call = c.args.call.now in
     (ap (replaced_in c.replace.new.self.sets c.replace.new.list) (sym c.in-Err.is) ∙ c.in_ok-replace.ensures.is
     ∙ (λ i. replaced_by (chains_replacement (c.requires.chains i) (arguments_in s (c.as_slice.ensures.value i) c.args.expanded.now)
-    (set.insert (set_at s call.both) call.head.token.text) call.head.token.used call.head.token.space)
+    (set.insert (set_at s call.base) call.head.token.text) call.head.token.used call.head.token.space)
     (hidings s c.args.list.now)))

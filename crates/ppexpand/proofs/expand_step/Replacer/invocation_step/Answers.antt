@@ -19,9 +19,9 @@ returns-in-Closed-clause-is c =
     let s = c.args.self.now.sets in
     let known = rw c.in-Closed.is at (c.in_ok-arguments.ensures.known s c.requires.list) in
     let found = rw c.in-Closed.is at (c.in_ok-arguments.ensures.is s) ∙ ap (λ n. gather 0 n (hidings s c.args.list.now)) c.separators.ensures in
-    let whole = ap (invocation_step (hiding s c.args.head) c.args.replaced.now c.args.names.now c.args.variadic) found in
+    let whole = ap (invocation_step (hiding s c.args.head) c.args.definition.now c.args.names.now c.args.variadic) found in
     IfOk-weaker c.call_step.result _ _ (λ n is. is c.gather.new.list known.2
-    ∙ ap (λ f. call_step (hiding s c.args.head) c.args.replaced.now f (hiding s c.in-Closed.close) (hidings s c.gather.new.list)) (c.fit_arguments-fitting.ensures.is s)
+    ∙ ap (λ f. call_step (hiding s c.args.head) c.args.definition.now f (hiding s c.in-Closed.close) (hidings s c.gather.new.list)) (c.fit_arguments-fitting.ensures.is s)
     ∙ whole)
     c.call_step.ensures.is
 
@@ -35,7 +35,7 @@ returns-in-UnmatchedQuote-clause-is c =
     let s = c.args.self.now.sets in
     let found : UnmatchedQuote (hiding s c.in-UnmatchedQuote.quote) ≡ gather 0 (separators c.args.names.now c.args.variadic) (hidings s c.args.list.now) =
     rw c.in-UnmatchedQuote.is at (c.in_ok-arguments.ensures.is s) ∙ ap (λ n. gather 0 n (hidings s c.args.list.now)) c.separators.ensures in
-    let whole = ap (invocation_step (hiding s c.args.head) c.args.replaced.now c.args.names.now c.args.variadic) found in
+    let whole = ap (invocation_step (hiding s c.args.head) c.args.definition.now c.args.names.now c.args.variadic) found in
     IfOk-weaker c.failed_quote.result _ _ (λ n is. ap (step_in s c.gather.new.list) is ∙ whole) c.failed_quote.ensures
 
 pub returns-in-UnmatchedQuote-clause-known : goal.returns-in-UnmatchedQuote-clause-known
@@ -46,7 +46,7 @@ returns-clause-is c =
     let s = c.args.self.now.sets in
     let found : Unclosed ≡ gather 0 (separators c.args.names.now c.args.variadic) (hidings s c.args.list.now) =
     rw c.in-Unclosed.is at (c.in_ok-arguments.ensures.is s) ∙ ap (λ n. gather 0 n (hidings s c.args.list.now)) c.separators.ensures in
-    let whole = ap (invocation_step (hiding s c.args.head) c.args.replaced.now c.args.names.now c.args.variadic) found in
+    let whole = ap (invocation_step (hiding s c.args.head) c.args.definition.now c.args.names.now c.args.variadic) found in
     IfOk-weaker c.failed_at.result _ _ (λ n is. ap (step_in s c.gather.new.list) is ∙ whole) c.failed_at.ensures
 
 pub returns-clause-known : goal.returns-clause-known

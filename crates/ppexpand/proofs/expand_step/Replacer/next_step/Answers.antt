@@ -19,9 +19,9 @@ use Rattle.ppexpand.proofs.StepLemmas.{expansion_step-quote, expansion_step-hidd
 use Rattle.ppexpand.proofs.expand_step.Replacer.next_step.Goals as goal
 
 -- the step of a macro's name that is not hidden
-named : (macros : Macros) (env : Env) (left : Option ℕ) (t : Hiding) (rest : List Hiding) (d : Macro) → is_unmatched_quote t.token ≡ false → set.contains t.hide t.token.text ≡ false → macro_of macros t.token ≡ Some d
-    → step_in_budget macros env left (t ∷ rest) ≡ in_budget left (t ∷ rest) (macro_step env t rest d d.kind)
-named macros env left t rest d quote free found = ap (in_budget left (t ∷ rest)) (expansion_step-named macros env t rest quote free ∙ ap (named_step env t rest) found)
+named : (macros : Macros) (env : Env) (remaining : Option ℕ) (t : Hiding) (rest : List Hiding) (d : Macro) → is_unmatched_quote t.token ≡ false → set.contains t.hide t.token.text ≡ false → macro_of macros t.token ≡ Some d
+    → step_in_budget macros env remaining (t ∷ rest) ≡ in_budget remaining (t ∷ rest) (macro_step env t rest d d.kind)
+named macros env remaining t rest d quote free found = ap (in_budget remaining (t ∷ rest)) (expansion_step-named macros env t rest quote free ∙ ap (named_step env t rest) found)
 
 -- what the next token names is what the list's next token does
 named_next : {named : Option Macro} (macros : Macros) (h : Hidden) (rest list : List Hidden) → list ≡ h ∷ rest → named ≡ next_macro macros (tokens_of list)
@@ -31,7 +31,7 @@ named_next macros h rest list is named = ap (λ l. next_macro macros (tokens_of 
 pub returns-in_default-clause-is : goal.returns-in_default-clause-is
 unfolding expansion_step
 returns-in_default-clause-is c =
-    sym (done-in_budget c.args.left []) ∙ ap (λ l. step_in_budget c.args.context.now.table.now.macros c.args.context.now.env.now c.args.left (hidings c.args.self.now.sets l)) (sym c.in_default.ensures.0)
+    sym (done-in_budget c.args.remaining []) ∙ ap (λ l. step_in_budget c.args.context.now.table.now.macros c.args.context.now.env.now c.args.remaining (hidings c.args.self.now.sets l)) (sym c.in_default.ensures.0)
 
 pub returns-then-is_quote-clause-is : goal.returns-then-is_quote-clause-is
 returns-then-is_quote-clause-is c =
@@ -39,9 +39,9 @@ returns-then-is_quote-clause-is c =
     let t = hiding s c.in-Some.head in
     let rest = hidings s c.next.new.self in
     let quote : is_unmatched_quote c.in-Some.head.token ≡ true = sym c.is_quote.ensures ∙ c.if-is_quote.true in
-    let whole : Refused (quote_fault t) ≡ step_in_budget c.args.context.now.table.now.macros c.args.context.now.env.now c.args.left (hidings s c.args.list.now) =
-    sym (ap (in_budget c.args.left (t ∷ rest)) (expansion_step-quote c.args.context.now.table.now.macros c.args.context.now.env.now t rest quote) ∙ refused-in_budget c.args.left (t ∷ rest) (quote_fault t))
-    ∙ ap (λ l. step_in_budget c.args.context.now.table.now.macros c.args.context.now.env.now c.args.left (hidings s l)) (sym c.in-Some.ensures) in
+    let whole : Refused (quote_fault t) ≡ step_in_budget c.args.context.now.table.now.macros c.args.context.now.env.now c.args.remaining (hidings s c.args.list.now) =
+    sym (ap (in_budget c.args.remaining (t ∷ rest)) (expansion_step-quote c.args.context.now.table.now.macros c.args.context.now.env.now t rest quote) ∙ refused-in_budget c.args.remaining (t ∷ rest) (quote_fault t))
+    ∙ ap (λ l. step_in_budget c.args.context.now.table.now.macros c.args.context.now.env.now c.args.remaining (hidings s l)) (sym c.in-Some.ensures) in
     IfOk-weaker c.refused_quote.result _ _ (λ n is. ap (step_in s c.next.new.self) is ∙ whole) c.refused_quote.ensures
 
 pub returns-then-is_quote-clause-known : goal.returns-then-is_quote-clause-known
@@ -54,8 +54,8 @@ returns-then-hides-clause-is c =
     let rest = hidings s c.next.new.self in
     let quote : is_unmatched_quote c.in-Some.head.token ≡ false = sym c.is_quote.ensures ∙ c.if-is_quote.false in
     let hidden : set.contains (hide_of s c.in-Some.head) c.in-Some.head.token.text ≡ true = sym c.hides.ensures ∙ c.if-hides.true in
-    sym (ap (in_budget c.args.left (t ∷ rest)) (expansion_step-hidden c.args.context.now.table.now.macros c.args.context.now.env.now t rest quote hidden) ∙ emits-in_budget c.args.left (t ∷ rest) t rest)
-    ∙ ap (λ l. step_in_budget c.args.context.now.table.now.macros c.args.context.now.env.now c.args.left (hidings s l)) (sym c.in-Some.ensures)
+    sym (ap (in_budget c.args.remaining (t ∷ rest)) (expansion_step-hidden c.args.context.now.table.now.macros c.args.context.now.env.now t rest quote hidden) ∙ emits-in_budget c.args.remaining (t ∷ rest) t rest)
+    ∙ ap (λ l. step_in_budget c.args.context.now.table.now.macros c.args.context.now.env.now c.args.remaining (hidings s l)) (sym c.in-Some.ensures)
 
 pub returns-in_default-named-clause-is : goal.returns-in_default-named-clause-is
 returns-in_default-named-clause-is c =
@@ -64,15 +64,15 @@ returns-in_default-named-clause-is c =
     let rest = hidings s c.next.new.self in
     let quote : is_unmatched_quote c.in-Some.head.token ≡ false = sym c.is_quote.ensures ∙ c.if-is_quote.false in
     let none : macro_of c.args.context.now.table.now.macros c.in-Some.head.token ≡ None = named_next c.args.context.now.table.now.macros _ _ c.args.list.now c.in-Some.ensures c.requires.named ∙ ap option_copied c.in_default-named.is in
-    sym (ap (in_budget c.args.left (t ∷ rest)) (expansion_step-unnamed c.args.context.now.table.now.macros c.args.context.now.env.now t rest quote none) ∙ emits-in_budget c.args.left (t ∷ rest) t rest)
-    ∙ ap (λ l. step_in_budget c.args.context.now.table.now.macros c.args.context.now.env.now c.args.left (hidings s l)) (sym c.in-Some.ensures)
+    sym (ap (in_budget c.args.remaining (t ∷ rest)) (expansion_step-unnamed c.args.context.now.table.now.macros c.args.context.now.env.now t rest quote none) ∙ emits-in_budget c.args.remaining (t ∷ rest) t rest)
+    ∙ ap (λ l. step_in_budget c.args.context.now.table.now.macros c.args.context.now.env.now c.args.remaining (hidings s l)) (sym c.in-Some.ensures)
 
 pub returns-then-is_exhausted-clause-is : goal.returns-then-is_exhausted-clause-is
 returns-then-is_exhausted-clause-is c =
     let s = c.args.self.now.sets in
     let t = hiding s c.in-Some.head in
     let rest = hidings s c.next.new.self in
-    let none : c.args.left ≡ Some 0 = nothing_left c.args.left (sym c.is_exhausted.ensures ∙ c.if-is_exhausted.true) in
+    let none : c.args.remaining ≡ Some 0 = nothing_left c.args.remaining (sym c.is_exhausted.ensures ∙ c.if-is_exhausted.true) in
     let quote = sym c.is_quote.ensures ∙ c.if-is_quote.false in
     let hidden = sym c.hides.ensures ∙ c.if-hides.false in
     let macro = named_next c.args.context.now.table.now.macros _ _ c.args.list.now c.in-Some.ensures c.requires.named ∙ ap option_copied c.in-Some-named.is in
@@ -95,7 +95,7 @@ returns-clause-is c =
     let quote = sym c.is_quote.ensures ∙ c.if-is_quote.false in
     let hidden = sym c.hides.ensures ∙ c.if-hides.false in
     let macro = named_next c.args.context.now.table.now.macros _ _ c.args.list.now c.in-Some.ensures c.requires.named ∙ ap option_copied c.in-Some-named.is in
-    let whole = sym (free-in_budget c.args.left (t ∷ rest) _ some)
-    ∙ sym (named c.args.context.now.table.now.macros c.args.context.now.env.now c.args.left t rest _ quote hidden macro)
-    ∙ ap (λ l. step_in_budget c.args.context.now.table.now.macros c.args.context.now.env.now c.args.left (hidings s l)) (sym c.in-Some.ensures) in
+    let whole = sym (free-in_budget c.args.remaining (t ∷ rest) _ some)
+    ∙ sym (named c.args.context.now.table.now.macros c.args.context.now.env.now c.args.remaining t rest _ quote hidden macro)
+    ∙ ap (λ l. step_in_budget c.args.context.now.table.now.macros c.args.context.now.env.now c.args.remaining (hidings s l)) (sym c.in-Some.ensures) in
     subst (λ u. IfOk c.macro_step.result (λ n. step_in c.macro_step.new.self.sets c.macro_step.new.list n ≡ u)) whole c.macro_step.ensures.is

@@ -5,9 +5,9 @@ use Rattle.ppmacro.specs.HideSets.{set_at, hiding, hidings, AllKnown}
 use Rattle.ppmacro.specs.Patterns.{listed}
 use Rattle.ppmacro.specs.Substitution.{chains_replacement}
 use Rattle.ppmacro.specs.Substituting.{arguments_in, replacement_in}
-use Rattle.ppexpand.proofs.SpaceFlags.{hidings-marked, known-marked}
+use Rattle.ppexpand.proofs.SpaceFlags.{hidings-spaced, known-spaced}
 use Rattle.ppmacro.proofs.KeepLemmas.{hidings-keeps, known-keeps, known-append}
-use Rattle.ppexpand.specs.ExpansionStep.{Replaced, mark_next, replaced_by}
+use Rattle.ppexpand.specs.ExpansionStep.{Replaced, space_next, replaced_by}
 use Rattle.ppexpand.proofs.expand_step.Replacer.replace.Goals as goal
 
 pub returns-in_ok-push_all-in-Ok-clause-is : goal.returns-in_ok-push_all-in-Ok-clause-is
@@ -19,18 +19,18 @@ returns-in_ok-push_all-in-Ok-clause-is c =
     let made = ap (replacement_in t) (sym c.in-Ok.is) ∙ c.in_ok-tokens.ensures.is
     ∙ (λ i. chains_replacement (listed c.args.pattern.now) (arguments_in s c.args.arguments.given.now c.args.arguments.expanded.now)
     (set.insert (set_at s c.args.base) (c.text.ensures i)) (c.used.ensures i) (c.space.ensures i)) in
-    let marked : hidings t c.mark_next.new.self ≡ mark_next c.in-Ok.pending (hidings s list) =
-    ap (hidings t) c.mark_next.ensures ∙ hidings-marked t c.in-Ok.pending list ∙ ap (mark_next c.in-Ok.pending) (hidings-keeps list c.in_ok-tokens.ensures.keeps c.requires.list) in
-    let all : hidings t c.push_all.new.self ≡ hidings t tokens ++ mark_next c.in-Ok.pending (hidings s list) =
-    ap (hidings t) c.in_ok-push_all-in-Ok.ensures ∙ map-append (hiding t) tokens c.mark_next.new.self ∙ ap (λ hs. hidings t tokens ++ hs) marked in
+    let spaced : hidings t c.space_next.new.self ≡ space_next c.in-Ok.pending (hidings s list) =
+    ap (hidings t) c.space_next.ensures ∙ hidings-spaced t c.in-Ok.pending list ∙ ap (space_next c.in-Ok.pending) (hidings-keeps list c.in_ok-tokens.ensures.keeps c.requires.list) in
+    let all : hidings t c.push_all.new.self ≡ hidings t tokens ++ space_next c.in-Ok.pending (hidings s list) =
+    ap (hidings t) c.in_ok-push_all-in-Ok.ensures ∙ map-append (hiding t) tokens c.space_next.new.self ∙ ap (λ hs. hidings t tokens ++ hs) spaced in
     ap Replaced all ∙ ap (λ r. replaced_by r (hidings s list)) made
 
 pub returns-in_ok-push_all-in-Ok-clause-known : goal.returns-in_ok-push_all-in-Ok-clause-known
 returns-in_ok-push_all-in-Ok-clause-known c =
     let t = c.substitute_pattern.new.sets in
     let tokens : AllKnown t c.in-Ok.tokens.items = rw c.in-Ok.is at c.in_ok-tokens.ensures.known in
-    let rest : AllKnown t c.mark_next.new.self = subst (AllKnown t) (sym c.mark_next.ensures) (known-marked t c.in-Ok.pending c.args.list.now (known-keeps c.args.list.now c.in_ok-tokens.ensures.keeps c.requires.list)) in
-    subst (AllKnown t) (sym c.in_ok-push_all-in-Ok.ensures) (known-append c.in-Ok.tokens.items c.mark_next.new.self tokens rest)
+    let rest : AllKnown t c.space_next.new.self = subst (AllKnown t) (sym c.space_next.ensures) (known-spaced t c.in-Ok.pending c.args.list.now (known-keeps c.args.list.now c.in_ok-tokens.ensures.keeps c.requires.list)) in
+    subst (AllKnown t) (sym c.in_ok-push_all-in-Ok.ensures) (known-append c.in-Ok.tokens.items c.space_next.new.self tokens rest)
 
 pub returns-in-Err-clause-is : goal.returns-in-Err-clause-is
 returns-in-Err-clause-is c =

@@ -7,13 +7,13 @@ use Rattle.ppmacro.specs.Chains.{parameter_names, chains_of}
 use Rattle.ppmacro.specs.Patterns.{listed}
 use Rattle.ppmacro.specs.Substitution.{argument_at}
 use Rattle.ppmacro.specs.Substituting.{lists_of, option_of}
-use Rattle.ppmacro.specs.declared.hidden_token.Expansion.TheVariants.{Unused}
+use Rattle.ppmacro.specs.declared.hidden_token.ArgumentExpansion.TheVariants.{Unused}
 use Rattle.ppmacro.proofs.KeepLemmas.{hidings-keeps, known-keeps, keeps-all, keeps-after}
 use Rattle.ppexpand.specs.ExpansionStep.{Failed, Replaced, finish_call, wanted, pre_expands}
 use Rattle.ppexpand.specs.Expansion.{ExpandsArguments}
 use Rattle.ppexpand.specs.code.ProgramValues.{expanded_in, owned_tokens, ExpansionsKnown, ExpandsArgument, deep, CallStepsTo, refuses, finishes}
 use Rattle.ppexpand.proofs.Keeping.{call_of, call_of-keeps, call_known-keeps, given_known-keeps, expanded_known-keeps, expanded_known-push}
-use Rattle.ppexpand.proofs.ArgumentLemmas.{arguments_first, no_value, argument_expands, argument_raises, argument-known, follows_unused, follows_used, follows_refused, follows_all, marked-alone}
+use Rattle.ppexpand.proofs.ArgumentLemmas.{arguments_first, no_value, argument_expands, argument_raises, argument-known, follows_unused, follows_used, follows_refused, follows_all, pre_expanded-alone}
 use Rattle.ppexpand.proofs.Skipping.{plain-expands, next-known, more-known, follows_skip, skip_falls}
 use Rattle.ppexpand.proofs.Follows.{more_follows, more_falls, end_follows, call_taken, call_raises, begun_raises}
 use Rattle.ppexpand.proofs.expansion.Expander.+expansion.Goals as goal
@@ -27,8 +27,8 @@ pub advance-returns-in_err-goes-clause-on : goal.advance-returns-in_err-goes-cla
 advance-returns-in_err-goes-clause-on m c =
     let s = c.begin_step.new.self.replacer.sets in
     stopped _ _ _ _ c.from_residual.ensures.1 c.in_err-goes.ensures.on (λ f begun.
-    begun_raises c.args.context.now.table.now.macros c.args.context.now.env.now c.args.context.now.level c.args.self.now.left (hidings c.args.self.now.replacer.sets c.args.list.now) (hidings c.args.self.now.replacer.sets c.args.emitted.now)
-    c.begin_step.new.call (λ found. call_of s found c.begin_step.new.list) f c.begin_step.new.self.left (hidings s c.begin_step.new.list) (hidings s c.begin_step.new.emitted) begun)
+    begun_raises c.args.context.now.table.now.macros c.args.context.now.env.now c.args.context.now.level c.args.self.now.remaining (hidings c.args.self.now.replacer.sets c.args.list.now) (hidings c.args.self.now.replacer.sets c.args.emitted.now)
+    c.begin_step.new.call (λ found. call_of s found c.begin_step.new.list) f c.begin_step.new.self.remaining (hidings s c.begin_step.new.list) (hidings s c.begin_step.new.emitted) begun)
 
 pub advance-replace_call-requires : goal.advance-replace_call-requires
 advance-replace_call-requires m c =
@@ -43,9 +43,9 @@ advance-returns-in_err-replace_call-clause-on m c =
     let call_step = rw c.in-Some.is at c.in_ok-goes.ensures.on in
     let call = call_of s c.in-Some.found c.begin_step.new.list in
     stopped _ _ _ _ c.from_residual-in_err-replace_call.ensures.1 c.in_err-replace_call.ensures.is (λ f steps.
-    call_raises c.args.context.now.table.now.macros c.args.context.now.env.now c.args.context.now.level c.args.self.now.left (hidings c.args.self.now.replacer.sets c.args.list.now) call call_step.0 _ _ f c.replace_call.new.self.left
-    (hidings-keeps _ c.in_err-replace_call.ensures.keeps c.in_ok-goes.ensures.passed_known ∙ call_step.3)
-    (subst (λ l. CallStepsTo c.args.context.now.table.now.macros c.args.context.now.env.now c.args.context.now.level call l c.replace_call.new.self.left (Failed f)) call_step.2 steps))
+    call_raises c.args.context.now.table.now.macros c.args.context.now.env.now c.args.context.now.level c.args.self.now.remaining (hidings c.args.self.now.replacer.sets c.args.list.now) call call_step.0 _ _ f c.replace_call.new.self.remaining
+    (hidings-keeps _ c.in_err-replace_call.ensures.keeps c.in_ok-goes.ensures.emitted_known ∙ call_step.3)
+    (subst (λ l. CallStepsTo c.args.context.now.table.now.macros c.args.context.now.env.now c.args.context.now.level call l c.replace_call.new.self.remaining (Failed f)) call_step.2 steps))
 
 pub advance-returns-clause-on : goal.advance-returns-clause-on
 advance-returns-clause-on m c =
@@ -53,12 +53,12 @@ advance-returns-clause-on m c =
     let t = c.replace_call.new.self.replacer.sets in
     let call_step = rw c.in-Some.is at c.in_ok-goes.ensures.on in
     let call = call_of s c.in-Some.found c.begin_step.new.list in
-    call_taken c.args.context.now.table.now.macros c.args.context.now.env.now c.args.context.now.level c.args.self.now.left (hidings c.args.self.now.replacer.sets c.args.list.now) call call_step.0 t c.replace_call.new.list _ _ c.replace_call.new.self.left
-    (hidings-keeps _ c.in_ok-replace_call.ensures.keeps c.in_ok-goes.ensures.passed_known ∙ call_step.3)
-    (subst (λ l. CallStepsTo c.args.context.now.table.now.macros c.args.context.now.env.now c.args.context.now.level call l c.replace_call.new.self.left (Replaced (hidings t c.replace_call.new.list))) call_step.2 c.in_ok-replace_call.ensures.is)
+    call_taken c.args.context.now.table.now.macros c.args.context.now.env.now c.args.context.now.level c.args.self.now.remaining (hidings c.args.self.now.replacer.sets c.args.list.now) call call_step.0 t c.replace_call.new.list _ _ c.replace_call.new.self.remaining
+    (hidings-keeps _ c.in_ok-replace_call.ensures.keeps c.in_ok-goes.ensures.emitted_known ∙ call_step.3)
+    (subst (λ l. CallStepsTo c.args.context.now.table.now.macros c.args.context.now.env.now c.args.context.now.level call l c.replace_call.new.self.remaining (Replaced (hidings t c.replace_call.new.list))) call_step.2 c.in_ok-replace_call.ensures.is)
 
-pub advance-returns-clause-passed_known : goal.advance-returns-clause-passed_known
-advance-returns-clause-passed_known m c = known-keeps _ c.in_ok-replace_call.ensures.keeps c.in_ok-goes.ensures.passed_known
+pub advance-returns-clause-emitted_known : goal.advance-returns-clause-emitted_known
+advance-returns-clause-emitted_known m c = known-keeps _ c.in_ok-replace_call.ensures.keeps c.in_ok-goes.ensures.emitted_known
 
 pub advance-returns-clause-list_known : goal.advance-returns-clause-list_known
 advance-returns-clause-list_known m c = λ goes. c.in_ok-replace_call.ensures.known
@@ -85,11 +85,11 @@ replace_call-returns-clause-is m c =
     let u = c.expand_arguments.new.self.replacer.sets in
     let expanded = c.expand_arguments.new.expanded.items in
     let call = call_of c.args.self.now.replacer.sets c.args.call.now list in
-    let args : ExpandsArguments c.args.context.now.table.now.macros c.args.context.now.env.now c.args.context.now.level call c.args.self.now.left (wanted call) c.expand_arguments.new.self.left (Ok (expanded_in u c.args.call.now.arguments.items expanded)) =
+    let args : ExpandsArguments c.args.context.now.table.now.macros c.args.context.now.env.now c.args.context.now.level call c.args.self.now.remaining (wanted call) c.expand_arguments.new.self.remaining (Ok (expanded_in u c.args.call.now.arguments.items expanded)) =
     c.in_ok-expand_arguments.ensures.is list in
     let same = call_of-keeps c.args.call.now list c.in_ok-expand_arguments.ensures.keeps c.requires.call_known c.requires.list_known in
     if_settled-weaker c.finish_call.result _ _
-    (λ r e. subst (CallStepsTo c.args.context.now.table.now.macros c.args.context.now.env.now c.args.context.now.level call c.args.self.now.left c.expand_arguments.new.self.left)
+    (λ r e. subst (CallStepsTo c.args.context.now.table.now.macros c.args.context.now.env.now c.args.context.now.level call c.args.self.now.remaining c.expand_arguments.new.self.remaining)
     (sym (e ∙ (λ i. finish_call (same i) (expanded_in u c.args.call.now.arguments.items (c.as_slice.ensures.value i)))))
     (finishes args))
     c.finish_call.ensures.is
@@ -112,8 +112,8 @@ expand_argument-returns-then-none_expands-clause-is m c =
     let list = c.args.argument.now in (
       hidings s list,
       refl,
-      argument_expands c.args.context.now.table.now.macros c.args.context.now.env.now c.args.context.now.level c.args.head.now.token c.args.self.now.left c.args.self.now.left (hidings s list) (hidings s list)
-          (omega (arith, c.if-context-ge-DEEPEST.false)) (plain-expands c.args.context.now.table.now.macros c.args.context.now.env.now (c.args.context.now.level + 1) c.args.self.now.left s list (c.none_expands.ensures c.if-none_expands.true)),
+      argument_expands c.args.context.now.table.now.macros c.args.context.now.env.now c.args.context.now.level c.args.head.now.token c.args.self.now.remaining c.args.self.now.remaining (hidings s list) (hidings s list)
+          (omega (arith, c.if-context-ge-DEEPEST.false)) (plain-expands c.args.context.now.table.now.macros c.args.context.now.env.now (c.args.context.now.level + 1) c.args.self.now.remaining s list (c.none_expands.ensures c.if-none_expands.true)),
     )
 
 pub expand_argument-expand_list-requires : goal.expand_argument-expand_list-requires
@@ -126,23 +126,23 @@ pub expand_argument-returns-in_err-expand_list-clause-is : goal.expand_argument-
 expand_argument-returns-in_err-expand_list-clause-is m c =
     let s = c.args.self.now.replacer.sets in
     let t = c.expand_list.new.self.replacer.sets in
-    let left = c.args.self.now.left in
-    let after = c.expand_list.new.self.left in
+    let remaining = c.args.self.now.remaining in
+    let remaining_after = c.expand_list.new.self.remaining in
     stopped _ _ _ _ c.from_residual-in_err-expand_list.ensures.1 c.in_err-expand_list.ensures.outcome (λ f one.
-    subst (λ list. ExpandsArgument c.args.context.now.table.now.macros c.args.context.now.env.now c.args.context.now.level c.args.head.now.token left (hidings s list) after (Err f)) c.in_ok-list.ensures
-    (argument_raises c.args.context.now.table.now.macros c.args.context.now.env.now c.args.context.now.level c.args.head.now.token left after (hidings s c.in_ok-list.list) (hidings t c.expand_list.new.emitted) f (omega (arith, c.if-context-ge-DEEPEST.false)) one))
+    subst (λ list. ExpandsArgument c.args.context.now.table.now.macros c.args.context.now.env.now c.args.context.now.level c.args.head.now.token remaining (hidings s list) remaining_after (Err f)) c.in_ok-list.ensures
+    (argument_raises c.args.context.now.table.now.macros c.args.context.now.env.now c.args.context.now.level c.args.head.now.token remaining remaining_after (hidings s c.in_ok-list.list) (hidings t c.expand_list.new.emitted) f (omega (arith, c.if-context-ge-DEEPEST.false)) one))
 
 pub expand_argument-returns-clause-is : goal.expand_argument-returns-clause-is
 expand_argument-returns-clause-is m c =
     let s = c.args.self.now.replacer.sets in
     let t = c.expand_list.new.self.replacer.sets in
-    let left = c.args.self.now.left in
-    let after = c.expand_list.new.self.left in
+    let remaining = c.args.self.now.remaining in
+    let remaining_after = c.expand_list.new.self.remaining in
     let emitted = hidings t c.expand_list.new.emitted in (
       emitted,
       ap (λ tokens. Some (hidings t tokens)) c.in_ok-tokens.ensures,
-      subst (λ list. ExpandsArgument c.args.context.now.table.now.macros c.args.context.now.env.now c.args.context.now.level c.args.head.now.token left (hidings s list) after (Ok emitted)) c.in_ok-list.ensures
-          (argument_expands c.args.context.now.table.now.macros c.args.context.now.env.now c.args.context.now.level c.args.head.now.token left after (hidings s c.in_ok-list.list) emitted (omega (arith, c.if-context-ge-DEEPEST.false)) c.in_ok-expand_list.ensures.outcome),
+      subst (λ list. ExpandsArgument c.args.context.now.table.now.macros c.args.context.now.env.now c.args.context.now.level c.args.head.now.token remaining (hidings s list) remaining_after (Ok emitted)) c.in_ok-list.ensures
+          (argument_expands c.args.context.now.table.now.macros c.args.context.now.env.now c.args.context.now.level c.args.head.now.token remaining remaining_after (hidings s c.in_ok-list.list) emitted (omega (arith, c.if-context-ge-DEEPEST.false)) c.in_ok-expand_list.ensures.outcome),
     )
 
 pub expand_argument-returns-clause-known : goal.expand_argument-returns-clause-known
@@ -154,21 +154,21 @@ expand_arguments-loop-parameter-init m c = record {
   count = ap length c.requires.none;
   known = rw c.requires.none (record { each = tt });
   keeps = keeps-all c.args.self.now.replacer.sets;
-  follows = λ following. rw c.requires.none (arguments_first c.args.context.now.table.now.macros c.args.context.now.env.now c.args.context.now.level (call_of c.args.self.now.replacer.sets c.args.call.now following) c.args.self.now.left);
+  follows = λ following. rw c.requires.none (arguments_first c.args.context.now.table.now.macros c.args.context.now.env.now c.args.context.now.level (call_of c.args.self.now.replacer.sets c.args.call.now following) c.args.self.now.remaining);
 }
 
-pub expand_arguments-loop-parameter-preserved-then-not-alone : goal.expand_arguments-loop-parameter-preserved-then-not-alone
-expand_arguments-loop-parameter-preserved-then-not-alone m c =
+pub expand_arguments-loop-parameter-preserved-then-not-is_pre_expanded : goal.expand_arguments-loop-parameter-preserved-then-not-is_pre_expanded
+expand_arguments-loop-parameter-preserved-then-not-is_pre_expanded m c =
     let s = c.args.self.now.replacer.sets in
     let u = c.loop-parameter.self.replacer.sets in
     let i = c.loop-parameter.parameter in
     let vs = c.args.call.now.arguments.items in
-    let cs = chains_of c.args.call.now.replaced.now in
-    let names = parameter_names c.args.call.now.replaced.now.kind in
+    let cs = chains_of c.args.call.now.definition.now in
+    let names = parameter_names c.args.call.now.definition.now.kind in
     let done = c.loop-parameter.expanded.items in
-    let less : i < length names = subst (λ n. i < n) (ap length c.deref-alone-items.ensures.value ∙ c.in_ok-used.ensures.len) c.loop-parameter-test.true in
-    let unused : pre_expands i cs ≡ false = marked-alone c.in_ok-used.used.items c.deref-alone-items.result.now (length names) i (listed c.args.pattern.now) cs false
-    c.deref-alone-items.ensures.value c.requires.chains c.in_ok-used.ensures.used less c.if-not-alone.true in
+    let less : i < length names = subst (λ n. i < n) (ap length c.deref-is_pre_expanded-items.ensures.value ∙ c.in_ok-pre_expanded.ensures.len) c.loop-parameter-test.true in
+    let unused : pre_expands i cs ≡ false = pre_expanded-alone c.in_ok-pre_expanded.pre_expanded.items c.deref-is_pre_expanded-items.result.now (length names) i (listed c.args.pattern.now) cs false
+    c.deref-is_pre_expanded-items.ensures.value c.requires.chains c.in_ok-pre_expanded.ensures.pre_expanded less c.if-not-is_pre_expanded.true in
     let appended = c.in_ok-put.ensures in
     record {
       low = c.loop-parameter.invariant.low;
@@ -177,7 +177,7 @@ expand_arguments-loop-parameter-preserved-then-not-alone m c =
       keeps = c.loop-parameter.invariant.keeps;
       follows = λ following.
           (let call = call_of s c.args.call.now following in
-          follows_unused c.args.context.now.table.now.macros c.args.context.now.env.now c.args.context.now.level c.args.self.now.left c.loop-parameter.self.left c.loop-parameter.self.left s u u vs cs names i done c.put.new.items.items call (wanted call)
+          follows_unused c.args.context.now.table.now.macros c.args.context.now.env.now c.args.context.now.level c.args.self.now.remaining c.loop-parameter.self.remaining c.loop-parameter.self.remaining s u u vs cs names i done c.put.new.items.items call (wanted call)
           less c.loop-parameter.invariant.count unused appended (c.loop-parameter.invariant.follows following));
     }
 
@@ -198,20 +198,20 @@ expand_arguments-returns-in_err-expansion-clause-is m c =
     let u = c.loop-parameter.self.replacer.sets in
     let i = c.loop-parameter.parameter in
     let vs = c.args.call.now.arguments.items in
-    let cs = chains_of c.args.call.now.replaced.now in
-    let names = parameter_names c.args.call.now.replaced.now.kind in
+    let cs = chains_of c.args.call.now.definition.now in
+    let names = parameter_names c.args.call.now.definition.now.kind in
     let done = c.loop-parameter.expanded.items in
-    let less : i < length names = subst (λ n. i < n) (ap length c.deref-alone-items.ensures.value ∙ c.in_ok-used.ensures.len) c.loop-parameter-test.true in
-    let is_used : pre_expands i cs ≡ true = marked-alone c.in_ok-used.used.items c.deref-alone-items.result.now (length names) i (listed c.args.pattern.now) cs true
-    c.deref-alone-items.ensures.value c.requires.chains c.in_ok-used.ensures.used less c.if-not-alone.false in
+    let less : i < length names = subst (λ n. i < n) (ap length c.deref-is_pre_expanded-items.ensures.value ∙ c.in_ok-pre_expanded.ensures.len) c.loop-parameter-test.true in
+    let is_used : pre_expands i cs ≡ true = pre_expanded-alone c.in_ok-pre_expanded.pre_expanded.items c.deref-is_pre_expanded-items.result.now (length names) i (listed c.args.pattern.now) cs true
+    c.deref-is_pre_expanded-items.ensures.value c.requires.chains c.in_ok-pre_expanded.ensures.pre_expanded less c.if-not-is_pre_expanded.false in
     let tokens_are : c.argument_of-tokens.result.now ≡ argument_at (lists_of vs) i = c.argument_of-tokens.ensures ∙ ap (λ gs. argument_at (lists_of gs) i) c.as_slice.ensures.value in
     let argument : hidings u c.argument_of-tokens.result.now ≡ hidings s (argument_at (lists_of vs) i) =
     ap (hidings u) tokens_are ∙ hidings-keeps (argument_at (lists_of vs) i) c.loop-parameter.invariant.keeps (argument-known s vs i c.requires.known.arguments) in
     stopped _ _ _ _ c.from_residual-in_err-expansion.ensures.1 c.in_err-expansion.ensures.is (λ f raised following.
     let call = call_of s c.args.call.now following in
-    let one : ExpandsArgument c.args.context.now.table.now.macros c.args.context.now.env.now c.args.context.now.level c.args.call.now.head.token c.loop-parameter.self.left (hidings s (argument_at (lists_of vs) i)) c.expand_argument.new.self.left (Err f) =
-    subst (λ l. ExpandsArgument c.args.context.now.table.now.macros c.args.context.now.env.now c.args.context.now.level c.args.call.now.head.token c.loop-parameter.self.left l c.expand_argument.new.self.left (Err f)) argument raised in
-    follows_refused c.args.context.now.table.now.macros c.args.context.now.env.now c.args.context.now.level c.args.self.now.left c.loop-parameter.self.left c.expand_argument.new.self.left s u u vs cs names i done done call (wanted call)
+    let one : ExpandsArgument c.args.context.now.table.now.macros c.args.context.now.env.now c.args.context.now.level c.args.call.now.head.token c.loop-parameter.self.remaining (hidings s (argument_at (lists_of vs) i)) c.expand_argument.new.self.remaining (Err f) =
+    subst (λ l. ExpandsArgument c.args.context.now.table.now.macros c.args.context.now.env.now c.args.context.now.level c.args.call.now.head.token c.loop-parameter.self.remaining l c.expand_argument.new.self.remaining (Err f)) argument raised in
+    follows_refused c.args.context.now.table.now.macros c.args.context.now.env.now c.args.context.now.level c.args.self.now.remaining c.loop-parameter.self.remaining c.expand_argument.new.self.remaining s u u vs cs names i done done call (wanted call)
     f less is_used one (c.loop-parameter.invariant.follows following))
 
 pub expand_arguments-loop-parameter-preserved : goal.expand_arguments-loop-parameter-preserved
@@ -220,12 +220,12 @@ expand_arguments-loop-parameter-preserved m c =
     let u = c.loop-parameter.self.replacer.sets in
     let i = c.loop-parameter.parameter in
     let vs = c.args.call.now.arguments.items in
-    let cs = chains_of c.args.call.now.replaced.now in
-    let names = parameter_names c.args.call.now.replaced.now.kind in
+    let cs = chains_of c.args.call.now.definition.now in
+    let names = parameter_names c.args.call.now.definition.now.kind in
     let done = c.loop-parameter.expanded.items in
-    let less : i < length names = subst (λ n. i < n) (ap length c.deref-alone-items.ensures.value ∙ c.in_ok-used.ensures.len) c.loop-parameter-test.true in
-    let is_used : pre_expands i cs ≡ true = marked-alone c.in_ok-used.used.items c.deref-alone-items.result.now (length names) i (listed c.args.pattern.now) cs true
-    c.deref-alone-items.ensures.value c.requires.chains c.in_ok-used.ensures.used less c.if-not-alone.false in
+    let less : i < length names = subst (λ n. i < n) (ap length c.deref-is_pre_expanded-items.ensures.value ∙ c.in_ok-pre_expanded.ensures.len) c.loop-parameter-test.true in
+    let is_used : pre_expands i cs ≡ true = pre_expanded-alone c.in_ok-pre_expanded.pre_expanded.items c.deref-is_pre_expanded-items.result.now (length names) i (listed c.args.pattern.now) cs true
+    c.deref-is_pre_expanded-items.ensures.value c.requires.chains c.in_ok-pre_expanded.ensures.pre_expanded less c.if-not-is_pre_expanded.false in
     let tokens_are : c.argument_of-tokens.result.now ≡ argument_at (lists_of vs) i = c.argument_of-tokens.ensures ∙ ap (λ gs. argument_at (lists_of gs) i) c.as_slice.ensures.value in
     let w = c.expand_argument.new.self.replacer.sets in
     let keeps = c.in_ok-expansion.ensures.keeps in
@@ -234,8 +234,8 @@ expand_arguments-loop-parameter-preserved m c =
     let made_is = c.in_ok-expansion.ensures.is in
     let e = c.in_ok-expansion.expansion in
     let tokens = made_is.0 in
-    let one : ExpandsArgument c.args.context.now.table.now.macros c.args.context.now.env.now c.args.context.now.level c.args.call.now.head.token c.loop-parameter.self.left (hidings s (argument_at (lists_of vs) i)) c.expand_argument.new.self.left (Ok tokens) =
-    subst (λ l. ExpandsArgument c.args.context.now.table.now.macros c.args.context.now.env.now c.args.context.now.level c.args.call.now.head.token c.loop-parameter.self.left l c.expand_argument.new.self.left (Ok tokens)) argument made_is.2 in
+    let one : ExpandsArgument c.args.context.now.table.now.macros c.args.context.now.env.now c.args.context.now.level c.args.call.now.head.token c.loop-parameter.self.remaining (hidings s (argument_at (lists_of vs) i)) c.expand_argument.new.self.remaining (Ok tokens) =
+    subst (λ l. ExpandsArgument c.args.context.now.table.now.macros c.args.context.now.env.now c.args.context.now.level c.args.call.now.head.token c.loop-parameter.self.remaining l c.expand_argument.new.self.remaining (Ok tokens)) argument made_is.2 in
     let here_is : option_map (hidings w) (option_of (argument_at (lists_of vs) i) e) ≡ Some tokens =
     subst (λ g. option_map (hidings w) (option_of g e) ≡ Some tokens) tokens_are made_is.1 in
     let tokens_known : AllKnown w (owned_tokens e) = c.in_ok-expansion.ensures.known in
@@ -248,7 +248,7 @@ expand_arguments-loop-parameter-preserved m c =
       keeps = keeps-after c.loop-parameter.invariant.keeps keeps;
       follows = λ following.
           (let call = call_of s c.args.call.now following in
-          follows_used c.args.context.now.table.now.macros c.args.context.now.env.now c.args.context.now.level c.args.self.now.left c.loop-parameter.self.left c.expand_argument.new.self.left s u w vs cs names i done c.put-in-loop-parameter.new.items.items call (wanted call)
+          follows_used c.args.context.now.table.now.macros c.args.context.now.env.now c.args.context.now.level c.args.self.now.remaining c.loop-parameter.self.remaining c.expand_argument.new.self.remaining s u w vs cs names i done c.put-in-loop-parameter.new.items.items call (wanted call)
           e tokens less c.loop-parameter.invariant.count is_used appended keeps given_known c.loop-parameter.invariant.known here_is one (c.loop-parameter.invariant.follows following));
     }
 
@@ -258,13 +258,13 @@ expand_arguments-returns-clause-is m c =
     let u = c.loop-parameter.self.replacer.sets in
     let i = c.loop-parameter.parameter in
     let vs = c.args.call.now.arguments.items in
-    let names = parameter_names c.args.call.now.replaced.now.kind in
+    let names = parameter_names c.args.call.now.definition.now.kind in
     let done = c.loop-parameter.expanded.items in
     let end : length names ≤ i =
-    subst (λ n. n ≤ i) (ap length c.deref-alone-items.ensures.value ∙ c.in_ok-used.ensures.len) (omega (arith, c.loop-parameter-test.false)) in
+    subst (λ n. n ≤ i) (ap length c.deref-is_pre_expanded-items.ensures.value ∙ c.in_ok-pre_expanded.ensures.len) (omega (arith, c.loop-parameter-test.false)) in
     (λ following.
     let call = call_of s c.args.call.now following in
-    follows_all c.args.context.now.table.now.macros c.args.context.now.env.now c.args.context.now.level c.args.self.now.left c.loop-parameter.self.left s u vs (chains_of c.args.call.now.replaced.now) names
+    follows_all c.args.context.now.table.now.macros c.args.context.now.env.now c.args.context.now.level c.args.self.now.remaining c.loop-parameter.self.remaining s u vs (chains_of c.args.call.now.definition.now) names
     i done call (wanted call) end (c.loop-parameter.invariant.follows following))
 
 -- ---- a list
@@ -273,7 +273,7 @@ pub expand_list-loop-named-init : goal.expand_list-loop-named-init
 expand_list-loop-named-init m c = record {
   low = c.requires.level;
   list_known = c.requires.known;
-  passed_known = rw c.requires.none (record { each = tt });
+  emitted_known = rw c.requires.none (record { each = tt });
   keeps = keeps-all c.args.self.now.replacer.sets;
   follows = λ n out d. rw c.requires.none (n, d);
 }
@@ -283,9 +283,9 @@ expand_list-advance-goes-requires m c =
     let sets = c.loop-named.self.replacer.sets in
     let skipped = c.in_ok-named.ensures.skipped in
     let list_known = next-known sets _ _ _ _ skipped c.loop-named.invariant.list_known in
-    let passed_known = more-known sets _ _ _ _ skipped c.loop-named.invariant.list_known c.loop-named.invariant.passed_known in (
+    let emitted_known = more-known sets _ _ _ _ skipped c.loop-named.invariant.list_known c.loop-named.invariant.emitted_known in (
       omega arith,
-      (c.loop-named.invariant.low, (c.in_ok-named.ensures.named, (list_known, passed_known))),
+      (c.loop-named.invariant.low, (c.in_ok-named.ensures.named, (list_known, emitted_known))),
     )
 
 pub expand_list-returns-then-not-branch-clause-outcome : goal.expand_list-returns-then-not-branch-clause-outcome
@@ -294,8 +294,8 @@ expand_list-returns-then-not-branch-clause-outcome m c =
     let start = hidings c.args.self.now.replacer.sets c.args.list.now in
     let list = c.skip.new.list in
     let emitted = c.skip.new.emitted in
-    let here = follows_skip c.args.context.now.table.now.macros c.args.context.now.env.now c.args.context.now.level c.loop-named.self.left sets c.args.self.now.left start c.loop-named.list c.loop-named.emitted list emitted c.in_ok-named.ensures.skipped c.loop-named.invariant.follows in
-    end_follows c.args.context.now.table.now.macros c.args.context.now.env.now c.args.context.now.level c.args.self.now.left start (hidings sets emitted) c.loop-named.self.left (hidings sets list) None c.advance-goes.new.self.left
+    let here = follows_skip c.args.context.now.table.now.macros c.args.context.now.env.now c.args.context.now.level c.loop-named.self.remaining sets c.args.self.now.remaining start c.loop-named.list c.loop-named.emitted list emitted c.in_ok-named.ensures.skipped c.loop-named.invariant.follows in
+    end_follows c.args.context.now.table.now.macros c.args.context.now.env.now c.args.context.now.level c.args.self.now.remaining start (hidings sets emitted) c.loop-named.self.remaining (hidings sets list) None c.advance-goes.new.self.remaining
     (hidings c.advance-goes.new.self.replacer.sets c.advance-goes.new.emitted) here (rw c.if-not-branch.true at c.in_ok-goes.ensures.on)
 
 pub expand_list-returns-in_err-goes-clause-outcome : goal.expand_list-returns-in_err-goes-clause-outcome
@@ -304,9 +304,9 @@ expand_list-returns-in_err-goes-clause-outcome m c =
     let start = hidings c.args.self.now.replacer.sets c.args.list.now in
     let list = c.skip.new.list in
     let emitted = c.skip.new.emitted in
-    let here = follows_skip c.args.context.now.table.now.macros c.args.context.now.env.now c.args.context.now.level c.loop-named.self.left sets c.args.self.now.left start c.loop-named.list c.loop-named.emitted list emitted c.in_ok-named.ensures.skipped c.loop-named.invariant.follows in
+    let here = follows_skip c.args.context.now.table.now.macros c.args.context.now.env.now c.args.context.now.level c.loop-named.self.remaining sets c.args.self.now.remaining start c.loop-named.list c.loop-named.emitted list emitted c.in_ok-named.ensures.skipped c.loop-named.invariant.follows in
     stopped _ _ _ _ c.from_residual-in_err-goes.ensures.1 c.in_err-goes.ensures.on (λ f ended.
-    end_follows c.args.context.now.table.now.macros c.args.context.now.env.now c.args.context.now.level c.args.self.now.left start (hidings sets emitted) c.loop-named.self.left (hidings sets list) (Some f) c.advance-goes.new.self.left
+    end_follows c.args.context.now.table.now.macros c.args.context.now.env.now c.args.context.now.level c.args.self.now.remaining start (hidings sets emitted) c.loop-named.self.remaining (hidings sets list) (Some f) c.advance-goes.new.self.remaining
     (hidings c.advance-goes.new.self.replacer.sets c.advance-goes.new.emitted) here ended)
 
 pub expand_list-loop-named-preserved : goal.expand_list-loop-named-preserved
@@ -315,13 +315,13 @@ expand_list-loop-named-preserved m c =
     let start = hidings c.args.self.now.replacer.sets c.args.list.now in
     let list = c.skip.new.list in
     let emitted = c.skip.new.emitted in
-    let here = follows_skip c.args.context.now.table.now.macros c.args.context.now.env.now c.args.context.now.level c.loop-named.self.left sets c.args.self.now.left start c.loop-named.list c.loop-named.emitted list emitted c.in_ok-named.ensures.skipped c.loop-named.invariant.follows in
+    let here = follows_skip c.args.context.now.table.now.macros c.args.context.now.env.now c.args.context.now.level c.loop-named.self.remaining sets c.args.self.now.remaining start c.loop-named.list c.loop-named.emitted list emitted c.in_ok-named.ensures.skipped c.loop-named.invariant.follows in
     record {
       low = c.loop-named.invariant.low;
       list_known = c.in_ok-goes.ensures.list_known c.if-not-branch.false;
-      passed_known = c.in_ok-goes.ensures.passed_known;
+      emitted_known = c.in_ok-goes.ensures.emitted_known;
       keeps = keeps-after c.loop-named.invariant.keeps c.in_ok-goes.ensures.keeps;
-      follows = more_follows c.args.context.now.table.now.macros c.args.context.now.env.now c.args.context.now.level c.args.self.now.left start (hidings sets emitted) c.loop-named.self.left (hidings sets list) c.advance-goes.new.self.left
+      follows = more_follows c.args.context.now.table.now.macros c.args.context.now.env.now c.args.context.now.level c.args.self.now.remaining start (hidings sets emitted) c.loop-named.self.remaining (hidings sets list) c.advance-goes.new.self.remaining
           (hidings c.advance-goes.new.self.replacer.sets c.advance-goes.new.list) (hidings c.advance-goes.new.self.replacer.sets c.advance-goes.new.emitted) here (rw c.if-not-branch.false at c.in_ok-goes.ensures.on);
     }
 
@@ -330,7 +330,7 @@ expand_list-loop-named-smaller m c =
     let sets = c.loop-named.self.replacer.sets in
     let list = c.skip.new.list in
     let emitted = c.skip.new.emitted in
-    let after = more_falls c.args.context.now.table.now.macros c.args.context.now.env.now c.args.context.now.level c.loop-named.self.left (hidings sets list) (hidings sets emitted) c.advance-goes.new.self.left
+    let remaining_after = more_falls c.args.context.now.table.now.macros c.args.context.now.env.now c.args.context.now.level c.loop-named.self.remaining (hidings sets list) (hidings sets emitted) c.advance-goes.new.self.remaining
     (hidings c.advance-goes.new.self.replacer.sets c.advance-goes.new.list) (hidings c.advance-goes.new.self.replacer.sets c.advance-goes.new.emitted) (rw c.if-not-branch.false at c.in_ok-goes.ensures.on) in
-    let skipped = skip_falls c.args.context.now.table.now.macros c.args.context.now.env.now c.args.context.now.level c.loop-named.self.left sets c.loop-named.list c.loop-named.emitted list emitted c.in_ok-named.ensures.skipped in
-    omega (arith, after, skipped)
+    let skipped = skip_falls c.args.context.now.table.now.macros c.args.context.now.env.now c.args.context.now.level c.loop-named.self.remaining sets c.loop-named.list c.loop-named.emitted list emitted c.in_ok-named.ensures.skipped in
+    omega (arith, remaining_after, skipped)

@@ -28,13 +28,13 @@ abbrev pub invariant-expand_list-loop-named : goal.invariant-expand_list-loop-na
 invariant-expand_list-loop-named l = record {
   low : l.context.level ≤ 256;
   list_known : AllKnown l.self.replacer.sets l.list;
-  passed_known : AllKnown l.self.replacer.sets l.emitted;
+  emitted_known : AllKnown l.self.replacer.sets l.emitted;
   keeps : KeepsSets l.fn.self.replacer.sets l.self.replacer.sets;
-  follows : Follows l.context.table.now.macros l.context.env.now l.context.level l.fn.self.left (hidings l.fn.self.replacer.sets l.fn.list) (hidings l.self.replacer.sets l.emitted) l.self.left (hidings l.self.replacer.sets l.list);
+  follows : Follows l.context.table.now.macros l.context.env.now l.context.level l.fn.self.remaining (hidings l.fn.self.replacer.sets l.fn.list) (hidings l.self.replacer.sets l.emitted) l.self.remaining (hidings l.self.replacer.sets l.list);
 }
 
 abbrev pub decreases-expand_list-loop-named : goal.decreases-expand_list-loop-named
-decreases-expand_list-loop-named l = turns_left l.context.table.now.macros l.context.env.now l.context.level l.self.left (hidings l.self.replacer.sets l.list)
+decreases-expand_list-loop-named l = turns_left l.context.table.now.macros l.context.env.now l.context.level l.self.remaining (hidings l.self.replacer.sets l.list)
 
 abbrev pub invariant-expand_arguments-loop-parameter : goal.invariant-expand_arguments-loop-parameter
 invariant-expand_arguments-loop-parameter l = record {
@@ -43,7 +43,7 @@ invariant-expand_arguments-loop-parameter l = record {
   count : length l.expanded.items ≡ l.parameter;
   keeps : KeepsSets l.fn.self.replacer.sets l.self.replacer.sets;
   follows : (following : List Hidden)
-      → ArgumentsFollow l.context.table.now.macros l.context.env.now l.context.level (call_of l.fn.self.replacer.sets l.call following) l.fn.self.left (wanted (call_of l.fn.self.replacer.sets l.call following))
-      (expanded_in l.self.replacer.sets l.call.arguments.items l.expanded.items) l.self.left
-      (to_expand l.parameter (chains_of l.call.replaced.now) (drop l.parameter (parameter_names l.call.replaced.now.kind)) (given_in l.fn.self.replacer.sets l.call.arguments.items));
+      → ArgumentsFollow l.context.table.now.macros l.context.env.now l.context.level (call_of l.fn.self.replacer.sets l.call following) l.fn.self.remaining (wanted (call_of l.fn.self.replacer.sets l.call following))
+      (expanded_in l.self.replacer.sets l.call.arguments.items l.expanded.items) l.self.remaining
+      (to_expand l.parameter (chains_of l.call.definition.now) (drop l.parameter (parameter_names l.call.definition.now.kind)) (given_in l.fn.self.replacer.sets l.call.arguments.items));
 }

@@ -12,27 +12,27 @@ use Rattle.ppexpand.proofs.expansion.Expander.begin_step.Goals as goal
 
 pub returns-in-Done-clause-on : goal.returns-in-Done-clause-on
 returns-in-Done-clause-on c =
-    let t : step_in_budget c.args.context.now.table.now.macros c.args.context.now.env.now c.args.self.now.left (hidings c.args.self.now.replacer.sets c.args.list.now) ≡ Done =
+    let t : step_in_budget c.args.context.now.table.now.macros c.args.context.now.env.now c.args.self.now.remaining (hidings c.args.self.now.replacer.sets c.args.list.now) ≡ Done =
     sym (ap (step_in c.next_step.new.self.sets c.next_step.new.list) (sym (stepped c.next.inside c.next.view_is c.in-Done.is)) ∙ c.in_ok-next.ensures.is) in
-    λ level. (done t, hidings-keeps _ c.in_ok-next.ensures.keeps c.requires.passed_known)
+    λ level. (done t, hidings-keeps _ c.in_ok-next.ensures.keeps c.requires.emitted_known)
 
-pub returns-in-Done-clause-passed_known : goal.returns-in-Done-clause-passed_known
-returns-in-Done-clause-passed_known c = known-keeps _ c.in_ok-next.ensures.keeps c.requires.passed_known
+pub returns-in-Done-clause-emitted_known : goal.returns-in-Done-clause-emitted_known
+returns-in-Done-clause-emitted_known c = known-keeps _ c.in_ok-next.ensures.keeps c.requires.emitted_known
 
 pub returns-in-Refused-clause-on : goal.returns-in-Refused-clause-on
 returns-in-Refused-clause-on c =
-    let t : step_in_budget c.args.context.now.table.now.macros c.args.context.now.env.now c.args.self.now.left (hidings c.args.self.now.replacer.sets c.args.list.now) ≡ Refused c.in-Refused.fault =
+    let t : step_in_budget c.args.context.now.table.now.macros c.args.context.now.env.now c.args.self.now.remaining (hidings c.args.self.now.replacer.sets c.args.list.now) ≡ Refused c.in-Refused.fault =
     sym (ap (step_in c.next_step.new.self.sets c.next_step.new.list) (sym (stepped c.next.inside c.next.view_is c.in-Refused.is)) ∙ c.in_ok-next.ensures.is) in
-    λ level. (refused t, hidings-keeps _ c.in_ok-next.ensures.keeps c.requires.passed_known)
+    λ level. (refused t, hidings-keeps _ c.in_ok-next.ensures.keeps c.requires.emitted_known)
 
 pub returns-in-Failed-clause-on : goal.returns-in-Failed-clause-on
 returns-in-Failed-clause-on c =
     let s = c.args.self.now.replacer.sets in
-    let t : step_in_budget c.args.context.now.table.now.macros c.args.context.now.env.now c.args.self.now.left (hidings s c.args.list.now) ≡ Failed c.in-Failed.fault =
+    let t : step_in_budget c.args.context.now.table.now.macros c.args.context.now.env.now c.args.self.now.remaining (hidings s c.args.list.now) ≡ Failed c.in-Failed.fault =
     sym (ap (step_in c.next_step.new.self.sets c.next_step.new.list) (sym (stepped c.next.inside c.next.view_is c.in-Failed.is)) ∙ c.in_ok-next.ensures.is) in
     λ level. (
-      subst (EndsWith c.args.context.now.table.now.macros c.args.context.now.env.now level c.args.self.now.left (hidings s c.args.list.now) (Some c.in-Failed.fault)) (sym c.spend_one-self.ensures) (failed t),
-      hidings-keeps _ c.in_ok-next.ensures.keeps c.requires.passed_known,
+      subst (EndsWith c.args.context.now.table.now.macros c.args.context.now.env.now level c.args.self.now.remaining (hidings s c.args.list.now) (Some c.in-Failed.fault)) (sym c.spend_one-self.ensures) (failed t),
+      hidings-keeps _ c.in_ok-next.ensures.keeps c.requires.emitted_known,
     )
 
 pub returns-in_ok-push_single-in-Emits-clause-on : goal.returns-in_ok-push_single-in-Emits-clause-on
@@ -40,24 +40,24 @@ returns-in_ok-push_single-in-Emits-clause-on c =
     let s = c.next_step.new.self.sets in
     let emitted = c.args.emitted.now in
     let head = c.in-Emits.head in
-    let t : step_in_budget c.args.context.now.table.now.macros c.args.context.now.env.now c.args.self.now.left (hidings c.args.self.now.replacer.sets c.args.list.now) ≡ Emits (hiding s head) (hidings s c.next_step.new.list) =
+    let t : step_in_budget c.args.context.now.table.now.macros c.args.context.now.env.now c.args.self.now.remaining (hidings c.args.self.now.replacer.sets c.args.list.now) ≡ Emits (hiding s head) (hidings s c.next_step.new.list) =
     sym (ap (step_in s c.next_step.new.list) (sym (stepped c.next.inside c.next.view_is c.in-Emits.is)) ∙ c.in_ok-next.ensures.is) in
     let shown : hidings s c.push_single.new.self ≡ hidings c.args.self.now.replacer.sets emitted ++ hiding s head ∷ [] =
-    ap (hidings s) c.in_ok-push_single-in-Emits.ensures ∙ map-append (hiding s) emitted (head ∷ []) ∙ ap (λ hs. hs ++ hiding s head ∷ []) (hidings-keeps emitted c.in_ok-next.ensures.keeps c.requires.passed_known) in
+    ap (hidings s) c.in_ok-push_single-in-Emits.ensures ∙ map-append (hiding s) emitted (head ∷ []) ∙ ap (λ hs. hs ++ hiding s head ∷ []) (hidings-keeps emitted c.in_ok-next.ensures.keeps c.requires.emitted_known) in
     λ level. (hiding s head ∷ [], shown, record { expansion_step = λ n out d. emits t d })
 
-pub returns-in_ok-push_single-in-Emits-clause-passed_known : goal.returns-in_ok-push_single-in-Emits-clause-passed_known
-returns-in_ok-push_single-in-Emits-clause-passed_known c =
+pub returns-in_ok-push_single-in-Emits-clause-emitted_known : goal.returns-in_ok-push_single-in-Emits-clause-emitted_known
+returns-in_ok-push_single-in-Emits-clause-emitted_known c =
     let s = c.next_step.new.self.sets in
     let known = subst (ActionKnown s c.next_step.new.list) (stepped c.next.inside c.next.view_is c.in-Emits.is) c.in_ok-next.ensures.known in
-    subst (AllKnown s) (sym c.in_ok-push_single-in-Emits.ensures) (known-append c.args.emitted.now (c.in-Emits.head ∷ []) (known-keeps _ c.in_ok-next.ensures.keeps c.requires.passed_known) (record { each = (known.0, tt) }))
+    subst (AllKnown s) (sym c.in_ok-push_single-in-Emits.ensures) (known-append c.args.emitted.now (c.in-Emits.head ∷ []) (known-keeps _ c.in_ok-next.ensures.keeps c.requires.emitted_known) (record { each = (known.0, tt) }))
 
 pub returns-in-Replaced-clause-on : goal.returns-in-Replaced-clause-on
 returns-in-Replaced-clause-on c =
     let s = c.next_step.new.self.sets in
-    let t : step_in_budget c.args.context.now.table.now.macros c.args.context.now.env.now c.args.self.now.left (hidings c.args.self.now.replacer.sets c.args.list.now) ≡ Replaced (hidings s c.next_step.new.list) =
+    let t : step_in_budget c.args.context.now.table.now.macros c.args.context.now.env.now c.args.self.now.remaining (hidings c.args.self.now.replacer.sets c.args.list.now) ≡ Replaced (hidings s c.next_step.new.list) =
     sym (ap (step_in s c.next_step.new.list) (sym (stepped c.next.inside c.next.view_is c.in-Replaced.is)) ∙ c.in_ok-next.ensures.is) in
-    let same = hidings-keeps _ c.in_ok-next.ensures.keeps c.requires.passed_known ∙ sym (append-nil _) in
+    let same = hidings-keeps _ c.in_ok-next.ensures.keeps c.requires.emitted_known ∙ sym (append-nil _) in
     λ level. (
       [],
       same,
@@ -67,16 +67,16 @@ returns-in-Replaced-clause-on c =
       },
     )
 
-pub returns-in-Replaced-clause-passed_known : goal.returns-in-Replaced-clause-passed_known
-returns-in-Replaced-clause-passed_known c = known-keeps _ c.in_ok-next.ensures.keeps c.requires.passed_known
+pub returns-in-Replaced-clause-emitted_known : goal.returns-in-Replaced-clause-emitted_known
+returns-in-Replaced-clause-emitted_known c = known-keeps _ c.in_ok-next.ensures.keeps c.requires.emitted_known
 
 pub returns-in-Called-clause-on : goal.returns-in-Called-clause-on
 returns-in-Called-clause-on c =
     let s = c.next_step.new.self.sets in
     let list = c.next_step.new.list in
-    let t : step_in_budget c.args.context.now.table.now.macros c.args.context.now.env.now c.args.self.now.left (hidings c.args.self.now.replacer.sets c.args.list.now) ≡ Called (call_of s c.in-Called.found list) =
+    let t : step_in_budget c.args.context.now.table.now.macros c.args.context.now.env.now c.args.self.now.remaining (hidings c.args.self.now.replacer.sets c.args.list.now) ≡ Called (call_of s c.in-Called.found list) =
     sym (ap (step_in s list) (sym (stepped c.next.inside c.next.view_is c.in-Called.is)) ∙ c.in_ok-next.ensures.is) in
-    (t, refl, c.spend_one-self-in-Called.ensures, hidings-keeps _ c.in_ok-next.ensures.keeps c.requires.passed_known)
+    (t, refl, c.spend_one-self-in-Called.ensures, hidings-keeps _ c.in_ok-next.ensures.keeps c.requires.emitted_known)
 
-pub returns-in-Called-clause-passed_known : goal.returns-in-Called-clause-passed_known
-returns-in-Called-clause-passed_known c = known-keeps _ c.in_ok-next.ensures.keeps c.requires.passed_known
+pub returns-in-Called-clause-emitted_known : goal.returns-in-Called-clause-emitted_known
+returns-in-Called-clause-emitted_known c = known-keeps _ c.in_ok-next.ensures.keeps c.requires.emitted_known

@@ -18,12 +18,12 @@ loop-entry-preserved c =
     let front = hidings s c.loop-entry.tokens.items in
     let new = c.push_entry.new.tokens.items in
     let args = arguments_in s c.args.arguments.given.now c.args.arguments.expanded.now in
-    let flag = c.flag_before-flag.ensures ∙ ap (λ own. pending || (not first && own)) c.flag_of.ensures in
+    let space = c.space_before-leading.ensures ∙ ap (λ own. pending || (not first && own)) c.space_of.ensures in
     let next : drop i es ≡ entry ∷ drop (i + 1) es = drop-item es i entry c.loop-entry-test.true c.entry-item.is in
     record {
       same = λ used.
-          (let made : Ok (record { tokens = hidings s new; pending = c.in_ok-pending.pending }) ≡ pushed front (pending || (not first && chain.flag)) (chain_tokens args used chain) =
-          c.in_ok-pending.ensures.is used ∙ (λ j. pushed front (flag j) (chain_tokens args used chain)) in
+          (let made : Ok (record { tokens = hidings s new; pending = c.in_ok-pending.pending }) ≡ pushed front (pending || (not first && chain.space)) (chain_tokens args used chain) =
+          c.in_ok-pending.ensures.is used ∙ (λ j. pushed front (space j) (chain_tokens args used chain)) in
           chains-pushed args used pending first chain (map entry_chain (drop (i + 1) es)) front (hidings s new) c.in_ok-pending.pending (chain_tokens args used chain) refl made
           ∙ ap (λ ds. marked_behind front (chains_tokens args used pending first (map entry_chain ds))) (sym next)
           ∙ c.loop-entry.invariant.same used);

@@ -14,7 +14,7 @@ loop-hidden-preserved c =
     let space = spelled_space first h.token in
     let spelled = spelled_in_string h.token in
     let rest = spelled_from false (tokens_of (drop (i + 1) hs)) in
-    ap (λ bs. bs ++ rest) c.in_ok-push_with_flag.ensures
+    ap (λ bs. bs ++ rest) c.in_ok-push_with_space.ensures
     ∙ append_assoc text (space ++ spelled) rest
     ∙ ap (λ bs. text ++ bs) (append_assoc space spelled rest)
     ∙ ap (λ ts. text ++ spelled_from first (tokens_of ts)) (sym (drop-item hs i h c.loop-hidden-test.true c.hidden-item.is))

@@ -1,5 +1,5 @@
 use Rattle.std.proofs.Common.{◌≡◌, ◌≤◌, length, take, vec_len}
-use Rattle.ppshelf.specs.code.TableRows.{table_view}
+use Rattle.ppshelf.specs.code.ShelfRows.{shelf_view}
 use Rattle.ppshelf.proofs.Files.{Met}
 use Rattle.ppshelf.proofs.shelf.Pass.merge.Given as goal
 
@@ -8,7 +8,7 @@ invariant-loop-theirs g l =
     (l.self-inside.shelf ≡ l.initial.self-inside.shelf)
     × (vec_len l.rows ≤ length l.initial.shelf-inside.rows.items)
     × (l.rows.items ≡ take (vec_len l.rows) l.initial.rows.items)
-    × Met g.D.Disk.may (table_view l.initial.shelf-inside.profile l.initial.shelf-inside.index.hashing l.initial.shelf-inside.rows.items) l.initial.self-inside.rows.items l.initial.rows.items l.self-inside.rows.items (vec_len l.rows)
+    × Met g.D.Disk.may (shelf_view l.initial.shelf-inside.profile l.initial.shelf-inside.index.hashing l.initial.shelf-inside.rows.items) l.initial.self-inside.rows.items l.initial.rows.items l.self-inside.rows.items (vec_len l.rows)
 
 abbrev pub decreases-loop-theirs : goal.decreases-loop-theirs
 decreases-loop-theirs g l = vec_len l.rows

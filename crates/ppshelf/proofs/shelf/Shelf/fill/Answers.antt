@@ -24,9 +24,9 @@ pub returns : goal.returns
 returns g c =
     let puts : ℕ → List ℕ → Content → Type 0 = λ _. IsPermitted (g.D.Disk.gives c.args.disk.now) in
     let fills = fills_kept c.loop-row.invariant.profile_is c.loop-row.invariant.index_is c.self.view_is c.loop-row.invariant.filling.turned in
-    record { shelf = fills.shelf; hashing = fills.hashing; base = fills.base; len = fills.len; full = full_turned c.self.inside.profile c.self.inside.index.hashing puts _ _ c.loop-row.row (omega arith) c.loop-row.invariant.filling }
+    record { shelf = fills.shelf; hashing = fills.hashing; filled = fills.filled; len = fills.len; full = full_turned c.self.inside.profile c.self.inside.index.hashing puts _ _ c.loop-row.row (omega arith) c.loop-row.invariant.filling }
 
 pub returns-in_err-fill : goal.returns-in_err-fill
 returns-in_err-fill g c =
     let fills = fills_kept c.loop-row.invariant.profile_is c.loop-row.invariant.index_is c.self.view_is (turned g (goal.at.returns-in_err-fill g c).After-fill) in
-    record { shelf = fills.shelf; hashing = fills.hashing; base = fills.base; len = fills.len; full = search rules }
+    record { shelf = fills.shelf; hashing = fills.hashing; filled = fills.filled; len = fills.len; full = search rules }

@@ -4,8 +4,8 @@ use Rattle.std.proofs.lemmas.Iterator.Consumers.{YieldsList-turn, YieldsList-end
 use Rattle.std.proofs.lemmas.List.{length_push}
 use Rattle.ppshelf.specs.Content.{IsPermitted, readable}
 use Rattle.ppshelf.specs.Names.{name_in}
-use Rattle.ppshelf.specs.Files.{TableView, bytes_at}
-use Rattle.ppshelf.specs.code.TableRows.{FilledRow}
+use Rattle.ppshelf.specs.Files.{ShelfView, bytes_at}
+use Rattle.ppshelf.specs.code.ShelfRows.{FilledRow}
 use Rattle.ppshelf.proofs.Filling.{Turned, shelf_kept, fills_kept, rows_counted, full_turned, turned_set, filling_more, given, bytes_here, given_row, lawful_here}
 use Rattle.ppshelf.proofs.shelf.Shelf.fill_with.Given.{Over}
 use Rattle.ppshelf.proofs.shelf.Shelf.fill_with.Goals as goal
@@ -49,7 +49,7 @@ put-requires-clause-contents_permitted g c =
     let contents = c.args.contents in
     let row = c.loop-bytes.row in
     let turn = here g (goal.at.put-requires-clause-contents_permitted g c).In-Some in
-    let P : TableView → Type 0 = λ stock. IsPermitted g.D.Disk.may (name_in stock.names row) (readable (bytes_at contents row)) in
+    let P : ShelfView → Type 0 = λ stock. IsPermitted g.D.Disk.may (name_in stock.names row) (readable (bytes_at contents row)) in
     lawful_here c.self.inside.profile g.D.Disk.may (given contents) _ _ row c.index_mut.result.now c.into_vec.result.items (bytes_at contents row)
     c.loop-bytes.invariant.filling turn.1 c.index_mut.ensures.value (c.into_vec.ensures ∙ turn.2) (subst P (sym c.self.view_is) (c.requires.contents_permitted row turn.0))
 
@@ -64,7 +64,7 @@ returns-in_err-put g c =
     let at = goal.at.returns-in_err-put g c in
     let turn = here g at.In-Some in
     let fills = fills_kept c.loop-bytes.invariant.profile_is c.loop-bytes.invariant.index_is c.self.view_is (turned g at.After-put turn.1 (c.into_vec.ensures ∙ turn.2)) in
-    record { shelf = fills.shelf; hashing = fills.hashing; base = fills.base; len = fills.len; full = search rules }
+    record { shelf = fills.shelf; hashing = fills.hashing; filled = fills.filled; len = fills.len; full = search rules }
 
 pub loop-bytes-preserved : goal.loop-bytes-preserved
 loop-bytes-preserved g c =
@@ -88,4 +88,4 @@ returns g c =
     let same = ap length c.into_vec-bytes-items.ensures in
     let done : length c.self.inside.rows.items ≤ c.loop-bytes.row = let m = c.requires.count in let r = c.loop-bytes.invariant.row_is in omega arith in
     let fills = fills_kept c.loop-bytes.invariant.profile_is c.loop-bytes.invariant.index_is c.self.view_is c.loop-bytes.invariant.filling.turned in
-    record { shelf = fills.shelf; hashing = fills.hashing; base = fills.base; len = fills.len; full = full_turned c.self.inside.profile c.self.inside.index.hashing (given c.args.contents) _ _ c.loop-bytes.row done c.loop-bytes.invariant.filling }
+    record { shelf = fills.shelf; hashing = fills.hashing; filled = fills.filled; len = fills.len; full = full_turned c.self.inside.profile c.self.inside.index.hashing (given c.args.contents) _ _ c.loop-bytes.row done c.loop-bytes.invariant.filling }

@@ -11,28 +11,28 @@ step_here : (raw : List ℕ) (supplied : Bool) (asked offset : ℕ) (step : Char
 step_here raw supplied asked offset step end same is = ap (λ s. step_of s (drop offset raw)) (sym end) ∙ ap (λ k. step_of supplied (drop k raw)) (sym same) ∙ sym is
 
 pub pass-requires-then-cursor-gt0-clause-line : goal.pass-requires-then-cursor-gt0-clause-line
-pass-requires-then-cursor-gt0-clause-line c = (bounds c.args.self.at.file c.args.raw.now c.args.line_notes.now c.loop-cursor.cursor c.loop-cursor.invariant.stands).line
+pass-requires-then-cursor-gt0-clause-line c = (bounds c.args.self.at.file c.args.raw.now c.args.line_notes.now c.loop-cursor.cursor c.loop-cursor.invariant.is_there).line
 
 pub pass-requires-then-cursor-gt0-clause-col : goal.pass-requires-then-cursor-gt0-clause-col
-pass-requires-then-cursor-gt0-clause-col c = (bounds c.args.self.at.file c.args.raw.now c.args.line_notes.now c.loop-cursor.cursor c.loop-cursor.invariant.stands).col
+pass-requires-then-cursor-gt0-clause-col c = (bounds c.args.self.at.file c.args.raw.now c.args.line_notes.now c.loop-cursor.cursor c.loop-cursor.invariant.is_there).col
 
 pub skip-cursor-requires-clause-line : goal.skip-cursor-requires-clause-line
-skip-cursor-requires-clause-line c = (bounds c.args.self.at.file c.args.raw.now c.args.line_notes.now c.loop-cursor.cursor c.loop-cursor.invariant.stands).line
+skip-cursor-requires-clause-line c = (bounds c.args.self.at.file c.args.raw.now c.args.line_notes.now c.loop-cursor.cursor c.loop-cursor.invariant.is_there).line
 
 pub skip-cursor-requires-clause-col : goal.skip-cursor-requires-clause-col
-skip-cursor-requires-clause-col c = (bounds c.args.self.at.file c.args.raw.now c.args.line_notes.now c.loop-cursor.cursor c.loop-cursor.invariant.stands).col
+skip-cursor-requires-clause-col c = (bounds c.args.self.at.file c.args.raw.now c.args.line_notes.now c.loop-cursor.cursor c.loop-cursor.invariant.is_there).col
 
 pub skip-cursor-requires-in-Code-clause-line : goal.skip-cursor-requires-in-Code-clause-line
-skip-cursor-requires-in-Code-clause-line c = (bounds c.args.self.at.file c.args.raw.now c.args.line_notes.now c.loop-cursor.cursor c.loop-cursor.invariant.stands).line
+skip-cursor-requires-in-Code-clause-line c = (bounds c.args.self.at.file c.args.raw.now c.args.line_notes.now c.loop-cursor.cursor c.loop-cursor.invariant.is_there).line
 
 pub skip-cursor-requires-in-Code-clause-col : goal.skip-cursor-requires-in-Code-clause-col
-skip-cursor-requires-in-Code-clause-col c = (bounds c.args.self.at.file c.args.raw.now c.args.line_notes.now c.loop-cursor.cursor c.loop-cursor.invariant.stands).col
+skip-cursor-requires-in-Code-clause-col c = (bounds c.args.self.at.file c.args.raw.now c.args.line_notes.now c.loop-cursor.cursor c.loop-cursor.invariant.is_there).col
 
 pub pass-requires-clause-line : goal.pass-requires-clause-line
-pass-requires-clause-line c = (bounds c.args.self.at.file c.args.raw.now c.args.line_notes.now c.loop-cursor.cursor c.loop-cursor.invariant.stands).line
+pass-requires-clause-line c = (bounds c.args.self.at.file c.args.raw.now c.args.line_notes.now c.loop-cursor.cursor c.loop-cursor.invariant.is_there).line
 
 pub pass-requires-clause-col : goal.pass-requires-clause-col
-pass-requires-clause-col c = (bounds c.args.self.at.file c.args.raw.now c.args.line_notes.now c.loop-cursor.cursor c.loop-cursor.invariant.stands).col
+pass-requires-clause-col c = (bounds c.args.self.at.file c.args.raw.now c.args.line_notes.now c.loop-cursor.cursor c.loop-cursor.invariant.is_there).col
 
 pub skip-cursor-requires-clause-fits : goal.skip-cursor-requires-clause-fits
 skip-cursor-requires-clause-fits c =
@@ -59,19 +59,19 @@ returns-then-ahead-cursor c =
     let same = after_line c.cursor.inside c.loop-cursor.cursor c.cursor.view_is in
     let there =
     arrives c.args.self.at.file c.args.raw.now c.args.line_notes.now c.loop-cursor.cursor c.pass.new.self c.args.to
-    c.loop-cursor.invariant.stands c.loop-cursor.invariant.forward (omega (arith, same.passed, same.plain, c.if-ahead-cursor.true)) (rw same.passed at c.pass.ensures) in
-    record { stands = there.stands; passed = there.passed; file = there.same_file; place = there.place }
+    c.loop-cursor.invariant.is_there c.loop-cursor.invariant.forward (omega (arith, same.consumed, same.plain, c.if-ahead-cursor.true)) (rw same.consumed at c.pass.ensures) in
+    record { is_there = there.is_there; consumed = there.consumed; file = there.same_file; place = there.place }
 
 pub loop-cursor-preserved-then-cursor-gt0 : goal.loop-cursor-preserved-then-cursor-gt0
 loop-cursor-preserved-then-cursor-gt0 c =
     let same = after_line c.cursor.inside c.loop-cursor.cursor c.cursor.view_is in
     let raw = c.args.raw.now in
     let cursor = c.loop-cursor.cursor in
-    let s = pass_plain c.args.self.at.file raw c.args.line_notes.now cursor c.cursor.inside.plain c.loop-cursor.invariant.stands (omega (arith, same.plain)) in
-    let passed : c.pass-then-cursor-gt0.new.self.passed ≡ cursor.passed + c.cursor.inside.plain = ap (λ (x : TextCursor). x.passed) c.pass-then-cursor-gt0.ensures in
+    let s = pass_plain c.args.self.at.file raw c.args.line_notes.now cursor c.cursor.inside.plain c.loop-cursor.invariant.is_there (omega (arith, same.plain)) in
+    let consumed : c.pass-then-cursor-gt0.new.self.consumed ≡ cursor.consumed + c.cursor.inside.plain = ap (λ (x : TextCursor). x.consumed) c.pass-then-cursor-gt0.ensures in
     record {
-      forward = omega (arith, same.passed, same.plain, c.if-ahead-cursor.false, c.loop-cursor.invariant.forward);
-      stands = subst (IsCursorAt c.args.self.at.file raw c.args.line_notes.now) (sym c.pass-then-cursor-gt0.ensures) s.1;
+      forward = omega (arith, same.consumed, same.plain, c.if-ahead-cursor.false, c.loop-cursor.invariant.forward);
+      is_there = subst (IsCursorAt c.args.self.at.file raw c.args.line_notes.now) (sym c.pass-then-cursor-gt0.ensures) s.1;
     }
 
 pub loop-cursor-smaller-in-Removed : goal.loop-cursor-smaller-in-Removed
@@ -80,10 +80,10 @@ loop-cursor-smaller-in-Removed c =
     let raw = c.args.raw.now in
     let cursor = c.loop-cursor.cursor in
     let o = cursor.offset in
-    let stands = c.loop-cursor.invariant.stands in
+    let is_there = c.loop-cursor.invariant.is_there in
     let n = c.in-Removed.len in
     let is = step_here raw c.lacks_newline-supplied.result c.cursor.inside.offset o (Removed n) c.lacks_newline-supplied.ensures same.offset (simp take_rest at c.in-Removed.ensures) in
-    let s = skip_removed c.args.self.at.file raw c.args.line_notes.now cursor n stands (omega (arith, same.plain)) (omega (arith, same.offset, c.loop-cursor-test.true)) is in
+    let s = skip_removed c.args.self.at.file raw c.args.line_notes.now cursor n is_there (omega (arith, same.plain)) (omega (arith, same.offset, c.loop-cursor-test.true)) is in
     let skip : c.skip-cursor.result.offset ≡ o + n = ap (λ (x : TextCursor). x.offset) c.skip-cursor.ensures in
     let less : length raw - c.skip-cursor.result.offset < length raw - o = omega (arith, s.0) in
     less
@@ -94,15 +94,15 @@ loop-cursor-preserved-in-Removed c =
     let raw = c.args.raw.now in
     let cursor = c.loop-cursor.cursor in
     let o = cursor.offset in
-    let stands = c.loop-cursor.invariant.stands in
+    let is_there = c.loop-cursor.invariant.is_there in
     let n = c.in-Removed.len in
     let is = step_here raw c.lacks_newline-supplied.result c.cursor.inside.offset o (Removed n) c.lacks_newline-supplied.ensures same.offset (simp take_rest at c.in-Removed.ensures) in
-    let s = skip_removed c.args.self.at.file raw c.args.line_notes.now cursor n stands (omega (arith, same.plain)) (omega (arith, same.offset, c.loop-cursor-test.true)) is in
-    let passed = ap (λ (x : TextCursor). x.passed) c.skip-cursor.ensures in
-    record { forward = omega (arith, c.loop-cursor.invariant.forward); stands = subst (IsCursorAt c.args.self.at.file raw c.args.line_notes.now) (sym c.skip-cursor.ensures) s.2 }
+    let s = skip_removed c.args.self.at.file raw c.args.line_notes.now cursor n is_there (omega (arith, same.plain)) (omega (arith, same.offset, c.loop-cursor-test.true)) is in
+    let consumed = ap (λ (x : TextCursor). x.consumed) c.skip-cursor.ensures in
+    record { forward = omega (arith, c.loop-cursor.invariant.forward); is_there = subst (IsCursorAt c.args.self.at.file raw c.args.line_notes.now) (sym c.skip-cursor.ensures) s.2 }
 
 pub returns-then-cursor-to-clause-file : goal.returns-then-cursor-to-clause-file
-returns-then-cursor-to-clause-file c = (bounds c.args.self.at.file c.args.raw.now c.args.line_notes.now c.loop-cursor.cursor c.loop-cursor.invariant.stands).same_file
+returns-then-cursor-to-clause-file c = (bounds c.args.self.at.file c.args.raw.now c.args.line_notes.now c.loop-cursor.cursor c.loop-cursor.invariant.is_there).same_file
 
 pub returns-then-cursor-to-clause-place : goal.returns-then-cursor-to-clause-place
 returns-then-cursor-to-clause-place c =
@@ -110,12 +110,12 @@ returns-then-cursor-to-clause-place c =
     let raw = c.args.raw.now in
     let cursor = c.loop-cursor.cursor in
     let o = cursor.offset in
-    let stands = c.loop-cursor.invariant.stands in
+    let is_there = c.loop-cursor.invariant.is_there in
     let n = c.in-Code.len in
     let code = c.in-Code.field-0 in
     let is = step_here raw c.lacks_newline-supplied.result c.cursor.inside.offset o (Code code n) c.lacks_newline-supplied.ensures same.offset (simp take_rest at c.in-Code.ensures) in
     let here : o < length raw = omega (arith, same.offset, c.loop-cursor-test.true) in
-    λ d. stands_at_code c.args.self.at.file raw c.args.line_notes.now cursor code n d stands here is ∙ ap (λ k. (get_or (text_from c.args.self.at.file raw 0) k d).at) (sym same.passed ∙ c.if-cursor-to.true)
+    λ d. stands_at_code c.args.self.at.file raw c.args.line_notes.now cursor code n d is_there here is ∙ ap (λ k. (get_or (text_from c.args.self.at.file raw 0) k d).at) (sym same.consumed ∙ c.if-cursor-to.true)
 
 pub loop-cursor-smaller : goal.loop-cursor-smaller
 loop-cursor-smaller c =
@@ -123,11 +123,11 @@ loop-cursor-smaller c =
     let raw = c.args.raw.now in
     let cursor = c.loop-cursor.cursor in
     let o = cursor.offset in
-    let stands = c.loop-cursor.invariant.stands in
+    let is_there = c.loop-cursor.invariant.is_there in
     let n = c.in-Code.len in
     let code = c.in-Code.field-0 in
     let is = step_here raw c.lacks_newline-supplied.result c.cursor.inside.offset o (Code code n) c.lacks_newline-supplied.ensures same.offset (simp take_rest at c.in-Code.ensures) in
-    let s = pass_code c.args.self.at.file raw c.args.line_notes.now cursor code n stands (omega (arith, same.plain)) (omega (arith, same.offset, c.loop-cursor-test.true)) is in
+    let s = pass_code c.args.self.at.file raw c.args.line_notes.now cursor code n is_there (omega (arith, same.plain)) (omega (arith, same.offset, c.loop-cursor-test.true)) is in
     let skip : c.skip-cursor-in-Code.result.offset ≡ o + n = ap (λ (x : TextCursor). x.offset) c.skip-cursor-in-Code.ensures in
     let after = after_line c.cursor-in-Code.inside c.skip-cursor-in-Code.result c.cursor-in-Code.view_is in
     let less : length raw - c.cursor-in-Code.inside.offset < length raw - o = omega (arith, s.0, after.offset) in
@@ -139,30 +139,30 @@ loop-cursor-preserved c =
     let raw = c.args.raw.now in
     let cursor = c.loop-cursor.cursor in
     let o = cursor.offset in
-    let stands = c.loop-cursor.invariant.stands in
+    let is_there = c.loop-cursor.invariant.is_there in
     let n = c.in-Code.len in
     let code = c.in-Code.field-0 in
     let is = step_here raw c.lacks_newline-supplied.result c.cursor.inside.offset o (Code code n) c.lacks_newline-supplied.ensures same.offset (simp take_rest at c.in-Code.ensures) in
-    let s = pass_code c.args.self.at.file raw c.args.line_notes.now cursor code n stands (omega (arith, same.plain)) (omega (arith, same.offset, c.loop-cursor-test.true)) is in
+    let s = pass_code c.args.self.at.file raw c.args.line_notes.now cursor code n is_there (omega (arith, same.plain)) (omega (arith, same.offset, c.loop-cursor-test.true)) is in
     let after = after_line c.cursor-in-Code.inside c.skip-cursor-in-Code.result c.cursor-in-Code.view_is in
-    let passed = ap (λ (x : TextCursor). x.passed) c.skip-cursor-in-Code.ensures in
+    let consumed = ap (λ (x : TextCursor). x.consumed) c.skip-cursor-in-Code.ensures in
     record {
-      forward = omega (arith, same.passed, after.passed, c.loop-cursor.invariant.forward, c.if-cursor-to.false);
-      stands = subst (λ (x : TextCursor). IsCursorAt c.args.self.at.file raw c.args.line_notes.now (record { passed = x.passed + 1; offset = x.offset; plain = x.plain; next = x.next; at = x.at }))
+      forward = omega (arith, same.consumed, after.consumed, c.loop-cursor.invariant.forward, c.if-cursor-to.false);
+      is_there = subst (λ (x : TextCursor). IsCursorAt c.args.self.at.file raw c.args.line_notes.now (record { consumed = x.consumed + 1; offset = x.offset; plain = x.plain; next = x.next; at = x.at }))
           (sym (c.cursor-in-Code.view_is ∙ c.skip-cursor-in-Code.ensures)) s.2;
     }
 
-pub returns-clause-passed : goal.returns-clause-passed
-returns-clause-passed c =
+pub returns-clause-consumed : goal.returns-clause-consumed
+returns-clause-consumed c =
     let same = after_line c.cursor.inside c.loop-cursor.cursor c.cursor.view_is in
     let past : length c.args.raw.now ≤ c.loop-cursor.cursor.offset = omega (arith, same.offset, c.loop-cursor-test.false) in
-    (stands_at_end c.args.self.at.file c.args.raw.now c.args.line_notes.now c.loop-cursor.cursor c.args.to c.loop-cursor.invariant.stands past c.loop-cursor.invariant.forward c.requires.within).0
+    (stands_at_end c.args.self.at.file c.args.raw.now c.args.line_notes.now c.loop-cursor.cursor c.args.to c.loop-cursor.invariant.is_there past c.loop-cursor.invariant.forward c.requires.within).0
 
 pub returns-clause-file : goal.returns-clause-file
-returns-clause-file c = (bounds c.args.self.at.file c.args.raw.now c.args.line_notes.now c.loop-cursor.cursor c.loop-cursor.invariant.stands).same_file
+returns-clause-file c = (bounds c.args.self.at.file c.args.raw.now c.args.line_notes.now c.loop-cursor.cursor c.loop-cursor.invariant.is_there).same_file
 
 pub returns-clause-place : goal.returns-clause-place
 returns-clause-place c =
     let same = after_line c.cursor.inside c.loop-cursor.cursor c.cursor.view_is in
     let past : length c.args.raw.now ≤ c.loop-cursor.cursor.offset = omega (arith, same.offset, c.loop-cursor-test.false) in
-    (stands_at_end c.args.self.at.file c.args.raw.now c.args.line_notes.now c.loop-cursor.cursor c.args.to c.loop-cursor.invariant.stands past c.loop-cursor.invariant.forward c.requires.within).1
+    (stands_at_end c.args.self.at.file c.args.raw.now c.args.line_notes.now c.loop-cursor.cursor c.args.to c.loop-cursor.invariant.is_there past c.loop-cursor.invariant.forward c.requires.within).1

@@ -24,7 +24,7 @@ returns-then-n-eq0 c =
     let quote = c.args.quote in
     let p : OnlyPart (IsElement quote) (drop at text) c.element_len-n.result = simp take_rest at c.element_len-n.ensures in
     let none : NoPrefix (IsQuoted quote) (drop at text) = closes_nowhere (IsElement quote) quote (drop at text) (λ h. c.if-text-at.false (sym (head_at text at) ∙ h.1)) (p.0 c.if-n-eq0.true) in
-    (c.loop-at.invariant.within, c.loop-at.invariant.lacks none, λ r lt e. c.loop-at.invariant.passed r lt e none)
+    (c.loop-at.invariant.within, c.loop-at.invariant.lacks none, λ r lt e. c.loop-at.invariant.consumed r lt e none)
 
 pub loop-at-preserved : goal.loop-at-preserved
 loop-at-preserved c =
@@ -35,7 +35,7 @@ loop-at-preserved c =
     let some : 0 < c.element_len-n.result = omega arith in
     let apart = λ (h : get_or (drop at text) 0 0 ≡ quote). c.if-text-at.false (sym (head_at text at) ∙ h) in
     let more = one_more (IsElement quote) quote text at c.element_len-n.result c.loop-at.invariant.within apart (p.1 some) c.loop-at.invariant.closes c.loop-at.invariant.lacks in
-    record { within = more.0; closes = more.1; lacks = more.2; passed = passed_more quote text at c.element_len-n.result c.requires apart (p.1 some) c.loop-at.invariant.passed }
+    record { within = more.0; closes = more.1; lacks = more.2; consumed = passed_more quote text at c.element_len-n.result c.requires apart (p.1 some) c.loop-at.invariant.consumed }
 
 pub returns : goal.returns
 returns c =
@@ -44,4 +44,4 @@ returns c =
     let quote = c.args.quote in
     let l = end_at text at c.loop-at-test.false in
     let none : NoPrefix (IsQuoted quote) (drop at text) = closes_nowhere (IsElement quote) quote (drop at text) (λ h. omega (arith, h.0, l)) (lacks_nothing (IsElement quote) (drop at text) (empty_lacks quote) l) in
-    (c.loop-at.invariant.within, c.loop-at.invariant.lacks none, λ r lt e. c.loop-at.invariant.passed r lt e none)
+    (c.loop-at.invariant.within, c.loop-at.invariant.lacks none, λ r lt e. c.loop-at.invariant.consumed r lt e none)

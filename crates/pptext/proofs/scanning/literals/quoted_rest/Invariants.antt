@@ -10,7 +10,7 @@ invariant-loop-at l = record {
   within : l.at ≤ length l.text;
   closes : (k : ℕ) → IsOnly (IsQuoted l.quote) (drop l.at l.text) k → IsOnly (IsQuoted l.quote) l.text (l.at + k);
   lacks : NoPrefix (IsQuoted l.quote) (drop l.at l.text) → NoPrefix (IsQuoted l.quote) l.text;
-  passed : Passed l.quote l.text l.at;
+  consumed : Passed l.quote l.text l.at;
 }
 
 abbrev pub decreases-loop-at : goal.decreases-loop-at

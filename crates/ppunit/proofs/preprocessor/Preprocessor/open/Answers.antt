@@ -1,6 +1,6 @@
 use Rattle.std.proofs.Common.{ap, ◌∙◌}
 use Rattle.pptext.proofs.Stopping.{stopped}
-use Rattle.ppshelf.specs.Files.{TableView}
+use Rattle.ppshelf.specs.Files.{ShelfView}
 use Rattle.ppshelf.specs.Names.{name_in}
 use Rattle.ppunit.specs.States.{context_over}
 use Rattle.ppunit.proofs.Opens.{opens_unpaid, opens_known, ready, opens_faulty, opens_begun}
@@ -31,4 +31,4 @@ returns-clause-opened g c =
     c.in_ok-spend_opening.ensures c.in_ok-record_dependency.ensures.joins c.in_ok-record_dependency.ensures.known c.if-branch.false in
     opens_begun c.args.self.now.context.now c.source_of.new.self.pass.now.files c.args.depth c.args.opening.row c.args.opening.directory c.args.at c.args.self.now.state c.record_dependency.new.state
     c.begin.new.state c.name-name.result.now c.in_ok-source.source.now c.in_ok-begin.field-0 noted c.in_ok-source.ensures.lines
-    (c.name-name.ensures ∙ ap (λ (z : TableView). name_in z.names c.args.opening.row) c.shelf.ensures) (rw c.source_of.ensures.state at c.in_ok-begin.ensures)
+    (c.name-name.ensures ∙ ap (λ (z : ShelfView). name_in z.names c.args.opening.row) c.shelf.ensures) (rw c.source_of.ensures.state at c.in_ok-begin.ensures)

@@ -15,7 +15,7 @@ returns-in_err-entered-clause-opened g c =
 
 pub returns-clause-opened : goal.returns-clause-opened
 returns-clause-opened g c =
-    let enters = subst
+    let continues_after = subst
     (λ (z : Option Entered). Leads (context_over c.args.self.now.context.now) c.open.new.self.pass.now.files 0
     (λ more m. Opened (context_over c.args.self.now.context.now more) 0 (first_place c.args.row) c.args.self.now.state c.args.row None m) c.open.new.self.state (Ok z))
     (c.in-Some.is ∙ ap (λ (e : Entered). Some e) (sym c.entered.view_is)) c.in_ok-entered.ensures.opened in
@@ -25,5 +25,5 @@ returns-clause-opened g c =
     (record { state = z; fault = result_err r })) (sym c.restore_context.ensures)
     (entered_file (context_over c.args.self.now.context.now) c.open.new.self.pass.now.files c.walk-walked.new.self.pass.now.files 0
     (λ more m. Opened (context_over c.args.self.now.context.now more) 0 (first_place c.args.row) c.args.self.now.state c.args.row None m) c.open.new.self.state
-    c.walk-walked.new.self.state _ (result_err r) c.walk-walked.ensures.continues.grows enters walks more grows))
+    c.walk-walked.new.self.state _ (result_err r) c.walk-walked.ensures.continues.grows continues_after walks more grows))
     (rw c.open.ensures.continues.context at c.walk-walked.ensures.walk)

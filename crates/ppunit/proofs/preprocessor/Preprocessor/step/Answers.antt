@@ -27,7 +27,7 @@ returns-in_err-next-clause-step g c =
 pub returns-then-opens_section-clause-step : goal.returns-then-opens_section-clause-step
 returns-then-opens_section-clause-step g c =
     rw (← c.file.view_is) (steps_line (context_over c.args.self.now.context.now) c.args.self.now.pass.now.files c.args.depth c.file.inside.row c.file.inside.source.now
-    c.file.inside.index c.args.self.now.state c.enter_section.new.state c.in_ok-next.next c.next_line-then-opens_section.result
+    c.file.inside.index c.args.self.now.state c.execute_if_line.new.state c.in_ok-next.next c.next_line-then-opens_section.result
     c.next_line-then-opens_section.ensures
     (c.in_ok-next.ensures.entered c.args.self.now.pass.now.files c.args.depth))
 
@@ -71,17 +71,17 @@ section_end-requires g c = rw (← c.file.view_is) at c.requires.index
 pub execute_run-requires-clause-index : goal.execute_run-requires-clause-index
 execute_run-requires-clause-index g c = rw (← c.file.view_is) at c.requires.index
 
-pub enter_section-requires-clause-index : goal.enter_section-requires-clause-index
-enter_section-requires-clause-index g c = rw (← c.file.view_is) at c.requires.index
+pub execute_if_line-requires-clause-index : goal.execute_if_line-requires-clause-index
+execute_if_line-requires-clause-index g c = rw (← c.file.view_is) at c.requires.index
 
 pub execute_run-requires-clause-text : goal.execute_run-requires-clause-text
 execute_run-requires-clause-text g c = sym c.line.ensures.directive ∙ none_of c.line.result.now.directive c.in_default.not-Some
 
-pub enter_section-requires-clause-line : goal.enter_section-requires-clause-line
-enter_section-requires-clause-line g c = sym c.line.ensures.directive ∙ c.in-Some.is
+pub execute_if_line-requires-clause-line : goal.execute_if_line-requires-clause-line
+execute_if_line-requires-clause-line g c = sym c.line.ensures.directive ∙ c.in-Some.is
 
-pub enter_section-requires-clause-opens : goal.enter_section-requires-clause-opens
-enter_section-requires-clause-opens g c = sym c.opens_section.ensures ∙ c.if-opens_section.true
+pub execute_if_line-requires-clause-opens : goal.execute_if_line-requires-clause-opens
+execute_if_line-requires-clause-opens g c = sym c.opens_section.ensures ∙ c.if-opens_section.true
 
 pub execute_line-requires-clause-opens : goal.execute_line-requires-clause-opens
 execute_line-requires-clause-opens g c = sym c.opens_section.ensures ∙ c.if-opens_section.false

@@ -1,7 +1,7 @@
 use Rattle.std.proofs.Common.{rules, ◌≡◌, ◌≤◌, ◌-◌, ◌∙◌, ap, length, take, vec_len}
-use Rattle.ppmacro.specs.Substitution.{rest_after_comma}
+use Rattle.ppmacro.specs.Substitution.{variadic_after_comma}
 use Rattle.ppmacro.proofs.JoinLemmas.{argument-absent}
-use Rattle.ppmacro.proofs.substituting.append_rest.Goals as goal
+use Rattle.ppmacro.proofs.substituting.append_variadic.Goals as goal
 
 pub returns-in-None : goal.returns-in-None
 returns-in-None c =
@@ -10,4 +10,4 @@ returns-in-None c =
     let size : vec_len tokens ≡ length tokens.items = tokens.ok.0 in
     rw c.in-Some.is
     (c.pop.ensures.rest ∙ ap (λ n. take (n - 1) tokens.items) size
-    ∙ ap (λ o. rest_after_comma o tokens.items) (argument-absent c.args.given.now c.in-Some.index absent))
+    ∙ ap (λ o. variadic_after_comma o tokens.items) (argument-absent c.args.given.now c.in-Some.index absent))

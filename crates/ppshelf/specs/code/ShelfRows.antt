@@ -5,7 +5,7 @@ use Rattle.pptext.specs.declared.hashing.Hashing.{Hashing}
 use Rattle.pptext.specs.declared.sources.Profile.{Profile}
 use Rattle.ppshelf.specs.Content.{Content, IsPermitted}
 use Rattle.ppshelf.specs.Names.{AreNames, name_in}
-use Rattle.ppshelf.specs.Files.{most_rows, Files, file_at, TableView}
+use Rattle.ppshelf.specs.Files.{most_rows, Files, file_at, ShelfView}
 
 -- A cached content with its row and name, and the profile that it was read by
 pub record LoadedView : Type 0 where
@@ -17,31 +17,31 @@ pub record LoadedView : Type 0 where
 -- A row: its name, its content from a fill, and the name of the cell in which looks cache a content
 pub record RowState : Type 0 where
   pub name : List ℕ
-  pub base : Option LoadedView
+  pub filled : Option LoadedView
   pub cell : ℕ
 
 abbrev pub no_row_state : RowState
-no_row_state = record { name = []; base = None; cell = 0 }
+no_row_state = record { name = []; filled = None; cell = 0 }
 
 abbrev pub names_of : List RowState → List (List ℕ)
 names_of rows = map (λ (s : RowState). s.name) rows
 
-abbrev pub base_of : List RowState → Files
-base_of rows = map (λ (s : RowState). option_map (λ (h : LoadedView). h.content) s.base) rows
+abbrev pub filled_of : List RowState → Files
+filled_of rows = map (λ (s : RowState). option_map (λ (h : LoadedView). h.content) s.filled) rows
 
 abbrev pub cells_of : List RowState → List ℕ
 cells_of rows = map (λ (s : RowState). s.cell) rows
 
 -- The shelf as callers see it, by its rows
-abbrev pub table_view : Profile → Hashing → List RowState → TableView
-table_view profile hashing rows = record { names = names_of rows; base = base_of rows; profile = profile; hashing = hashing; cells = cells_of rows }
+abbrev pub shelf_view : Profile → Hashing → List RowState → ShelfView
+shelf_view profile hashing rows = record { names = names_of rows; filled = filled_of rows; profile = profile; hashing = hashing; cells = cells_of rows }
 
 -- The row of a shelf as callers see it
-abbrev pub row_state_at : TableView → ℕ → RowState
+abbrev pub row_state_at : ShelfView → ℕ → RowState
 row_state_at shelf row = record {
   name = name_in shelf.names row;
-  base = option_map (λ c. record { row = row; name = name_in shelf.names row; profile = shelf.profile; content = c })
-      (file_at shelf.base row);
+  filled = option_map (λ c. record { row = row; name = name_in shelf.names row; profile = shelf.profile; content = c })
+      (file_at shelf.filled row);
   cell = slice_index_or shelf.cells row 0;
 }
 
@@ -55,16 +55,16 @@ abbrev pub no_observation : Observation
 no_observation = record { cell = 0; noted = None; shown = None }
 
 -- What a caller was given for a row is its content from a fill, or what the note says
-pub record Fits (may : List ℕ → Content → Type 0) (profile : Profile) (row : ℕ) (spot : RowState) (sight : Observation) (h : LoadedView) : Type 0 where
+pub record Fits (may : List ℕ → Content → Type 0) (profile : Profile) (row : ℕ) (state : RowState) (observation : Observation) (h : LoadedView) : Type 0 where
   pub row_is : h.row ≡ row
-  pub name_is : h.name ≡ spot.name
+  pub name_is : h.name ≡ state.name
   pub profile_is : h.profile ≡ profile
   pub contents_permitted : IsPermitted may h.name h.content
-  pub from : (spot.base ≡ Some h) ⊎ ((spot.base ≡ None) × (sight.noted ≡ Some h))
+  pub from : (state.filled ≡ Some h) ⊎ ((state.filled ≡ None) × (observation.noted ≡ Some h))
 
-pub record FitsRow (may : List ℕ → Content → Type 0) (profile : Profile) (row : ℕ) (spot : RowState) (sight : Observation) : Type 0 where
-  pub cell_is : sight.cell ≡ spot.cell
-  pub fits : (h : LoadedView) → sight.shown ≡ Some h → Fits may profile row spot sight h
+pub record FitsRow (may : List ℕ → Content → Type 0) (profile : Profile) (row : ℕ) (state : RowState) (observation : Observation) : Type 0 where
+  pub cell_is : observation.cell ≡ state.cell
+  pub fits : (h : LoadedView) → observation.shown ≡ Some h → Fits may profile row state observation h
 
 -- The content is that of this row and name, read by this profile
 abbrev pub IsPlaced : Profile → ℕ → List ℕ → LoadedView → Type 0
@@ -73,7 +73,7 @@ IsPlaced profile row name h = (h.row ≡ row) × (h.name ≡ name) × (h.profile
 -- Each content from a fill is in its own row, and is read by this profile
 abbrev pub Placed : Profile → List RowState → Type 0
 Placed profile rows =
-    (row : ℕ) (h : LoadedView) → (slice_index_or rows row no_row_state).base ≡ Some h → IsPlaced profile row (slice_index_or rows row no_row_state).name h
+    (row : ℕ) (h : LoadedView) → (slice_index_or rows row no_row_state).filled ≡ Some h → IsPlaced profile row (slice_index_or rows row no_row_state).name h
 
 -- A shelf: not too many rows, their names as the index has them, in normal form and each once, each content from a fill
 -- in its own row
@@ -84,15 +84,15 @@ pub record IsShelf (profile : Profile) (names : List (List ℕ)) (rows : List Ro
   pub placed : Placed profile rows
 
 abbrev pub files_of : List Observation → Files
-files_of sights = map (λ (s : Observation). option_map (λ (h : LoadedView). h.content) s.shown) sights
+files_of observations = map (λ (s : Observation). option_map (λ (h : LoadedView). h.content) s.shown) observations
 
-pub record IsPass (may : List ℕ → Content → Type 0) (shelf : TableView) (sights : List Observation) : Type 0 where
-  pub len : length sights ≡ length shelf.names
-  pub rows : (row : ℕ) → row < length shelf.names → FitsRow may shelf.profile row (row_state_at shelf row) (slice_index_or sights row no_observation)
+pub record IsPass (may : List ℕ → Content → Type 0) (shelf : ShelfView) (observations : List Observation) : Type 0 where
+  pub len : length observations ≡ length shelf.names
+  pub rows : (row : ℕ) → row < length shelf.names → FitsRow may shelf.profile row (row_state_at shelf row) (slice_index_or observations row no_observation)
 
 -- What a fill by a profile does to a row: a content stays, and a new one is one of these contents for the row's name
 pub record FilledRow (puts : List ℕ → Content → Type 0) (profile : Profile) (row : ℕ) (old new : RowState) : Type 0 where
   pub name : new.name ≡ old.name
   pub cell : new.cell ≡ old.cell
-  pub stays : (h : LoadedView) → old.base ≡ Some h → new.base ≡ Some h
-  pub put : (h : LoadedView) → old.base ≡ None → new.base ≡ Some h → IsPlaced profile row old.name h × puts h.name h.content
+  pub stays : (h : LoadedView) → old.filled ≡ Some h → new.filled ≡ Some h
+  pub put : (h : LoadedView) → old.filled ≡ None → new.filled ≡ Some h → IsPlaced profile row old.name h × puts h.name h.content

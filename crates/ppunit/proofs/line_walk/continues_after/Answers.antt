@@ -3,12 +3,12 @@ use Rattle.ppunit.specs.States.{search_in_unit}
 use Rattle.ppunit.specs.code.Walk.{line_at}
 use Rattle.ppunit.proofs.Deciding.{enters_asked}
 use Rattle.ppunit.proofs.Preprocessed.{on_settled}
-use Rattle.ppunit.proofs.line_walk.enters.Goals as goal
+use Rattle.ppunit.proofs.line_walk.continues_after.Goals as goal
 
-pub returns-clause-enters : goal.returns-clause-enters
-returns-clause-enters g c =
+pub returns-clause-continues_after : goal.returns-clause-continues_after
+returns-clause-continues_after g c =
     on_settled c.decide.result
     (λ taken. enters_asked (search_in_unit c.args.context.now) c.args.row c.args.state.now (line_at c.args.source.now c.args.index) c.in-Some.directive c.tokens_at.result
-    c.decide.new.state.left taken (sym c.line.ensures.directive ∙ c.in-Some.is) c.tokens_at.ensures.tokens
+    c.decide.new.state.remaining taken (sym c.line.ensures.directive ∙ c.in-Some.is) c.tokens_at.ensures.tokens
     (sym c.has_condition.ensures ∙ c.if-not-has_condition.false))
     c.decide.ensures.decides
