@@ -169,7 +169,7 @@ def print_rows(project, task, measured):
 # ---- the picture
 
 WIDTH, LEFT, BAR = 900, 330, 18
-COLOURS = {"cppunits": "#2a6f97", "gcc": "#b08968", "clang": "#8a9a5b"}
+COLORS = {"cppunits": "#2a6f97", "gcc": "#b08968", "clang": "#8a9a5b"}
 
 
 def escaped(text):
@@ -183,9 +183,9 @@ def bars(top, title, measured):
     for number, (name, one) in enumerate(measured, 1):
         y = top + (BAR + 4) * number + 4
         width = max(1, round((WIDTH - LEFT - 90) * one.seconds / longest))
-        colour = COLOURS["cppunits" if name.startswith("cppunits") else "gcc" if name.startswith("gcc") else "clang"]
+        color = COLORS["cppunits" if name.startswith("cppunits") else "gcc" if name.startswith("gcc") else "clang"]
         lines.append('<text x="%d" y="%d" text-anchor="end">%s</text>' % (LEFT - 8, y + BAR - 5, escaped(name)))
-        lines.append('<rect x="%d" y="%d" width="%d" height="%d" fill="%s"/>' % (LEFT, y, width, BAR, colour))
+        lines.append('<rect x="%d" y="%d" width="%d" height="%d" fill="%s"/>' % (LEFT, y, width, BAR, color))
         lines.append('<text x="%d" y="%d">%.2f s</text>' % (LEFT + width + 6, y + BAR - 5, one.seconds))
     return lines, top + (BAR + 4) * (len(measured) + 1) + 16
 

@@ -12,7 +12,7 @@ import depfile
 from commands import Said, commands
 from common import DONE, GENERATED, PARTLY, Refused, own_names, parser, run, say, units, written
 from compilers import HAS_INCLUDE, SECONDS, Compilers
-from faults import forms, print_faults, wants_colour
+from faults import forms, print_faults, wants_color
 from lists import Builder, Given, bytes_of, list_of
 from runs import PIECE, Program, settled
 
@@ -219,8 +219,8 @@ def faults(work):
     for _ in work.count(path):
         pass
     with open(path, "rb") as file:
-        colour = wants_colour(work.asked.colour, sys.stdout)
-        print_faults(work.listed, file, work.builder.root, sys.stdout, colour, work.asked.form, os.path.join(work.folder, "root"))
+        color = wants_color(work.asked.color, sys.stdout)
+        print_faults(work.listed, file, work.builder.root, sys.stdout, color, work.asked.form, os.path.join(work.folder, "root"))
 
 
 def program_of(word):

@@ -171,8 +171,8 @@ def option_of(word):
 def searched(folders, system):
     """Joins the directories of each kind, and drops duplicates as gcc does; directories are compared by what they are, not by name."""
     late = once(folders["system"] + system + folders["after"])
-    behind = {place(folder) for folder in late}
-    bracket = [folder for folder in once(folders["bracket"]) if place(folder) not in behind] + late
+    late_places = {place(folder) for folder in late}
+    bracket = [folder for folder in once(folders["bracket"]) if place(folder) not in late_places] + late
     quote = once(folders["quote"])
     if quote and bracket and place(quote[-1]) == place(bracket[0]):
         quote.pop()

@@ -210,10 +210,10 @@ class Fault:
                 "message": message(self.number, self.text), "advice": advice(self.number), "text": self.text,
                 "unit": self.unit.number, "source": self.source, "chain": above}
 
-    def lines(self, colour):
+    def lines(self, color):
         """Returns the lines that are printed for the fault (--format text)."""
         def set_in(style, text):
-            return style + text + PLAIN if colour else text
+            return style + text + PLAIN if color else text
 
         chain = self.chain()
         above = ["%s:%d" % (readable(path), line) for path, line in chain or ()]
@@ -275,11 +275,11 @@ def blank(one):
     return " " * len(letter(one))
 
 
-def print_faults(listed, output_lines, root=".", to=None, colour=False, form="text", made=None):
+def print_faults(listed, output_lines, root=".", to=None, color=False, form="text", made=None):
     """Prints the fault of each unit that has one, and returns how many there are.
 
     listed: the list's object; output_lines: the output of cppunits, as lines of bytes (for example an open binary file); root: the
-    directory that names in the list are relative to; to: a text file; colour: whether to print colors; form: `text` or `json`; made: the
+    directory that names in the list are relative to; to: a text file; color: whether to print colors; form: `text` or `json`; made: the
     directory of the files that were generated for the list, if they aren't below the root."""
     to = sys.stdout if to is None else to
     sources, count = Sources(listed, root, made), 0
@@ -291,7 +291,7 @@ def print_faults(listed, output_lines, root=".", to=None, colour=False, form="te
         if form == "json":
             data = compact(fault.members())
         else:
-            text = "".join(line + "\n" for line in fault.lines(colour))
+            text = "".join(line + "\n" for line in fault.lines(color))
             data = text.encode("utf-8", "backslashreplace")
         put(to, data)
     return count
@@ -306,7 +306,7 @@ def put(to, data):
         to.write(data.decode())
 
 
-def wants_colour(word, to):
+def wants_color(word, to):
     """Returns whether to print colors; with `auto`, whether the output is a terminal with colors."""
     if word != "auto":
         return word == "always"
@@ -315,7 +315,7 @@ def wants_colour(word, to):
 
 def forms(asked):
     """Adds the options for the form in which faults are printed."""
-    asked.add_argument("--color", "--colour", dest="colour", choices=("auto", "always", "never"), default="auto",
+    asked.add_argument("--color", "--colour", dest="color", choices=("auto", "always", "never"), default="auto",
                        help="use colors (default: auto, if standard output is a terminal)")
     asked.add_argument("--format", dest="form", choices=("text", "json"), default="text",
                        help="print text for readers and editors, or a JSON object a line (default: text)")
@@ -332,7 +332,7 @@ def main():
         asked.error("the list and the output can't both come from standard input")
     listed = read_list(words.list)
     with opened(words.output) as lines:
-        count = print_faults(listed, lines, words.root, sys.stdout, wants_colour(words.colour, sys.stdout), words.form)
+        count = print_faults(listed, lines, words.root, sys.stdout, wants_color(words.color, sys.stdout), words.form)
     return PARTLY if count else DONE
 
 

@@ -84,8 +84,8 @@ class Files:
                 if others and not others & defined:
                     continue
                 folder = os.path.dirname(path)
-                behind = search[search.index(folder) + 1:] if folder in search else ()
-                answers.add(any(self.is_file(joined(folder, name)) for folder in behind) if folder in search else None)
+                later = search[search.index(folder) + 1:] if folder in search else ()
+                answers.add(any(self.is_file(joined(folder, name)) for folder in later) if folder in search else None)
         return answers
 
     def headers(self, folder):

@@ -282,16 +282,16 @@ class Forms(Faults):
             "advice": "Write the name, and remove what follows it.", "text": "undef", "unit": 0, "source": "a.c",
             "chain": [{"path": "a.c", "line": 1}]}])
 
-    def test_colours(self):
+    def test_colors(self):
         listed = self.listed({"a.c": "#error x\n"})
         output = self.printed(listed)
         plain = self.said(listed, output)
-        coloured = self.said(listed, output, "--color", "always")
+        colored = self.said(listed, output, "--color", "always")
         self.assertNotIn("\33", plain + self.said(listed, output, "--color", "never"))
-        self.assertTrue(coloured.startswith("\33[1ma.c:1:1:\33[0m \33[1;31merror:\33[0m #error x"))
-        self.assertEqual(re.sub("\33\\[[0-9;]*m", "", coloured), plain)
+        self.assertTrue(colored.startswith("\33[1ma.c:1:1:\33[0m \33[1;31merror:\33[0m #error x"))
+        self.assertEqual(re.sub("\33\\[[0-9;]*m", "", colored), plain)
 
-    def test_colours_on_a_terminal_alone(self):
+    def test_colors_on_a_terminal_alone(self):
         listed = self.listed({"a.c": "#error x\n"})
         write(self.top, {"list.json": json.dumps(listed), "out": self.printed(listed)})
         command = [sys.executable, os.path.join(TOP, "scripts", "faults.py"), "list.json", "out"]

@@ -61,8 +61,8 @@ predefined_value b env t gain = record {
 
 -- ---- expansion steps
 
--- an invocation of a function-like macro: the macro name token, the macro, an argument for each parameter but an absent variable
--- argument, the names that the replacement hides, and the tokens after the matching `)`
+-- an invocation of a function-like macro: the macro name token, the macro, an argument for each parameter but an absent variable argument, the
+-- names that are added to the hide sets of the replacement, and the tokens after the matching `)`
 pub record Call : Type 0 where
   pub head : Hiding
   pub macro : Macro
@@ -101,7 +101,7 @@ fault_at_expansion n t = fault n t.token.used t.token.text
 abbrev pub quote_fault : Hiding → Fault
 quote_fault t = fault 7 t.token.at t.token.text
 
--- the names that the replacement of an invocation hides: the intersection of the hide sets of the name and the `)`, and the name
+-- the names that an invocation adds to hide sets: those that are in the hide set of the name and in that of the `)`, and the name
 abbrev pub gain_of : HideSet → HideSet → Name → HideSet
 gain_of hide close name = set.insert (set.intersection hide close) name
 

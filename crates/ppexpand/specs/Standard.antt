@@ -29,7 +29,7 @@ pub record Opens (macros : Macros) (t paren : Hiding) (d : Macro) (names : List 
   pub kind : d.kind ≡ FunctionLike names variadic
   pub paren_opens : is_open paren.token ≡ true
 
--- a list begins with this invocation: it has a matching `)`, and as many arguments as its parameters need (6.10.3, paragraphs 4 and 10 to 12)
+-- a list begins with this invocation: it has a matching `)`, and arguments as the macro's parameters need (6.10.3, paragraphs 4 and 10 to 12)
 pub record Invokes (macros : Macros) (list : List Hiding) (call : Call) : Type 0 where
   pub paren : Hiding
   pub inside : List Hiding

@@ -1,8 +1,8 @@
 -- Why expansion terminates (6.10.3.4), by the hide sets of a list alone.
 --
--- Take a prefix of the list whose tokens all hide the names `hidden`. No replacement in it is of these names. So each replacement in it is of another
--- macro's name, and its result hides that name too: a prefix with fewer names left, before a shorter part of the old prefix. If the `)` of an
--- invocation is after the prefix, the prefix is used up, and the result hides the names that `hidden` and the hide set of the `)` have in common.
+-- Take a prefix of the list where the hide set of each token has the names `hidden`. No replacement in it is of these names. So each is of another
+-- macro's name, and the hide sets of its result have that too: a prefix with fewer names left, before a shorter part of the old one. If the `)` of an
+-- invocation is after the prefix, the prefix is used up, and the hide sets of the result have the names in both `hidden` and that of the `)`.
 use Rattle.std.specs.Prelude.{◌≡◌, ℕ, suc, true, false, List, [], ◌∷◌, ◌++◌, map, if◌then◌else◌}
 use Rattle.std.specs.FinSet as set
 use Rattle.std.specs.FinMap as table
@@ -34,9 +34,9 @@ module _ (macros : Macros) where
     pub macro : table.contains_key macros name ≡ true
     pub outside : set.contains hide name ≡ false
 
-  -- What an expansion step does to the hide sets of a list. The first token is emitted; or it is a macro's name that its set does not hide, and is
-  -- replaced alone or together with all tokens up to a `)`. Each set of the result has this name, and the names that hide the first token, or both
-  -- the first token and the `)`.
+  -- What an expansion step does to the hide sets of a list. The first token is emitted; or it is a macro's name that isn't in its set, and is
+  -- replaced alone or together with all tokens up to a `)`. Each set of the result has this name, and the names in the set of the first token, or in
+  -- both that and the set of the `)`.
   pub data Step : List HideSet → List HideSet → Type 0 where
     emits : {head : HideSet} {rest : List HideSet} → Step (head ∷ rest) rest
     replaced : {head : HideSet} {rest next : List HideSet} (name : Name)
@@ -58,7 +58,7 @@ module _ (macros : Macros) where
   pub data Ends : List HideSet → Type 0 where
     ends : {list : List HideSet} → ((next : List HideSet) → Step list next → Ends next) → Ends list
 
-  -- after a prefix that hides these names is used up, by an invocation whose `)` is after it, the rest terminates
+  -- after a prefix whose sets have these names is used up, by an invocation whose `)` is after it, the rest terminates
   abbrev pub EndsAfter : HideSet → List HideSet → Type 0
   EndsAfter hidden following = (name : Name)
       → IsOutside name hidden
@@ -68,7 +68,7 @@ module _ (macros : Macros) where
       → AllByRecursion (Gains hidden close name) result
       → Ends (result ++ rest)
 
-  -- a prefix that hides these names terminates, if the rest terminates alone and also after the prefix is used up
+  -- a prefix whose sets have these names terminates, if the rest terminates alone and also after the prefix is used up
   abbrev pub PrefixEnds : HideSet → List HideSet → Type 0
   PrefixEnds hidden prefix = AllByRecursion (Holds hidden) prefix → (following : List HideSet) → Ends following → EndsAfter hidden following → Ends (prefix ++ following)
 

@@ -47,7 +47,8 @@ pub(crate) struct Invocation<'t, 'x, 'a> {
     pub(crate) definition: &'t Macro<'a>,
     /// An argument for each parameter. An absent variable argument has no entry.
     pub(crate) arguments: Vec<Vec<Hidden<'x>>>,
-    /// The intersection of the hide sets of the name and the `)`. Each token of the replacement hides these names and the macro's name.
+    /// The intersection of the hide sets of the name and the `)`. These names and the macro's name are added to the hide set of each token of
+    /// the replacement.
     pub(crate) base: Set,
 }
 
@@ -56,9 +57,9 @@ pub(crate) struct Invocation<'t, 'x, 'a> {
 pub(crate) enum ActionKind<'t, 'x, 'a> {
     /// There is no token.
     Done,
-    /// The token raises a fault, and no name is replaced.
+    /// The token raises a fault, and no name is replaced. Nothing is spent of the budget.
     Refused(Fault),
-    /// The token is a macro's name whose replacement fails.
+    /// The token is a macro's name whose replacement fails. It costs one of the budget.
     Failed(Fault),
     /// The token is emitted unchanged.
     Emits(Hidden<'x>),
@@ -110,7 +111,7 @@ pub(crate) fn macro_at<'t, 'a>(table: &'t Table<'a>, token: &Token) -> Option<&'
     }
 }
 
-/// Returns a token of a replacement list with this leading-space flag, these names to hide, and this expansion location.
+/// Returns a token of a replacement list with this leading-space flag, this hide set, and this expansion location.
 fn gained_token<'a>(token: &'a Token, space: bool, gain: Set, used: Place) -> Hidden<'a>
     ensures is { (sets : HideSetPool) → hiding sets result ≡ hsadd (set_at sets gain) used (with_space space (plain token.now)) }
     ensures known { (sets : HideSetPool) → IsKnown sets gain → HasSets sets result }
@@ -140,7 +141,7 @@ fn push_gained<'x, 'a: 'x>(
     Ok(())
 }
 
-/// Pushes the tokens of a replacement list without `##`. Each token hides the names of `base` and the macro's name.
+/// Pushes the tokens of a replacement list without `##`. The hide set of each is the names of `base` and the macro's name.
 fn replace_by<'x, 'a: 'x>(
     sets: &mut HideSets,
     body: &'a [Token],
@@ -258,7 +259,7 @@ fn refused_quote<'t, 'x, 'a>(quote: &Hidden) -> Result<Action<'t, 'x, 'a>, Memor
 impl<'x> Replacer<'x> {
     /// Pushes the replacement of an invocation of the macro with this replacement list, or returns fault 19 or 20.
     ///
-    /// Each token hides the names of `base` and the macro's name.
+    /// The names of `base` and the macro's name are added to the hide set of each token.
     fn replace<'a: 'x>(
         &mut self,
         pattern: &Pattern<'a>,
@@ -294,7 +295,7 @@ impl<'x> Replacer<'x> {
         }
     }
 
-    /// Makes the step of a predefined macro's name.
+    /// Pushes the replacement of a predefined macro's name. Returns the action.
     fn predefined_step<'t, 'a: 'x>(
         &mut self,
         env: &Env,
@@ -320,7 +321,7 @@ impl<'x> Replacer<'x> {
 
     /// Pushes the replacement of an object-like macro's name, or returns fault 19.
     ///
-    /// Each token hides the names of `base` and the macro's name.
+    /// The names of `base` and the macro's name are added to the hide set of each token.
     fn replace_object<'a: 'x>(
         &mut self,
         base: Set,
@@ -351,7 +352,7 @@ impl<'x> Replacer<'x> {
         self.replace(&pattern, none, base, head, list)
     }
 
-    /// Makes the step of an object-like macro's name.
+    /// Pushes the replacement of an object-like macro's name. Returns the action, which has the fault if the replacement fails.
     fn object_step<'t, 'a: 'x>(
         &mut self,
         head: &Hidden<'x>,
@@ -378,7 +379,7 @@ impl<'x> Replacer<'x> {
         }
     }
 
-    /// Makes the step of a function-like macro's name that is followed by `(`.
+    /// Removes the rest of an invocation, after its `(`. Returns the action, which has the invocation or the fault.
     fn invocation_step<'t, 'a: 'x>(
         &mut self,
         head: Hidden<'x>,
@@ -405,7 +406,7 @@ impl<'x> Replacer<'x> {
         }
     }
 
-    /// Makes the step of a function-like macro's name.
+    /// Removes the invocation of a function-like macro's name, if `(` is next. Returns the action, which emits the name otherwise.
     fn function_step<'t, 'a: 'x>(
         &mut self,
         head: Hidden<'x>,
@@ -437,7 +438,7 @@ impl<'x> Replacer<'x> {
         self.invocation_step(head, definition, names, variadic, list)
     }
 
-    /// Makes the step of a macro's name.
+    /// Replaces a macro's name, or removes its invocation. Returns the action.
     fn macro_step<'t, 'a: 'x>(
         &mut self,
         env: &Env,
@@ -467,9 +468,10 @@ impl<'x> Replacer<'x> {
         }
     }
 
-    /// Removes the next token of a list, which names the macro `named`, and its invocation, and pushes the replacement.
+    /// Makes the expansion step of a list: removes the next token, with what belongs to it, and returns the action for it. The replacement of an
+    /// object-like or predefined macro's name is pushed. An invocation is returned with its arguments, which are still to be expanded.
     ///
-    /// Returns what is to be done next. If nothing is left of the budget, a name that is to be replaced is refused.
+    /// `named` is the macro that the next token names, if any. If nothing remains of the budget, a name that would be replaced is refused.
     pub(crate) fn next_step<'t, 'a: 'x>(
         &mut self,
         context: &Context<'_, 'a>,

@@ -431,9 +431,9 @@ fn expand_rest<'x, 'a: 'x>(
 /// Expands a list of tokens: replaces each macro name, and rescans the replacement together with the tokens after it (6.10.3.4). Names
 /// that are in the hide set of their token are not replaced.
 ///
-/// `left` is a budget: the number of replacements that may be made; `None` means no limit. Each name of an object-like or predefined macro
-/// counts as one, and each invocation of a function-like macro, before its arguments are expanded. One more replacement is fault 35 at
-/// the expansion location of the name.
+/// `remaining` is a budget: the number of replacements that may be made; `None` means no limit. Each name of an object-like or predefined macro
+/// counts as one, and each invocation of a function-like macro, before its arguments are expanded. One more replacement is fault 35 at the
+/// expansion location of the name.
 ///
 /// The tokens emitted before a fault stay. Fault 7, an unmatched quote, has its spelling location. The other faults have the expansion
 /// location of the macro name:

@@ -31,9 +31,9 @@ pub fn expansion_terminates()
         → (most : ℕ) × EndsWithin macros env level most remaining list }
 {}
 
-/// Why expansion terminates (6.10.3.4). Each expansion step is a step on the hide sets of the list alone. What it puts into a prefix whose
-/// tokens hide some names hides one name more, so fewer macro names are left to replace there. Hence each prefix terminates before a rest
-/// that terminates, and each list is such a prefix.
+/// Why expansion terminates (6.10.3.4). Each expansion step is a step on the hide sets of the list alone. Where the hide sets of a prefix have
+/// some names, those of what the step puts there have one name more, so fewer macro names are left to replace there. Hence each prefix
+/// terminates before a rest that terminates, and each list is such a prefix.
 pub fn prefixes_terminate()
     ensures steps { (macros : Macros) (env : Env) (level : ℕ) (remaining remaining_after : Option ℕ) (list next : List Hiding)
         → Leads macros env level remaining list remaining_after next

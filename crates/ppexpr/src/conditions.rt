@@ -125,7 +125,7 @@ fn evaluate_replaced(
 
 /// Returns whether the group after `#if` or `#elif` is taken (6.10.1), or the first fault; and the rest of the budget.
 ///
-/// `at` is the location of the directive's `#`. `tokens` are the tokens after the directive's name. `left` is a budget: the number of
+/// `at` is the location of the directive's `#`. `tokens` are the tokens after the directive's name. `remaining` is a budget: the number of
 /// replacements that may be made; `None` means no limit. One more replacement is fault 35 at the expansion location of the name.
 ///
 /// The other faults, in the order of the checks:

@@ -98,12 +98,12 @@ abbrev pub is_comma : Operand → Bool
 is_comma (Tok t) = is_punct (codes ",") t
 is_comma _ = false
 
--- The last operand of a chain, after another operand. It is a rest if it is parameter i and the operand before is the token `,`.
+-- The last operand of a chain, after another operand. It is a variable argument after a comma if it is parameter i and that is `,`.
 abbrev pub variadic_after : ℕ → Operand → Operand → Operand
 variadic_after i o (Param j) = if is_comma o && i == j then VariadicAfterComma i else Param j
 variadic_after i o p = p
 
--- The operands of a chain. The last becomes a rest where `variadic_after` says so.
+-- The operands of a chain. The last becomes a variable argument after a comma if `variadic_after` says so.
 abbrev pub ending_in_variadic : ℕ → List Operand → List Operand
 ending_in_variadic i (o ∷ (p ∷ [])) = o ∷ (variadic_after i o p ∷ [])
 ending_in_variadic i (o ∷ (p ∷ (q ∷ os))) = o ∷ ending_in_variadic i (p ∷ (q ∷ os))

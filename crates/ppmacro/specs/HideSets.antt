@@ -32,7 +32,7 @@ abbrev pub hidden_names : HideSetPool → ℕ → Option ℕ → HideSet
 hidden_names sets n None = set_at sets n
 hidden_names sets n (Some m) = set.union (set_at sets n) (set_at sets m)
 
--- The names that hide a token.
+-- The names in the hide sets of a token.
 abbrev pub hide_of : HideSetPool → Hidden → HideSet
 hide_of sets h = hidden_names sets h.hide h.extra
 

@@ -1,4 +1,4 @@
--- The syntax of parameter lists and of replacement lists, as inductive definitions. Which chains have a rest.
+-- The syntax of parameter lists and replacement lists, by induction. Which chains have a variable argument after a comma.
 use Rattle.std.specs.Prelude.{◌≡◌, ℕ, Bool, true, false, not, ◌&&◌, List, [], ◌∷◌, ◌++◌, Some, None, codes}
 use Rattle.std.specs.List.{list_any}
 use Rattle.pptext.specs.declared.tokens.Token.{Token}
@@ -88,7 +88,7 @@ pub data AreJoined (kind : MacroKind) : Bool → List Token → List Operand →
       → AreJoined kind other rest os
       → AreJoined kind space (ts ++ paste ∷ rest) (o ∷ os)
 
--- Tokens that are chains, laid end to end. The last operand of a chain may be a rest.
+-- Tokens that are chains, laid end to end. The last operand of a chain may be a variable argument after a comma.
 pub data AreChains (kind : MacroKind) : List Token → List Chain → Type 0 where
   none : AreChains kind [] []
   chain : {space : Bool} {os : List Operand} {cs : List Chain} (ts rest : List Token)

@@ -11,7 +11,7 @@ use Rattle.ppmacro.specs.declared.macros.Macro.{Macro}
 abbrev pub Name : Type 0
 Name = List ℕ
 
--- The names that may not replace a token.
+-- The names of the macros that may not replace a token.
 abbrev pub HideSet : Type 0
 HideSet = set.FinSet (slice_cmp nat_cmp)
 

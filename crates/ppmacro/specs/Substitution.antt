@@ -1,4 +1,4 @@
--- The replacement of an invocation (6.10.3.1 to 6.10.3.3).
+-- What a macro's name or invocation is replaced by (6.10.3.1 to 6.10.3.3).
 use Rattle.std.specs.Prelude.{ℕ, Bool, true, false, not, ◌&&◌, ◌||◌, ◌==◌, ◌-◌, List, [], ◌∷◌, ◌++◌, map, take, length, Option, Some, None, unwrap_or, slice_get, Result, Ok, Err, if◌then◌else◌}
 use Rattle.std.specs.FinSet as set
 use Rattle.pptext.specs.declared.tokens.Place.{Place}
@@ -122,7 +122,7 @@ before_variadic [] = []
 before_variadic (VariadicAfterComma i ∷ []) = []
 before_variadic (o ∷ os) = o ∷ before_variadic os
 
--- The index of this argument, if there is one at the end.
+-- The index of the variable argument after a comma, if the operands end in one.
 abbrev pub variadic_of : List Operand → Option ℕ
 variadic_of [] = None
 variadic_of (VariadicAfterComma i ∷ []) = Some i
@@ -157,7 +157,7 @@ pub record Replacement : Type 0 where
 abbrev pub with_space : Bool → Hiding → Hiding
 with_space space t = record t { token = record t.token { space = space } }
 
--- Gives the pending flag to the first token.
+-- The first token gets the flag `space`. Without a token the flag stays pending.
 abbrev pub space_first : Bool → List Hiding → Replacement
 space_first space [] = record { tokens = []; pending = space }
 space_first space (t ∷ ts) = record { tokens = with_space space t ∷ ts; pending = false }

@@ -273,7 +273,7 @@ fn lenient_parameter(kind: &MacroKind) -> Option<usize>
     }
 }
 
-/// Turns the last operand of a chain into a rest, if it is the parameter that may be absent and follows a comma.
+/// Turns the last operand of a chain into `VariadicAfterComma`, if it is the parameter that may be absent and follows a comma.
 fn end_in_variadic(kind: &MacroKind, chains: &mut [Chain])
     ensures { chains.new ≡ map (with_variadic (lenient_parameter kind.now)) chains.old }
 {

@@ -130,8 +130,8 @@ impl<'a> StoredToken<'a> {
     }
 }
 
-/// A token with one hide set or two. The names of both hide it. Carrying two sets costs less than computing their union, which is
-/// needed for few tokens.
+/// A token with one hide set or two; no name in either is replaced at it. Carrying two sets costs less than computing their
+/// union, which is needed for few tokens.
 #[derive(Drop)]
 pub struct Hidden<'a> {
     token: StoredToken<'a>,

@@ -1,4 +1,4 @@
-//! Hide sets: the names that may not replace a token (Prosser's algorithm).
+//! Hide sets: the names of the macros that may not replace a token (Prosser's algorithm).
 ghost use Rattle.std.specs.Prelude.{◌≡◌, ◌↔◌, IsTrue, ℕ, Some, Ok, IfOk, OnErr};
 ghost use Rattle.std.specs.FinSet as set;
 ghost use Rattle.ppmacro.specs.HideSets.{set_at, IsKnown, KeepsSets, starting};

@@ -31,8 +31,8 @@ pub fn lays_out_chains()
     ensures exactly { (definition : Macro) → (places_operators definition ≡ true) ↔ ((chains : List Chain) × AreChains definition.kind definition.body chains) }
 {}
 
-/// Proves that no variable argument may be absent without the rules of GNU C. No chain of a macro without such an argument has a
-/// rest.
+/// Proves that no variable argument may be absent without the rules of GNU C. No chain of a macro without such an argument has
+/// the operand `VariadicAfterComma`.
 pub fn lenient_in_gnu_alone()
     ensures strict { (profile : Profile) (macros : Macros) (at : Place) (line : List Token) (named : Named) → is_gnu profile ≡ false → check_define profile macros at line ≡ Ok named → lenient_parameter named.definition.kind ≡ None }
     ensures pasted { (definition : Macro) → lenient_parameter definition.kind ≡ None → list_any holds_variadic (chains_of definition) ≡ false }

@@ -107,7 +107,7 @@ fn is_variadic(before: &Operand, last: &Operand, index: usize) -> bool
     }
 }
 
-/// Turns the last operand into a rest, if it is this parameter and follows a comma.
+/// Turns the last operand into `VariadicAfterComma`, if it is this parameter and follows a comma.
 fn end_in_variadic(operands: &mut [Operand], index: usize)
     ensures { operands.new ≡ ending_in_variadic index operands.old }
 {
@@ -167,7 +167,7 @@ impl<'a> Operands<'a> {
         Ok(())
     }
 
-    /// Turns the last operand into a rest, if it is this parameter and follows a comma.
+    /// Turns the last operand into `VariadicAfterComma`, if it is this parameter and follows a comma.
     pub(crate) fn end_in_variadic(&mut self, index: usize)
         ensures { self.new ≡ ending_in_variadic index self.old }
     {

@@ -114,6 +114,6 @@ pub(crate) fn pattern_of<'a>(
     if has_operator(definition.body.as_slice()) {
         return Ok(Pattern::Pasted(chains_of(alloc, definition, hashing)?));
     }
-    // Saves 8 % of the instructions of Boost.Preprocessor's `seq.c`.
+    // Fast path: entries are cheaper than chains.
     Ok(Pattern::Plain(entries_in(alloc, definition, hashing)?))
 }

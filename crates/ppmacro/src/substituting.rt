@@ -1,4 +1,4 @@
-//! Substitution: the replacement of a macro invocation (6.10.3.1 to 6.10.3.3).
+//! Substitution: what a macro's name or invocation is replaced by (6.10.3.1 to 6.10.3.3).
 ghost use Rattle.std.specs.Prelude.{◌≡◌, ◌++◌, ◌∷◌, IfOk, OnOk, [], true, not, ◌||◌, ◌&&◌};
 ghost use Rattle.std.specs.FinSet as set;
 ghost use Rattle.ppmacro.specs.HideSetPool.{HideSetPool};
@@ -36,7 +36,7 @@ fn is_joined(operands: &[Operand]) -> bool
     matches!(operands, [_, _, ..])
 }
 
-/// Splits the operands of a chain into those that `##` joins and the argument index of the rest.
+/// Splits the operands of a chain into those that `##` joins and the argument index of a variable argument after a comma.
 fn split_variadic<'s, 'a>(operands: &'s [Operand<'a>]) -> (&'s [Operand<'a>], Option<usize>)
     ensures front { result.0.now ≡ before_variadic operands.now }
     ensures rest { result.1 ≡ variadic_of operands.now }
@@ -50,7 +50,7 @@ fn split_variadic<'s, 'a>(operands: &'s [Operand<'a>]) -> (&'s [Operand<'a>], Op
     }
 }
 
-/// Appends the rest to the tokens of a chain, or removes the comma if the argument is absent.
+/// Appends the variable argument after a comma to the tokens of a chain, or removes the comma if the argument is absent.
 fn append_variadic<'a>(
     tokens: &mut Vec<Hidden<'a>>,
     given: &[Vec<Hidden<'a>>],
@@ -70,7 +70,7 @@ fn append_variadic<'a>(
     }
 }
 
-/// Returns the tokens of a chain. Each `#` comes first, then `##` from the left, and then the rest.
+/// Returns the tokens of a chain. Each `#` comes first, then `##` from the left, and then the variable argument after a comma.
 fn chain_tokens<'x, 'a: 'x>(
     alloc: Global,
     sets: &mut HideSets,
@@ -135,8 +135,8 @@ fn push_token<'a>(
     push_one(tokens, hidden)
 }
 
-/// Appends the tokens of a chain. The first gets the flag `flag`. Returns the leading-space flag that is pending afterwards, or
-/// fault 19 or 20.
+/// Appends the tokens of a chain. The first gets the leading-space flag `space`. Returns the leading-space flag that is pending
+/// afterwards, or fault 19 or 20.
 fn push_chain<'x, 'a: 'x>(
     sets: &mut HideSets,
     arguments: Arguments<'_, 'x>,
@@ -244,11 +244,12 @@ fn chains_replacement<'x, 'a: 'x>(
     Ok((tokens, pending))
 }
 
-/// Returns the replacement of an invocation (6.10.3.1 to 6.10.3.3), and whether white space is pending for the token after it.
-/// `chains` are the chains of the macro.
+/// Returns what a macro's name or invocation is replaced by (6.10.3.1 to 6.10.3.3), and whether white space is pending for the
+/// token after it. `chains` are the chains of the macro.
 ///
-/// Otherwise returns the first of these faults, at the location of the macro name: 19, a paste isn't one token, with both
-/// spellings as its text; 20, a stringized argument isn't a string literal. `Memory` means that an allocation fails.
+/// If a `#` or `##` fails, returns the first of these faults, at the location of the macro name: 19, two pasted tokens aren't
+/// one token, with both spellings as its text; 20, a stringized argument isn't a string literal, with that text. `Memory` means
+/// that an allocation fails.
 pub fn substitute<'x, 'a: 'x>(
     alloc: Global,
     chains: &[Chain<'a>],

@@ -147,7 +147,7 @@ impl<'a> Table<'a> {
     pub fn get(&self, name: &[u8]) -> Option<&Macro<'a>>
         ensures { option_copied result ≡ table.get self.now.macros name.now }
     {
-        // The filter rejects most names without a call: this saves 9 % of the instructions of `deps` on Redis.
+        // Fast path: the filter rejects most names without a call.
         let slot = self.filter.at(name);
         if slot == 0 {
             return None;

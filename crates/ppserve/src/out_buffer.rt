@@ -85,9 +85,9 @@ impl OutBuffer {
         self.used = self.line.put(bytes, self.used, fields);
     }
 
-    /// Appends the spelling in the first `len` bytes of `room` and the end of its line. Returns false, without effect,
-    /// if a byte of the spelling can't be printed as it is. All bytes of `room` are copied, so that no branch depends
-    /// on the spelling's length, which is hard to predict.
+    /// Appends the spelling in the first `len` bytes of `inline` and the end of its line. Returns false, without
+    /// effect, if a byte of the spelling can't be printed as it is. All bytes of `inline` are copied, so that no branch
+    /// depends on the spelling's length, which is hard to predict.
     #[inline(always)]
     pub(crate) fn add_short_spelling(&mut self, inline: &[u8; 14], len: usize) -> bool
         requires capacity { length self.old + 15 ≤ 65_536 }

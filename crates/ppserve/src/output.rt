@@ -265,8 +265,8 @@ fn put_token<W: Sink>(buf: &mut OutBuffer, writer: &mut W, token: &Token)
     put_line(buf, writer, fields, &token.text);
 }
 
-/// Prints the line of a token. Most spellings are short and are printed as they are; then the line is written in one
-/// step, which saves half of the instructions of `dump` on Redis and SQLite.
+/// Prints the line of a token. Fast path: most spellings are short and are printed as they are; then the line is
+/// written in one step.
 #[inline(always)]
 fn put_line<W: Sink>(buf: &mut OutBuffer, writer: &mut W, fields: LineFields, spelling: &Spelling)
     ensures { Puts W.written W.has_failed writer.old writer.new buf.old buf.new

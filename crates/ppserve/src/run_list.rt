@@ -37,7 +37,7 @@ pub struct RunOptions {
 pub enum AtEnd {
     /// Frees it, token by token.
     Free,
-    /// Leaves it to the system, for a program that exits next. Freeing it takes a tenth of a run.
+    /// Leaves it to the system, for a program that exits next. Freeing it would take time.
     Leave,
 }
 

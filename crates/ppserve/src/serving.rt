@@ -66,7 +66,7 @@ impl From<ListFault> for RunFault {
     }
 }
 
-/// The number of bytes in a read.
+/// The maximum number of bytes that one read returns.
 const CHUNK: usize = 65_536;
 
 /// Reads a list that holds its files, runs translation phases 1 to 4 (5.1.1.2) of its units, and writes their output
@@ -148,7 +148,7 @@ fn run_with_contents<T: Threads + Sync, W: Sink>(
 }
 
 /// Does what `serve` does, for a list that names its files without holding them. Workers read a file from the disk when
-/// it is first needed, and the content that is recorded first is the file's content for all units. Errors are those of
+/// it is first needed, and the content that is cached first is the file's content for all units. Errors are those of
 /// `serve`.
 pub fn serve_from<T: Threads + Sync, R: Feed, W: Sink, D: Disk + Send + Sync>(
     threads: &T,
@@ -227,7 +227,7 @@ fn run_with_disk<T: Threads + Sync, W: Sink, D: Disk + Send + Sync>(
     answer
 }
 
-/// Reads a list, with its files or with only their names. Frees its bytes.
+/// Reads a list, which holds its files if `inline`, and otherwise only their names. Frees its bytes.
 fn receive<R: Feed>(
     alloc: Global,
     reader: &mut R,

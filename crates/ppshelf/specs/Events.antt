@@ -56,7 +56,7 @@ pub data Event : Type 0 where
   Read : ℕ → ℕ → Event
   Claim : ℕ → Event
 
--- An event of an existing caller, over a block counter with `blocks` blocks. Keep: a row that caches nothing gets a
+-- An event of an existing caller, over a block counter with `blocks` blocks. Cache: a row that caches nothing gets a
 -- content, and the caller observes it. Read: the caller observes what the row caches. Claim: the caller gets the next
 -- block if there is one, and otherwise finds that none is left. The number of the next block rises by one.
 pub data Happens (blocks : ℕ) : Shared → Event → Shared → Type 0 where

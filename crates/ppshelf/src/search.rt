@@ -33,7 +33,7 @@ pub struct Directories<'a> {
 }
 
 impl<'a> Directories<'a> {
-    /// Returns the directory with index `passed` among all of them.
+    /// Returns the directory with this index among all of them.
     fn at_index(self, index: usize) -> &'a [u8]
         requires { index < length self.unit.now + length self.setting.now }
         ensures { result.now ≡ slice_index_or (self.entry.unit.now ++ self.entry.setting.now) index [] }
@@ -172,8 +172,8 @@ fn row_in_directories<D: Disk>(
     Ok(None)
 }
 
-/// Returns the row of the name in this directory. If no segment of either begins with `.`, the two are joined without
-/// taking them apart, which saves 3 % of the instructions of `deps` on Redis.
+/// Returns the row of the name in this directory. Fast path: if no segment of either begins with `.`, the two are
+/// joined without taking them apart.
 fn row_in_directory<D: Disk>(
     alloc: Global,
     shelf: &Shelf<D>,

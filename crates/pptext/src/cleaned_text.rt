@@ -104,8 +104,7 @@ impl TextCursor {
     }
 
     /// Advances the cursor to this character. No line ends from the character `line` up to it. From `line` on, no bytes
-    /// are searched for ends of lines. Two fast paths before `advance_over_notes` save 7 % of the instructions of `deps` on SQLite,
-    /// and an eighth of its mispredicted branches.
+    /// are searched for ends of lines. There are two fast paths before `advance_over_notes`.
     #[inline(always)]
     fn seek(&mut self, raw: &[u8], line_notes: &[u32], to: usize, line: usize)
         requires small { length raw.now ≤ longest }

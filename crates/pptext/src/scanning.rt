@@ -105,7 +105,7 @@ pub(crate) fn starts_identifier(c: u8) -> bool
     WORD_STARTS[c as usize] == b'1'
 }
 
-/// For each byte, whether it is a nondigit or a digit. The table saves 5 % of the instructions of `deps` on SQLite.
+/// For each byte, whether it is a nondigit or a digit. Looking it up is faster than computing it.
 static IDENT_BYTES: [u8; 256] = *b"\
     00000000000000000000000000000000\
     00001000000000001111111111000000\

@@ -134,8 +134,7 @@ impl Spelling {
         if n > SHORT || text.len() < SHORT {
             return None;
         }
-        // Bytes after the spelling are copied too. A copy of constant length saves 2 % of the instructions of `deps` on
-        // SQLite.
+        // Bytes after the spelling are copied too: a copy of constant length is faster.
         let mut inline = [0; SHORT];
         inline.copy_from_slice(&text[..SHORT]);
         Some(Self {

@@ -115,10 +115,10 @@ mutual
         → Opened context (suc depth) (hash_place line.tokens) (with_remaining s remaining_after) found.0 (Some found.1) m
         → ExecutesInclude context depth row search_after s line m
 
-  -- The file at index `row` is opened for the line at location `at`, if the budget isn't exhausted. The number is that
-  -- of the directory in which it was found; a unit's own file has none. If the file has `#pragma once` and was already
-  -- read in this unit, its lines aren't processed again: it only becomes a dependency and costs one of the budget. If the
-  -- content of the file isn't known, no case applies.
+  -- Opening the file at index `row`, for the line at location `at`. `directory` is the number of the directory in which
+  -- it was found; a unit's own file has none. The opening fails if it is too deep or the budget is exhausted. Otherwise
+  -- it costs one of the budget, and the file is a dependency. If the file has `#pragma once` and was already read in
+  -- this unit, nothing else happens. Otherwise its content is needed: if that isn't known, no case applies.
   pub data Opened (context : Context) : ℕ → Place → State → ℕ → Option ℕ → Reached → Type 0 where
     too_deep : {depth row : ℕ} {directory : Option ℕ} {at : Place} {s : State}
         → deepest < depth

@@ -50,7 +50,7 @@ fn run_end(source: &Source, start: usize) -> usize
     end
 }
 
-/// Returns whether processing continues at the line after this `#elif`, `#else` or `#endif` of the file at index `row`: its
+/// Returns whether execution continues after the branch line or `#endif` at `index` of the file at index `row`: its
 /// group is taken, or the if-section ends. Changes nothing in `state` but the remaining budget.
 fn continues_after<D: Disk>(
     context: &UnitContext<'_, '_, D>,
@@ -73,8 +73,8 @@ fn continues_after<D: Disk>(
     decide(context, state, row, directive, &tokens_at(source, index))
 }
 
-/// Finds the line at which processing continues if the group after line `start` isn't taken: the line after the first
-/// `#elif` or `#else` whose group is taken, or the line after `#endif`.
+/// Returns the index of the line at which execution continues if the group after the line at `start` isn't taken: the
+/// line after the first branch line whose group is taken, or the line after `#endif`.
 fn find_branch<D: Disk>(
     context: &UnitContext<'_, '_, D>,
     state: &mut State,
@@ -100,7 +100,7 @@ fn find_branch<D: Disk>(
     Ok(index + 1)
 }
 
-/// Returns the line after the `#endif` of the if-section that has this branch line.
+/// Returns the index of the line after the `#endif` of the if-section that has this branch line.
 fn section_end(source: &Source, branch: usize) -> usize
     requires { branch < length source.now }
     ensures further { branch < result }
@@ -116,7 +116,8 @@ fn section_end(source: &Source, branch: usize) -> usize
     index + 1
 }
 
-/// Executes a line that opens an if-section of the file at index `row`. Returns the line at which processing continues.
+/// Executes a line that opens an if-section of the file at index `row`. Returns the index of the line at which
+/// execution continues.
 fn execute_if_line<D: Disk>(
     context: &UnitContext<'_, '_, D>,
     state: &mut State,
@@ -139,7 +140,7 @@ fn execute_if_line<D: Disk>(
     find_branch(context, state, row, source, index)
 }
 
-/// Emits a run of text lines. Returns the line after it.
+/// Expands a run of text lines and emits its tokens. Returns the index of the line after it.
 fn execute_run<'x>(
     alloc: Global,
     state: &mut State<'x>,
@@ -182,7 +183,7 @@ impl<'a> Model for NextLine<'a> {
     ghost view = { λ n. (n.line, n.entered) };
 }
 
-/// Returns what comes next after a line that opened no file: the line at index `line`.
+/// Returns the next line, the one at index `line`, after a line that opened no file.
 fn next_line<'a>(line: usize) -> NextLine<'a>
     ensures { result ≡ (line, None) }
 {
@@ -199,27 +200,27 @@ impl<'x, 'a: 'x, D: Disk> Preprocessor<'_, 'x, 'a, D> {
         &mut self,
         depth: u32,
         from: Opening,
-        line: &DirectiveTokens<'x>,
+        tokens: &DirectiveTokens<'x>,
     ) -> Result<Option<Entered<'a>>, Error>
         requires depth { depth ≤ 200 }
         ensures continues { Continues self.old self.new }
         ensures includes { UnlessOutOfMemory result (λ leads.
             (directive : Directive) (number : ℕ)
             → Leads (context_over self.old.context.now) self.new.pass.now.files (suc depth)
-            (λ (more : Files) (m : Reached). ExecutesInclude (context_over self.old.context.now more) depth from.row from.directory self.old.state (directed directive line.now number) m)
+            (λ (more : Files) (m : Reached). ExecutesInclude (context_over self.old.context.now more) depth from.row from.directory self.old.state (directed directive tokens.now number) m)
             self.new.state leads) }
     {
         let context = self.context;
-        let include_name = read_include_name(context.alloc, &mut self.state, line)?;
+        let include_name = read_include_name(context.alloc, &mut self.state, tokens)?;
         let Some((row, directory)) = resolve_in(context, from, &include_name)? else {
             let name = include_name.name.as_bytes();
-            return Err(Error::Fault(line_fault(context.alloc, 31, line, name)?));
+            return Err(Error::Fault(line_fault(context.alloc, 31, tokens, name)?));
         };
         let opening = Opening {
             row,
             directory: Some(directory),
         };
-        self.open(depth + 1, line.hash_place(), opening)
+        self.open(depth + 1, tokens.hash_place(), opening)
     }
 
     /// Executes a control line. Returns the file that it opens, if it opens one.
@@ -255,7 +256,7 @@ impl<'x, 'a: 'x, D: Disk> Preprocessor<'_, 'x, 'a, D> {
         }
     }
 
-    /// Processes one run of text lines or one directive line. Returns what comes next, or the fault.
+    /// Executes one run of text lines or one directive line. Returns what comes next, or the fault.
     fn step(&mut self, depth: u32, file: &OpenFile<'x>) -> Result<NextLine<'a>, Error>
         requires depth { depth ≤ 200 }
         requires index { file.now.index < length file.now.lines }
@@ -278,13 +279,13 @@ impl<'x, 'a: 'x, D: Disk> Preprocessor<'_, 'x, 'a, D> {
         }
         let tokens = tokens_at(source, index);
         let number = line(source, index).number;
-        let at = DirectiveLine {
+        let directive_line = DirectiveLine {
             row,
             directive,
             tokens,
             number,
         };
-        let entered = self.execute_line(depth, at)?;
+        let entered = self.execute_line(depth, directive_line)?;
         Ok(NextLine {
             line: index + 1,
             entered,
@@ -308,14 +309,14 @@ impl<'x, 'a: 'x, D: Disk> Preprocessor<'_, 'x, 'a, D> {
                     Ok(next) => {
                         let NextLine { line, entered } = next;
                         file.index = line;
-                        // Most lines open no file. Saves 3 % of the instructions of `deps` on Redis.
+                        // Fast path: most lines open no file.
                         if let Some(entered) = entered {
                             file = suspended.enter(file, entered)?;
                         }
                     }
-                    Err(stop) => {
+                    Err(error) => {
                         suspended.stop(&mut self.state);
-                        return Err(stop);
+                        return Err(error);
                     }
                 }
             } else {

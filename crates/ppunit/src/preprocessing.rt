@@ -170,10 +170,10 @@ fn run_unit<'x, 'a: 'x, D: Disk>(
 /// Executes translation phases 1 to 4 of a unit: its definitions, and then its file with all that it includes (5.1.1.2,
 /// 6.10).
 ///
-/// The value is that over the files that the pass knows afterwards: those that `fill` recorded, and those that the disk
-/// returned. With a budget the unit's replacements and opened files total at most the budget, and its value is a prefix
-/// of the value without one: the whole of it exactly if the budget suffices, and otherwise ending in fault 35. Fails
-/// only if an allocation fails; the pass then knows at least what it knew.
+/// The value is that over the files that the pass has observed afterwards: those that `fill` put into the shelf, and
+/// those that the disk returned. With a budget the unit's replacements and opened files total at most the budget, and
+/// its value is a prefix of the value without one: the whole of it exactly if the budget suffices, and otherwise ending
+/// in fault 35. Fails only if an allocation fails; the pass then has at least what it had observed before.
 pub fn preprocess<'x, 'a: 'x, D: Disk>(
     alloc: Global,
     shelf: &'a Shelf<D>,

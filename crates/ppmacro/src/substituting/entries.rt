@@ -44,7 +44,8 @@ fn count_all(arguments: Arguments, entries: &[Entry]) -> usize {
     count
 }
 
-/// Appends the tokens of an entry. The first gets the flag `flag`. Returns the leading-space flag that is pending afterwards.
+/// Appends the tokens of an entry. The first gets the leading-space flag `space`. Returns the leading-space flag that is pending
+/// afterwards.
 fn push_entry<'x, 'a: 'x>(
     sets: &HideSets,
     arguments: Arguments<'_, 'x>,

@@ -88,7 +88,7 @@ fn hsadd_one(
     ensures known { OnOk result (HasSets sets.new hidden.new) }
     ensures keeps { KeepsSets sets.old sets.new }
 {
-    // Saves 24 % of the time and 42 % of the memory of `deps` on Boost.Preprocessor.
+    // Fast path: a token with one set.
     let Some(extra) = hidden.extra() else {
         hsadd_to_one(sets, hidden, base, added, used);
         return Ok(());

@@ -617,7 +617,7 @@ fn hides_and_places_what_it_gives(rt: HostRuntime) -> Result<(), Fail> {
     Ok(())
 }
 
-/// The tokens of a rest keep their hide sets, and the comma before them has the empty one.
+/// The tokens of a variable argument after a comma keep their hide sets, and the comma before them has the empty one.
 #[test]
 fn puts_a_variable_argument_after_the_comma(rt: HostRuntime) -> Result<(), Fail> {
     let line = "#define e(f,a...) f,##a";

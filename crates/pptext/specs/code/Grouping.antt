@@ -1,5 +1,5 @@
--- Predicates on the pass that groups a file's lines: spans without branches, their links, the open if-sections by their lines' indices, and an
--- include guard found without the tree. Only the contracts of private functions cite this.
+-- Predicates on the grouping of a file's lines: spans without branches, their links, the open if-sections by their lines' indices, and an include
+-- guard found without the tree. Only the contracts of private functions cite this.
 use Rattle.std.specs.Prelude.{◌≡◌, ℕ, ◌+◌, ◌⊎◌, List, [], ◌∷◌, map, length, drop, Bool, Option, None, Some, Result, Ok, Err}
 use Rattle.std.specs.List.{AllByRecursion}
 use Rattle.pptext.specs.declared.tokens.Fault.{Fault}

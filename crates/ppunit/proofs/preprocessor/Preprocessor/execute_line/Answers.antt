@@ -27,18 +27,18 @@ returns-in-Ignored-clause-control g c more grows =
     let is : class_of c.args.line.directive ≡ class.Ignored = sym c.class.ensures ∙ c.in-Ignored.is in
     Controls.ignored (ap (λ (z : Class). Some z) is)
 
-pub returns-in_err-refuse_unmatched_quote-in-ExecutesInclude-clause-control : goal.returns-in_err-refuse_unmatched_quote-in-ExecutesInclude-clause-control
-returns-in_err-refuse_unmatched_quote-in-ExecutesInclude-clause-control g c =
-    let is : class_of c.args.line.directive ≡ class.Includes c.in-ExecutesInclude.next = sym c.class.ensures ∙ c.in-ExecutesInclude.is in
-    stopped _ _ _ _ c.from_residual-in_err-refuse_unmatched_quote-in-ExecutesInclude.ensures.1 c.in_err-refuse_unmatched_quote-in-ExecutesInclude.ensures (λ fault quote more grows.
+pub returns-in_err-refuse_unmatched_quote-in-Includes-clause-control : goal.returns-in_err-refuse_unmatched_quote-in-Includes-clause-control
+returns-in_err-refuse_unmatched_quote-in-Includes-clause-control g c =
+    let is : class_of c.args.line.directive ≡ class.Includes c.in-Includes.next = sym c.class.ensures ∙ c.in-Includes.is in
+    stopped _ _ _ _ c.from_residual-in_err-refuse_unmatched_quote-in-Includes.ensures.1 c.in_err-refuse_unmatched_quote-in-Includes.ensures (λ fault quote more grows.
     Controls.quote (ap (λ (z : Class). looks_at_quotes (Some z)) is) (sym quote))
 
-pub returns-in_ok-refuse_unmatched_quote-in-ExecutesInclude-clause-control : goal.returns-in_ok-refuse_unmatched_quote-in-ExecutesInclude-clause-control
-returns-in_ok-refuse_unmatched_quote-in-ExecutesInclude-clause-control g c =
-    let is : class_of c.args.line.directive ≡ class.Includes c.in-ExecutesInclude.next = sym c.class.ensures ∙ c.in-ExecutesInclude.is in
-    let alone = sym c.in_ok-refuse_unmatched_quote-in-ExecutesInclude.ensures in
+pub returns-in_ok-refuse_unmatched_quote-in-Includes-clause-control : goal.returns-in_ok-refuse_unmatched_quote-in-Includes-clause-control
+returns-in_ok-refuse_unmatched_quote-in-Includes-clause-control g c =
+    let is : class_of c.args.line.directive ≡ class.Includes c.in-Includes.next = sym c.class.ensures ∙ c.in-Includes.is in
+    let alone = sym c.in_ok-refuse_unmatched_quote-in-Includes.ensures in
     on_settled c.include.result
-    (λ r leads. leads_include (context_over c.args.self.now.context.now) c.include.new.self.pass.now.files c.args.depth c.args.line.row c.in-ExecutesInclude.next c.directory_before-directory.result
+    (λ r leads. leads_include (context_over c.args.self.now.context.now) c.include.new.self.pass.now.files c.args.depth c.args.line.row c.in-Includes.next c.directory_before-directory.result
     (directed c.args.line.directive c.args.line.tokens c.args.line.number) c.args.self.now.state c.include.new.self.state r
     c.directory_before-directory.ensures (ap (λ (z : Class). Some z) is) alone (leads c.args.line.directive c.args.line.number))
     c.include.ensures.includes
@@ -76,4 +76,4 @@ returns-in_ok-control-in_default g c =
 pub control-requires : goal.control-requires
 control-requires g c =
     other_is_control (class_of c.args.line.directive) c.requires.opens c.requires.ends (λ e. c.in_default.not-Error (c.class.ensures ∙ e))
-    (λ e. c.in_default.not-Ignored (c.class.ensures ∙ e)) (λ next e. c.in_default.not-ExecutesInclude next (c.class.ensures ∙ e))
+    (λ e. c.in_default.not-Ignored (c.class.ensures ∙ e)) (λ next e. c.in_default.not-Includes next (c.class.ensures ∙ e))
