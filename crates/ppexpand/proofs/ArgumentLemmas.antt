@@ -1,10 +1,8 @@
 -- How the arguments of an invocation are expanded one after the other.
-use Rattle.std.proofs.Common.{◌≡◌, ℕ, zero, suc, ◌+◌, ◌<◌, ◌≤◌, Bool, true, false, ◌||◌, List, [], ◌∷◌, ◌++◌, map, drop, Option, Some, None, Result, Ok, Err, IfOk, Vec}
+use Rattle.std.proofs.Common.{◌≡◌, ℕ, zero, suc, ◌+◌, ◌<◌, ◌≤◌, Bool, true, false, ◌||◌, List, [], ◌∷◌, ◌++◌, map, drop, Option, Some, None, Ok, Err, Vec}
 use Rattle.std.proofs.Common.{Global, refl, sym, ap, ◌∙◌, subst, get_or, length, add-one, arith, if◌then◌else◌}
 use Rattle.pptext.specs.declared.tokens.Token.{Token}
 use Rattle.pptext.specs.declared.tokens.Fault.{Fault}
-use Rattle.pptext.specs.declared.error.Error.{Error}
-use Rattle.pptext.specs.Errors.{UnlessOutOfMemory}
 use Rattle.ppmacro.specs.Names.{Name, Macros}
 use Rattle.ppmacro.specs.HideSetPool.{HideSetPool}
 use Rattle.ppmacro.specs.Hiding.{Hiding}
@@ -42,11 +40,6 @@ module _ (macros : Macros) (env : Env) (level : ℕ) (head : Token) (remaining r
 
   pub argument_raises : (f : Fault) → level < 256 → ExpandsTo macros env (level + 1) remaining list (record { tokens = tokens; fault = Some f; remaining = remaining_after }) → ExpandsArgument macros env level head remaining list remaining_after (Err f)
   argument_raises f low one = raises low (at_level (Some f) one)
-
--- a call that raises a fault, unless it fails, has no value
-pub no_value : {A : Type 0} (r : Result A Error) (f : Fault) (P : A → Type 0) → UnlessOutOfMemory r (λ x. x ≡ Err f) → IfOk r P
-no_value (Ok a) f P e = absurd (cc e)
-no_value (Err y) f P e = tt
 
 -- ---- the argument of a parameter
 

@@ -30,6 +30,8 @@ pub mod Gathering
 pub mod Keeping
 -- The expansion step of a list by its next token.
 pub mod StepLemmas
+-- Steps that stop: how a fault or a failed allocation is returned.
+pub mod StopLemmas
 -- Expansion without a budget is the standard's.
 pub mod Standard
 -- How the arguments of an invocation are expanded one after the other.

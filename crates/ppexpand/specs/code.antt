@@ -3,3 +3,4 @@ pub mod Action
 pub mod Lists
 pub mod ProgramValues
 pub mod Skipping
+pub mod Stops

@@ -19,7 +19,7 @@ ghost use Rattle.ppexpand.specs.Expansion.{step_in_budget};
 ghost use Rattle.ppexpand.specs.code.Lists.{next_macro};
 ghost use Rattle.ppexpand.specs.code.ProgramValues.{expanded_in, fitting_in, FittingKnown, ExpansionsKnown, call_in, CallKnown, step_in, ActionKnown, replaced_in};
 ghost use Rattle.ppexpand.specs.code.Action as next;
-ghost use Rattle.pptext.specs.Errors.{UnlessOutOfMemory};
+ghost use Rattle.ppexpand.specs.code.Stops.{UnlessFailed};
 ghost use Rattle.pptext.specs.Tokens.{fault as fault_at};
 
 use crate::arguments::{Gathered, fit_arguments, gather, separators};
@@ -27,6 +27,7 @@ use crate::budget::is_exhausted;
 use crate::context::Context;
 use crate::env::Env;
 use crate::predefined::predefined_value;
+use crate::stop::Stop;
 use crate::token_roles::{fault_at_expansion, is_open, is_quote, over_budget, unmatched_quote};
 use crate::token_stack::TokenStack;
 use crate::vec_pool::VecPool;
@@ -34,7 +35,7 @@ use ppmacro::{
     ArgumentExpansion, Arguments, Hidden, HideSets, Macro, MacroKind, MacroName, Pattern,
     PredefinedMacro, Set, Table, Variadic, substitute_pattern,
 };
-use pptext::{Error, Fault, Memory, Place, Spelling, Token};
+use pptext::{Fault, Memory, Place, Spelling, Token};
 use std::alloc::AllocError;
 use std::marker::Model;
 
@@ -509,7 +510,7 @@ impl<'x> Replacer<'x> {
         self.macro_step(context.env, head, definition, list)
     }
 
-    /// Pushes the replacement of an invocation whose arguments are expanded, or returns fault 19 or 20.
+    /// Pushes the replacement of an invocation whose arguments are expanded, or puts fault 19 or 20 in `fault`.
     ///
     /// `pattern` is the replacement list of the macro.
     #[inline(never)]
@@ -519,12 +520,13 @@ impl<'x> Replacer<'x> {
         pattern: &Pattern<'a>,
         expanded: &[ArgumentExpansion<'x>],
         list: &mut TokenStack<'x>,
-    ) -> Result<(), Error>
+        fault: &mut Option<Fault>,
+    ) -> Result<(), Stop>
         requires call { CallKnown self.old.sets call.now.head call.now.arguments.items call.now.base }
         requires chains { listed pattern.now ≡ chains_of call.now.definition.now }
         requires expanded { ExpansionsKnown self.old.sets expanded.now }
         requires list { AllKnown self.old.sets list.old }
-        ensures is { UnlessOutOfMemory result (λ r. replaced_in self.new.sets list.new r
+        ensures is { UnlessFailed result fault.new (λ r. replaced_in self.new.sets list.new r
             ≡ finish_call (call_in self.old.sets call.now.head call.now.definition.now call.now.arguments.items call.now.base list.old)
             (expanded_in self.old.sets call.now.arguments.items expanded.now)) }
         ensures known { OnOk result (AllKnown self.new.sets list.new) }
@@ -536,7 +538,10 @@ impl<'x> Replacer<'x> {
         };
         match self.replace(pattern, arguments, call.base, &call.head, list)? {
             Ok(()) => Ok(()),
-            Err(fault) => Err(Error::Fault(fault)),
+            Err(found) => {
+                *fault = Some(found);
+                Err(Stop::Fault)
+            }
         }
     }
 }

@@ -1,7 +1,7 @@
 //! Expands lists of tokens (6.10.3.4).
 ghost use Rattle.std.specs.Prelude.{◌≡◌, ℕ, ◌≤◌, ◌++◌, [], List, map, true, Some, Ok, Err, IfOk, OnOk, MatchOption, IfSome};
 ghost use Rattle.std.specs.Result.{result_err, result_and};
-ghost use Rattle.pptext.specs.Errors.{UnlessOutOfMemory};
+ghost use Rattle.ppexpand.specs.code.Stops.{UnlessFailed};
 ghost use Rattle.ppmacro.specs.Chains.{chains_of};
 ghost use Rattle.ppmacro.specs.Patterns.{listed};
 ghost use Rattle.std.specs.Option.{option_copied};
@@ -25,12 +25,13 @@ use crate::env::Env;
 use crate::expand_step::{ActionKind, Invocation, Replacer};
 use crate::lists::put;
 use crate::pre_expansion::{parameter_count, pre_expanded_parameters};
+use crate::stop::Stop;
 use crate::token_roles::fault_at_expansion;
 use crate::token_span::{never_expands, split_unexpanded};
 use crate::token_stack::{Lookahead, TokenStack};
 use crate::vec_pool::VecPool;
 use ppmacro::{ArgumentExpansion, Hidden, HideSets, Macro, Pattern, Table};
-use pptext::{Error, Fault, Memory, Token, split_memory};
+use pptext::{Fault, Memory, Token};
 use std::alloc::{AllocError, Global};
 
 /// The deepest level of a token list. A list given to `expand` is at level 0, an argument one level deeper than its invocation.
@@ -92,12 +93,13 @@ fn none_expands(table: &Table, tokens: &[Hidden]) -> bool
     true
 }
 
-/// Returns fault 21 at a macro's name: the argument is nested too deep. There is no expansion.
+/// Raises fault 21 at a macro's name: the argument is nested too deep. There is no expansion.
 #[inline(never)]
-fn raise_depth<'x>(head: &Hidden) -> Result<ArgumentExpansion<'x>, Error>
-    ensures { UnlessOutOfMemory result (λ r. r ≡ Err (fault_at 21 head.now.token.used head.now.token.text)) }
+fn raise_depth<'x>(head: &Hidden, fault: &mut Option<Fault>) -> Result<ArgumentExpansion<'x>, Stop>
+    ensures { UnlessFailed result fault.new (λ r. r ≡ Err (fault_at 21 head.now.token.used head.now.token.text)) }
 {
-    Err(Error::Fault(fault_at_expansion(21, head)?))
+    *fault = Some(fault_at_expansion(21, head)?);
+    Err(Stop::Fault)
 }
 
 /// Gives the vectors of an invocation's arguments back to the pool.
@@ -130,11 +132,13 @@ struct Expander<'x> {
     replacer: Replacer<'x>,
     /// The rest of the budget; `None` means no limit.
     remaining: Option<u64>,
+    /// The fault that ended a list, where a result says that one did.
+    fault: Option<Fault>,
 }
 
 impl<'x> Expander<'x> {
     /// Begins an expansion step of a list. `named` is the macro that the next token names, if any. Returns whether the expansion of the
-    /// list goes on, or the fault that ends it.
+    /// list goes on. `Stop::Fault` means that it ends with the fault in `self`.
     ///
     /// Appends emitted tokens to `emitted` and removes what is done from `list`. An invocation of a function-like macro is only put in
     /// `call`: its arguments are still to be expanded. Otherwise `call` becomes `None`.
@@ -146,11 +150,11 @@ impl<'x> Expander<'x> {
         list: &mut TokenStack<'x>,
         emitted: &mut Emitted<'x>,
         call: &mut Option<Invocation<'t, 'x, 'a>>,
-    ) -> Result<bool, Error>
+    ) -> Result<bool, Stop>
         requires named { option_copied named ≡ next_macro context.now.table.now.macros (tokens_of list.old) }
         requires list_known { AllKnown self.old.replacer.sets list.old }
         requires emitted_known { AllKnown self.old.replacer.sets emitted.old }
-        ensures on { UnlessOutOfMemory result (λ r. MatchOption call.new
+        ensures on { UnlessFailed result self.new.fault (λ r. MatchOption call.new
             ((level : ℕ) → HasTaken context.now.table.now.macros context.now.env.now level self.old.remaining (hidings self.old.replacer.sets list.old)
             (hidings self.old.replacer.sets emitted.old) r self.new.remaining (hidings self.new.replacer.sets list.new) (hidings self.new.replacer.sets emitted.new))
             (λ c. HasCalled context.now.table.now.macros context.now.env.now self.old.remaining (hidings self.old.replacer.sets list.old)
@@ -168,14 +172,18 @@ impl<'x> Expander<'x> {
         let kind = next.kind;
         match kind {
             ActionKind::Done => Ok(false),
-            ActionKind::Refused(fault) => Err(Error::Fault(fault)),
+            ActionKind::Refused(fault) => {
+                self.fault = Some(fault);
+                Err(Stop::Fault)
+            }
             ActionKind::Emits(head) => {
                 emitted.push_single(head)?;
                 Ok(true)
             }
             ActionKind::Failed(fault) => {
                 self.remaining = spend_one(self.remaining);
-                Err(Error::Fault(fault))
+                self.fault = Some(fault);
+                Err(Stop::Fault)
             }
             ActionKind::Replaced => {
                 self.remaining = spend_one(self.remaining);
@@ -189,23 +197,23 @@ impl<'x> Expander<'x> {
         }
     }
 
-    /// Expands an argument, or returns its first fault: 21 if it is nested too deep.
+    /// Expands an argument, or raises its first fault: 21 if it is nested too deep.
     #[cycle(expansion)]
     fn expand_argument<'a: 'x>(
         &mut self,
         context: &Context<'_, 'a>,
         head: &Hidden<'x>,
         argument: &[Hidden<'x>],
-    ) -> Result<ArgumentExpansion<'x>, Error>
+    ) -> Result<ArgumentExpansion<'x>, Stop>
         requires level { context.now.level ≤ 256 }
         requires known { AllKnown self.old.replacer.sets argument.now }
-        ensures is { UnlessOutOfMemory result (HasExpanded context.now.table.now.macros context.now.env.now context.now.level head.now.token
+        ensures is { UnlessFailed result self.new.fault (HasExpanded context.now.table.now.macros context.now.env.now context.now.level head.now.token
             self.old.remaining self.new.remaining self.old.replacer.sets self.new.replacer.sets argument.now) }
         ensures known { IfOk result (λ e. AllKnown self.new.replacer.sets (owned_tokens e)) }
         ensures keeps { KeepsSets self.old.replacer.sets self.new.replacer.sets }
     {
         if context.level >= DEEPEST {
-            return raise_depth(head);
+            return raise_depth(head, &mut self.fault);
         }
         // Fast path: most arguments name no macro, and expand to themselves.
         if none_expands(context.table, argument) {
@@ -230,7 +238,7 @@ impl<'x> Expander<'x> {
 
     /// Pre-expands the arguments that the replacement list uses without `#` and `##`, and appends the expansions to `expanded` by parameter.
     ///
-    /// Returns the first fault. `pattern` is the replacement list of the macro.
+    /// Stops at the first fault. `pattern` is the replacement list of the macro.
     #[cycle(expansion)]
     fn expand_arguments<'a: 'x>(
         &mut self,
@@ -238,12 +246,12 @@ impl<'x> Expander<'x> {
         call: &Invocation<'_, 'x, 'a>,
         pattern: &Pattern<'a>,
         expanded: &mut Vec<ArgumentExpansion<'x>>,
-    ) -> Result<(), Error>
+    ) -> Result<(), Stop>
         requires level { context.now.level ≤ 256 }
         requires known { CallKnown self.old.replacer.sets call.now.head call.now.arguments.items call.now.base }
         requires chains { listed pattern.now ≡ chains_of call.now.definition.now }
         requires none { expanded.old.items ≡ [] }
-        ensures is { UnlessOutOfMemory result (λ r. (following : List Hidden) → ExpandsWanted context.now.table.now.macros context.now.env.now context.now.level
+        ensures is { UnlessFailed result self.new.fault (λ r. (following : List Hidden) → ExpandsWanted context.now.table.now.macros context.now.env.now context.now.level
             (call_in self.old.replacer.sets call.now.head call.now.definition.now call.now.arguments.items call.now.base following) self.old.remaining self.new.remaining
             (result_and r (Ok (expanded_in self.new.replacer.sets call.now.arguments.items expanded.new.items)))) }
         ensures known { OnOk result (ExpansionsKnown self.new.replacer.sets expanded.new.items) }
@@ -267,18 +275,18 @@ impl<'x> Expander<'x> {
         Ok(())
     }
 
-    /// Replaces an invocation, after its arguments are expanded, and pushes the result onto the rest of its list. Returns the first fault.
+    /// Replaces an invocation, after its arguments are expanded, and pushes the result onto the rest of its list. Stops at the first fault.
     #[cycle(expansion)]
     fn replace_call<'a: 'x>(
         &mut self,
         context: &Context<'_, 'a>,
         call: &Invocation<'_, 'x, 'a>,
         list: &mut TokenStack<'x>,
-    ) -> Result<(), Error>
+    ) -> Result<(), Stop>
         requires level { context.now.level ≤ 256 }
         requires call_known { CallKnown self.old.replacer.sets call.now.head call.now.arguments.items call.now.base }
         requires list_known { AllKnown self.old.replacer.sets list.old }
-        ensures is { UnlessOutOfMemory result (λ r. CallStepsTo context.now.table.now.macros context.now.env.now context.now.level
+        ensures is { UnlessFailed result self.new.fault (λ r. CallStepsTo context.now.table.now.macros context.now.env.now context.now.level
             (call_in self.old.replacer.sets call.now.head call.now.definition.now call.now.arguments.items call.now.base list.old) self.old.remaining self.new.remaining
             (replaced_in self.new.replacer.sets list.new r)) }
         ensures known { OnOk result (AllKnown self.new.replacer.sets list.new) }
@@ -293,11 +301,11 @@ impl<'x> Expander<'x> {
         )?;
         self.expand_arguments(context, call, &pattern, &mut expanded)?;
         self.replacer
-            .finish_call(call, &pattern, expanded.as_slice(), list)
+            .finish_call(call, &pattern, expanded.as_slice(), list, &mut self.fault)
     }
 
     /// Makes one expansion step of a list, including the arguments of an invocation. `named` is the macro that the next token names, if
-    /// any. Returns whether the expansion of the list goes on, or the fault that ends it.
+    /// any. Returns whether the expansion of the list goes on. `Stop::Fault` means that it ends with the fault in `self`.
     ///
     /// Appends emitted tokens to `emitted` and removes what is done from `list`. `call` is storage for an invocation, so that it lies in the
     /// caller's frame.
@@ -309,12 +317,12 @@ impl<'x> Expander<'x> {
         list: &mut TokenStack<'x>,
         emitted: &mut Emitted<'x>,
         call: &mut Option<Invocation<'t, 'x, 'a>>,
-    ) -> Result<bool, Error>
+    ) -> Result<bool, Stop>
         requires level { context.now.level ≤ 256 }
         requires named { option_copied named ≡ next_macro context.now.table.now.macros (tokens_of list.old) }
         requires list_known { AllKnown self.old.replacer.sets list.old }
         requires emitted_known { AllKnown self.old.replacer.sets emitted.old }
-        ensures on { UnlessOutOfMemory result (λ r.
+        ensures on { UnlessFailed result self.new.fault (λ r.
             HasTaken context.now.table.now.macros context.now.env.now context.now.level self.old.remaining (hidings self.old.replacer.sets list.old)
             (hidings self.old.replacer.sets emitted.old) r self.new.remaining (hidings self.new.replacer.sets list.new) (hidings self.new.replacer.sets emitted.new)) }
         ensures list_known { IfOk result (λ goes. goes ≡ true → AllKnown self.new.replacer.sets list.new) }
@@ -330,18 +338,18 @@ impl<'x> Expander<'x> {
         Ok(true)
     }
 
-    /// Expands a list, and appends the emitted tokens to `emitted`, also those before a fault. Returns the fault that ended the list.
+    /// Expands a list, and appends the emitted tokens to `emitted`, also those before a fault that ends the list.
     #[cycle(expansion)]
     fn expand_list<'a: 'x>(
         &mut self,
         context: &Context<'_, 'a>,
         list: &mut TokenStack<'x>,
         emitted: &mut Emitted<'x>,
-    ) -> Result<(), Error>
+    ) -> Result<(), Stop>
         requires level { context.now.level ≤ 256 }
         requires known { AllKnown self.old.replacer.sets list.old }
         requires none { emitted.old ≡ [] }
-        ensures outcome { UnlessOutOfMemory result (λ r. ExpandsTo context.now.table.now.macros context.now.env.now context.now.level self.old.remaining (hidings self.old.replacer.sets list.old)
+        ensures outcome { UnlessFailed result self.new.fault (λ r. ExpandsTo context.now.table.now.macros context.now.env.now context.now.level self.old.remaining (hidings self.old.replacer.sets list.old)
             (record { tokens = hidings self.new.replacer.sets emitted.new; fault = result_err r; remaining = self.new.remaining })) }
         ensures known { OnOk result (AllKnown self.new.replacer.sets emitted.new) }
         ensures keeps { KeepsSets self.old.replacer.sets self.new.replacer.sets }
@@ -395,9 +403,13 @@ fn expand_tokens<'x, 'a: 'x>(
             sets,
         },
         remaining,
+        fault: None,
     };
-    let ended = expander.expand_list(context, &mut list, emitted);
-    Ok((expander.remaining, split_memory(ended)?.err()))
+    match expander.expand_list(context, &mut list, emitted) {
+        Ok(()) => Ok((expander.remaining, None)),
+        Err(Stop::Fault) => Ok((expander.remaining, expander.fault)),
+        Err(Stop::Memory) => Err(Memory),
+    }
 }
 
 /// Expands `prefix` and `rest`, where the tokens of `prefix` are emitted unchanged.

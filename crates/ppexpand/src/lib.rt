@@ -13,6 +13,7 @@ mod lists;
 mod pre_expansion;
 mod predefined;
 mod rope_iter;
+mod stop;
 mod token_roles;
 mod token_span;
 mod token_stack;

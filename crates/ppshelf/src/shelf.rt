@@ -189,7 +189,7 @@ impl<D: Disk> Shelf<D> {
     /// Does nothing.
     pub fn contents_permitted(&self)
         ensures names { AreNames self.now.names }
-        ensures from_fill { length self.now.filled ≡ length self.now.names }
+        ensures filled { length self.now.filled ≡ length self.now.names }
     {
         let _rows = &self.rows;
     }
@@ -202,7 +202,7 @@ impl<D: Disk> Shelf<D> {
     pub fn fill(&mut self, disk: &D) -> Result<(), Memory>
         ensures shelf { (self.new.names ≡ self.old.names) × (self.new.profile ≡ self.old.profile) × (self.new.cells ≡ self.old.cells) }
         ensures hashing { self.new.hashing ≡ self.old.hashing }
-        ensures from_fill { (row : ℕ) → row < length self.old.names
+        ensures filled { (row : ℕ) → row < length self.old.names
             → Filled (IsPermitted (D.gives disk.now) (name_in self.old.names row)) (file_at self.old.filled row) (file_at self.new.filled row) }
         ensures len { length self.new.filled ≡ length self.old.names }
         ensures full { OnOk result (IsFull self.new) }
@@ -226,7 +226,7 @@ impl<D: Disk> Shelf<D> {
             → IsPermitted D.may (name_in self.old.names row) (readable (bytes_at contents row)) }
         ensures shelf { (self.new.names ≡ self.old.names) × (self.new.profile ≡ self.old.profile) × (self.new.cells ≡ self.old.cells) }
         ensures hashing { self.new.hashing ≡ self.old.hashing }
-        ensures from_fill { (row : ℕ) → row < length self.old.names
+        ensures filled { (row : ℕ) → row < length self.old.names
             → Filled (λ c. c ≡ readable (bytes_at contents row)) (file_at self.old.filled row) (file_at self.new.filled row) }
         ensures len { length self.new.filled ≡ length self.old.names }
         ensures full { OnOk result (IsFull self.new) }

@@ -1,4 +1,4 @@
-use Rattle.std.proofs.Common.{◌∙◌, sym, ap, subst}
+use Rattle.std.proofs.Common.{◌∙◌, refl, sym, ap, subst}
 use Rattle.std.specs.FinSet as set
 use Rattle.ppmacro.specs.HideSets.{set_at, hidings}
 use Rattle.ppmacro.specs.Substituting.{ArgumentsKnown, arguments_in}
@@ -26,8 +26,11 @@ pub returns-in-Err-clause-is : goal.returns-in-Err-clause-is
 unfolding finish_call
 returns-in-Err-clause-is c =
     let s = c.args.self.now.sets in
-    let call = c.args.call.now in
-    (ap (replaced_in c.replace.new.self.sets c.replace.new.list) (sym c.in-Err.is) ∙ c.in_ok-replace.ensures.is
-    ∙ (λ i. replaced_by (chains_replacement (c.requires.chains i) (arguments_in s (c.as_slice.ensures.value i) c.args.expanded.now)
-    (set.insert (set_at s call.base) call.head.token.text) call.head.token.used call.head.token.space)
-    (hidings s c.args.list.now)))
+    let call = c.args.call.now in (
+      c.in-Err.found,
+      refl,
+      ap (replaced_in c.replace.new.self.sets c.replace.new.list) (sym c.in-Err.is) ∙ c.in_ok-replace.ensures.is
+          ∙ (λ i. replaced_by (chains_replacement (c.requires.chains i) (arguments_in s (c.as_slice.ensures.value i) c.args.expanded.now)
+          (set.insert (set_at s call.base) call.head.token.text) call.head.token.used call.head.token.space)
+          (hidings s c.args.list.now)),
+    )

@@ -1,7 +1,7 @@
 use Rattle.std.proofs.Common.{◌≡◌, ◌∙◌, ◌∷◌, [], ◌+◌, ◌<◌, ◌≤◌, length, Ok, Err, Some, None, true, false, refl, sym, ap, subst, arith}
 use Rattle.std.specs.Option.{option_map}
 use Rattle.std.proofs.lemmas.List.{length-append}
-use Rattle.pptext.proofs.Stopping.{stopped, if_settled-weaker}
+use Rattle.ppexpand.proofs.StopLemmas.{stopped, unless_failed-weaker, no_value}
 use Rattle.ppmacro.specs.HideSets.{hidings, AllKnown}
 use Rattle.ppmacro.specs.Chains.{parameter_names, chains_of}
 use Rattle.ppmacro.specs.Patterns.{listed}
@@ -13,7 +13,7 @@ use Rattle.ppexpand.specs.ExpansionStep.{Failed, Replaced, finish_call, wanted, 
 use Rattle.ppexpand.specs.Expansion.{ExpandsArguments}
 use Rattle.ppexpand.specs.code.ProgramValues.{expanded_in, owned_tokens, ExpansionsKnown, ExpandsArgument, deep, CallStepsTo, refuses, finishes}
 use Rattle.ppexpand.proofs.Keeping.{call_of, call_of-keeps, call_known-keeps, given_known-keeps, expanded_known-keeps, expanded_known-push}
-use Rattle.ppexpand.proofs.ArgumentLemmas.{arguments_first, no_value, argument_expands, argument_raises, argument-known, follows_unused, follows_used, follows_refused, follows_all, pre_expanded-alone}
+use Rattle.ppexpand.proofs.ArgumentLemmas.{arguments_first, argument_expands, argument_raises, argument-known, follows_unused, follows_used, follows_refused, follows_all, pre_expanded-alone}
 use Rattle.ppexpand.proofs.Skipping.{plain-expands, next-known, more-known, follows_skip, skip_falls}
 use Rattle.ppexpand.proofs.Follows.{more_follows, more_falls, end_follows, call_taken, call_raises, begun_raises}
 use Rattle.ppexpand.proofs.expansion.Expander.+expansion.Goals as goal
@@ -26,7 +26,7 @@ advance-returns-in_default-clause-on m c = (rw c.in_default.is at c.in_ok-goes.e
 pub advance-returns-in_err-goes-clause-on : goal.advance-returns-in_err-goes-clause-on
 advance-returns-in_err-goes-clause-on m c =
     let s = c.begin_step.new.self.replacer.sets in
-    stopped _ _ _ _ c.from_residual.ensures.1 c.in_err-goes.ensures.on (λ f begun.
+    stopped _ _ _ _ _ c.from_residual.ensures.1 c.in_err-goes.ensures.on (λ f begun.
     begun_raises c.args.context.now.table.now.macros c.args.context.now.env.now c.args.context.now.level c.args.self.now.remaining (hidings c.args.self.now.replacer.sets c.args.list.now) (hidings c.args.self.now.replacer.sets c.args.emitted.now)
     c.begin_step.new.call (λ found. call_of s found c.begin_step.new.list) f c.begin_step.new.self.remaining (hidings s c.begin_step.new.list) (hidings s c.begin_step.new.emitted) begun)
 
@@ -42,7 +42,7 @@ advance-returns-in_err-replace_call-clause-on m c =
     let s = c.begin_step.new.self.replacer.sets in
     let call_step = rw c.in-Some.is at c.in_ok-goes.ensures.on in
     let call = call_of s c.in-Some.found c.begin_step.new.list in
-    stopped _ _ _ _ c.from_residual-in_err-replace_call.ensures.1 c.in_err-replace_call.ensures.is (λ f steps.
+    stopped _ _ _ _ _ c.from_residual-in_err-replace_call.ensures.1 c.in_err-replace_call.ensures.is (λ f steps.
     call_raises c.args.context.now.table.now.macros c.args.context.now.env.now c.args.context.now.level c.args.self.now.remaining (hidings c.args.self.now.replacer.sets c.args.list.now) call call_step.0 _ _ f c.replace_call.new.self.remaining
     (hidings-keeps _ c.in_err-replace_call.ensures.keeps c.in_ok-goes.ensures.emitted_known ∙ call_step.3)
     (subst (λ l. CallStepsTo c.args.context.now.table.now.macros c.args.context.now.env.now c.args.context.now.level call l c.replace_call.new.self.remaining (Failed f)) call_step.2 steps))
@@ -67,7 +67,7 @@ advance-returns-clause-list_known m c = λ goes. c.in_ok-replace_call.ensures.kn
 
 pub replace_call-returns-in_err-expand_arguments-clause-is : goal.replace_call-returns-in_err-expand_arguments-clause-is
 replace_call-returns-in_err-expand_arguments-clause-is m c =
-    stopped _ _ _ _ c.from_residual-in_err-expand_arguments.ensures.1 c.in_err-expand_arguments.ensures.is (λ f raised. refuses (raised c.args.list.now))
+    stopped _ _ _ _ _ c.from_residual-in_err-expand_arguments.ensures.1 c.in_err-expand_arguments.ensures.is (λ f raised. refuses (raised c.args.list.now))
 
 pub replace_call-finish_call-requires-clause-call : goal.replace_call-finish_call-requires-clause-call
 replace_call-finish_call-requires-clause-call m c = call_known-keeps c.args.call.now c.in_ok-expand_arguments.ensures.keeps c.requires.call_known
@@ -88,7 +88,7 @@ replace_call-returns-clause-is m c =
     let args : ExpandsArguments c.args.context.now.table.now.macros c.args.context.now.env.now c.args.context.now.level call c.args.self.now.remaining (wanted call) c.expand_arguments.new.self.remaining (Ok (expanded_in u c.args.call.now.arguments.items expanded)) =
     c.in_ok-expand_arguments.ensures.is list in
     let same = call_of-keeps c.args.call.now list c.in_ok-expand_arguments.ensures.keeps c.requires.call_known c.requires.list_known in
-    if_settled-weaker c.finish_call.result _ _
+    unless_failed-weaker c.finish_call.result _ _ _
     (λ r e. subst (CallStepsTo c.args.context.now.table.now.macros c.args.context.now.env.now c.args.context.now.level call c.args.self.now.remaining c.expand_arguments.new.self.remaining)
     (sym (e ∙ (λ i. finish_call (same i) (expanded_in u c.args.call.now.arguments.items (c.as_slice.ensures.value i)))))
     (finishes args))
@@ -101,10 +101,10 @@ replace_call-returns-clause-keeps m c = keeps-after c.in_ok-expand_arguments.ens
 
 pub expand_argument-returns-then-context-ge-DEEPEST-clause-is : goal.expand_argument-returns-then-context-ge-DEEPEST-clause-is
 expand_argument-returns-then-context-ge-DEEPEST-clause-is m c =
-    if_settled-weaker c.raise_depth.result _ _ (λ r raised. rw raised (deep (omega (arith, c.if-context-ge-DEEPEST.true)))) c.raise_depth.ensures
+    unless_failed-weaker c.raise_depth.result _ _ _ (λ r raised. rw raised (deep (omega (arith, c.if-context-ge-DEEPEST.true)))) c.raise_depth.ensures
 
 pub expand_argument-returns-then-context-ge-DEEPEST-clause-known : goal.expand_argument-returns-then-context-ge-DEEPEST-clause-known
-expand_argument-returns-then-context-ge-DEEPEST-clause-known m c = no_value c.raise_depth.result _ _ c.raise_depth.ensures
+expand_argument-returns-then-context-ge-DEEPEST-clause-known m c = no_value c.raise_depth.result _ _ _ c.raise_depth.ensures
 
 pub expand_argument-returns-then-none_expands-clause-is : goal.expand_argument-returns-then-none_expands-clause-is
 expand_argument-returns-then-none_expands-clause-is m c =
@@ -128,7 +128,7 @@ expand_argument-returns-in_err-expand_list-clause-is m c =
     let t = c.expand_list.new.self.replacer.sets in
     let remaining = c.args.self.now.remaining in
     let remaining_after = c.expand_list.new.self.remaining in
-    stopped _ _ _ _ c.from_residual-in_err-expand_list.ensures.1 c.in_err-expand_list.ensures.outcome (λ f one.
+    stopped _ _ _ _ _ c.from_residual-in_err-expand_list.ensures.1 c.in_err-expand_list.ensures.outcome (λ f one.
     subst (λ list. ExpandsArgument c.args.context.now.table.now.macros c.args.context.now.env.now c.args.context.now.level c.args.head.now.token remaining (hidings s list) remaining_after (Err f)) c.in_ok-list.ensures
     (argument_raises c.args.context.now.table.now.macros c.args.context.now.env.now c.args.context.now.level c.args.head.now.token remaining remaining_after (hidings s c.in_ok-list.list) (hidings t c.expand_list.new.emitted) f (omega (arith, c.if-context-ge-DEEPEST.false)) one))
 
@@ -207,7 +207,7 @@ expand_arguments-returns-in_err-expansion-clause-is m c =
     let tokens_are : c.argument_of-tokens.result.now ≡ argument_at (lists_of vs) i = c.argument_of-tokens.ensures ∙ ap (λ gs. argument_at (lists_of gs) i) c.as_slice.ensures.value in
     let argument : hidings u c.argument_of-tokens.result.now ≡ hidings s (argument_at (lists_of vs) i) =
     ap (hidings u) tokens_are ∙ hidings-keeps (argument_at (lists_of vs) i) c.loop-parameter.invariant.keeps (argument-known s vs i c.requires.known.arguments) in
-    stopped _ _ _ _ c.from_residual-in_err-expansion.ensures.1 c.in_err-expansion.ensures.is (λ f raised following.
+    stopped _ _ _ _ _ c.from_residual-in_err-expansion.ensures.1 c.in_err-expansion.ensures.is (λ f raised following.
     let call = call_of s c.args.call.now following in
     let one : ExpandsArgument c.args.context.now.table.now.macros c.args.context.now.env.now c.args.context.now.level c.args.call.now.head.token c.loop-parameter.self.remaining (hidings s (argument_at (lists_of vs) i)) c.expand_argument.new.self.remaining (Err f) =
     subst (λ l. ExpandsArgument c.args.context.now.table.now.macros c.args.context.now.env.now c.args.context.now.level c.args.call.now.head.token c.loop-parameter.self.remaining l c.expand_argument.new.self.remaining (Err f)) argument raised in
@@ -305,7 +305,7 @@ expand_list-returns-in_err-goes-clause-outcome m c =
     let list = c.skip.new.list in
     let emitted = c.skip.new.emitted in
     let here = follows_skip c.args.context.now.table.now.macros c.args.context.now.env.now c.args.context.now.level c.loop-named.self.remaining sets c.args.self.now.remaining start c.loop-named.list c.loop-named.emitted list emitted c.in_ok-named.ensures.skipped c.loop-named.invariant.follows in
-    stopped _ _ _ _ c.from_residual-in_err-goes.ensures.1 c.in_err-goes.ensures.on (λ f ended.
+    stopped _ _ _ _ _ c.from_residual-in_err-goes.ensures.1 c.in_err-goes.ensures.on (λ f ended.
     end_follows c.args.context.now.table.now.macros c.args.context.now.env.now c.args.context.now.level c.args.self.now.remaining start (hidings sets emitted) c.loop-named.self.remaining (hidings sets list) (Some f) c.advance-goes.new.self.remaining
     (hidings c.advance-goes.new.self.replacer.sets c.advance-goes.new.emitted) here ended)
 

@@ -23,16 +23,19 @@ pub returns-in-Refused-clause-on : goal.returns-in-Refused-clause-on
 returns-in-Refused-clause-on c =
     let t : step_in_budget c.args.context.now.table.now.macros c.args.context.now.env.now c.args.self.now.remaining (hidings c.args.self.now.replacer.sets c.args.list.now) ≡ Refused c.in-Refused.fault =
     sym (ap (step_in c.next_step.new.self.sets c.next_step.new.list) (sym (stepped c.next.inside c.next.view_is c.in-Refused.is)) ∙ c.in_ok-next.ensures.is) in
-    λ level. (refused t, hidings-keeps _ c.in_ok-next.ensures.keeps c.requires.emitted_known)
+    (c.in-Refused.fault, refl, λ level. (refused t, hidings-keeps _ c.in_ok-next.ensures.keeps c.requires.emitted_known))
 
 pub returns-in-Failed-clause-on : goal.returns-in-Failed-clause-on
 returns-in-Failed-clause-on c =
     let s = c.args.self.now.replacer.sets in
     let t : step_in_budget c.args.context.now.table.now.macros c.args.context.now.env.now c.args.self.now.remaining (hidings s c.args.list.now) ≡ Failed c.in-Failed.fault =
-    sym (ap (step_in c.next_step.new.self.sets c.next_step.new.list) (sym (stepped c.next.inside c.next.view_is c.in-Failed.is)) ∙ c.in_ok-next.ensures.is) in
-    λ level. (
-      subst (EndsWith c.args.context.now.table.now.macros c.args.context.now.env.now level c.args.self.now.remaining (hidings s c.args.list.now) (Some c.in-Failed.fault)) (sym c.spend_one-self.ensures) (failed t),
-      hidings-keeps _ c.in_ok-next.ensures.keeps c.requires.emitted_known,
+    sym (ap (step_in c.next_step.new.self.sets c.next_step.new.list) (sym (stepped c.next.inside c.next.view_is c.in-Failed.is)) ∙ c.in_ok-next.ensures.is) in (
+      c.in-Failed.fault,
+      refl,
+      λ level. (
+        subst (EndsWith c.args.context.now.table.now.macros c.args.context.now.env.now level c.args.self.now.remaining (hidings s c.args.list.now) (Some c.in-Failed.fault)) (sym c.spend_one-self.ensures) (failed t),
+        hidings-keeps _ c.in_ok-next.ensures.keeps c.requires.emitted_known,
+      ),
     )
 
 pub returns-in_ok-push_single-in-Emits-clause-on : goal.returns-in_ok-push_single-in-Emits-clause-on
