@@ -21,8 +21,8 @@ loop-other-init c =
       omega arith,
       omega arith,
       (λ x. times_popped x c.args.seats.items c.pop.new.self.items c.in-Some.one c.into_parts-all.result.0.me.0.claims p.items e.seat.2),
-      empty_popped c.args.seats.items c.pop.new.self.items c.in-Some.one c.into_parts-all.result.1 p.items e.mark.0,
-      marked_now c.into_parts-all.result.1 c.into_parts-all.result.0.me.0.empty_claims e.mark.1,
+      empty_popped c.args.seats.items c.pop.new.self.items c.in-Some.one c.into_parts-all.result.1 p.items e.found_empty.0,
+      marked_now c.into_parts-all.result.1 c.into_parts-all.result.0.me.0.empty_claims e.found_empty.1,
       front_all c.args.self c.args.seats.items c.pop.new.self.items c.in-Some.one p.items c.requires,
     )
 
@@ -75,9 +75,9 @@ loop-other-preserved c =
       omega arith,
       (λ x. joined_times x c.loop-other.seats.items c.pop-in-loop-other.new.self.items c.in-Some-pop.other c.loop-other.all.me.0.claims
           c.into_parts-seat.result.0.me.0.claims c.join_seat.new.seat.me.0.claims _ (ap (λ (m : Me ℕ SeatState). m.0.claims) j.2) p.items e.seat.2 (k.5 x)),
-      empty_popped c.loop-other.seats.items c.pop-in-loop-other.new.self.items c.in-Some-pop.other c.into_parts-seat.result.1 p.items e.mark.0
+      empty_popped c.loop-other.seats.items c.pop-in-loop-other.new.self.items c.in-Some-pop.other c.into_parts-seat.result.1 p.items e.found_empty.0
           ∙ or_when_false c.loop-other.found_empty (any_empty c.loop-other.seats.items) (any_empty c.args.seats.items) c.if-found_empty.false k.6,
-      (λ is. let m = marked_now c.into_parts-seat.result.1 c.into_parts-seat.result.0.me.0.empty_claims e.mark.1 is in omega arith),
+      (λ is. let m = marked_now c.into_parts-seat.result.1 c.into_parts-seat.result.0.me.0.empty_claims e.found_empty.1 is in omega arith),
       front_all c.args.self c.loop-other.seats.items c.pop-in-loop-other.new.self.items c.in-Some-pop.other p.items k.8,
     )
 

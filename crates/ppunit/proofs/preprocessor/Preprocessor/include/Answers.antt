@@ -15,16 +15,16 @@ pub returns-in_err-include_name-clause-includes : goal.returns-in_err-include_na
 returns-in_err-include_name-clause-includes g c =
     stopped _ _ _ _ c.from_residual.ensures.1 c.in_err-include_name.ensures.asks (λ fault asks directive number more grows.
     subst (λ (z : State). ExecutesInclude (context_over c.args.self.now.context.now more) c.args.depth c.args.from.row c.args.from.directory c.args.self.now.state
-    (directed directive c.args.line.now number) (record { state = z; fault = Some fault })) (sym c.in_err-include_name.ensures.rest)
+    (directed directive c.args.tokens.now number) (record { state = z; fault = Some fault })) (sym c.in_err-include_name.ensures.rest)
     (ExecutesInclude.misnamed asks))
 
 pub returns-in_default-clause-includes : goal.returns-in_default-clause-includes
 returns-in_default-clause-includes g c directive number more grows =
     let context = context_over c.args.self.now.context.now more in
-    let line = directed directive c.args.line.now number in
+    let line = directed directive c.args.tokens.now number in
     let name = c.as_bytes-name.ensures ∙ ap (λ (z : IncludeName). z.name) c.include_name.view_is in
-    let same : c.in_ok-line_fault.field-0 ≡ line_fault 31 c.args.line.now c.in_ok-include_name.include_name.name = c.in_ok-line_fault.ensures
-    ∙ ap (λ (z : List ℕ). line_fault 31 c.args.line.now z) name in
+    let same : c.in_ok-line_fault.field-0 ≡ line_fault 31 c.args.tokens.now c.in_ok-include_name.include_name.name = c.in_ok-line_fault.ensures
+    ∙ ap (λ (z : List ℕ). line_fault 31 c.args.tokens.now z) name in
     let finds =
     subst (FindsFile context c.args.from.row c.args.from.directory c.in_ok-include_name.include_name) (none_of c.in_ok-row.field-0 c.in_default.not-Some)
     (c.in_ok-row.ensures.finds more) in
@@ -40,7 +40,7 @@ returns-clause-includes g c =
     let opened = rw c.in_ok-include_name.ensures.rest at c.open.ensures.opened in
     on_settled c.open.result
     (λ r leads directive number. leads_included (context_over c.args.self.now.context.now) c.open.new.self.pass.now.files c.args.depth (c.args.depth + 1)
-    c.args.from.row c.args.from.directory (c.in-Some.row, c.in-Some.directory) c.hash_place.result (directed directive c.args.line.now number)
+    c.args.from.row c.args.from.directory (c.in-Some.row, c.in-Some.directory) c.hash_place.result (directed directive c.args.tokens.now number)
     c.args.self.now.state c.open.new.self.state c.read_include_name.new.state.remaining c.in_ok-include_name.include_name r deeper c.hash_place.ensures c.in_ok-include_name.ensures.asks
     (λ more. subst (FindsFile (context_over c.args.self.now.context.now more) c.args.from.row c.args.from.directory c.in_ok-include_name.include_name) c.in-Some.is
     (c.in_ok-row.ensures.finds more))

@@ -23,7 +23,7 @@ loop-file-init g c =
 pub returns-in_default-pop-clause-walk : goal.returns-in_default-pop-clause-walk
 returns-in_default-pop-clause-walk g c =
     let none : c.loop-file.suspended ≡ [] = c.in_default-pop.ensures.0 in
-    let over = subst (λ (z : OpenFile). length z.lines ≤ z.index) c.file.view_is (omega (arith, c.count.ensures, c.if-file-count.false)) in
+    let over = subst (λ (z : OpenFile). length z.lines ≤ z.index) c.file.view_is (omega (arith, c.line_count.ensures, c.if-file-line_count.false)) in
     stack_done (context_over c.args.self.now.context.now) c.loop-file.self.pass.now.files c.args.first.row c.args.first.lines c.args.self.now.state c.loop-file.self.state
     c.loop-file.file
     (subst (λ (z : List SuspendedFile). StackSoFar (context_over c.args.self.now.context.now) c.loop-file.self.pass.now.files c.args.first.row c.args.first.lines
@@ -39,7 +39,7 @@ pub loop-file-preserved : goal.loop-file-preserved
 loop-file-preserved g c =
     let outer : SuspendedFile = record { file = c.outer.inside.file; file_context = c.outer.inside.file_context } in
     let there : c.loop-file.suspended ≡ outer ∷ c.pop.new.self = rw (← c.outer.view_is) at c.in-Some-pop.ensures in
-    let over = subst (λ (z : OpenFile). length z.lines ≤ z.index) c.file.view_is (omega (arith, c.count.ensures, c.if-file-count.false)) in
+    let over = subst (λ (z : OpenFile). length z.lines ≤ z.index) c.file.view_is (omega (arith, c.line_count.ensures, c.if-file-line_count.false)) in
     record {
       continues = record {
         context = c.loop-file.invariant.continues.context;
@@ -60,7 +60,7 @@ pub loop-file-smaller-in-Some : goal.loop-file-smaller-in-Some
 loop-file-smaller-in-Some g c =
     let step = rw (c.in-Ok.is, c.depth.ensures, ← c.next.view_is, c.loop-file.invariant.continues.context) at c.step.ensures.step in
     let further = rw (c.in-Ok.is, ← c.next.view_is) at c.step.ensures.further in
-    let within = subst (λ (z : OpenFile). z.index < length z.lines) c.file.view_is (omega (arith, c.count.ensures, c.if-file-count.true)) in
+    let within = subst (λ (z : OpenFile). z.index < length z.lines) c.file.view_is (omega (arith, c.line_count.ensures, c.if-file-line_count.true)) in
     let less = work_next (context_over c.args.self.now.context.now) c.step.new.self.pass.now.files c.loop-file.file.row c.loop-file.file.lines
     c.loop-file.file.index c.next.inside.line c.loop-file.self.state c.step.new.self.state c.loop-file.file c.next.inside.entered c.loop-file.suspended within
     further step in
@@ -89,7 +89,7 @@ pub loop-file-smaller-in_default : goal.loop-file-smaller-in_default
 loop-file-smaller-in_default g c =
     let step = rw (c.in-Ok.is, c.depth.ensures, ← c.next.view_is, c.loop-file.invariant.continues.context) at c.step.ensures.step in
     let further = rw (c.in-Ok.is, ← c.next.view_is) at c.step.ensures.further in
-    let within = subst (λ (z : OpenFile). z.index < length z.lines) c.file.view_is (omega (arith, c.count.ensures, c.if-file-count.true)) in
+    let within = subst (λ (z : OpenFile). z.index < length z.lines) c.file.view_is (omega (arith, c.line_count.ensures, c.if-file-line_count.true)) in
     let less = work_next (context_over c.args.self.now.context.now) c.step.new.self.pass.now.files c.loop-file.file.row c.loop-file.file.lines
     c.loop-file.file.index c.next.inside.line c.loop-file.self.state c.step.new.self.state c.loop-file.file c.next.inside.entered c.loop-file.suspended within
     further step in
@@ -131,7 +131,7 @@ pub step-requires-clause-depth : goal.step-requires-clause-depth
 step-requires-clause-depth g c = omega (arith, c.depth.ensures, c.loop-file.invariant.depth)
 
 pub step-requires-clause-index : goal.step-requires-clause-index
-step-requires-clause-index g c = subst (λ (z : OpenFile). z.index < length z.lines) c.file.view_is (omega (arith, c.count.ensures, c.if-file-count.true))
+step-requires-clause-index g c = subst (λ (z : OpenFile). z.index < length z.lines) c.file.view_is (omega (arith, c.line_count.ensures, c.if-file-line_count.true))
 
 pub returns-in-Err-clause-continues : goal.returns-in-Err-clause-continues
 returns-in-Err-clause-continues g c =
