@@ -10,7 +10,7 @@ use Rattle.ppmacro.specs.Names.{Macros}
 use Rattle.ppmacro.specs.HideSetPool.{HideSetPool}
 use Rattle.ppmacro.specs.Hiding.{Hiding}
 use Rattle.ppmacro.specs.HideSets.{set_at, IsKnown, hiding, hidings, AllKnown}
-use Rattle.ppmacro.specs.Substitution.{plain}
+use Rattle.ppmacro.specs.Substitution.{unhidden}
 use Rattle.ppmacro.specs.Substituting.{tokens_of}
 use Rattle.ppmacro.proofs.KeepLemmas.{known-front, known-rest, known-append}
 use Rattle.ppmacro.specs.declared.hidden_token.Hidden.{Hidden}
@@ -26,9 +26,9 @@ use Rattle.ppexpand.proofs.Total.{total}
 use Rattle.ppexpand.proofs.Unique.{same_outcome}
 use Rattle.ppexpand.proofs.Follows.{Follows, turns_left}
 
-pub plain-with_set : (macros : Macros) (n : ℕ) (ts : List Token) → AllByRecursion (λ t. never_expands macros t ≡ true) ts → NeverExpand macros (map (with_set n) ts)
-plain-with_set macros n [] h = record { each = tt }
-plain-with_set macros n (t ∷ ts) h = let rest = plain-with_set macros n ts h.1 in record { each = (h.0, rest.each) }
+pub unhidden-with_set : (macros : Macros) (n : ℕ) (ts : List Token) → AllByRecursion (λ t. never_expands macros t ≡ true) ts → NeverExpand macros (map (with_set n) ts)
+unhidden-with_set macros n [] h = record { each = tt }
+unhidden-with_set macros n (t ∷ ts) h = let rest = unhidden-with_set macros n ts h.1 in record { each = (h.0, rest.each) }
 
 both_false : (a b : Bool) → (not a && not b) ≡ true → (a ≡ false) × (b ≡ false)
 both_false true b h = absurd (true≢false (sym h))
@@ -39,8 +39,8 @@ pub none_by : {A : Type 0} (o : Option A) → is_some o ≡ false → o ≡ None
 none_by None h = refl
 none_by (Some a) h = absurd (true≢false h)
 
-expansion_step-plain : (macros : Macros) (env : Env) (remaining : Option ℕ) (t : Hiding) (rest : List Hiding) → never_expands macros t.token ≡ true → step_in_budget macros env remaining (t ∷ rest) ≡ Emits t rest
-expansion_step-plain macros env remaining t rest h =
+expansion_step-unhidden : (macros : Macros) (env : Env) (remaining : Option ℕ) (t : Hiding) (rest : List Hiding) → never_expands macros t.token ≡ true → step_in_budget macros env remaining (t ∷ rest) ≡ Emits t rest
+expansion_step-unhidden macros env remaining t rest h =
     let parts = both_false (is_unmatched_quote t.token) (is_some (macro_of macros t.token)) h in
     let none : macro_of macros t.token ≡ None = none_by (macro_of macros t.token) parts.1 in
     ap (in_budget remaining (t ∷ rest)) (expansion_step-unnamed macros env t rest parts.0 none) ∙ emits-in_budget remaining (t ∷ rest) t rest
@@ -54,22 +54,22 @@ pub record Takes (macros : Macros) (env : Env) (level : ℕ) (remaining : Option
 -- ---- more tokens in a row
 
 pub skipped-none : (macros : Macros) (list emitted : List Hidden) → HasSkipped macros list emitted list emitted
-skipped-none macros list emitted = record { skipped = []; laid_out = refl; emits = sym (append-nil emitted); plain = record { each = tt } }
+skipped-none macros list emitted = record { skipped = []; laid_out = refl; emits = sym (append-nil emitted); unexpanded = record { each = tt } }
 
-plain-append : (macros : Macros) (gs hs : List Hidden) → NeverExpand macros gs → NeverExpand macros hs → NeverExpand macros (gs ++ hs)
-plain-append macros [] hs g h = h
-plain-append macros (x ∷ gs) hs g h = let rest = plain-append macros gs hs (record { each = g.each.1 }) h in record { each = (g.each.0, rest.each) }
+unhidden-append : (macros : Macros) (gs hs : List Hidden) → NeverExpand macros gs → NeverExpand macros hs → NeverExpand macros (gs ++ hs)
+unhidden-append macros [] hs g h = h
+unhidden-append macros (x ∷ gs) hs g h = let rest = unhidden-append macros gs hs (record { each = g.each.1 }) h in record { each = (g.each.0, rest.each) }
 
 pub skipped-on : (macros : Macros) (list emitted next more last all : List Hidden) → HasSkipped macros list emitted next more → HasSkipped macros next more last all → HasSkipped macros list emitted last all
 skipped-on macros list emitted next more last all h k = record {
   skipped = h.skipped ++ k.skipped;
   laid_out = h.laid_out ∙ ap (λ l. h.skipped ++ l) k.laid_out ∙ sym (append_assoc h.skipped k.skipped last);
   emits = k.emits ∙ ap (λ l. l ++ k.skipped) h.emits ∙ append_assoc emitted h.skipped k.skipped;
-  plain = plain-append macros h.skipped k.skipped h.plain k.plain;
+  unexpanded = unhidden-append macros h.skipped k.skipped h.unexpanded k.unexpanded;
 }
 
 pub skipped-one : (macros : Macros) (h : Hidden) (list next emitted : List Hidden) → list ≡ h ∷ next → never_expands macros h.token ≡ true → HasSkipped macros list emitted next (emitted ++ h ∷ [])
-skipped-one macros h list next emitted is plain = record { skipped = h ∷ []; laid_out = is; emits = refl; plain = record { each = (plain, tt) } }
+skipped-one macros h list next emitted is unhidden = record { skipped = h ∷ []; laid_out = is; emits = refl; unexpanded = record { each = (unhidden, tt) } }
 
 module _ (macros : Macros) (env : Env) (level : ℕ) (remaining : Option ℕ) (s : HideSetPool) where
   skips : (hs rest : List Hidden) → NeverExpand macros hs → (n : ℕ) (out : Outcome) → Expands macros env level remaining n (hidings s rest) out
@@ -78,12 +78,12 @@ module _ (macros : Macros) (env : Env) (level : ℕ) (remaining : Option ℕ) (s
   skips (t ∷ ts) rest h n out d =
       let remaining_after = skips ts rest (record { each = h.each.1 }) n out d in
       let more = remaining_after.more in
-      record { steps = suc remaining_after.steps; more = omega arith; is = emits (expansion_step-plain macros env remaining (hiding s t) (hidings s (ts ++ rest)) h.each.0) remaining_after.is }
+      record { steps = suc remaining_after.steps; more = omega arith; is = emits (expansion_step-unhidden macros env remaining (hiding s t) (hidings s (ts ++ rest)) h.each.0) remaining_after.is }
 
   pub skipped_after : (list emitted next more : List Hidden) (k : HasSkipped macros list emitted next more) → (n : ℕ) (out : Outcome) → Expands macros env level remaining n (hidings s next) out
       → Takes macros env level remaining n (hidings s list) (record { tokens = hidings s k.skipped ++ out.tokens; fault = out.fault; remaining = out.remaining })
   skipped_after list emitted next more k n out d =
-      subst (λ l. Takes macros env level remaining n (hidings s l) (record { tokens = hidings s k.skipped ++ out.tokens; fault = out.fault; remaining = out.remaining })) (sym k.laid_out) (skips k.skipped next k.plain n out d)
+      subst (λ l. Takes macros env level remaining n (hidings s l) (record { tokens = hidings s k.skipped ++ out.tokens; fault = out.fault; remaining = out.remaining })) (sym k.laid_out) (skips k.skipped next k.unexpanded n out d)
 
   -- the tokens after them are the rest of the list
   pub follows_skip : (first : Option ℕ) (start : List Hiding) (list emitted next more : List Hidden) → HasSkipped macros list emitted next more
@@ -117,7 +117,7 @@ pub known-with_set : (s : HideSetPool) (n : ℕ) (ts : List Token) → IsKnown s
 known-with_set s n [] h = record { each = tt }
 known-with_set s n (t ∷ ts) h = let rest = known-with_set s n ts h in record { each = (record { hide = h; extra = tt }, rest.each) }
 
-pub hidings-with_set : (s : HideSetPool) (n : ℕ) (ts : List Token) → set_at s n ≡ set.empty → hidings s (map (with_set n) ts) ≡ map plain ts
+pub hidings-with_set : (s : HideSetPool) (n : ℕ) (ts : List Token) → set_at s n ≡ set.empty → hidings s (map (with_set n) ts) ≡ map unhidden ts
 hidings-with_set s n [] h = refl
 hidings-with_set s n (t ∷ ts) h = λ i. record { token = t; hide = h i } ∷ hidings-with_set s n ts h i
 
@@ -129,11 +129,11 @@ tokens-with_set n (t ∷ ts) = ap (λ us. t ∷ us) (tokens-with_set n ts)
 pub expands-prefix : (macros : Macros) (env : Env) (level : ℕ) (remaining : Option ℕ) (prefix : List Token) (rest : List Hiding) (out : Outcome)
     → AllByRecursion (λ t. never_expands macros t ≡ true) prefix
     → ExpandsTo macros env level remaining rest out
-    → ExpandsTo macros env level remaining (map plain prefix ++ rest) (record { tokens = map plain prefix ++ out.tokens; fault = out.fault; remaining = out.remaining })
+    → ExpandsTo macros env level remaining (map unhidden prefix ++ rest) (record { tokens = map unhidden prefix ++ out.tokens; fault = out.fault; remaining = out.remaining })
 expands-prefix macros env level remaining [] rest out h d = d
 expands-prefix macros env level remaining (t ∷ ts) rest out h d =
     let remaining_after = expands-prefix macros env level remaining ts rest out h.1 d in
-    (suc remaining_after.0, emits (expansion_step-plain macros env remaining (plain t) (map plain ts ++ rest) h.0) remaining_after.1)
+    (suc remaining_after.0, emits (expansion_step-unhidden macros env remaining (unhidden t) (map unhidden ts ++ rest) h.0) remaining_after.1)
 
 -- the empty list
 pub expands-nothing : (macros : Macros) (env : Env) (level : ℕ) (remaining : Option ℕ) → ExpandsTo macros env level remaining [] (ended remaining None)
@@ -142,37 +142,37 @@ expands-nothing macros env level None = (0, done refl)
 expands-nothing macros env level (Some zero) = (0, done refl)
 expands-nothing macros env level (Some (suc n)) = (0, done refl)
 
-pub tokens-plain : (ts : List Token) → map (λ t. t.token) (map plain ts) ≡ ts
-tokens-plain [] = refl
-tokens-plain (t ∷ ts) = ap (λ us. t ∷ us) (tokens-plain ts)
+pub tokens-unhidden : (ts : List Token) → map (λ t. t.token) (map unhidden ts) ≡ ts
+tokens-unhidden [] = refl
+tokens-unhidden (t ∷ ts) = ap (λ us. t ∷ us) (tokens-unhidden ts)
 
 -- tokens that are emitted unchanged, before the expansion of the rest
 pub expansion-following : (macros : Macros) (env : Env) (remaining : Option ℕ) (tokens prefix rest : List Token) (e : Expanded) (out : Outcome)
     → tokens ≡ prefix ++ rest
     → AllByRecursion (λ t. never_expands macros t ≡ true) prefix
-    → ExpandsTo macros env 0 remaining (map plain rest) out
+    → ExpandsTo macros env 0 remaining (map unhidden rest) out
     → e.tokens ≡ prefix ++ map (λ t. t.token) out.tokens
     → e.fault ≡ out.fault
     → e.remaining ≡ out.remaining
     → IsExpansion macros env remaining tokens e
 expansion-following macros env remaining tokens prefix rest e out laid_out h d is ends leaves =
-    let whole : Outcome = record { tokens = map plain prefix ++ out.tokens; fault = out.fault; remaining = out.remaining } in
+    let whole : Outcome = record { tokens = map unhidden prefix ++ out.tokens; fault = out.fault; remaining = out.remaining } in
     record {
       outcome = whole;
-      expands = subst (λ ts. ExpandsTo macros env 0 remaining ts whole) (sym (ap (map plain) laid_out ∙ map-append plain prefix rest)) (expands-prefix macros env 0 remaining prefix (map plain rest) out h d);
-      emitted = is ∙ (λ i. sym (tokens-plain prefix) i ++ map (λ t. t.token) out.tokens) ∙ sym (map-append (λ t. t.token) (map plain prefix) out.tokens);
+      expands = subst (λ ts. ExpandsTo macros env 0 remaining ts whole) (sym (ap (map unhidden) laid_out ∙ map-append unhidden prefix rest)) (expands-prefix macros env 0 remaining prefix (map unhidden rest) out h d);
+      emitted = is ∙ (λ i. sym (tokens-unhidden prefix) i ++ map (λ t. t.token) out.tokens) ∙ sym (map-append (λ t. t.token) (map unhidden prefix) out.tokens);
       ended = ends;
       remains = leaves;
     }
 
 -- tokens that are all emitted unchanged expand to themselves
-pub plain-expands : (macros : Macros) (env : Env) (level : ℕ) (remaining : Option ℕ) (s : HideSetPool) (hs : List Hidden)
+pub unhidden-expands : (macros : Macros) (env : Env) (level : ℕ) (remaining : Option ℕ) (s : HideSetPool) (hs : List Hidden)
     → NeverExpand macros hs
     → ExpandsTo macros env level remaining (hidings s hs) (record { tokens = hidings s hs; fault = None; remaining = remaining })
-plain-expands macros env level remaining s [] h = expands-nothing macros env level remaining
-plain-expands macros env level remaining s (t ∷ ts) h =
-    let remaining_after = plain-expands macros env level remaining s ts (record { each = h.each.1 }) in
-    (suc remaining_after.0, emits (expansion_step-plain macros env remaining (hiding s t) (hidings s ts) h.each.0) remaining_after.1)
+unhidden-expands macros env level remaining s [] h = expands-nothing macros env level remaining
+unhidden-expands macros env level remaining s (t ∷ ts) h =
+    let remaining_after = unhidden-expands macros env level remaining s ts (record { each = h.each.1 }) in
+    (suc remaining_after.0, emits (expansion_step-unhidden macros env remaining (hiding s t) (hidings s ts) h.each.0) remaining_after.1)
 
-pub plain-more : (macros : Macros) (hs : List Hidden) (h : Hidden) → NeverExpand macros hs → never_expands macros h.token ≡ true → NeverExpand macros (hs ++ h ∷ [])
-plain-more macros hs h p k = plain-append macros hs (h ∷ []) p (record { each = (k, tt) })
+pub unhidden-more : (macros : Macros) (hs : List Hidden) (h : Hidden) → NeverExpand macros hs → never_expands macros h.token ≡ true → NeverExpand macros (hs ++ h ∷ [])
+unhidden-more macros hs h p k = unhidden-append macros hs (h ∷ []) p (record { each = (k, tt) })

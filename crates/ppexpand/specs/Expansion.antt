@@ -4,7 +4,7 @@ use Rattle.pptext.specs.declared.tokens.Token.{Token}
 use Rattle.pptext.specs.declared.tokens.Fault.{Fault}
 use Rattle.ppmacro.specs.Names.{Macros}
 use Rattle.ppmacro.specs.Hiding.{Hiding}
-use Rattle.ppmacro.specs.Substitution.{plain}
+use Rattle.ppmacro.specs.Substitution.{unhidden}
 use Rattle.ppexpand.specs.declared.env.Env.{Env}
 use Rattle.ppexpand.specs.declared.expansion.Expanded.{Expanded}
 use Rattle.ppexpand.specs.ExpansionStep.{Call, ExpansionStep, Done, Refused, Emits, Failed, Replaced, Called, expansion_step, wanted, finish_call, fault_at_expansion}
@@ -118,7 +118,7 @@ ExpandsTo macros env level remaining list out = (steps : ℕ) × Expands macros 
 -- the expansion of a list of tokens within a budget: at level 0, with empty hide sets at first
 pub record IsExpansion (macros : Macros) (env : Env) (remaining : Option ℕ) (tokens : List Token) (e : Expanded) : Type 0 where
   pub outcome : Outcome
-  pub expands : ExpandsTo macros env 0 remaining (map plain tokens) outcome
+  pub expands : ExpandsTo macros env 0 remaining (map unhidden tokens) outcome
   pub emitted : e.tokens ≡ map (λ t. t.token) outcome.tokens
   pub ended : e.fault ≡ outcome.fault
   pub remains : e.remaining ≡ outcome.remaining

@@ -7,7 +7,7 @@ use Rattle.pptext.specs.declared.tokens.Fault.{Fault}
 use Rattle.pptext.specs.Tokens.{is_unmatched_quote}
 use Rattle.ppmacro.specs.Names.{Name, Macros}
 use Rattle.ppmacro.specs.Hiding.{Hiding}
-use Rattle.ppmacro.specs.Substitution.{plain, Replacement, macro_replacement}
+use Rattle.ppmacro.specs.Substitution.{unhidden, Replacement, macro_replacement}
 use Rattle.ppmacro.specs.declared.macros.PredefinedMacro.{PredefinedMacro}
 use Rattle.ppmacro.specs.declared.macros.Variadic.{Variadic}
 use Rattle.ppmacro.specs.declared.macros.Macro.{Macro}
@@ -152,5 +152,5 @@ mutual
 -- the expansion of a list of tokens, up to its end or to this fault, at level 0 and with empty hide sets at first
 pub record IsStandardExpansion (macros : Macros) (env : Env) (tokens expanded : List Token) (fault : Option Fault) : Type 0 where
   pub emitted : List Hiding
-  pub expands : StandardExpands macros env 0 (map plain tokens) emitted fault
+  pub expands : StandardExpands macros env 0 (map unhidden tokens) emitted fault
   pub is : expanded ≡ map (λ t. t.token) emitted

@@ -9,7 +9,7 @@ ghost use Rattle.ppmacro.specs.Substituting.{ArgumentsKnown, arguments_in, token
 ghost use Rattle.ppmacro.specs.Chains.{chains_of};
 ghost use Rattle.ppmacro.specs.PasteFree.{lone_chain};
 ghost use Rattle.ppmacro.specs.Patterns.{listed};
-ghost use Rattle.ppmacro.specs.Substitution.{Arguments as ArgumentTokens, plain, with_space, hsadd, macro_replacement, chains_replacement};
+ghost use Rattle.ppmacro.specs.Substitution.{Arguments as ArgumentTokens, unhidden, with_space, hsadd, macro_replacement, chains_replacement};
 ghost use Rattle.ppexpand.specs.Arguments.{gather, separators};
 ghost use Rattle.ppexpand.specs.declared.env.Env.{Env};
 ghost use Rattle.ppexpand.specs.ExpansionStep.{Replaced, macro_of, replaced_by, no_arguments, predefined_value, call_step, invocation_step, function_step, macro_step};
@@ -114,7 +114,7 @@ pub(crate) fn macro_at<'t, 'a>(table: &'t Table<'a>, token: &Token) -> Option<&'
 
 /// Returns a token of a replacement list with this leading-space flag, this hide set, and this expansion location.
 fn gained_token<'a>(token: &'a Token, space: bool, gain: Set, used: Place) -> Hidden<'a>
-    ensures is { (sets : HideSetPool) → hiding sets result ≡ hsadd (set_at sets gain) used (with_space space (plain token.now)) }
+    ensures is { (sets : HideSetPool) → hiding sets result ≡ hsadd (set_at sets gain) used (with_space space (unhidden token.now)) }
     ensures known { (sets : HideSetPool) → IsKnown sets gain → HasSets sets result }
 {
     let mut hidden = Hidden::new(token, gain);
@@ -131,7 +131,7 @@ fn push_gained<'x, 'a: 'x>(
     list: &mut TokenStack<'x>,
 ) -> Result<(), AllocError>
     ensures is { OnOk result ((sets : HideSetPool) → hidings sets list.new
-        ≡ map (λ t. hsadd (set_at sets gain) used (plain t)) body.now ++ hidings sets list.old) }
+        ≡ map (λ t. hsadd (set_at sets gain) used (unhidden t)) body.now ++ hidings sets list.old) }
     ensures known { OnOk result ((sets : HideSetPool) → IsKnown sets gain → AllKnown sets list.old → AllKnown sets list.new) }
 {
     let mut rest = body;

@@ -8,7 +8,7 @@ ghost use Rattle.std.specs.Option.{option_copied};
 ghost use Rattle.ppmacro.specs.Substituting.{tokens_of, lists_of};
 ghost use Rattle.ppmacro.specs.HideSets.{hidings, AllKnown, KeepsSets};
 ghost use Rattle.ppmacro.specs.HideSetPool.{HideSetPool};
-ghost use Rattle.ppmacro.specs.Substitution.{argument_at, plain};
+ghost use Rattle.ppmacro.specs.Substitution.{argument_at, unhidden};
 ghost use Rattle.pptext.specs.Tokens.{fault as fault_at};
 ghost use Rattle.ppmacro.specs.declared.hidden_token.Hidden.{Hidden};
 ghost use Rattle.ppexpand.specs.Expansion.{ExpandsTo, IsExpansion};
@@ -392,7 +392,7 @@ fn expand_tokens<'x, 'a: 'x>(
 ) -> Result<(Option<u64>, Option<Fault>), Memory>
     requires level { context.now.level ≡ 0 }
     requires none { emitted.old ≡ [] }
-    ensures { IfOk result (λ r. (sets : HideSetPool) × ExpandsTo context.now.table.now.macros context.now.env.now 0 remaining (map plain tokens.now)
+    ensures { IfOk result (λ r. (sets : HideSetPool) × ExpandsTo context.now.table.now.macros context.now.env.now 0 remaining (map unhidden tokens.now)
         (record { tokens = hidings sets emitted.new; fault = r.1; remaining = r.0 })) }
 {
     let sets = HideSets::with_hasher(alloc, context.table.hashing())?;
@@ -422,7 +422,7 @@ fn expand_rest<'x, 'a: 'x>(
     prefix: &'x [Token],
     rest: &'x [Token],
 ) -> Result<Expanded<'x>, Memory>
-    requires plain { AllByRecursion (λ t. never_expands table.now.macros t ≡ true) prefix.now }
+    requires unexpanded { AllByRecursion (λ t. never_expands table.now.macros t ≡ true) prefix.now }
     ensures { IfOk result (λ e. IsExpansion table.now.macros env.now remaining (prefix.now ++ rest.now) e) }
 {
     let context = Context {

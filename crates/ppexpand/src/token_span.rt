@@ -38,7 +38,7 @@ pub(crate) fn never_expands(table: &Table, token: &Token) -> bool
 /// Returns how many of the first tokens are emitted unchanged, and the macro that the token after them names.
 fn unexpanded_len<'t, 'b>(table: &'t Table<'b>, tokens: &[Token]) -> (usize, Option<&'t Macro<'b>>)
     ensures within { result.0 ≤ length tokens.now }
-    ensures plain { AllByRecursion (λ t. never_expands table.now.macros t ≡ true) (take result.0 tokens.now) }
+    ensures unexpanded { AllByRecursion (λ t. never_expands table.now.macros t ≡ true) (take result.0 tokens.now) }
     ensures named { option_copied result.1 ≡ next_macro table.now.macros (drop result.0 tokens.now) }
 {
     for (count, token) in tokens.iter().enumerate() {
@@ -53,7 +53,7 @@ fn unexpanded_len<'t, 'b>(table: &'t Table<'b>, tokens: &[Token]) -> (usize, Opt
 /// Splits tokens into those that are emitted unchanged, up to the first that may not be, and the rest.
 pub(crate) fn split_unexpanded<'x>(table: &Table, tokens: &'x [Token]) -> (&'x [Token], &'x [Token])
     ensures laid_out { tokens.now ≡ result.0.now ++ result.1.now }
-    ensures plain { AllByRecursion (λ t. never_expands table.now.macros t ≡ true) result.0.now }
+    ensures unexpanded { AllByRecursion (λ t. never_expands table.now.macros t ≡ true) result.0.now }
 {
     let (count, _) = unexpanded_len(table, tokens);
     tokens.split_at(count)
@@ -114,7 +114,7 @@ impl<'a> TokenSpan<'a> {
         table: &'t Table<'b>,
     ) -> (TokenSpan<'a>, Option<&'t Macro<'b>>)
         ensures laid_out { self.old ≡ result.0 ++ self.new }
-        ensures plain { NeverExpand table.now.macros result.0 }
+        ensures unexpanded { NeverExpand table.now.macros result.0 }
         ensures named { option_copied result.1 ≡ next_macro table.now.macros (tokens_of self.new) }
     {
         let (count, named) = unexpanded_len(table, self.tokens);

@@ -157,7 +157,7 @@ impl<'a> TokenStack<'a> {
         table: &'t Table<'b>,
     ) -> (TokenSpan<'a>, Option<&'t Macro<'b>>)
         ensures laid_out { self.old ≡ result.0 ++ self.new }
-        ensures plain { NeverExpand table.now.macros result.0 }
+        ensures unexpanded { NeverExpand table.now.macros result.0 }
         ensures named { option_copied result.1 ≡ next_macro table.now.macros (tokens_of self.new) }
     {
         if let Some(last) = self.pushed.last() {

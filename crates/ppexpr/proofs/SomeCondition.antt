@@ -8,7 +8,7 @@ use Rattle.pptext.specs.declared.tokens.Token.{Token}
 use Rattle.pptext.specs.declared.tokens.Fault.{Fault}
 use Rattle.pptext.specs.Tokens.{fault}
 use Rattle.ppmacro.specs.Names.{Macros}
-use Rattle.ppmacro.specs.Substitution.{plain}
+use Rattle.ppmacro.specs.Substitution.{unhidden}
 use Rattle.ppexpand.specs.declared.env.Env.{Env}
 use Rattle.ppexpand.specs.declared.expansion.Expanded.{Expanded}
 use Rattle.ppexpand.specs.Expansion.{IsExpansion}
@@ -126,7 +126,7 @@ some_replacement macros env at ts us remaining e None a x h = let d = some_decis
 
 some_expansion : (macros : Macros) (env : Env) (remaining : Option ℕ) (ts : List Token) → (e : Expanded) × IsExpansion macros env remaining ts e
 some_expansion macros env remaining ts =
-    let one = total macros env 0 remaining (map plain ts) in
+    let one = total macros env 0 remaining (map unhidden ts) in
     (record { tokens = map (λ t. t.token) one.1.tokens; fault = one.1.fault; remaining = one.1.remaining }, record { outcome = one.1; expands = (one.0, one.2); emitted = refl; ended = refl; remains = refl })
 
 pub some_condition : (macros : Macros) (env : Env) (at : Place) (ts : List Token) (remaining : Option ℕ) → (c : Condition) × (remaining_after : Option ℕ) × IsCondition macros env at ts remaining c remaining_after

@@ -48,7 +48,7 @@ begins_mark macros ts rest text s e m =
     let kind : m.punctuator.kind ≡ Punct = mark_kind m.punctuator.kind parts.0 in
     let spelt : m.punctuator.text ≡ text = (bytes_eq-Decides m.punctuator.text text).0 parts.1 in
     let is_symbol = λ (at : Place). ap (λ k. symbol_by at k m.punctuator.text) kind ∙ ap (λ x. Ok (punctuator_among operators x)) spelt ∙ ap (λ x. Ok x) e in
-    rw m.is (token (mark_undefined m.punctuator kind) (record { plain = mark_plain macros m.punctuator kind; symbol = is_symbol }))
+    rw m.is (token (mark_undefined m.punctuator kind) (record { unexpanded = mark_plain macros m.punctuator kind; symbol = is_symbol }))
 
 -- ---- values
 

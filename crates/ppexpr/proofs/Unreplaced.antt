@@ -23,7 +23,7 @@ use Rattle.ppexpr.specs.Conditions.{Condition, EvaluatesSymbols, IsCondition, re
 record Unreplaced (macros : Macros) (ts : List Token) (ss : List Symbol) : Type 0 where
   without_defined : List Token
   asks : ReplacesDefined macros ts without_defined
-  plain : AllByRecursion (λ t. never_expands macros t ≡ true) without_defined
+  unexpanded : AllByRecursion (λ t. never_expands macros t ≡ true) without_defined
   undefined : list_any is_defined without_defined ≡ false
   symbols : (at : Place) → symbols_of at without_defined ≡ Ok ss
 
@@ -35,20 +35,20 @@ unreplaced_more : (macros : Macros) (ts rest : List Token) (s : Symbol) (ss : Li
 unreplaced_more macros ts rest s ss (token {t = t} e h) u = record {
   without_defined = t ∷ u.without_defined;
   asks = other e u.asks;
-  plain = (h.plain, u.plain);
+  unexpanded = (h.unexpanded, u.unexpanded);
   undefined = rw e u.undefined;
   symbols = λ at. λ i. before (h.symbol at i) (u.symbols at i);
 }
 unreplaced_more macros ts rest s ss (defined_use {d = d} {o = o} e k) u = record {
   without_defined = defined_value macros d o.name ∷ u.without_defined;
   asks = asks_question e k u.asks;
-  plain = (refl, u.plain);
+  unexpanded = (refl, u.unexpanded);
   undefined = u.undefined;
   symbols = λ at. λ i. before (answer_symbol (is_some (table.get macros o.name.text)) at d i) (u.symbols at i);
 }
 
 unreplaced : (macros : Macros) (ts : List Token) (ss : List Symbol) → StandFor macros ts ss → Unreplaced macros ts ss
-unreplaced macros ts ss nothing = record { without_defined = []; asks = asks_nothing; plain = tt; undefined = refl; symbols = λ at. refl }
+unreplaced macros ts ss nothing = record { without_defined = []; asks = asks_nothing; unexpanded = tt; undefined = refl; symbols = λ at. refl }
 unreplaced macros ts ss (more {rest = rest} {s = s} {ss = qs} b h) = unreplaced_more macros ts rest s qs b (unreplaced macros rest qs h)
 
 expands_as_is : (macros : Macros) (env : Env) (remaining : Option ℕ) (ts : List Token) → AllByRecursion (λ t. never_expands macros t ≡ true) ts → IsExpansion macros env remaining ts (record { tokens = ts; fault = None; remaining = remaining })
@@ -58,7 +58,7 @@ expands_as_is macros env remaining ts h = expansion-following macros env remaini
 pub direct_condition : (macros : Macros) (env : Env) (at : Place) (ts : List Token) (remaining : Option ℕ) (ss : List Symbol) (c : Condition) → StandFor macros ts ss → EvaluatesSymbols at ss c → IsCondition macros env at ts remaining c remaining
 direct_condition macros env at ts remaining ss c h j =
     let u : Unreplaced macros ts ss = unreplaced macros ts ss h in
-    replaced u.asks (expands_as_is macros env remaining u.without_defined u.plain) refl refl (constants u.undefined (u.symbols at) j)
+    replaced u.asks (expands_as_is macros env remaining u.without_defined u.unexpanded) refl refl (constants u.undefined (u.symbols at) j)
 
 -- ---- the tokens after an operand and a symbol
 

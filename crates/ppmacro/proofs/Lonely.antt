@@ -13,7 +13,7 @@ use Rattle.ppmacro.specs.declared.macros.MacroKind.TheVariants.{Predefined, Obje
 use Rattle.ppmacro.specs.declared.macros.Operand.TheVariants.{Tok}
 use Rattle.ppmacro.specs.Chains.{ChainPart, Operates, parts_at, parts_after, plain_part, parameter_of, begins_joined, group_parts, hash_sign, with_variadic}
 use Rattle.ppmacro.specs.PasteFree.{is_object_like, lone_chain}
-use Rattle.ppmacro.specs.Substitution.{Arguments, plain, with_space, hsadd, chains_tokens, chains_replacement}
+use Rattle.ppmacro.specs.Substitution.{Arguments, unhidden, with_space, hsadd, chains_tokens, chains_replacement}
 use Rattle.ppmacro.proofs.ChainLemmas.{group_parts-alone}
 
 -- ---- the chains
@@ -48,18 +48,18 @@ lone_chains ts a = map-id (group_parts (parts_after ObjectLike None ts)) ∙ all
 
 -- ---- their tokens
 
-others : (args : Arguments) (used : Place) (ts : List Token) → chains_tokens args used false false (map lone_chain ts) ≡ Ok (record { tokens = map plain ts; pending = false })
+others : (args : Arguments) (used : Place) (ts : List Token) → chains_tokens args used false false (map lone_chain ts) ≡ Ok (record { tokens = map unhidden ts; pending = false })
 others args used [] = refl
 others args used (t ∷ ts) = rw (others args used ts) refl
 
 marked_first : (args : Arguments) (used : Place) (space : Bool) (t : Token) (ts : List Token)
-    → chains_tokens args used space true (map lone_chain (t ∷ ts)) ≡ Ok (record { tokens = with_space space (plain t) ∷ map plain ts; pending = false })
+    → chains_tokens args used space true (map lone_chain (t ∷ ts)) ≡ Ok (record { tokens = with_space space (unhidden t) ∷ map unhidden ts; pending = false })
 marked_first args used true t ts = rw (others args used ts) refl
 marked_first args used false t ts = rw (others args used ts) refl
 
-gained_each : (added : HideSet) (used : Place) (ts : List Token) → map (hsadd added used) (map plain ts) ≡ map (λ t. hsadd added used (plain t)) ts
+gained_each : (added : HideSet) (used : Place) (ts : List Token) → map (hsadd added used) (map unhidden ts) ≡ map (λ t. hsadd added used (unhidden t)) ts
 gained_each added used [] = refl
-gained_each added used (t ∷ ts) = ap (λ hs. hsadd added used (plain t) ∷ hs) (gained_each added used ts)
+gained_each added used (t ∷ ts) = ap (λ hs. hsadd added used (unhidden t) ∷ hs) (gained_each added used ts)
 
 -- An empty list leaves the flag pending.
 pub lone_none : (args : Arguments) (added : HideSet) (used : Place) (space : Bool) → chains_replacement (map lone_chain []) args added used space ≡ Ok (record { tokens = []; pending = space })
@@ -67,9 +67,9 @@ lone_none args added used space = refl
 
 pub lone_substituted : (args : Arguments) (added : HideSet) (used : Place) (space : Bool) (t : Token) (ts : List Token)
     → chains_replacement (map lone_chain (t ∷ ts)) args added used space
-    ≡ Ok (record { tokens = hsadd added used (with_space space (plain t)) ∷ map (λ t. hsadd added used (plain t)) ts; pending = false })
+    ≡ Ok (record { tokens = hsadd added used (with_space space (unhidden t)) ∷ map (λ t. hsadd added used (unhidden t)) ts; pending = false })
 lone_substituted args added used space t ts =
-    rw (marked_first args used space t ts) (λ i. Ok (record { tokens = hsadd added used (with_space space (plain t)) ∷ gained_each added used ts i; pending = false }))
+    rw (marked_first args used space t ts) (λ i. Ok (record { tokens = hsadd added used (with_space space (unhidden t)) ∷ gained_each added used ts i; pending = false }))
 
 -- ---- the macros that have such lists
 

@@ -97,12 +97,12 @@ argument_at given i = unwrap_or (slice_get given i) []
 abbrev pub expanded_at : {X : Type 0} → List (Option (List X)) → ℕ → List X
 expanded_at expanded i = unwrap_or (unwrap_or (slice_get expanded i) None) []
 
-abbrev pub plain : Token → Hiding
-plain t = record { token = t; hide = set.empty }
+abbrev pub unhidden : Token → Hiding
+unhidden t = record { token = t; hide = set.empty }
 
 -- The tokens of an operand. An argument next to `##` (`next_to_paste`) isn't expanded (6.10.3.1).
 abbrev pub operand_tokens : Bool → Arguments → Place → Operand → Result (List Hiding) Fault
-operand_tokens next_to_paste args used (Tok t) = Ok (plain t ∷ [])
+operand_tokens next_to_paste args used (Tok t) = Ok (unhidden t ∷ [])
 operand_tokens true args used (Param i) = Ok (argument_at args.given i)
 operand_tokens false args used (Param i) = Ok (expanded_at args.expanded i)
 operand_tokens next_to_paste args used (VariadicAfterComma i) = Ok (argument_at args.given i)

@@ -17,7 +17,7 @@ pub(crate) enum TokenStorage<'a> {
         extra: Set,
         token: &'a Token,
     },
-    Made {
+    Synthesized {
         space: bool,
         has_extra: bool,
         extra: Set,
@@ -35,11 +35,11 @@ impl<'a> Model for StoredToken<'a> {
     ghost use Rattle.std.specs.Prelude.{ℕ, Bool, Option};
     ghost use Rattle.ppmacro.specs.HiddenView.{extra_set};
     ghost use Rattle.pptext.specs.declared.tokens.Token.{Token};
-    ghost use Rattle.ppmacro.specs.declared.hidden_token.TokenStorage.TheVariants.{Source, Made};
+    ghost use Rattle.ppmacro.specs.declared.hidden_token.TokenStorage.TheVariants.{Source, Synthesized};
 
     ghost Value = { Token × Bool × Option ℕ };
 
-    ghost view = { λ w. elim w.storage [ Source s two m t ↦ (t.now, s, extra_set two m) | Made s two m t ↦ (t.value, s, extra_set two m) ] };
+    ghost view = { λ w. elim w.storage [ Source s two m t ↦ (t.now, s, extra_set two m) | Synthesized s two m t ↦ (t.value, s, extra_set two m) ] };
 }
 
 impl<'a> StoredToken<'a> {
@@ -49,7 +49,7 @@ impl<'a> StoredToken<'a> {
     {
         match &self.storage {
             TokenStorage::Source { token, .. } => token,
-            TokenStorage::Made { token, .. } => token,
+            TokenStorage::Synthesized { token, .. } => token,
         }
     }
 
@@ -59,7 +59,7 @@ impl<'a> StoredToken<'a> {
     {
         match &self.storage {
             TokenStorage::Source { space, .. } => *space,
-            TokenStorage::Made { space, .. } => *space,
+            TokenStorage::Synthesized { space, .. } => *space,
         }
     }
 
@@ -73,7 +73,7 @@ impl<'a> StoredToken<'a> {
                 extra,
                 ..
             } => (*has_extra, *extra),
-            TokenStorage::Made {
+            TokenStorage::Synthesized {
                 has_extra,
                 extra,
                 ..
@@ -95,7 +95,7 @@ impl<'a> StoredToken<'a> {
                 *has_extra = two;
                 *extra = set;
             }
-            TokenStorage::Made {
+            TokenStorage::Synthesized {
                 has_extra,
                 extra,
                 ..
@@ -112,7 +112,7 @@ impl<'a> StoredToken<'a> {
     {
         match &mut self.storage {
             TokenStorage::Source { space, .. } => *space = leading,
-            TokenStorage::Made { space, .. } => *space = leading,
+            TokenStorage::Synthesized { space, .. } => *space = leading,
         }
     }
 
@@ -122,7 +122,7 @@ impl<'a> StoredToken<'a> {
     {
         match &mut self.storage {
             TokenStorage::Source { .. } => Ok(false),
-            TokenStorage::Made { token, .. } => {
+            TokenStorage::Synthesized { token, .. } => {
                 token.text.extend(alloc, more)?;
                 Ok(true)
             }
@@ -185,7 +185,7 @@ impl<'a> Hidden<'a> {
         let space = token.space;
         Ok(Hidden {
             token: StoredToken {
-                storage: TokenStorage::Made {
+                storage: TokenStorage::Synthesized {
                     space,
                     has_extra: false,
                     extra: hide,
@@ -327,13 +327,13 @@ impl<'a> Clone for StoredToken<'a> {
                     token: *token,
                 },
             }),
-            TokenStorage::Made {
+            TokenStorage::Synthesized {
                 space,
                 has_extra,
                 extra,
                 token,
             } => Ok(StoredToken {
-                storage: TokenStorage::Made {
+                storage: TokenStorage::Synthesized {
                     space: *space,
                     has_extra: *has_extra,
                     extra: *extra,

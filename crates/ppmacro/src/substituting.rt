@@ -3,7 +3,7 @@ ghost use Rattle.std.specs.Prelude.{◌≡◌, ◌++◌, ◌∷◌, IfOk, OnOk, 
 ghost use Rattle.std.specs.FinSet as set;
 ghost use Rattle.ppmacro.specs.HideSetPool.{HideSetPool};
 ghost use Rattle.ppmacro.specs.HideSets.{set_at, IsKnown, hidings, AllKnown, KeepsSets};
-ghost use Rattle.ppmacro.specs.Substitution.{is_joined, before_variadic, variadic_of, with_variadic_tokens, chain_tokens, space_first, with_space, plain, chains_tokens, chains_replacement};
+ghost use Rattle.ppmacro.specs.Substitution.{is_joined, before_variadic, variadic_of, with_variadic_tokens, chain_tokens, space_first, with_space, unhidden, chains_tokens, chains_replacement};
 ghost use Rattle.pptext.specs.Errors.{Returns};
 ghost use Rattle.ppmacro.specs.Substituting.{lists_of, ArgumentsKnown, arguments_in, replacement_in, pushed, left_with};
 
@@ -39,7 +39,7 @@ fn is_joined(operands: &[Operand]) -> bool
 /// Splits the operands of a chain into those that `##` joins and the argument index of a variable argument after a comma.
 fn split_variadic<'s, 'a>(operands: &'s [Operand<'a>]) -> (&'s [Operand<'a>], Option<usize>)
     ensures front { result.0.now ≡ before_variadic operands.now }
-    ensures rest { result.1 ≡ variadic_of operands.now }
+    ensures variadic { result.1 ≡ variadic_of operands.now }
 {
     let Some((last, front)) = operands.split_last() else {
         return (operands, None);
@@ -54,11 +54,11 @@ fn split_variadic<'s, 'a>(operands: &'s [Operand<'a>]) -> (&'s [Operand<'a>], Op
 fn append_variadic<'a>(
     tokens: &mut Vec<Hidden<'a>>,
     given: &[Vec<Hidden<'a>>],
-    rest: Option<usize>,
+    variadic: Option<usize>,
 ) -> Result<(), AllocError>
-    ensures { OnOk result (tokens.new.items ≡ with_variadic_tokens (lists_of given.now) rest tokens.old.items) }
+    ensures { OnOk result (tokens.new.items ≡ with_variadic_tokens (lists_of given.now) variadic tokens.old.items) }
 {
-    let Some(index) = rest else {
+    let Some(index) = variadic else {
         return Ok(());
     };
     match given.get(index) {
@@ -85,10 +85,10 @@ fn chain_tokens<'x, 'a: 'x>(
 {
     let operands = chain.operands.as_slice();
     let next_to_paste = is_joined(operands);
-    let (front, rest) = split_variadic(operands);
+    let (front, variadic) = split_variadic(operands);
     let lists = operands_tokens(alloc, sets, next_to_paste, arguments, used, front)?;
     let mut tokens = join_all(alloc, sets, lists.as_slice(), used)?;
-    append_variadic(&mut tokens, arguments.given, rest)?;
+    append_variadic(&mut tokens, arguments.given, variadic)?;
     Ok(tokens)
 }
 
@@ -127,7 +127,7 @@ fn push_token<'a>(
     space: bool,
     token: &'a Token,
 ) -> Result<(), AllocError>
-    ensures tokens { OnOk result (hidings sets.now tokens.new.items ≡ hidings sets.now tokens.old.items ++ with_space space (plain token.now) ∷ []) }
+    ensures tokens { OnOk result (hidings sets.now tokens.new.items ≡ hidings sets.now tokens.old.items ++ with_space space (unhidden token.now) ∷ []) }
     ensures known { OnOk result (AllKnown sets.now tokens.old.items → AllKnown sets.now tokens.new.items) }
 {
     let mut hidden = Hidden::new(token, sets.empty());

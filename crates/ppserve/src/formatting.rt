@@ -137,7 +137,7 @@ pub(crate) fn as_is_prefix(inline: &[u8; 14]) -> usize
 fn as_is_run(bytes: &[u8], at: usize) -> usize
     requires { at + 8 ≤ length bytes.now }
     ensures within { result ≤ 8 }
-    ensures plain { PrintsAsIsBetween bytes.now at (at + result) }
+    ensures as_is { PrintsAsIsBetween bytes.now at (at + result) }
 {
     let lanes = u8x8::from_slice(&bytes[at..]);
     let others = lanes.simd_lt(u8x8::splat(32))

@@ -2,7 +2,7 @@
 ghost use Rattle.std.specs.Prelude.{◌≡◌, ℕ, ◌++◌, ◌∷◌, [], ◌<◌, ◌≤◌};
 ghost use Rattle.std.specs.Prelude.{OnOk, OnErr, IfOk, Some, codes, decimal, false, true, length, take, flat_map};
 ghost use Rattle.std.specs.Io.KnownBytes.{Appends};
-ghost use Rattle.ppserve.specs.Output.{escaped, escaped_byte, prints_as_is as plain, hex_digit, place_text, item_lines, pragma_token_line};
+ghost use Rattle.ppserve.specs.Output.{escaped, escaped_byte, prints_as_is, hex_digit, place_text, item_lines, pragma_token_line};
 ghost use Rattle.ppserve.specs.Output.{dep_line, fault_text, last_line, shown_items, unit_lines, numbered, output_text};
 ghost use Rattle.ppserve.specs.code.Printing.{Puts};
 ghost use Rattle.ppserve.specs.declared.output.Mode.TheVariants.{Dump, Deps};
@@ -166,7 +166,7 @@ fn put_part<W: Sink>(buf: &mut OutBuffer, writer: &mut W, part: &Part)
     ensures { Puts W.written W.has_failed writer.old writer.new buf.old buf.new (flat_map item_lines (part_items part.now)) }
 {
     match part {
-        Part::Run(run) => put_run(buf, writer, run),
+        Part::Tokens(run) => put_rope(buf, writer, run),
         Part::Pragma(at, tokens) => put_pragma(buf, writer, *at, tokens),
     }
 }
@@ -181,7 +181,7 @@ fn put_pragma<W: Sink>(buf: &mut OutBuffer, writer: &mut W, at: Place, tokens: &
     put_pragma_tokens(buf, writer, tokens);
 }
 
-fn put_run<W: Sink>(buf: &mut OutBuffer, writer: &mut W, run: &TokenRope)
+fn put_rope<W: Sink>(buf: &mut OutBuffer, writer: &mut W, run: &TokenRope)
     ensures { Puts W.written W.has_failed writer.old writer.new buf.old buf.new (flat_map token_line run.now) }
 {
     let (prefix, pieces, singles) = run.parts();
@@ -390,7 +390,7 @@ fn put_escaped<W: Sink>(buf: &mut OutBuffer, writer: &mut W, bytes: &[u8])
 /// Returns the length of the longest prefix whose bytes are printed as they are.
 fn as_is_len(bytes: &[u8]) -> usize
     ensures within { result ≤ length bytes.now }
-    ensures plain { escaped (take result bytes.now) ≡ take result bytes.now }
+    ensures as_is { escaped (take result bytes.now) ≡ take result bytes.now }
 {
     for (count, &byte) in bytes.iter().enumerate() {
         if !prints_as_is(byte) {
@@ -412,7 +412,7 @@ fn put_byte<W: Sink>(buf: &mut OutBuffer, writer: &mut W, byte: u8)
 
 /// Returns whether a byte is printed as it is: 32 to 126 except `%`.
 pub(crate) fn prints_as_is(byte: u8) -> bool
-    ensures { result ≡ plain byte }
+    ensures { result ≡ prints_as_is byte }
 {
     byte >= 32 && byte <= 126 && byte != b'%'
 }

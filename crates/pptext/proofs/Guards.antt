@@ -5,7 +5,7 @@ use Rattle.std.proofs.lemmas.List.{drop_at, length-append}
 use Rattle.pptext.specs.declared.tokens.Token.{Token}
 use Rattle.pptext.specs.declared.sources.Profile.{Profile}
 use Rattle.pptext.specs.Lines.{LogicalLine, directive_of, IsDirected, AreDirected}
-use Rattle.pptext.specs.Tree.{Role, TextLine, ControlLine, Opens, Elses, Closes, Parts, Done, Run, Control, Section, Branches, End, Branch, part_lines, branch_lines, AreParts, AreBranches, role, role_by, branch_after, group_fault}
+use Rattle.pptext.specs.Tree.{Role, TextLine, ControlLine, Opens, Elses, Closes, Parts, Done, TextLines, Control, Section, Branches, End, Branch, part_lines, branch_lines, AreParts, AreBranches, role, role_by, branch_after, group_fault}
 use Rattle.pptext.specs.Guard.{IsBlankLine, AreBlank, guard_name, GuardedParts, GuardedBy}
 use Rattle.pptext.specs.code.Grouping.{ClosedAtOnce, FlatGuard}
 use Rattle.pptext.proofs.Trees.{section_lines, branch_line, a_tree, at_most_one}
@@ -23,7 +23,7 @@ text_roles (r ∷ rs) depth k rest all =
 mutual
   pub behind_parts : (ps : Parts) (depth k : ℕ) (rest : List LogicalLine) → AreParts ps → branch_after depth k (map role (part_lines ps ++ rest)) ≡ branch_after depth (k + length (part_lines ps)) (map role rest)
   behind_parts Done depth k rest are = ap (λ (z : ℕ). branch_after depth z (map role rest)) (omega arith)
-  behind_parts (Run rs ps) depth k rest are =
+  behind_parts (TextLines rs ps) depth k rest are =
       ap (λ (z : List LogicalLine). branch_after depth k (map role z)) (append_assoc rs (part_lines ps) rest)
       ∙ text_roles rs depth k (part_lines ps ++ rest) are.1
       ∙ behind_parts ps depth (k + length rs) rest are.3
@@ -65,7 +65,7 @@ text_if_blank (r ∷ rs) (profile, all) = (blank_role profile r all.0, text_if_b
 
 blank_lines : (ps : Parts) → AreBlank ps → AllByRecursion IsBlankLine (part_lines ps)
 blank_lines Done blank = tt
-blank_lines (Run rs ps) blank = both rs (part_lines ps) blank.0 (blank_lines ps blank.1)
+blank_lines (TextLines rs ps) blank = both rs (part_lines ps) blank.0 (blank_lines ps blank.1)
   where
     both : (rs qs : List LogicalLine) → AllByRecursion IsBlankLine rs → AllByRecursion IsBlankLine qs → AllByRecursion IsBlankLine (rs ++ qs)
     both [] qs a b = b
@@ -79,7 +79,7 @@ parted P (r ∷ rs) qs all = let b = parted P rs qs all.1 in ((all.0, b.0), b.1)
 
 blank_parts : (ps : Parts) → AreParts ps → AllByRecursion IsTextIfBlank (part_lines ps) → AllByRecursion IsBlankLine (part_lines ps) → AreBlank ps
 blank_parts Done are texts all = tt
-blank_parts (Run rs ps) are texts all =
+blank_parts (TextLines rs ps) are texts all =
     let b = parted IsBlankLine rs (part_lines ps) all in
     (b.0, blank_parts ps are.3 (parted IsTextIfBlank rs (part_lines ps) texts).1 b.1)
 blank_parts (Control r ps) are texts all = let text = texts.0 all.0 in let control = are.0 in absurd (cc)
@@ -104,7 +104,7 @@ closed_section ps qs e k are closes blank = record {
 
 guarded_flat : (ps : Parts) (x : List ℕ) (k : ℕ) → AreParts ps → GuardedParts ps x → FlatGuard k (part_lines ps) x
 guarded_flat Done x k are g = absurd g
-guarded_flat (Run rs ps) x k are g = blank_front rs (part_lines ps) k x g.0 (λ j. guarded_flat ps x j are.3 g.1)
+guarded_flat (TextLines rs ps) x k are g = blank_front rs (part_lines ps) k x g.0 (λ j. guarded_flat ps x j are.3 g.1)
 guarded_flat (Control r ps) x k are g = absurd g
 guarded_flat (Section r ps (End e) qs) x k are g =
     inr (are.0, g.0, subst (ClosedAtOnce (k + 1)) (sym (append_assoc (part_lines ps) (e ∷ []) (part_lines qs))) (closed_section ps qs e (k + 1) are.1 are.2 g.1))
@@ -150,7 +150,7 @@ flat_section r ps qs (Branch e ps' bs) x k (opens, parts, (before, final, is, in
 
 flat_guarded : (ps : Parts) (x : List ℕ) (k : ℕ) → AreParts ps → AllByRecursion IsTextIfBlank (part_lines ps) → FlatGuard k (part_lines ps) x → GuardedParts ps x
 flat_guarded Done x k are texts flat = absurd flat
-flat_guarded (Run rs ps) x k are texts flat =
+flat_guarded (TextLines rs ps) x k are texts flat =
     let f = text_front rs (part_lines ps) k x are.1 flat in
     (f.0, flat_guarded ps x f.1.0 are.3 (parted IsTextIfBlank rs (part_lines ps) texts).1 f.1.1)
 flat_guarded (Control r ps) x k are texts (inl here) = let text = texts.0 here.0 in let control = are.0 in absurd (cc)
@@ -172,7 +172,7 @@ flat_by_guarded lines x (parts, tree, guarded) =
 
 one_name : (ps : Parts) (x y : List ℕ) → GuardedParts ps x → GuardedParts ps y → x ≡ y
 one_name Done x y g h = absurd g
-one_name (Run rs ps) x y g h = one_name ps x y g.1 h.1
+one_name (TextLines rs ps) x y g h = one_name ps x y g.1 h.1
 one_name (Control r ps) x y g h = absurd g
 one_name (Section r ps (End e) qs) x y g h = let same : Some x ≡ Some y = sym g.0 ∙ h.0 in cc
 one_name (Section r ps (Branch e ps' bs) qs) x y g h = absurd g

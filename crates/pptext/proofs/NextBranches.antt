@@ -5,7 +5,7 @@ use Rattle.std.specs.List.{AllByRecursion}
 use Rattle.std.proofs.lemmas.List.{append-nil, length-append}
 use Rattle.pptext.specs.declared.sources.Line.{Line}
 use Rattle.pptext.specs.Lines.{LogicalLine}
-use Rattle.pptext.specs.Tree.{TextLine, Parts, Done, Run, Control, Section, Branches, End, Branch, part_lines, branch_lines, AreParts, AreBranches, Tree, Role, role}
+use Rattle.pptext.specs.Tree.{TextLine, Parts, Done, TextLines, Control, Section, Branches, End, Branch, part_lines, branch_lines, AreParts, AreBranches, Tree, Role, role}
 use Rattle.pptext.specs.Sources.{next_branch, spans}
 use Rattle.pptext.specs.NextBranches.{part_branches, later_branches}
 use Rattle.pptext.proofs.Trees.{section_lines, branch_line}
@@ -29,7 +29,7 @@ text_links (r ∷ rs) k rest all =
 mutual
   parts_links : (ps : Parts) (k : ℕ) (rest : List LogicalLine) → AreParts ps → links k (part_lines ps ++ rest) ≡ part_branches k ps ++ links (k + length (part_lines ps)) rest
   parts_links Done k rest are = ap (λ z. links z rest) (omega arith)
-  parts_links (Run rs ps) k rest are =
+  parts_links (TextLines rs ps) k rest are =
       ap (links k) (append_assoc rs (part_lines ps) rest)
       ∙ text_links rs k (part_lines ps ++ rest) are.1
       ∙ ap (λ (z : List (Option ℕ)). map (λ r. None) rs ++ z) (parts_links ps (k + length rs) rest are.3 ∙ ap (λ z. part_branches (k + length rs) ps ++ links z rest) (omega (arith, length-append rs (part_lines ps))))

@@ -3,8 +3,8 @@ use Rattle.std.proofs.Common.{◌≡◌, ◌↔◌, Bool, true, false, List, [],
 use Rattle.std.specs.List.{AllByRecursion}
 use Rattle.std.proofs.lemmas.List.{append-nil}
 use Rattle.pptext.specs.Lines.{LogicalLine}
-use Rattle.pptext.specs.Tree.{Role, TextLine, ControlLine, Opens, Elses, Closes, Parts, Done, Run, Control, Section, Branches, End, Branch, part_lines}
-use Rattle.pptext.specs.Tree.{branch_lines, BeginsRun, AreParts, AreBranches, Tree, role, Open, after_line, fault_or, group_fault}
+use Rattle.pptext.specs.Tree.{Role, TextLine, ControlLine, Opens, Elses, Closes, Parts, Done, TextLines, Control, Section, Branches, End, Branch, part_lines}
+use Rattle.pptext.specs.Tree.{branch_lines, BeginsTextLines, AreParts, AreBranches, Tree, role, Open, after_line, fault_or, group_fault}
 
 -- a tree has no fault
 
@@ -24,7 +24,7 @@ branch_line r ps bs rest = ap (λ (z : List LogicalLine). r ∷ z) (append_assoc
 mutual
   pub parts_pass : (ps : Parts) (os : List Open) (rest : List LogicalLine) → AreParts ps → group_fault os (part_lines ps ++ rest) ≡ group_fault os rest
   parts_pass Done os rest are = refl
-  parts_pass (Run rs ps) os rest are =
+  parts_pass (TextLines rs ps) os rest are =
       ap (group_fault os) (append_assoc rs (part_lines ps) rest) ∙ text_lines os rs (part_lines ps ++ rest) are.1 ∙ parts_pass ps os rest are.3
   parts_pass (Control r ps) os rest are = one_line os r (part_lines ps ++ rest) ControlLine are.0 ∙ parts_pass ps os rest are.1
   parts_pass (Section r ps bs qs) os rest are =
@@ -61,10 +61,10 @@ Behind [] rest = rest ≡ []
 Behind (o ∷ os) rest = (bs : Branches) × (more : List LogicalLine) × AreBranches o.1 bs × (branch_lines bs ++ more ≡ rest) × LeadingLexeme (Behind os) more
 
 pub with_text : (r : LogicalLine) (ps : Parts) → role r ≡ TextLine → AreParts ps → (qs : Parts) × AreParts qs × (part_lines qs ≡ r ∷ part_lines ps)
-with_text r Done is are = (Run (r ∷ []) Done, ((λ (e : r ∷ [] ≡ []). cc), (is, tt), (λ (e : ⊥). e), tt), refl)
-with_text r (Run rs ps) is are = (Run (r ∷ rs) ps, ((λ (e : r ∷ rs ≡ []). cc), (is, are.1), are.2, are.3), refl)
-with_text r (Control q ps) is are = (Run (r ∷ []) (Control q ps), ((λ (e : r ∷ [] ≡ []). cc), (is, tt), (λ (e : ⊥). e), are), refl)
-with_text r (Section q ps bs qs) is are = (Run (r ∷ []) (Section q ps bs qs), ((λ (e : r ∷ [] ≡ []). cc), (is, tt), (λ (e : ⊥). e), are), refl)
+with_text r Done is are = (TextLines (r ∷ []) Done, ((λ (e : r ∷ [] ≡ []). cc), (is, tt), (λ (e : ⊥). e), tt), refl)
+with_text r (TextLines rs ps) is are = (TextLines (r ∷ rs) ps, ((λ (e : r ∷ rs ≡ []). cc), (is, are.1), are.2, are.3), refl)
+with_text r (Control q ps) is are = (TextLines (r ∷ []) (Control q ps), ((λ (e : r ∷ [] ≡ []). cc), (is, tt), (λ (e : ⊥). e), are), refl)
+with_text r (Section q ps bs qs) is are = (TextLines (r ∷ []) (Section q ps bs qs), ((λ (e : r ∷ [] ≡ []). cc), (is, tt), (λ (e : ⊥). e), are), refl)
 
 -- what a line adds to the prefixes of the later lines
 front_at : (r : LogicalLine) (rs : List LogicalLine) (os : List Open) (s : Role)
@@ -129,8 +129,8 @@ abbrev Reading : Type 0
 Reading = Parts × List (Branches × Parts)
 
 abbrev text_before : LogicalLine → Parts → Parts
-text_before r (Run rs ps) = Run (r ∷ rs) ps
-text_before r ps = Run (r ∷ []) ps
+text_before r (TextLines rs ps) = TextLines (r ∷ rs) ps
+text_before r ps = TextLines (r ∷ []) ps
 
 abbrev line_before : Role → LogicalLine → Reading → Reading
 line_before TextLine r (ps, bs) = (text_before r ps, bs)
@@ -148,27 +148,27 @@ read (r ∷ rs) = line_before (role r) r (read rs)
 read_line : (r : LogicalLine) (rs : List LogicalLine) (s : Role) (behind : Reading) → role r ≡ s → read rs ≡ behind → read (r ∷ rs) ≡ line_before s r behind
 read_line r rs s behind is e = ap (λ (z : Role). line_before z r (read rs)) is ∙ ap (line_before s r) e
 
-text_first : (r : LogicalLine) (ps : Parts) → (¬ BeginsRun ps) → text_before r ps ≡ Run (r ∷ []) ps
+text_first : (r : LogicalLine) (ps : Parts) → (¬ BeginsTextLines ps) → text_before r ps ≡ TextLines (r ∷ []) ps
 text_first r Done alone = refl
-text_first r (Run rs ps) alone = absurd (alone tt)
+text_first r (TextLines rs ps) alone = absurd (alone tt)
 text_first r (Control q ps) alone = refl
 text_first r (Section q ps bs qs) alone = refl
 
 read_run : (r : LogicalLine) (rs rest : List LogicalLine) (ps : Parts) (bs : List (Branches × Parts))
     → role r ≡ TextLine
     → AllByRecursion (λ r. role r ≡ TextLine) rs
-    → (¬ BeginsRun ps)
+    → (¬ BeginsTextLines ps)
     → read rest ≡ (ps, bs)
-    → read (r ∷ rs ++ rest) ≡ (Run (r ∷ rs) ps, bs)
+    → read (r ∷ rs ++ rest) ≡ (TextLines (r ∷ rs) ps, bs)
 read_run r [] rest ps bs is all alone e = read_line r rest TextLine (ps, bs) is e ∙ ap (λ (z : Parts). (z, bs)) (text_first r ps alone)
 read_run r (q ∷ rs) rest ps bs is all alone e =
-    read_line r (q ∷ rs ++ rest) TextLine (Run (q ∷ rs) ps, bs) is (read_run q rs rest ps bs all.0 all.1 alone e)
+    read_line r (q ∷ rs ++ rest) TextLine (TextLines (q ∷ rs) ps, bs) is (read_run q rs rest ps bs all.0 all.1 alone e)
 
 mutual
   read_parts : (ps : Parts) (rest : List LogicalLine) (bs : List (Branches × Parts)) → AreParts ps → read rest ≡ (Done, bs) → read (part_lines ps ++ rest) ≡ (ps, bs)
   read_parts Done rest bs are e = e
-  read_parts (Run [] ps) rest bs are e = absurd (are.0 refl)
-  read_parts (Run (r ∷ rs) ps) rest bs are e =
+  read_parts (TextLines [] ps) rest bs are e = absurd (are.0 refl)
+  read_parts (TextLines (r ∷ rs) ps) rest bs are e =
       ap read (append_assoc (r ∷ rs) (part_lines ps) rest) ∙ read_run r rs (part_lines ps ++ rest) ps bs are.1.0 are.1.1 are.2 (read_parts ps rest bs are.3 e)
   read_parts (Control r ps) rest bs are e = read_line r (part_lines ps ++ rest) ControlLine (ps, bs) are.0 (read_parts ps rest bs are.1 e)
   read_parts (Section r ps b qs) rest bs are e =

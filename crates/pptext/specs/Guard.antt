@@ -5,7 +5,7 @@ use Rattle.std.specs.Str.{bytes_eq}
 use Rattle.pptext.specs.declared.tokens.Token.{Token}
 use Rattle.pptext.specs.Lines.{LogicalLine}
 use Rattle.pptext.specs.Tokens.{is_identifier_kind}
-use Rattle.pptext.specs.Tree.{Parts, Done, Run, Section, End, Tree}
+use Rattle.pptext.specs.Tree.{Parts, Done, TextLines, Section, End, Tree}
 
 -- a line without tokens
 abbrev pub IsBlankLine : LogicalLine → Type 0
@@ -13,7 +13,7 @@ IsBlankLine r = r.tokens ≡ []
 
 abbrev pub AreBlank : Parts → Type 0
 AreBlank Done = Unit {0}
-AreBlank (Run rs ps) = AllByRecursion IsBlankLine rs × AreBlank ps
+AreBlank (TextLines rs ps) = AllByRecursion IsBlankLine rs × AreBlank ps
 AreBlank ps = ⊥
 
 abbrev pub named : Token → List ℕ → Bool
@@ -38,7 +38,7 @@ guard_name ts = None
 
 -- one if-section without other branches, and no token outside it
 abbrev pub GuardedParts : Parts → List ℕ → Type 0
-GuardedParts (Run rs ps) x = AllByRecursion IsBlankLine rs × GuardedParts ps x
+GuardedParts (TextLines rs ps) x = AllByRecursion IsBlankLine rs × GuardedParts ps x
 GuardedParts (Section r ps (End e) qs) x = (guard_name r.tokens ≡ Some x) × AreBlank qs
 GuardedParts ps x = ⊥
 

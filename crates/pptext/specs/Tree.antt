@@ -42,7 +42,7 @@ role r = role_by r.directive
 mutual
   pub data Parts : Type 0 where
     Done : Parts
-    Run : List LogicalLine → Parts → Parts
+    TextLines : List LogicalLine → Parts → Parts
     Control : LogicalLine → Parts → Parts
     Section : LogicalLine → Parts → Branches → Parts → Parts
 
@@ -55,7 +55,7 @@ mutual
 abbrev mutual
   pub part_lines : Parts → List LogicalLine
   part_lines Done = []
-  part_lines (Run rs ps) = rs ++ part_lines ps
+  part_lines (TextLines rs ps) = rs ++ part_lines ps
   part_lines (Control r ps) = r ∷ part_lines ps
   part_lines (Section r ps bs qs) = r ∷ part_lines ps ++ branch_lines bs ++ part_lines qs
 
@@ -63,15 +63,15 @@ abbrev mutual
   branch_lines (End r) = r ∷ []
   branch_lines (Branch r ps bs) = r ∷ part_lines ps ++ branch_lines bs
 
-abbrev pub BeginsRun : Parts → Type 0
-BeginsRun (Run rs ps) = Unit {0}
-BeginsRun ps = ⊥
+abbrev pub BeginsTextLines : Parts → Type 0
+BeginsTextLines (TextLines rs ps) = Unit {0}
+BeginsTextLines ps = ⊥
 
 -- Each line is where its directive's name puts it, a text run is as long as possible, and only `#endif` follows `#else`.
 abbrev mutual
   pub AreParts : Parts → Type 0
   AreParts Done = Unit {0}
-  AreParts (Run rs ps) = (rs ≢ []) × AllByRecursion (λ r. role r ≡ TextLine) rs × (¬ BeginsRun ps) × AreParts ps
+  AreParts (TextLines rs ps) = (rs ≢ []) × AllByRecursion (λ r. role r ≡ TextLine) rs × (¬ BeginsTextLines ps) × AreParts ps
   AreParts (Control r ps) = (role r ≡ ControlLine) × AreParts ps
   AreParts (Section r ps bs qs) = (role r ≡ Opens) × AreParts ps × AreBranches false bs × AreParts qs
 

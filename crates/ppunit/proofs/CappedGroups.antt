@@ -7,7 +7,7 @@ use Rattle.pptext.specs.Tokens.{fault}
 use Rattle.ppexpand.specs.Expansion.{count_expansion}
 use Rattle.ppexpand.proofs.BudgetLemmas.{Covers, covers_less}
 use Rattle.ppunit.specs.States.{State, file_context, in_file_context, Context, Reached, stopped, with_dependency, with_remaining, with_one_spent, search_of}
-use Rattle.ppunit.specs.DirectiveLines.{run_tokens}
+use Rattle.ppunit.specs.DirectiveLines.{text_tokens}
 use Rattle.ppunit.specs.Group.{deepest, Group, Branched, Controls, ExecutesInclude, Opened}
 use Rattle.ppunit.specs.Counts.{count_decides, count_names_header, count_group, count_branched, count_control, count_includes, count_opened}
 use Rattle.ppunit.specs.Unit.{Defines, unread, processed, Translates, definitions_fault, translated, count_defines, count_translates}
@@ -34,13 +34,13 @@ module _ (context : Context) where
         let c = count_expansion gives.expands in
         elim (dec_lt b c) [
           | yes less ↦
-              (let x = run_short s (run_tokens lines) m b is gives less in
+              (let x = run_short s (text_tokens lines) m b is gives less in
               (x.0, x.1, over_then x.0 m.state end.state x.1 x.2 (group_before context rest), Group.run x.3 Group.stays))
           | no not_less ↦
               (let sum : b ≡ c + (b - c) = omega arith in
-              let remaining = run_rest s (run_tokens lines) m b (b - c) is gives sum in
+              let remaining = run_rest s (text_tokens lines) m b (b - c) is gives sum in
               let x = group_short (b - c) remaining rest (omega arith) in
-              (x.0, x.1, x.2, Group.run {end = stopped x.0 x.1} (run_enough s (run_tokens lines) m b is gives (b - c) sum) x.3))
+              (x.0, x.1, x.2, Group.run {end = stopped x.0 x.1} (run_enough s (text_tokens lines) m b is gives (b - c) sum) x.3))
         ]
     group_short {end = end} b is (Group.control {s = s} {m = m} here rest) less =
         let c = count_control here in

@@ -23,7 +23,7 @@ use Rattle.ppunit.specs.LineControl.{presumed}
 use Rattle.ppunit.specs.Including.{IncludeName, begins_with_header, name_of_expansion_or}
 use Rattle.ppunit.specs.Probing.{condition_tokens}
 use Rattle.ppunit.specs.Conditions.{DecidesBy, DecidesUnless, Decides, DecidesOf}
-use Rattle.ppunit.specs.Directives.{EmitsRun, NamesHeaderBy, NamesHeader, ControlBy, renumbered_by}
+use Rattle.ppunit.specs.Directives.{EmitsText, NamesHeaderBy, NamesHeader, ControlBy, renumbered_by}
 use Rattle.ppunit.specs.Counts.{count_decides_by, count_decides_unless, count_decides, count_names_header_by, count_names_header, count_control_by, count_decides_of}
 use Rattle.ppunit.proofs.Kept.{Before, before_then, control_by_before}
 use Rattle.ppunit.specs.declared.units.Item.TheVariants as item
@@ -46,9 +46,9 @@ over_then s t u f o h = record { number = o.number; remaining = o.remaining; bef
 -- ---- lines
 
 pub run_short : (s : State) (tokens : List Token) (m : Reached) (b : ℕ) → Covers s.remaining b
-    → (g : EmitsRun s tokens m)
+    → (g : EmitsText s tokens m)
     → b < count_expansion g.expands
-    → Stops m.state (λ t f. EmitsRun (with_remaining s (Some b)) tokens (stopped t f))
+    → Stops m.state (λ t f. EmitsText (with_remaining s (Some b)) tokens (stopped t f))
 run_short s tokens m b is g less =
     let x : StopsEarly s.macros s.env b tokens g.expanded = expansion_short s.macros s.env b is g.expands less in
     let items : List Item = map item.Token x.expanded.tokens in

@@ -19,16 +19,16 @@ use Rattle.ppunit.specs.declared.units.UnitOut.{UnitOut}
 use Rattle.ppunit.specs.declared.units.Item.TheVariants as item
 use Rattle.ppunit.specs.Dependencies.{with_row}
 use Rattle.ppunit.specs.States.{State, Context, Reached, emitted, with_once, with_remaining}
-use Rattle.ppunit.specs.DirectiveLines.{operands, run_tokens}
+use Rattle.ppunit.specs.DirectiveLines.{operands, text_tokens}
 use Rattle.ppunit.specs.LineControl.{Presumed, presumed}
-use Rattle.ppunit.specs.Directives.{EmitsRun, renumbered_by, with_macros, is_once, ControlBy}
+use Rattle.ppunit.specs.Directives.{EmitsText, renumbered_by, with_macros, is_once, ControlBy}
 use Rattle.ppunit.specs.Group.{Group, Branched, Controls, ExecutesInclude, Opened}
 use Rattle.ppunit.specs.Unit.{IsUnit, Defines, unread, processed, Translates, definitions_fault, translated, context_of_unit}
 use Rattle.ppshelf.proofs.Finds.{first_within}
 
 -- ---- what leaves the dependencies as they are
 
-run_keeps : (s : State) (tokens : List Token) (m : Reached) → EmitsRun s tokens m → m.state.deps ≡ s.deps
+run_keeps : (s : State) (tokens : List Token) (m : Reached) → EmitsText s tokens m → m.state.deps ≡ s.deps
 run_keeps s tokens m gives = ap (λ (r : Reached). r.state.deps) gives.is
 
 renumbered_keeps : (s : State) (r : LogicalLine) (f : Option Fault) (p : Option Presumed) → (renumbered_by s r f p).state.deps ≡ s.deps
@@ -77,7 +77,7 @@ module _ (context : Context) where
     group_within : {depth row : ℕ} {r : Reached} {ps : Parts} {end : Reached} → Group context depth row r ps end → Within r.state.deps → Within end.state.deps
     group_within Group.stays all = all
     group_within Group.done all = all
-    group_within (Group.run {s = s} {lines = lines} {m = m} gives rest) all = group_within rest (subst Within (sym (run_keeps s (run_tokens lines) m gives)) all)
+    group_within (Group.run {s = s} {lines = lines} {m = m} gives rest) all = group_within rest (subst Within (sym (run_keeps s (text_tokens lines) m gives)) all)
     group_within (Group.control here rest) all = group_within rest (control_within here all)
     group_within (Group.taken decides here rest) all = group_within rest (group_within here all)
     group_within (Group.skipped decides here rest) all = group_within rest (branches_within here all)

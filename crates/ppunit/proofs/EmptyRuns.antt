@@ -7,7 +7,7 @@ use Rattle.ppexpand.specs.declared.env.Env.{Env}
 use Rattle.ppexpand.specs.ExpansionStep.{Done, expansion_step}
 use Rattle.ppexpand.specs.Expansion.{ended, done, step_in_budget}
 use Rattle.ppunit.specs.States.{State}
-use Rattle.ppunit.specs.Directives.{EmitsRun}
+use Rattle.ppunit.specs.Directives.{EmitsText}
 
 none_next : (macros : Macros) (env : Env) (remaining : Option ℕ) → step_in_budget macros env remaining [] ≡ Done
 unfolding expansion_step
@@ -15,7 +15,7 @@ none_next macros env None = refl
 none_next macros env (Some zero) = refl
 none_next macros env (Some (suc n)) = refl
 
-without_tokens : (s : State) → EmitsRun s [] (record { state = s; fault = None })
+without_tokens : (s : State) → EmitsText s [] (record { state = s; fault = None })
 without_tokens s = record {
   expanded = record { tokens = []; fault = None; remaining = s.remaining };
   expands = record {
@@ -28,6 +28,6 @@ without_tokens s = record {
   is = λ i. record { state = record s { items = sym (append-nil s.items) i }; fault = None };
 }
 
-pub empty_run : (s : State) (ts : List Token) → nat_eq (length ts) 0 ≡ true → EmitsRun s ts (record { state = s; fault = None })
+pub empty_run : (s : State) (ts : List Token) → nat_eq (length ts) 0 ≡ true → EmitsText s ts (record { state = s; fault = None })
 empty_run s [] h = without_tokens s
 empty_run s (t ∷ ts) h = absurd (omega (arith, eqb-true (suc (length ts)) 0 h))

@@ -6,7 +6,7 @@ use Rattle.pptext.specs.Tree.{Parts, Branches, Done, End}
 use Rattle.pptext.specs.Tokens.{fault}
 use Rattle.ppexpand.proofs.BudgetLemmas.{Covers, without, covers_less, covers_rest}
 use Rattle.ppunit.specs.States.{State, Context, Reached, going, stopped, with_remaining, search_of}
-use Rattle.ppunit.specs.DirectiveLines.{run_tokens}
+use Rattle.ppunit.specs.DirectiveLines.{text_tokens}
 use Rattle.ppunit.specs.Group.{Group, Branched, Controls, ExecutesInclude, Opened}
 use Rattle.ppunit.specs.Counts.{count_group, count_branched, count_control, count_includes, count_opened}
 use Rattle.ppunit.specs.Unit.{Defines, unread, processed, Translates, definitions_fault, translated, count_defines, count_translates}
@@ -51,7 +51,7 @@ module _ (context : Context) where
         subst (λ x. Group context depth row (holding b (going s)) Done (holding x (going s))) same Group.done
     group_enough b is (Group.run {s = s} {lines = lines} {m = m} gives rest) n sum =
         let k = count_group rest in
-        Group.run (run_enough s (run_tokens lines) m b is gives (k + n) (omega arith)) (group_enough (k + n) (run_rest s (run_tokens lines) m b (k + n) is gives (omega arith)) rest n refl)
+        Group.run (run_enough s (text_tokens lines) m b is gives (k + n) (omega arith)) (group_enough (k + n) (run_rest s (text_tokens lines) m b (k + n) is gives (omega arith)) rest n refl)
     group_enough b is (Group.control here rest) n sum =
         let k = count_group rest in
         Group.control (control_enough b is here (k + n) (omega arith)) (group_enough (k + n) (control_rest b (k + n) is here (omega arith)) rest n refl)

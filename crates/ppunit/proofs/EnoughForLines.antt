@@ -23,7 +23,7 @@ use Rattle.ppunit.specs.LineControl.{Presumed, presumed}
 use Rattle.ppunit.specs.Including.{IncludeName, begins_with_header}
 use Rattle.ppunit.specs.Probing.{condition_tokens}
 use Rattle.ppunit.specs.Conditions.{DecidesBy, DecidesUnless, Decides, DecidesOf}
-use Rattle.ppunit.specs.Directives.{EmitsRun, NamesHeaderBy, NamesHeader, ControlBy, with_macros, renumbered_by, is_once, noting_pragma_once}
+use Rattle.ppunit.specs.Directives.{EmitsText, NamesHeaderBy, NamesHeader, ControlBy, with_macros, renumbered_by, is_once, noting_pragma_once}
 use Rattle.ppunit.specs.Counts.{count_decides_by, count_decides_unless, count_decides, count_names_header_by, count_names_header, count_control_by, count_decides_of}
 use Rattle.ppunit.proofs.Spends.{asks_spends, decides_spends, run_spends}
 use Rattle.ppunit.specs.declared.units.Item.TheVariants as item
@@ -48,7 +48,7 @@ holding_noted n profile row ts s = noted (is_once profile ts)
     noted true = refl
     noted false = refl
 
-pub run_enough : (s : State) (tokens : List Token) (m : Reached) (b : ℕ) → Covers s.remaining b → (g : EmitsRun s tokens m) (n : ℕ) → b ≡ count_expansion g.expands + n → EmitsRun (with_remaining s (Some b)) tokens (holding n m)
+pub run_enough : (s : State) (tokens : List Token) (m : Reached) (b : ℕ) → Covers s.remaining b → (g : EmitsText s tokens m) (n : ℕ) → b ≡ count_expansion g.expands + n → EmitsText (with_remaining s (Some b)) tokens (holding n m)
 run_enough s tokens m b is g n sum = record {
   expanded = record g.expanded { remaining = Some n };
   expands = expansion_enough s.macros s.env b is g.expands n sum;
@@ -137,7 +137,7 @@ pub decides_rest : (search : Search) (row : ℕ) (s : State) (line : LogicalLine
 decides_rest search row s line remaining_after taken b m is g sum = covers_rest remaining_after (count_decides search row s line remaining_after taken g) m is (decides_spends search row s line remaining_after taken g) sum
 
 pub run_rest : (s : State) (tokens : List Token) (r : Reached) (b m : ℕ) → Covers s.remaining b
-    → (g : EmitsRun s tokens r)
+    → (g : EmitsText s tokens r)
     → b ≡ count_expansion g.expands + m
     → Covers r.state.remaining m
 run_rest s tokens r b m is g sum = covers_rest r.state.remaining (count_expansion g.expands) m is (run_spends s tokens r g) sum

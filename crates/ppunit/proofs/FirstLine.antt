@@ -7,14 +7,14 @@ use Rattle.pptext.specs.declared.directives.Class.{Class}
 use Rattle.pptext.specs.declared.directives.Class.TheVariants as class
 use Rattle.pptext.specs.Classes.{class_of, opens, opens_section, elifs, ends, ends_group}
 use Rattle.pptext.specs.Lines.{LogicalLine}
-use Rattle.pptext.specs.Tree.{TextLine, ControlLine, Opens, Elses, Parts, Done, Run, Control, Section, Branches, End, Branch, part_lines, branch_lines, AreParts, AreBranches, role, role_in, role_by}
+use Rattle.pptext.specs.Tree.{TextLine, ControlLine, Opens, Elses, Parts, Done, TextLines, Control, Section, Branches, End, Branch, part_lines, branch_lines, AreParts, AreBranches, role, role_in, role_by}
 use Rattle.ppunit.specs.States.{Search, State}
 use Rattle.ppunit.specs.Conditions.{Decides}
 use Rattle.ppunit.specs.code.Walk.{Outer, lay, AreOuter, ContinuesIf, ContinuesBy}
 
 -- ---- what is laid
 
-pub lay_run : (rs : List LogicalLine) (ps : Parts) (k : Outer) → lay (Run rs ps) k ≡ rs ++ lay ps k
+pub lay_run : (rs : List LogicalLine) (ps : Parts) (k : Outer) → lay (TextLines rs ps) k ≡ rs ++ lay ps k
 lay_run rs ps [] = refl
 lay_run rs ps ((bs, qs) ∷ k) = append_assoc rs (part_lines ps) (branch_lines bs ++ lay qs k)
 
@@ -112,7 +112,7 @@ branches_differ (Branch x ps bs) last r rest following (before, final, is, parts
 
 -- what the first line is to the parts that it belongs to
 pub data First (r : LogicalLine) : Parts → Outer → Type 0 where
-  text : {rs : List LogicalLine} {ps : Parts} {k : Outer} → role r ≡ role_by None → First r (Run rs ps) k
+  text : {rs : List LogicalLine} {ps : Parts} {k : Outer} → role r ≡ role_by None → First r (TextLines rs ps) k
   control : {x : LogicalLine} {ps : Parts} {k : Outer} → x ≡ r → role r ≡ role_by (Some Null) → First r (Control x ps) k
   opening : {x : LogicalLine} {ps qs : Parts} {bs : Branches} {k : Outer} → x ≡ r → role r ≡ role_by (Some If) → First r (Section x ps bs qs) k
   ending : {bs : Branches} {qs : Parts} {k : Outer} → Differs r → First r Done ((bs, qs) ∷ k)
@@ -120,8 +120,8 @@ pub data First (r : LogicalLine) : Parts → Outer → Type 0 where
 pub first_of : (ps : Parts) (k : Outer) (r : LogicalLine) (following : List LogicalLine) → lay ps k ≡ r ∷ following → AreParts ps → AreOuter k → First r ps k
 first_of Done [] r following e are outer = absurd (cc)
 first_of Done ((bs, qs) ∷ k) r following e are outer = ending (branches_differ bs outer.0.0 r (lay qs k) following outer.0.1 e)
-first_of (Run [] ps) k r following e are outer = absurd (are.0 refl)
-first_of (Run (x ∷ rs) ps) k r following e are outer =
+first_of (TextLines [] ps) k r following e are outer = absurd (are.0 refl)
+first_of (TextLines (x ∷ rs) ps) k r following e are outer =
     let whole = sym (lay_run (x ∷ rs) ps k) ∙ e in
     let same : x ≡ r = cc in
     text (ap role (sym same) ∙ are.1.0)

@@ -6,7 +6,7 @@ use Rattle.std.proofs.lemmas.List.{append-nil}
 use Rattle.pptext.specs.declared.tokens.Place.{Place}
 use Rattle.pptext.specs.declared.tokens.Token.{Token}
 use Rattle.pptext.specs.Lines.{LogicalLine}
-use Rattle.pptext.specs.Tree.{Parts, Done, Run, Control, Section, End, Branch, part_lines, AreParts}
+use Rattle.pptext.specs.Tree.{Parts, Done, TextLines, Control, Section, End, Branch, part_lines, AreParts}
 use Rattle.pptext.specs.Guard.{IsBlankLine, AreBlank, GuardedParts, GuardedBy}
 use Rattle.pptext.proofs.Trees.{at_most_one}
 use Rattle.ppexpand.specs.ExpansionStep.{expansion_step}
@@ -17,9 +17,9 @@ use Rattle.ppshelf.specs.Files.{file_at}
 use Rattle.ppunit.specs.declared.units.Item.{Item}
 use Rattle.ppunit.specs.States.{State, Context, search_of, going, with_dependency, entering, with_one_spent}
 use Rattle.ppunit.specs.Dependencies.{has_row}
-use Rattle.ppunit.specs.DirectiveLines.{run_tokens}
+use Rattle.ppunit.specs.DirectiveLines.{text_tokens}
 use Rattle.ppunit.specs.Conditions.{is_macro_name}
-use Rattle.ppunit.specs.Directives.{EmitsRun}
+use Rattle.ppunit.specs.Directives.{EmitsText}
 use Rattle.ppunit.specs.Group.{deepest, Group, Branched, Opened}
 use Rattle.ppunit.specs.Counts.{count_group, count_opened}
 use Rattle.ppunit.specs.Guarded.{GuardsLeaveOut, IsLeftOut}
@@ -29,13 +29,13 @@ use Rattle.ppunit.proofs.GuardLines.{guard_line}
 
 -- ---- the file
 
-blank_tokens : (lines : List LogicalLine) → AllByRecursion IsBlankLine lines → run_tokens lines ≡ []
+blank_tokens : (lines : List LogicalLine) → AllByRecursion IsBlankLine lines → text_tokens lines ≡ []
 blank_tokens [] all = refl
-blank_tokens (r ∷ rs) all = ap (λ (z : List Token). z ++ run_tokens rs) all.0 ∙ blank_tokens rs all.1
+blank_tokens (r ∷ rs) all = ap (λ (z : List Token). z ++ text_tokens rs) all.0 ∙ blank_tokens rs all.1
 
 -- the tokens give nothing, at no cost
 abbrev GivesNothing : State → List Token → Type 0
-GivesNothing s tokens = (g : EmitsRun s tokens (going s)) × (count_expansion g.expands ≡ 0)
+GivesNothing s tokens = (g : EmitsText s tokens (going s)) × (count_expansion g.expands ≡ 0)
 
 nothing_gives : (s : State) → GivesNothing s []
 unfolding expansion_step
@@ -53,7 +53,7 @@ nothing_gives s = (
     unspent (Some zero) = refl
     unspent (Some (suc n)) = refl
 
-blank_gives : (s : State) (lines : List LogicalLine) → AllByRecursion IsBlankLine lines → GivesNothing s (run_tokens lines)
+blank_gives : (s : State) (lines : List LogicalLine) → AllByRecursion IsBlankLine lines → GivesNothing s (text_tokens lines)
 blank_gives s lines blank = subst (λ (z : List Token). GivesNothing s z) (sym (blank_tokens lines blank)) (nothing_gives s)
 
 following : {A : Type 0} (P : A → Type 0) (xs ys : List A) → AllByRecursion P (xs ++ ys) → AllByRecursion P ys
@@ -69,12 +69,12 @@ module _ (context : Context) (depth row : ℕ) (s : State) where
   abbrev Passes : Parts → Type 0
   Passes ps = (d : Group context depth row (going s) ps (going s)) × (count_group d ≡ 0)
 
-  run_passes : (rs : List LogicalLine) (ps : Parts) → GivesNothing s (run_tokens rs) → Passes ps → Passes (Run rs ps)
+  run_passes : (rs : List LogicalLine) (ps : Parts) → GivesNothing s (text_tokens rs) → Passes ps → Passes (TextLines rs ps)
   run_passes rs ps (gives, free) (rest, more) = (Group.run gives rest, both_free free more)
 
   blank_group : (ps : Parts) → AreBlank ps → Passes ps
   blank_group Done blank = (Group.done, refl)
-  blank_group (Run rs ps) blank = run_passes rs ps (blank_gives s rs blank.0) (blank_group ps blank.1)
+  blank_group (TextLines rs ps) blank = run_passes rs ps (blank_gives s rs blank.0) (blank_group ps blank.1)
   blank_group (Control r ps) blank = absurd blank
   blank_group (Section r ps bs qs) blank = absurd blank
 
@@ -85,7 +85,7 @@ module _ (context : Context) (depth row : ℕ) (s : State) where
       → is_macro_name s.macros x ≡ true
       → Passes ps
   guarded_group Done x all are g known = absurd g
-  guarded_group (Run rs ps) x all are g known =
+  guarded_group (TextLines rs ps) x all are g known =
       run_passes rs ps (blank_gives s rs g.0) (guarded_group ps x (following (IsSpelledLine context.profile) rs (part_lines ps) all) are.3 g.1 known)
   guarded_group (Control r ps) x all are g known = absurd g
   guarded_group (Section r ps (End e) qs) x all are g known =
@@ -110,7 +110,7 @@ guards_leave_out context depth row directory at s bytes lines x fits is reads (p
 
 parts_guard : (ps : Parts) (x y : List ℕ) → GuardedParts ps x → GuardedParts ps y → x ≡ y
 parts_guard Done x y g h = absurd g
-parts_guard (Run rs ps) x y g h = parts_guard ps x y g.1 h.1
+parts_guard (TextLines rs ps) x y g h = parts_guard ps x y g.1 h.1
 parts_guard (Control r ps) x y g h = absurd g
 parts_guard (Section r ps (End e) qs) x y g h = let a : Some x ≡ Some y = sym g.0 ∙ h.0 in cc
 parts_guard (Section r ps (Branch e ps' bs) qs) x y g h = absurd g

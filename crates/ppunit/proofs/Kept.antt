@@ -13,9 +13,9 @@ use Rattle.ppexpand.specs.Laws.{IsPrefix}
 use Rattle.ppunit.specs.declared.units.Item.{Item}
 use Rattle.ppunit.specs.Dependencies.{has_row}
 use Rattle.ppunit.specs.States.{State, Context, Reached, emitted, with_dependency, with_once, with_remaining}
-use Rattle.ppunit.specs.DirectiveLines.{operands, run_tokens}
+use Rattle.ppunit.specs.DirectiveLines.{operands, text_tokens}
 use Rattle.ppunit.specs.LineControl.{Presumed, presumed}
-use Rattle.ppunit.specs.Directives.{EmitsRun, ControlBy, with_macros, renumbered_by, is_once, pragma_emitted}
+use Rattle.ppunit.specs.Directives.{EmitsText, ControlBy, with_macros, renumbered_by, is_once, pragma_emitted}
 use Rattle.ppunit.specs.Group.{Group, Branched, Controls, ExecutesInclude, Opened}
 use Rattle.ppunit.specs.declared.units.Item.TheVariants as item
 
@@ -71,7 +71,7 @@ control_by_before profile row (Some Pragma) s line m g = subst (λ x. Before s x
 control_by_before profile row (Some Unknown) s line m g = subst (λ x. Before s x.state) (sym g) (same_state s)
 control_by_before profile row _ s line m g = absurd g
 
-run_before : (s : State) (tokens : List Token) (m : Reached) → EmitsRun s tokens m → Before s m.state
+run_before : (s : State) (tokens : List Token) (m : Reached) → EmitsText s tokens m → Before s m.state
 run_before s tokens m g = subst (λ x. Before s x.state) (sym g.is) ((map item.Token g.expanded.tokens, refl), same_beginning s.deps)
 
 module _ (context : Context) where
@@ -79,7 +79,7 @@ module _ (context : Context) where
     pub group_before : {depth row : ℕ} {r : Reached} {ps : Parts} {end : Reached} → Group context depth row r ps end → Before r.state end.state
     group_before (Group.stays {s = s}) = same_state s
     group_before (Group.done {s = s}) = same_state s
-    group_before (Group.run {s = s} {lines = lines} {m = m} {end = end} gives rest) = before_then s m.state end.state (run_before s (run_tokens lines) m gives) (group_before rest)
+    group_before (Group.run {s = s} {lines = lines} {m = m} {end = end} gives rest) = before_then s m.state end.state (run_before s (text_tokens lines) m gives) (group_before rest)
     group_before (Group.control {s = s} {m = m} {end = end} here rest) = before_then s m.state end.state (control_before here) (group_before rest)
     group_before (Group.taken {s = s} {m = m} {end = end} decides here rest) = before_then s m.state end.state (group_before here) (group_before rest)
     group_before (Group.skipped {s = s} {m = m} {end = end} decides here rest) = before_then s m.state end.state (branches_before here) (group_before rest)

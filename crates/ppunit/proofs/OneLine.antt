@@ -26,7 +26,7 @@ use Rattle.ppunit.specs.LineControl.{presumed}
 use Rattle.ppunit.specs.Including.{IncludeName, begins_with_header, name_of_expansion_or}
 use Rattle.ppunit.specs.Probing.{condition_tokens}
 use Rattle.ppunit.specs.Conditions.{Decides, DecidesBy, DecidesUnless, DecidesOf}
-use Rattle.ppunit.specs.Directives.{EmitsRun, SetsLine, renumbered_by, ControlBy, NamesHeader, NamesHeaderBy}
+use Rattle.ppunit.specs.Directives.{EmitsText, SetsLine, renumbered_by, ControlBy, NamesHeader, NamesHeaderBy}
 use Rattle.ppunit.specs.declared.units.Item.TheVariants as item
 
 abbrev pub OneExpansion : Type 0
@@ -51,7 +51,7 @@ abbrev pub OneRow : Type 0
 OneRow = (names : List (List ℕ)) → AreNames names → (candidates : List Candidate) (a b : Option (ℕ × ℕ)) → IsFirstRow names candidates a → IsFirstRow names candidates b → a ≡ b
 
 module _ (expansions : OneExpansion) (decisions : OneDecision) where
-  pub run_once : (s : State) (tokens : List Token) (a b : Reached) → EmitsRun s tokens a → EmitsRun s tokens b → a ≡ b
+  pub run_once : (s : State) (tokens : List Token) (a b : Reached) → EmitsText s tokens a → EmitsText s tokens b → a ≡ b
   run_once s tokens a b p q =
       p.is
       ∙ ap (λ (e : Expanded). record { state = emitted (with_remaining s e.remaining) (map item.Token e.tokens); fault = e.fault })

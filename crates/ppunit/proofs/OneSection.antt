@@ -3,19 +3,19 @@ use Rattle.std.proofs.Common.{◌≡◌, ◌≢◌, ℕ, Bool, true, false, List
 use Rattle.pptext.specs.declared.tokens.Fault.{Fault}
 use Rattle.pptext.specs.declared.sources.Directive.TheVariants.{Else}
 use Rattle.pptext.specs.Lines.{LogicalLine}
-use Rattle.pptext.specs.Tree.{Parts, Done, Run, Control, Section, Branches, End, Branch}
+use Rattle.pptext.specs.Tree.{Parts, Done, TextLines, Control, Section, Branches, End, Branch}
 use Rattle.ppunit.specs.States.{State, Context, Reached, going, stopped, with_remaining, search_of}
-use Rattle.ppunit.specs.DirectiveLines.{run_tokens}
+use Rattle.ppunit.specs.DirectiveLines.{text_tokens}
 use Rattle.ppunit.specs.Conditions.{Decides}
-use Rattle.ppunit.specs.Directives.{EmitsRun}
+use Rattle.ppunit.specs.Directives.{EmitsText}
 use Rattle.ppunit.specs.Group.{Group, Branched, Controls}
 use Rattle.ppunit.proofs.OneLine.{OneExpansion, OneDecision, decides_once}
 
 module _ (expansions : OneExpansion) (decisions : OneDecision) (context : Context) where
   abbrev pub AfterRun : ℕ → ℕ → State → List LogicalLine → Parts → Reached → Type 0
-  AfterRun depth row s rs ps end = (m : Reached) × EmitsRun s (run_tokens rs) m × Group context depth row m ps end
+  AfterRun depth row s rs ps end = (m : Reached) × EmitsText s (text_tokens rs) m × Group context depth row m ps end
 
-  pub at_run : {depth row : ℕ} {s : State} {rs : List LogicalLine} {ps : Parts} {end : Reached} → Group context depth row (going s) (Run rs ps) end → AfterRun depth row s rs ps end
+  pub at_run : {depth row : ℕ} {s : State} {rs : List LogicalLine} {ps : Parts} {end : Reached} → Group context depth row (going s) (TextLines rs ps) end → AfterRun depth row s rs ps end
   at_run (Group.run {m = m} gives rest) = (m, gives, rest)
 
   abbrev pub AfterControl : ℕ → ℕ → State → LogicalLine → Parts → Reached → Type 0

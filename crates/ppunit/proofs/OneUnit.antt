@@ -7,7 +7,7 @@ use Rattle.pptext.specs.Sources.{Reads}
 use Rattle.pptext.specs.Tree.{Parts, Branches, Tree}
 use Rattle.ppshelf.specs.Names.{AreNames}
 use Rattle.ppunit.specs.States.{State, Context, Reached, going, stopped, leaving}
-use Rattle.ppunit.specs.DirectiveLines.{run_tokens}
+use Rattle.ppunit.specs.DirectiveLines.{text_tokens}
 use Rattle.ppunit.specs.Group.{Group, Branched, Controls, ExecutesInclude, Opened}
 use Rattle.ppunit.specs.Unit.{Defines, unread, processed, Translates, definitions_fault, translated, command_file, command_text, first_place}
 use Rattle.ppunit.proofs.OneLine.{OneExpansion, OneDecision, OneReading, OneTree, OneRow, run_once}
@@ -23,7 +23,7 @@ module _ (expansions : OneExpansion) (decisions : OneDecision) (readings : OneRe
       group_once Group.done z d = at_done expansions decisions context d
       group_once {depth} {row} (Group.run {s = s} {lines = rs} {ps = ps} {m = m} gives rest) z d =
           let h : AfterRun expansions decisions context depth row s rs ps z = at_run expansions decisions context d in
-          group_once rest z (subst (λ x. Group context depth row x ps z) (run_once expansions decisions s (run_tokens rs) h.0 m h.1 gives) h.2)
+          group_once rest z (subst (λ x. Group context depth row x ps z) (run_once expansions decisions s (text_tokens rs) h.0 m h.1 gives) h.2)
       group_once {depth} {row} (Group.control {s = s} {line = line} {ps = ps} {m = m} here rest) z d =
           let h : AfterControl expansions decisions context depth row s line ps z = at_control expansions decisions context d in
           group_once rest z (subst (λ x. Group context depth row x ps z) (sym (control_once here h.0 h.1)) h.2)

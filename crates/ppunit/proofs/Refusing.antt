@@ -6,7 +6,7 @@ use Rattle.pptext.specs.Lines.{LogicalLine}
 use Rattle.pptext.specs.Tree.{Parts, Branches}
 use Rattle.ppexpand.specs.Budget.{spend_one, is_exhausted}
 use Rattle.ppunit.specs.States.{State, Context, Reached, search_of}
-use Rattle.ppunit.specs.DirectiveLines.{run_tokens}
+use Rattle.ppunit.specs.DirectiveLines.{text_tokens}
 use Rattle.ppunit.specs.Group.{Group, Branched, Controls, ExecutesInclude, Opened}
 use Rattle.ppunit.specs.Unit.{context_of_unit, Defines, unread, processed, Translates, definitions_fault, translated}
 use Rattle.ppunit.specs.Capped.{OnlyBudgetsRefuse}
@@ -21,7 +21,7 @@ module _ (context : Context) where
     group_other : {depth row : ℕ} {r : Reached} {ps : Parts} {end : Reached} → r.state.remaining ≡ None → IsOther r.fault → Group context depth row r ps end → IsOther end.fault
     group_other is h Group.stays = h
     group_other is h Group.done = tt
-    group_other is h (Group.run {s = s} {lines = lines} {m = m} gives rest) = group_other (run_none s (run_tokens lines) m is gives) (run_other s (run_tokens lines) m is gives) rest
+    group_other is h (Group.run {s = s} {lines = lines} {m = m} gives rest) = group_other (run_none s (text_tokens lines) m is gives) (run_other s (text_tokens lines) m is gives) rest
     group_other is h (Group.control here rest) = group_other (control_none context is here) (control_other is here) rest
     group_other {row = row} is h (Group.taken {s = s} {line = line} {remaining_after = remaining_after} decides here rest) =
         let remaining = decides_none (search_of context) row s line remaining_after (Ok true) is decides in

@@ -29,7 +29,7 @@ use Rattle.ppunit.specs.LineControl.{Presumed, presumed}
 use Rattle.ppunit.specs.Including.{IncludeName, begins_with_header, name_of_header, name_of_expansion, if_possible_name, name_or, name_of_expansion_or}
 use Rattle.ppunit.specs.Probing.{probed, tokens_or, condition_tokens}
 use Rattle.ppunit.specs.Conditions.{by_name, DecidesBy, DecidesUnless, Decides, DecidesOf}
-use Rattle.ppunit.specs.Directives.{EmitsRun, with_macros, renumbered_by, NamesHeaderBy, NamesHeader, ControlBy}
+use Rattle.ppunit.specs.Directives.{EmitsText, with_macros, renumbered_by, NamesHeaderBy, NamesHeader, ControlBy}
 use Rattle.ppunit.specs.Group.{Group, Branched, Controls}
 use Rattle.ppunit.specs.Unit.{count_defines, Defines}
 use Rattle.ppexpand.specs.Expansion.{count_expansion}
@@ -44,7 +44,7 @@ asks_none s line remaining_after include_name is g = still_none (count_names_hea
 pub decides_none : (search : Search) (row : ℕ) (s : State) (line : LogicalLine) (remaining_after : Option ℕ) (taken : Result Bool Fault) → s.remaining ≡ None → Decides search row s line remaining_after taken → remaining_after ≡ None
 decides_none search row s line remaining_after taken is g = still_none (count_decides search row s line remaining_after taken g) is (decides_spends search row s line remaining_after taken g)
 
-pub run_none : (s : State) (tokens : List Token) (m : Reached) → s.remaining ≡ None → EmitsRun s tokens m → m.state.remaining ≡ None
+pub run_none : (s : State) (tokens : List Token) (m : Reached) → s.remaining ≡ None → EmitsText s tokens m → m.state.remaining ≡ None
 run_none s tokens m is g = still_none (count_expansion g.expands) is (run_spends s tokens m g)
 
 module _ (context : Context) where
@@ -105,7 +105,7 @@ reads_other {profile} (IsFaultOf.bad_groups {lexemes = lexemes} e c g) = subst I
 expansion_other : {macros : Macros} {env : Env} {remaining : Option ℕ} {tokens : List Token} {e : Expanded} → remaining ≡ None → IsExpansion macros env remaining tokens e → IsOther e.fault
 expansion_other {macros} {env} {tokens = tokens} {e = e} is x = each_other e.fault (λ f faulty. expansion_never_refused macros env (subst (λ l. IsExpansion macros env l tokens e) is x) faulty)
 
-pub run_other : (s : State) (tokens : List Token) (m : Reached) → s.remaining ≡ None → EmitsRun s tokens m → IsOther m.fault
+pub run_other : (s : State) (tokens : List Token) (m : Reached) → s.remaining ≡ None → EmitsText s tokens m → IsOther m.fault
 run_other s tokens m is g = subst (λ r. IsOther r.fault) (sym g.is) (expansion_other is g.expands)
 
 -- ---- `#define` and `#undef`: 9 to 16

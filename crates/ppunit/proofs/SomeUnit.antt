@@ -15,7 +15,7 @@ use Rattle.pptext.specs.Classes.{class_of, asked_by, class_by, question_by}
 use Rattle.pptext.specs.Lines.{LogicalLine}
 use Rattle.pptext.specs.Sources.{Reads, IsSource}
 use Rattle.pptext.specs.Tokens.{fault}
-use Rattle.pptext.specs.Tree.{hash_place, ControlLine, Opens, Elses, role, role_in, role_by, Parts, Done, Run, Control, Section, Branches, End, Branch, AreParts, AreBranches, Tree, group_fault}
+use Rattle.pptext.specs.Tree.{hash_place, ControlLine, Opens, Elses, role, role_in, role_by, Parts, Done, TextLines, Control, Section, Branches, End, Branch, AreParts, AreBranches, Tree, group_fault}
 use Rattle.ppmacro.specs.Names.{Macros}
 use Rattle.ppmacro.specs.Define.{after_define, after_undef}
 use Rattle.ppexpand.specs.declared.env.Env.{Env}
@@ -32,13 +32,13 @@ use Rattle.ppunit.proofs.FirstLine.{else_directive, not_else}
 use Rattle.ppunit.specs.Dependencies.{has_row}
 use Rattle.ppunit.specs.declared.units.Item.TheVariants as item
 use Rattle.ppunit.specs.States.{State, Search, Context, search_of, Reached, going, stopped, output, emitted, with_remaining, with_dependency, entering, leaving, with_one_spent}
-use Rattle.ppunit.specs.DirectiveLines.{operands, line_fault, named_fault, one_identifier, run_tokens}
+use Rattle.ppunit.specs.DirectiveLines.{operands, line_fault, named_fault, one_identifier, text_tokens}
 use Rattle.ppunit.specs.Quotes.{unmatched_quote}
 use Rattle.ppunit.specs.LineControl.{presumed}
 use Rattle.ppunit.specs.Including.{IncludeName, begins_with_header, name_of_header, name_or, name_of_expansion_or, if_possible_name}
 use Rattle.ppunit.specs.Probing.{condition_tokens}
 use Rattle.ppunit.specs.Conditions.{Decides, DecidesFreely, DecidesOf, DecidesBy, DecidesUnless, by_name}
-use Rattle.ppunit.specs.Directives.{EmitsRun, SetsLine, renumbered_by, with_macros, pragma_emitted, ControlBy, NamesHeader, NamesHeaderBy, candidates_for, FindsFile, message, looks_at_quotes}
+use Rattle.ppunit.specs.Directives.{EmitsText, SetsLine, renumbered_by, with_macros, pragma_emitted, ControlBy, NamesHeader, NamesHeaderBy, candidates_for, FindsFile, message, looks_at_quotes}
 use Rattle.ppunit.specs.Group.{deepest, Group, Branched, Controls, ExecutesInclude, Opened}
 use Rattle.ppunit.specs.Laws.{KnowsAll, HasSomeValue}
 use Rattle.ppunit.specs.Unit.{Defines, unread, processed, Translates, definitions_fault, translated, command_file, command_text, first_place, context_of_unit, initial_state}
@@ -84,7 +84,7 @@ elif_conditional (Some d) e = elif_asks (class_of d) e
 -- ---- lines
 
 module _ (expansions : SomeExpansion) (decisions : SomeDecision) where
-  some_run : (s : State) (tokens : List Token) → (m : Reached) × EmitsRun s tokens m
+  some_run : (s : State) (tokens : List Token) → (m : Reached) × EmitsText s tokens m
   some_run s tokens =
       let e = expansions s.macros s.env s.remaining tokens in
       (record { state = emitted (with_remaining s e.0.remaining) (map item.Token e.0.tokens); fault = e.0.fault }, record { expanded = e.0; expands = e.1; is = refl })
@@ -213,9 +213,9 @@ module _ (expansions : SomeExpansion) (decisions : SomeDecision) where
       goes_on : (row : ℕ) (ps : Parts) → ((s : State) → SomeGroup row (going s) ps) → (r : Reached) → SomeGroup row r ps
       goes_on row ps all r = goes_on_by row ps all r.state r.fault
 
-      at_run : (row : ℕ) (s : State) (lines : List LogicalLine) (ps : Parts) → ((t : State) → SomeGroup row (going t) ps) → SomeGroup row (going s) (Run lines ps)
+      at_run : (row : ℕ) (s : State) (lines : List LogicalLine) (ps : Parts) → ((t : State) → SomeGroup row (going t) ps) → SomeGroup row (going s) (TextLines lines ps)
       at_run row s lines ps rest =
-          let m = some_run s (run_tokens lines) in
+          let m = some_run s (text_tokens lines) in
           let g = goes_on row ps rest m.0 in
           (g.0, Group.run m.1 g.1)
 
@@ -274,7 +274,7 @@ module _ (expansions : SomeExpansion) (decisions : SomeDecision) where
       mutual
         some_group : (ps : Parts) → AreParts ps → (row : ℕ) (s : State) → SomeGroup row (going s) ps
         some_group Done good row s = (going s, Group.done)
-        some_group (Run lines ps) good row s = at_run row s lines ps (λ t. some_group ps good.3 row t)
+        some_group (TextLines lines ps) good row s = at_run row s lines ps (λ t. some_group ps good.3 row t)
         some_group (Control line ps) good row s = at_control row s line ps good.0 (λ t. some_group ps good.1 row t)
         some_group (Section line ps bs qs) good row s =
             opening_line row s line ps qs bs good.0 (λ t. some_group ps good.1 row t) (λ t. some_branches bs false good.2 row t) (λ t. some_group qs good.3 row t)

@@ -22,13 +22,13 @@ use Rattle.ppunit.specs.declared.units.Unit.{Unit as UnitOfList}
 use Rattle.ppunit.specs.declared.units.Setting.{Setting}
 use Rattle.ppunit.specs.declared.units.UnitOut.{UnitOut}
 use Rattle.ppunit.specs.States.{State, Context, Reached, with_remaining, with_once, search_of, Search}
-use Rattle.ppunit.specs.DirectiveLines.{operands, run_tokens}
+use Rattle.ppunit.specs.DirectiveLines.{operands, text_tokens}
 use Rattle.ppunit.specs.Quotes.{unmatched_quote}
 use Rattle.ppunit.specs.LineControl.{Presumed, presumed}
 use Rattle.ppunit.specs.Including.{IncludeName, begins_with_header}
 use Rattle.ppunit.specs.Probing.{condition_tokens}
 use Rattle.ppunit.specs.Conditions.{DecidesBy, DecidesUnless, Decides, DecidesOf}
-use Rattle.ppunit.specs.Directives.{EmitsRun, NamesHeaderBy, NamesHeader, ControlBy, with_macros, renumbered_by, is_once, noting_pragma_once}
+use Rattle.ppunit.specs.Directives.{EmitsText, NamesHeaderBy, NamesHeader, ControlBy, with_macros, renumbered_by, is_once, noting_pragma_once}
 use Rattle.ppunit.specs.Group.{Group, Branched, Controls, ExecutesInclude, Opened}
 use Rattle.ppunit.specs.Counts.{count_decides_by, count_decides_unless, count_decides, count_names_header_by, count_names_header, count_control_by, count_group, count_branched, count_control, count_includes, count_opened, count_decides_of}
 use Rattle.ppunit.specs.Unit.{Defines, unread, processed, Translates, definitions_fault, translated, IsUnit, count, count_defines, count_translates}
@@ -116,7 +116,7 @@ control_by_spends profile row (Some Pragma) s line m g =
 control_by_spends profile row (Some Unknown) s line m g = same_remaining s.remaining m.state.remaining (ap (λ x. x.state.remaining) g)
 control_by_spends profile row _ s line m g = absurd g
 
-pub run_spends : (s : State) (tokens : List Token) (m : Reached) (g : EmitsRun s tokens m) → s.remaining ≡ plus (count_expansion g.expands) m.state.remaining
+pub run_spends : (s : State) (tokens : List Token) (m : Reached) (g : EmitsText s tokens m) → s.remaining ≡ plus (count_expansion g.expands) m.state.remaining
 run_spends s tokens m g = expansion_spends s.macros s.env g.expands ∙ ap (plus (count_expansion g.expands)) (sym (ap (λ x. x.state.remaining) g.is))
 
 -- ---- groups
@@ -126,7 +126,7 @@ module _ (context : Context) where
     pub group_spends : {depth row : ℕ} {r : Reached} {ps : Parts} {end : Reached} (d : Group context depth row r ps end) → r.state.remaining ≡ plus (count_group d) end.state.remaining
     group_spends (Group.stays {s = s}) = plus-nothing s.remaining
     group_spends (Group.done {s = s}) = plus-nothing s.remaining
-    group_spends (Group.run {s = s} {lines = lines} {m = m} gives rest) = both _ _ _ (run_spends s (run_tokens lines) m gives) (group_spends rest)
+    group_spends (Group.run {s = s} {lines = lines} {m = m} gives rest) = both _ _ _ (run_spends s (text_tokens lines) m gives) (group_spends rest)
     group_spends (Group.control here rest) = both _ _ _ (control_spends here) (group_spends rest)
     group_spends {row = row} (Group.taken {s = s} {line = line} {remaining_after = remaining_after} decides here rest) =
         both _ _ _ (decides_spends (search_of context) row s line remaining_after (Ok true) decides) (both _ _ _ (group_spends here) (group_spends rest))

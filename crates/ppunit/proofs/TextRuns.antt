@@ -4,11 +4,11 @@ use Rattle.std.proofs.lemmas.List.{take_at}
 use Rattle.std.specs.List.{AllByRecursion}
 use Rattle.pptext.specs.declared.tokens.Fault.{Fault}
 use Rattle.pptext.specs.Lines.{LogicalLine}
-use Rattle.pptext.specs.Tree.{Parts, Done, Run, Control, Section, End, Branch, part_lines, branch_lines, BeginsRun, AreParts, role, role_by}
+use Rattle.pptext.specs.Tree.{Parts, Done, TextLines, Control, Section, End, Branch, part_lines, branch_lines, BeginsTextLines, AreParts, role, role_by}
 use Rattle.ppunit.specs.States.{State, Context, going}
 use Rattle.ppunit.specs.Group.{Group}
-use Rattle.ppunit.specs.Directives.{EmitsRun}
-use Rattle.ppunit.specs.DirectiveLines.{run_tokens}
+use Rattle.ppunit.specs.Directives.{EmitsText}
+use Rattle.ppunit.specs.DirectiveLines.{text_tokens}
 use Rattle.ppshelf.specs.Files.{Files}
 use Rattle.ppunit.specs.code.Walk.{line_at, Outer, lay, AreOuter, StandsAt, Advances, IsTextLine, IsRest}
 use Rattle.ppunit.proofs.FirstLine.{lay_run, text_directive, branches_differ, First, text, control, opening, ending}
@@ -21,13 +21,13 @@ text_lines (r ∷ rs) all = (text_directive r.directive all.0, text_lines rs all
 no_text : (r : LogicalLine) → role r ≢ role_by None → ¬ IsTextLine r
 no_text r differs is = differs (ap role_by is)
 
-behind_run : (ps : Parts) (k : Outer) → AreParts ps → AreOuter k → (¬ BeginsRun ps) → IsRest (lay ps k)
+behind_run : (ps : Parts) (k : Outer) → AreParts ps → AreOuter k → (¬ BeginsTextLines ps) → IsRest (lay ps k)
 behind_run Done [] are outer alone = tt
 behind_run Done ((End r, qs) ∷ k) are outer alone =
     no_text r (branches_differ (End r) outer.0.0 r (lay qs k) (lay qs k) outer.0.1 refl).not_text
 behind_run Done ((Branch r ps bs, qs) ∷ k) are outer alone =
     no_text r (branches_differ (Branch r ps bs) outer.0.0 r (lay qs k) (part_lines ps ++ branch_lines bs ++ lay qs k) outer.0.1 refl).not_text
-behind_run (Run rs ps) k are outer alone = absurd (alone tt)
+behind_run (TextLines rs ps) k are outer alone = absurd (alone tt)
 behind_run (Control r ps) [] are outer alone = let is = are.0 in no_text r (λ h. cc)
 behind_run (Control r ps) ((bs, qs) ∷ k) are outer alone = let is = are.0 in no_text r (λ h. cc)
 behind_run (Section r ps cs rs) [] are outer alone = let is = are.0 in no_text r (λ h. cc)
@@ -47,14 +47,14 @@ run_by : (context : Files → Context) (files : Files) (depth row : ℕ) (lines 
     → First (line_at lines index) ps k
     → StandsAt lines index ps k
     → RunOf lines index end
-    → EmitsRun s (run_tokens (take (end - index) (drop index lines))) (record { state = t; fault = f })
-    → (rs : List LogicalLine) × (qs : Parts) × (ps ≡ Run rs qs) × (drop end lines ≡ lay qs k) × EmitsRun s (run_tokens rs)
+    → EmitsText s (text_tokens (take (end - index) (drop index lines))) (record { state = t; fault = f })
+    → (rs : List LogicalLine) × (qs : Parts) × (ps ≡ TextLines rs qs) × (drop end lines ≡ lay qs k) × EmitsText s (text_tokens rs)
     (record { state = t; fault = f })
-run_by context files depth row lines index end s t f (Run rs ps) k is (text same) stands run gives =
+run_by context files depth row lines index end s t f (TextLines rs ps) k is (text same) stands run gives =
     let there = stands.rest ∙ lay_run rs ps k in
     let parts = stands.parts in
     let over = run rs (lay ps k) there (text_lines rs parts.1) (behind_run ps k parts.3 stands.outer parts.2) in
-    (rs, ps, refl, over.1, subst (λ (z : List LogicalLine). EmitsRun s (run_tokens z) (record { state = t; fault = f })) (run_tokens_are lines rs (lay ps k) index end there over.0) gives)
+    (rs, ps, refl, over.1, subst (λ (z : List LogicalLine). EmitsText s (text_tokens z) (record { state = t; fault = f })) (run_tokens_are lines rs (lay ps k) index end there over.0) gives)
 run_by context files depth row lines index end s t f ps k is (control same other) stands run gives = absurd (cc)
 run_by context files depth row lines index end s t f ps k is (opening same other) stands run gives = absurd (cc)
 run_by context files depth row lines index end s t f ps k is (ending differs) stands run gives = absurd (differs.not_text is)
@@ -64,19 +64,19 @@ run_on : (context : Files → Context) (files : Files) (depth row : ℕ) (lines 
     → AreParts qs
     → AreOuter k
     → drop end lines ≡ lay qs k
-    → EmitsRun s (run_tokens rs) (record { state = t; fault = f })
-    → AdvancesFrom context files depth row lines s t (run_result end f) (Run rs qs) k
+    → EmitsText s (text_tokens rs) (record { state = t; fault = f })
+    → AdvancesFrom context files depth row lines s t (run_result end f) (TextLines rs qs) k
 run_on context files depth row lines index end s t None rs qs k are outer there gives =
-    (qs, k, record { rest = there; parts = are; outer = outer }, λ more grows last rest. ends_front (context more) depth row (going s) (going t) (Run rs qs) qs k last (λ o g. Group.run gives g) rest)
+    (qs, k, record { rest = there; parts = are; outer = outer }, λ more grows last rest. ends_front (context more) depth row (going s) (going t) (TextLines rs qs) qs k last (λ o g. Group.run gives g) rest)
 run_on context files depth row lines index end s t (Some f) rs qs k are outer there gives =
-    λ more grows. ends_stop (context more) depth row (going s) t f (Run rs qs) k (Group.run gives Group.stays)
+    λ more grows. ends_stop (context more) depth row (going s) t f (TextLines rs qs) k (Group.run gives Group.stays)
 
 pub run_advances : (context : Files → Context) (files : Files) (depth row : ℕ) (lines : List LogicalLine) (index end : ℕ) (s t : State)
     (f : Option Fault)
     → index < length lines
     → (line_at lines index).directive ≡ None
     → RunOf lines index end
-    → EmitsRun s (run_tokens (take (end - index) (drop index lines))) (record { state = t; fault = f })
+    → EmitsText s (text_tokens (take (end - index) (drop index lines))) (record { state = t; fault = f })
     → Advances context files depth row lines index s t (run_result end f)
 run_advances context files depth row lines index end s t f within is run gives =
     advances context files depth row lines index s t (run_result end f) (λ ps k stands.

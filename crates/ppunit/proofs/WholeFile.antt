@@ -3,7 +3,7 @@ use Rattle.std.proofs.Common.{◌≡◌, ℕ, ◌≤◌, List, [], ◌∷◌, le
 use Rattle.std.proofs.lemmas.List.{drop_all}
 use Rattle.pptext.specs.declared.tokens.Fault.{Fault}
 use Rattle.pptext.specs.Lines.{LogicalLine}
-use Rattle.pptext.specs.Tree.{Parts, Done, Run, Control, Section, End, Branch, AreParts, Tree}
+use Rattle.pptext.specs.Tree.{Parts, Done, TextLines, Control, Section, End, Branch, AreParts, Tree}
 use Rattle.ppunit.specs.States.{State, Context, Reached, going, stopped}
 use Rattle.ppunit.specs.Group.{Group}
 use Rattle.ppshelf.specs.Files.{Files, Extends}
@@ -54,8 +54,8 @@ nothing_laid : (context : Context) (depth row : ℕ) (t : State) (ps : Parts) (k
 nothing_laid context depth row t Done [] e are = Group.done
 nothing_laid context depth row t Done ((End r, qs) ∷ k) e are = absurd (cc)
 nothing_laid context depth row t Done ((Branch r ps bs, qs) ∷ k) e are = absurd (cc)
-nothing_laid context depth row t (Run [] ps) k e are = absurd (are.0 refl)
-nothing_laid context depth row t (Run (r ∷ rs) ps) k e are = let whole = sym (lay_run (r ∷ rs) ps k) ∙ e in absurd (cc)
+nothing_laid context depth row t (TextLines [] ps) k e are = absurd (are.0 refl)
+nothing_laid context depth row t (TextLines (r ∷ rs) ps) k e are = let whole = sym (lay_run (r ∷ rs) ps k) ∙ e in absurd (cc)
 nothing_laid context depth row t (Control r ps) k e are = let whole = sym (lay_control r ps k) ∙ e in absurd (cc)
 nothing_laid context depth row t (Section r ps bs qs) k e are = let whole = sym (lay_section r ps qs bs k) ∙ e in absurd (cc)
 

@@ -37,5 +37,5 @@ one_identifier (t ∷ []) = if is_identifier t then Some t.text else None
 one_identifier ts = None
 
 -- the tokens of a run of text lines
-abbrev pub run_tokens : List LogicalLine → List Token
-run_tokens lines = flat_map (λ line. line.tokens) lines
+abbrev pub text_tokens : List LogicalLine → List Token
+text_tokens lines = flat_map (λ line. line.tokens) lines

@@ -9,18 +9,18 @@ use Rattle.pptext.specs.Classes.{class_by}
 use Rattle.pptext.specs.Lines.{LogicalLine}
 use Rattle.pptext.specs.Sources.{Reads}
 use Rattle.pptext.specs.Tokens.{fault}
-use Rattle.pptext.specs.Tree.{hash_place, Parts, Done, Run, Control, Section, Branches, End, Branch, Tree}
+use Rattle.pptext.specs.Tree.{hash_place, Parts, Done, TextLines, Control, Section, Branches, End, Branch, Tree}
 use Rattle.ppexpand.specs.Budget.{is_exhausted}
 use Rattle.ppshelf.specs.Content.{unreadable, readable}
 use Rattle.ppshelf.specs.Files.{file_at}
 use Rattle.ppshelf.specs.Names.{name_in}
 use Rattle.ppunit.specs.Dependencies.{has_row}
 use Rattle.ppunit.specs.States.{State, Context, search_of, Reached, going, stopped, with_dependency, entering, leaving, with_remaining, with_one_spent}
-use Rattle.ppunit.specs.DirectiveLines.{operands, line_fault, run_tokens}
+use Rattle.ppunit.specs.DirectiveLines.{operands, line_fault, text_tokens}
 use Rattle.ppunit.specs.Quotes.{unmatched_quote}
 use Rattle.ppunit.specs.Conditions.{Decides}
 use Rattle.ppunit.specs.Including.{IncludeName}
-use Rattle.ppunit.specs.Directives.{EmitsRun, ControlBy, NamesHeader, FindsFile, message, looks_at_quotes}
+use Rattle.ppunit.specs.Directives.{EmitsText, ControlBy, NamesHeader, FindsFile, message, looks_at_quotes}
 
 -- the largest depth of an included file
 abbrev pub deepest : ℕ
@@ -32,9 +32,9 @@ mutual
     stays : {depth row : ℕ} {s : State} {f : Fault} {ps : Parts} → Group context depth row (stopped s f) ps (stopped s f)
     done : {depth row : ℕ} {s : State} → Group context depth row (going s) Done (going s)
     run : {depth row : ℕ} {s : State} {lines : List LogicalLine} {ps : Parts} {m end : Reached}
-        → EmitsRun s (run_tokens lines) m
+        → EmitsText s (text_tokens lines) m
         → Group context depth row m ps end
-        → Group context depth row (going s) (Run lines ps) end
+        → Group context depth row (going s) (TextLines lines ps) end
     control : {depth row : ℕ} {s : State} {line : LogicalLine} {ps : Parts} {m end : Reached}
         → Controls context depth row s line m
         → Group context depth row m ps end

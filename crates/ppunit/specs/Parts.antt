@@ -6,5 +6,5 @@ use Rattle.ppunit.specs.declared.collections.Part.{Part}
 use Rattle.ppunit.specs.declared.collections.Part.TheVariants as part
 
 abbrev pub part_items : Part → List Item
-part_items (part.Run r) = map item.Token r
+part_items (part.Tokens r) = map item.Token r
 part_items (part.Pragma at ts) = item.Pragma at ts.now ∷ []

@@ -63,7 +63,7 @@ impl Rows {
 /// A part of the output: a run of tokens, or a pragma with its location and its tokens.
 #[derive(Drop)]
 pub enum Part<'a> {
-    Run(TokenRope<'a>),
+    Tokens(TokenRope<'a>),
     Pragma(Place, &'a [Token]),
 }
 
@@ -103,7 +103,7 @@ impl<'a> Items<'a> {
         Items { parts }
     }
 
-    /// Borrows the parts.
+    /// Borrows the parts. Printing reads these, which is faster than the iterator.
     pub fn parts(&self) -> &[Part<'a>]
         ensures { flat_map part_items result.now ≡ self.now }
     {
@@ -133,7 +133,7 @@ impl<'a> Items<'a> {
     pub(crate) fn extend(&mut self, run: TokenRope<'a>) -> Result<(), AllocError>
         ensures { OnOk result (self.new ≡ self.old ++ map item.Token run.entry) }
     {
-        self.parts.push(Part::Run(run))?;
+        self.parts.push(Part::Tokens(run))?;
         Ok(())
     }
 }
@@ -143,7 +143,7 @@ fn copy_part(alloc: Global, items: &mut Vec<Item>, part: &Part) -> Result<(), Al
     ensures { OnOk result (items.new.items ≡ items.old.items ++ part_items part.now) }
 {
     match part {
-        Part::Run(run) => push_tokens(items, run.to_vec(alloc)?),
+        Part::Tokens(run) => push_tokens(items, run.to_vec(alloc)?),
         Part::Pragma(at, tokens) => {
             let tokens = Tokens::new(Vec::from_clones(alloc, tokens)?);
             items.push(Item::Pragma(*at, tokens))?;

@@ -17,12 +17,12 @@ use pptext::{Directive, Error, Fault, Profile, Token};
 use std::alloc::{AllocError, Global};
 
 /// Emits the expansion of a run of text lines, up to its first fault (6.10.3).
-pub(crate) fn emit_run<'x>(
+pub(crate) fn emit_text<'x>(
     alloc: Global,
     state: &mut State<'x>,
     tokens: &'x [Token],
 ) -> Result<(), Error>
-    ensures { UnlessOutOfMemory result (λ r. spec.EmitsRun state.old tokens.now (record { state = state.new; fault = result_err r })) }
+    ensures { UnlessOutOfMemory result (λ r. spec.EmitsText state.old tokens.now (record { state = state.new; fault = result_err r })) }
 {
     // Blank lines between directives are a run as well.
     if tokens.is_empty() {

@@ -93,7 +93,7 @@ impl<'r, 'a> Iterator for ItemsIter<'r, 'a> {
                 }
             }
             match self.remaining.next()? {
-                Part::Run(run) => self.run = Some(run.iter()),
+                Part::Tokens(run) => self.run = Some(run.iter()),
                 Part::Pragma(at, tokens) => {
                     self.run = None;
                     return Some(ItemRef::Pragma(*at, tokens));

@@ -18,7 +18,7 @@ ghost use Rattle.ppunit.specs.code.Walk.{line_at, IsTextLine, IsRest, Outer, Bra
 
 use crate::conditions::decide;
 use crate::directive_line::{DirectiveLine, DirectiveTokens, line_fault, refuse_unmatched_quote};
-use crate::directives::{control, emit_run, error};
+use crate::directives::{control, emit_text, error};
 use crate::include_stack::Stack;
 use crate::including::read_include_name;
 use crate::line_access::{line, line_count, tokens_at, tokens_between};
@@ -31,7 +31,7 @@ use std::alloc::Global;
 use std::marker::Model;
 
 /// Returns the index of the line after the run of text lines that begins at `start`.
-fn run_end(source: &Source, start: usize) -> usize
+fn text_end(source: &Source, start: usize) -> usize
     requires index { start < length source.now }
     requires text { IsTextLine (line_at source.now start) }
     ensures within { result ≤ length source.now }
@@ -141,7 +141,7 @@ fn execute_if_line<D: Disk>(
 }
 
 /// Expands a run of text lines and emits its tokens. Returns the index of the line after it.
-fn execute_run<'x>(
+fn execute_text_lines<'x>(
     alloc: Global,
     state: &mut State<'x>,
     source: &'x Source,
@@ -153,8 +153,8 @@ fn execute_run<'x>(
     ensures run { (context : Files → Context) (files : Files) (depth row : ℕ)
         → UnlessOutOfMemory result (λ next. Advances context files depth row source.now index state.old state.new next) }
 {
-    let end = run_end(source, index);
-    emit_run(alloc, state, tokens_between(source, index, end))?;
+    let end = text_end(source, index);
+    emit_text(alloc, state, tokens_between(source, index, end))?;
     Ok(end)
 }
 
@@ -268,7 +268,12 @@ impl<'x, 'a: 'x, D: Disk> Preprocessor<'_, 'x, 'a, D> {
         let OpenFile { row, source, index } = *file;
         let context = self.context;
         let Some(directive) = line(source, index).directive else {
-            return Ok(next_line(execute_run(context.alloc, &mut self.state, source, index)?));
+            return Ok(next_line(execute_text_lines(
+                context.alloc,
+                &mut self.state,
+                source,
+                index,
+            )?));
         };
         if directive.opens_section() {
             let next = execute_if_line(context, &mut self.state, row, source, directive, index)?;

@@ -74,23 +74,23 @@ pub record CallKnown (sets : HideSetPool) (name : Hidden) (given : List (Vec Hid
 
 -- the expansion step of an action after which this list is left
 abbrev pub step_in : HideSetPool → List Hidden → next.Action → ExpansionStep
-step_in sets remaining next.Done = Done
-step_in sets remaining (next.Refused f) = Refused f
-step_in sets remaining (next.Emits head) = Emits (hiding sets head) (hidings sets remaining)
-step_in sets remaining (next.Failed f) = Failed f
-step_in sets remaining next.Replaced = Replaced (hidings sets remaining)
-step_in sets remaining (next.Called head macro given base) = Called (call_in sets head macro given base remaining)
+step_in sets following next.Done = Done
+step_in sets following (next.Refused f) = Refused f
+step_in sets following (next.Emits head) = Emits (hiding sets head) (hidings sets following)
+step_in sets following (next.Failed f) = Failed f
+step_in sets following next.Replaced = Replaced (hidings sets following)
+step_in sets following (next.Called head macro given base) = Called (call_in sets head macro given base following)
 
 abbrev pub ActionKnown : HideSetPool → List Hidden → next.Action → Type 0
-ActionKnown sets remaining (next.Emits head) = HasSets sets head × AllKnown sets remaining
-ActionKnown sets remaining next.Replaced = AllKnown sets remaining
-ActionKnown sets remaining (next.Called head macro given base) = CallKnown sets head given base × AllKnown sets remaining
-ActionKnown sets remaining _ = Unit {0}
+ActionKnown sets following (next.Emits head) = HasSets sets head × AllKnown sets following
+ActionKnown sets following next.Replaced = AllKnown sets following
+ActionKnown sets following (next.Called head macro given base) = CallKnown sets head given base × AllKnown sets following
+ActionKnown sets following _ = Unit {0}
 
 -- the expansion step of a replacement after which this list is left
 abbrev pub replaced_in : HideSetPool → List Hidden → Result (Unit {0}) Fault → ExpansionStep
-replaced_in sets remaining (Ok u) = Replaced (hidings sets remaining)
-replaced_in sets remaining (Err f) = Failed f
+replaced_in sets following (Ok u) = Replaced (hidings sets following)
+replaced_in sets following (Err f) = Failed f
 
 -- ---- expansion
 

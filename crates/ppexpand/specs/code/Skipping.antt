@@ -9,4 +9,4 @@ pub record HasSkipped (macros : Macros) (list emitted next more : List Hidden) :
   pub skipped : List Hidden
   pub laid_out : list ≡ skipped ++ next
   pub emits : more ≡ emitted ++ skipped
-  pub plain : NeverExpand macros skipped
+  pub unexpanded : NeverExpand macros skipped

@@ -12,7 +12,7 @@ use Rattle.ppexpr.specs.Tokens.{symbol_of}
 
 -- a token that no macro replaces has this symbol
 pub record StandsFor (macros : Macros) (t : Token) (s : Symbol) : Type 0 where
-  pub plain : never_expands macros t ≡ true
+  pub unexpanded : never_expands macros t ≡ true
   pub symbol : (at : Place) → symbol_of at t ≡ Ok s
 
 -- a list begins with the tokens of this symbol, and the rest follows

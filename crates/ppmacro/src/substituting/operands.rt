@@ -1,7 +1,7 @@
 //! The tokens of an operand (6.10.3.1, 6.10.3.2).
 ghost use Rattle.std.specs.Prelude.{◌≡◌, ◌++◌, IfOk, OnOk, [], ◌∷◌, map, Ok, unwrap_or};
 ghost use Rattle.ppmacro.specs.HideSets.{hidings, AllKnown};
-ghost use Rattle.ppmacro.specs.Substitution.{argument_at, expanded_at, plain, after_ok, stringized, operand_tokens, operands_tokens};
+ghost use Rattle.ppmacro.specs.Substitution.{argument_at, expanded_at, unhidden, after_ok, stringized, operand_tokens, operands_tokens};
 ghost use Rattle.pptext.specs.Errors.{Returns};
 ghost use Rattle.ppmacro.specs.Substituting.{lists_of, option_of, options_of, ArgumentsKnown, arguments_in, tokens_of, ListsKnown};
 
@@ -66,12 +66,12 @@ fn one_token<'a>(alloc: Global, hidden: Hidden<'a>) -> Result<Vec<Hidden<'a>>, A
 }
 
 /// Returns a token of the replacement list, as a list.
-fn plain<'a>(
+fn source_token<'a>(
     alloc: Global,
     sets: &HideSets,
     token: &'a Token,
 ) -> Result<Vec<Hidden<'a>>, AllocError>
-    ensures is { IfOk result (λ v. hidings sets.now v.items ≡ plain token.now ∷ []) }
+    ensures is { IfOk result (λ v. hidings sets.now v.items ≡ unhidden token.now ∷ []) }
     ensures known { IfOk result (λ v. AllKnown sets.now v.items) }
 {
     one_token(alloc, Hidden::new(token, sets.empty()))
@@ -108,7 +108,7 @@ pub(crate) fn operand_tokens<'x, 'a: 'x>(
 {
     let Arguments { given, expanded } = arguments;
     match operand {
-        Operand::Tok(token) => Ok(plain(alloc, sets, token.token())?),
+        Operand::Tok(token) => Ok(source_token(alloc, sets, token.token())?),
         Operand::Str(index, at) => literal(alloc, sets, argument(given, *index), *at, used),
         Operand::Param(index) => {
             if next_to_paste {

@@ -12,7 +12,7 @@ use pptext::{Error, Fault, Kind, Memory, Place, Spelling, Token, split_memory};
 use std::alloc::{AllocError, Global};
 
 /// Returns the concatenated spellings of two tokens.
-fn both(alloc: Global, left: &Hidden, right: &Hidden) -> Result<Vec<u8>, AllocError>
+fn joined_text(alloc: Global, left: &Hidden, right: &Hidden) -> Result<Vec<u8>, AllocError>
     ensures { IfOk result (λ v. v.items ≡ left.now.token.text ++ right.now.token.text) }
 {
     let mut text = Vec::from_slice(alloc, left.text())?;
@@ -47,7 +47,7 @@ pub(crate) fn pasted<'a>(
     ensures known { IfOk result (λ h. HasSets sets.new h) }
     ensures keeps { KeepsSets sets.old sets.new }
 {
-    let text = both(alloc, left, right)?;
+    let text = joined_text(alloc, left, right)?;
     let Some(kind) = kind_of(text.as_slice()) else {
         return Err(Error::Fault(Fault::new(alloc, 19, used, text.as_slice())?));
     };

@@ -4,12 +4,12 @@ use Rattle.pptext.specs.declared.tokens.Token.{Token}
 use Rattle.ppmacro.specs.HideSetPool.{HideSetPool}
 use Rattle.ppmacro.specs.Hiding.{Hiding}
 use Rattle.ppmacro.specs.HideSets.{set_at, hidings, AllKnown}
-use Rattle.ppmacro.specs.Substitution.{plain, hsadd}
+use Rattle.ppmacro.specs.Substitution.{unhidden, hsadd}
 use Rattle.ppexpand.proofs.expand_step.push_gained.Goals as goal
 
 pub loop-last-preserved : goal.loop-last-preserved
 loop-last-preserved c =
-    let f : HideSetPool → Token → Hiding = λ s t. hsadd (set_at s c.args.gain) c.args.used (plain t) in
+    let f : HideSetPool → Token → Hiding = λ s t. hsadd (set_at s c.args.gain) c.args.used (unhidden t) in
     let last = c.in-Some.last.now in
     let others = c.in-Some.others.now in
     let list = c.loop-last.list in

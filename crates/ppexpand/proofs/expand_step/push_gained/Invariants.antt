@@ -1,13 +1,13 @@
 use Rattle.std.proofs.Common.{◌≡◌, ◌++◌, map, length}
 use Rattle.ppmacro.specs.HideSetPool.{HideSetPool}
 use Rattle.ppmacro.specs.HideSets.{set_at, IsKnown, hidings, AllKnown}
-use Rattle.ppmacro.specs.Substitution.{plain, hsadd}
+use Rattle.ppmacro.specs.Substitution.{unhidden, hsadd}
 use Rattle.ppexpand.proofs.expand_step.push_gained.Given as goal
 
 abbrev pub invariant-loop-last : goal.invariant-loop-last
 invariant-loop-last l =
-    ((sets : HideSetPool) → map (λ t. hsadd (set_at sets l.gain) l.used (plain t)) l.rest ++ hidings sets l.list
-    ≡ map (λ t. hsadd (set_at sets l.gain) l.used (plain t)) l.body ++ hidings sets l.initial.list)
+    ((sets : HideSetPool) → map (λ t. hsadd (set_at sets l.gain) l.used (unhidden t)) l.rest ++ hidings sets l.list
+    ≡ map (λ t. hsadd (set_at sets l.gain) l.used (unhidden t)) l.body ++ hidings sets l.initial.list)
     × ((sets : HideSetPool) → IsKnown sets l.gain → AllKnown sets l.initial.list → AllKnown sets l.list)
 
 abbrev pub decreases-loop-last : goal.decreases-loop-last

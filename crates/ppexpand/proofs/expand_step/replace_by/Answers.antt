@@ -3,7 +3,7 @@ use Rattle.std.proofs.lemmas.List.{nil_from_length}
 use Rattle.std.specs.FinSet as set
 use Rattle.ppmacro.specs.HideSets.{set_at, hiding, hidings, AllKnown}
 use Rattle.ppmacro.specs.PasteFree.{lone_chain}
-use Rattle.ppmacro.specs.Substitution.{chains_replacement, hsadd, with_space, plain}
+use Rattle.ppmacro.specs.Substitution.{chains_replacement, hsadd, with_space, unhidden}
 use Rattle.ppexpand.proofs.SpaceFlags.{hidings-spaced, known-spaced}
 use Rattle.ppmacro.proofs.KeepLemmas.{hidings-keeps, known-keeps}
 use Rattle.ppmacro.proofs.Lonely.{lone_substituted}
@@ -38,11 +38,11 @@ returns-clause-is c arguments =
     let body : c.args.body.now ≡ first ∷ others = search rules in
     let gain : set_at t c.in_ok-gain.gain ≡ names = c.in_ok-gain.ensures.set ∙ (λ i. set.insert (set_at s c.args.base) (c.text.ensures i)) in
     let kept : hidings t list ≡ hidings s list = hidings-keeps list c.in_ok-gain.ensures.keeps c.requires.list in
-    let following : hidings t c.push_gained.new.list ≡ map (λ x. hsadd names used (plain x)) others ++ hidings s list =
-    c.in_ok-push_gained.ensures.is t ∙ (λ i. map (λ x. hsadd (gain i) (c.used.ensures i) (plain x)) others ++ kept i) in
-    let here : hiding t c.gained_token.result ≡ hsadd names used (with_space space (plain first)) =
-    c.gained_token.ensures.is t ∙ (λ i. hsadd (gain i) (c.used-2.ensures i) (with_space (c.space-2.ensures i) (plain first))) in
-    let all : hidings t c.push.new.self ≡ hsadd names used (with_space space (plain first)) ∷ (map (λ x. hsadd names used (plain x)) others ++ hidings s list) =
+    let following : hidings t c.push_gained.new.list ≡ map (λ x. hsadd names used (unhidden x)) others ++ hidings s list =
+    c.in_ok-push_gained.ensures.is t ∙ (λ i. map (λ x. hsadd (gain i) (c.used.ensures i) (unhidden x)) others ++ kept i) in
+    let here : hiding t c.gained_token.result ≡ hsadd names used (with_space space (unhidden first)) =
+    c.gained_token.ensures.is t ∙ (λ i. hsadd (gain i) (c.used-2.ensures i) (with_space (c.space-2.ensures i) (unhidden first))) in
+    let all : hidings t c.push.new.self ≡ hsadd names used (with_space space (unhidden first)) ∷ (map (λ x. hsadd names used (unhidden x)) others ++ hidings s list) =
     ap (hidings t) c.in_ok-push.ensures ∙ (λ i. here i ∷ following i) in
     ap Replaced all
     ∙ sym (ap (λ r. replaced_by r (hidings s list)) ((λ i. chains_replacement (map lone_chain (body i)) arguments names used space) ∙ lone_substituted arguments names used space first others))

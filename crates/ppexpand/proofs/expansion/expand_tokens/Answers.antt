@@ -2,7 +2,7 @@ use Rattle.std.proofs.Common.{◌≡◌, ◌∙◌, ℕ, List, Option, sym, ap, 
 use Rattle.ppmacro.specs.Names.{Macros}
 use Rattle.ppmacro.specs.Hiding.{Hiding}
 use Rattle.ppmacro.specs.HideSets.{hidings, AllKnown}
-use Rattle.ppmacro.specs.Substitution.{plain}
+use Rattle.ppmacro.specs.Substitution.{unhidden}
 use Rattle.ppexpand.specs.declared.env.Env.{Env}
 use Rattle.ppexpand.specs.Expansion.{Outcome, ExpandsTo}
 use Rattle.ppexpand.proofs.Skipping.{known-with_set, hidings-with_set}
@@ -19,7 +19,7 @@ expand_list-requires-clause-known c =
 pub returns-in-Ok : goal.returns-in-Ok
 returns-in-Ok c =
     let s = c.in_ok-sets.sets in
-    let start : hidings s c.over-list.result ≡ map plain c.args.tokens.now = ap (hidings s) c.over-list.ensures ∙ hidings-with_set s c.empty.result c.args.tokens.now c.empty.ensures.set in
+    let start : hidings s c.over-list.result ≡ map unhidden c.args.tokens.now = ap (hidings s) c.over-list.ensures ∙ hidings-with_set s c.empty.result c.args.tokens.now c.empty.ensures.set in
     (c.expand_list.new.self.replacer.sets, at_start _ _ _ _ _ _ _ c.requires.level start (rw c.in-Ok.is at c.expand_list.ensures.outcome))
 
 pub returns-in-Err-Fault : goal.returns-in-Err-Fault
@@ -28,7 +28,7 @@ returns-in-Err-Fault c =
     let t = c.expand_list.new.self.replacer.sets in
     let context = c.args.context.now in
     let whole : Option _ → Outcome = λ o. record { tokens = hidings t c.expand_list.new.emitted; fault = o; remaining = c.expand_list.new.self.remaining } in
-    let start : hidings s c.over-list.result ≡ map plain c.args.tokens.now = ap (hidings s) c.over-list.ensures ∙ hidings-with_set s c.empty.result c.args.tokens.now c.empty.ensures.set in
+    let start : hidings s c.over-list.result ≡ map unhidden c.args.tokens.now = ap (hidings s) c.over-list.ensures ∙ hidings-with_set s c.empty.result c.args.tokens.now c.empty.ensures.set in
     let raised = rw c.in-Err-Fault.field-0-is at (rw c.in-Err-Fault.is at c.expand_list.ensures.outcome) in
     let outcome : ExpandsTo context.table.now.macros context.env.now context.level c.args.remaining (hidings s c.over-list.result) (whole c.expand_list.new.self.fault) =
     subst (λ o. ExpandsTo context.table.now.macros context.env.now context.level c.args.remaining (hidings s c.over-list.result) (whole o)) (sym raised.1) raised.2 in

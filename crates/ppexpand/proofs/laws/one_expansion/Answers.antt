@@ -1,12 +1,12 @@
 use Rattle.std.proofs.Common.{◌≡◌, refl, ap, ◌∙◌, map}
-use Rattle.ppmacro.specs.Substitution.{plain}
+use Rattle.ppmacro.specs.Substitution.{unhidden}
 use Rattle.ppexpand.proofs.Total.{total}
 use Rattle.ppexpand.proofs.Unique.{same_outcome}
 use Rattle.ppexpand.proofs.laws.one_expansion.Goals as goal
 
 pub returns : goal.returns
 returns c = λ macros env remaining tokens.
-    let one = total macros env 0 remaining (map plain tokens) in
+    let one = total macros env 0 remaining (map unhidden tokens) in
     record {
       expanded = record { tokens = map (λ t. t.token) one.1.tokens; fault = one.1.fault; remaining = one.1.remaining };
       is = record { outcome = one.1; expands = (one.0, one.2); emitted = refl; ended = refl; remains = refl };

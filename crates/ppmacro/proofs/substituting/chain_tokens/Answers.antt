@@ -17,8 +17,8 @@ returns-clause-is c =
     let tokens = c.in_ok-tokens.tokens.items in
     let operands = c.as_slice-operands.ensures in
     let next_to_paste = c.is_joined-next_to_paste.ensures ∙ ap is_joined operands in
-    let front = c.split_variadic-rest.ensures.front ∙ ap before_variadic operands in
-    let rest = c.split_variadic-rest.ensures.rest ∙ ap variadic_of operands in
+    let front = c.split_variadic-variadic.ensures.front ∙ ap before_variadic operands in
+    let rest = c.split_variadic-variadic.ensures.variadic ∙ ap variadic_of operands in
     let made : Ok (map (hidings s) (lists_of lists)) ≡ operands_tokens (is_joined chain.operands) args used (before_variadic chain.operands) =
     c.in_ok-lists.ensures.is ∙ (λ i. operands_tokens (next_to_paste i) args used (front i)) in
     let joined : Ok (hidings c.join_all.new.sets tokens) ≡ join_all [] (map (hidings s) (lists_of lists)) used =
@@ -29,5 +29,5 @@ returns-clause-is c =
 
 pub returns-clause-known : goal.returns-clause-known
 returns-clause-known c =
-    rest-laid-known c.args.arguments.given.now c.args.arguments.expanded.now c.split_variadic-rest.result.1 c.in_ok-tokens.tokens.items c.append_variadic.new.tokens.items
+    rest-laid-known c.args.arguments.given.now c.args.arguments.expanded.now c.split_variadic-variadic.result.1 c.in_ok-tokens.tokens.items c.append_variadic.new.tokens.items
     c.in_ok-tokens.ensures.keeps c.requires c.in_ok-append_variadic.ensures c.in_ok-tokens.ensures.known

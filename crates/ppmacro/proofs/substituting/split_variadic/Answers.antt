@@ -11,8 +11,8 @@ module _ (c : goal.After-row_known-1) where
 pub returns-in-VariadicAfterComma-clause-front : goal.returns-in-VariadicAfterComma-clause-front
 returns-in-VariadicAfterComma-clause-front c = sym (ap before_variadic (ends c) ∙ before-rest c.in-Some.front.now c.in-VariadicAfterComma.index)
 
-pub returns-in-VariadicAfterComma-clause-rest : goal.returns-in-VariadicAfterComma-clause-rest
-returns-in-VariadicAfterComma-clause-rest c = sym (ap variadic_of (ends c) ∙ rest-last c.in-Some.front.now c.in-VariadicAfterComma.index)
+pub returns-in-VariadicAfterComma-clause-variadic : goal.returns-in-VariadicAfterComma-clause-variadic
+returns-in-VariadicAfterComma-clause-variadic c = sym (ap variadic_of (ends c) ∙ rest-last c.in-Some.front.now c.in-VariadicAfterComma.index)
 
 pub returns-in_default-last : goal.returns-in_default-last
 returns-in_default-last c =
@@ -24,4 +24,4 @@ returns-in_default-last c =
       | VariadicAfterComma i ↦ λ e. absurd (c.in_default-last.not-VariadicAfterComma i e)
     ] refl in
     let all : Stays c.args.operands.now = subst Stays (sym c.in-Some.ensures.cases.0) (stays c.in-Some.front.now last alone) in
-    record { front = sym all.0; rest = sym all.1 }
+    record { front = sym all.0; variadic = sym all.1 }

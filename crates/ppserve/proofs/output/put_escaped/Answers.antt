@@ -18,13 +18,13 @@ loop-rest-init g c = record { done = []; whole = refl; out = puts_none }
 
 pub returns-in_default : goal.returns-in_default
 returns-in_default g c =
-    let rest = as_is_prefix c.loop-rest.rest.now c.split_at.result.0.now c.split_at.result.1.now c.as_is_len.result c.split_at.ensures.front c.split_at.ensures.back c.as_is_len.ensures.plain in
+    let rest = as_is_prefix c.loop-rest.rest.now c.split_at.result.0.now c.split_at.result.1.now c.as_is_len.result c.split_at.ensures.front c.split_at.ensures.back c.as_is_len.ensures.as_is in
     let none : c.split_at.result.1.now ≡ [] = none_left c.split_at.result.1.now c.in_default.ensures.cases in
     puts_as (rw (← c.loop-rest.invariant.whole, rest, none, append-nil) refl) (puts_then c.loop-rest.invariant.out c.put.ensures)
 
 pub loop-rest-preserved : goal.loop-rest-preserved
 loop-rest-preserved g c =
-    let rest = as_is_prefix c.loop-rest.rest.now c.split_at.result.0.now c.split_at.result.1.now c.as_is_len.result c.split_at.ensures.front c.split_at.ensures.back c.as_is_len.ensures.plain in
+    let rest = as_is_prefix c.loop-rest.rest.now c.split_at.result.0.now c.split_at.result.1.now c.as_is_len.result c.split_at.ensures.front c.split_at.ensures.back c.as_is_len.ensures.as_is in
     let first : c.split_at.result.1.now ≡ c.in-Some.field-0-0.now ∷ c.in-Some.more.now = search rules in
     let done = c.loop-rest.invariant.done in
     let run = c.split_at.result.0.now in

@@ -9,5 +9,5 @@ lines_of_tokens : (ts : List PreToken) → flat_map item_lines (map item.Token t
 lines_of_tokens [] = refl
 lines_of_tokens (t ∷ ts) = ap (λ ls. token_line t ++ ls) (lines_of_tokens ts)
 
-pub returns-in-Run : goal.returns-in-Run
-returns-in-Run g c = rw (c.in-Run.is, lines_of_tokens) c.put_run.ensures
+pub returns-in-Tokens : goal.returns-in-Tokens
+returns-in-Tokens g c = rw (c.in-Tokens.is, lines_of_tokens) c.put_rope.ensures

@@ -14,7 +14,7 @@ use Rattle.ppexpand.specs.Expansion.{ExpandsArguments}
 use Rattle.ppexpand.specs.code.ProgramValues.{expanded_in, owned_tokens, ExpansionsKnown, ExpandsArgument, deep, CallStepsTo, refuses, finishes}
 use Rattle.ppexpand.proofs.Keeping.{call_of, call_of-keeps, call_known-keeps, given_known-keeps, expanded_known-keeps, expanded_known-push}
 use Rattle.ppexpand.proofs.ArgumentLemmas.{arguments_first, argument_expands, argument_raises, argument-known, follows_unused, follows_used, follows_refused, follows_all, pre_expanded-alone}
-use Rattle.ppexpand.proofs.Skipping.{plain-expands, next-known, more-known, follows_skip, skip_falls}
+use Rattle.ppexpand.proofs.Skipping.{unhidden-expands, next-known, more-known, follows_skip, skip_falls}
 use Rattle.ppexpand.proofs.Follows.{more_follows, more_falls, end_follows, call_taken, call_raises, begun_raises}
 use Rattle.ppexpand.proofs.expansion.Expander.+expansion.Goals as goal
 
@@ -113,7 +113,7 @@ expand_argument-returns-then-none_expands-clause-is m c =
       hidings s list,
       refl,
       argument_expands c.args.context.now.table.now.macros c.args.context.now.env.now c.args.context.now.level c.args.head.now.token c.args.self.now.remaining c.args.self.now.remaining (hidings s list) (hidings s list)
-          (omega (arith, c.if-context-ge-DEEPEST.false)) (plain-expands c.args.context.now.table.now.macros c.args.context.now.env.now (c.args.context.now.level + 1) c.args.self.now.remaining s list (c.none_expands.ensures c.if-none_expands.true)),
+          (omega (arith, c.if-context-ge-DEEPEST.false)) (unhidden-expands c.args.context.now.table.now.macros c.args.context.now.env.now (c.args.context.now.level + 1) c.args.self.now.remaining s list (c.none_expands.ensures c.if-none_expands.true)),
     )
 
 pub expand_argument-expand_list-requires : goal.expand_argument-expand_list-requires

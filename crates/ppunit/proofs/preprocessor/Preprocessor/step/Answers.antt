@@ -6,17 +6,17 @@ use Rattle.ppunit.proofs.Leading.{steps_line, steps_control, stops_control}
 use Rattle.ppunit.proofs.Options.{none_of}
 use Rattle.ppunit.proofs.preprocessor.Preprocessor.step.Goals as goal
 
-pub returns-in_err-execute_run-clause-step : goal.returns-in_err-execute_run-clause-step
-returns-in_err-execute_run-clause-step g c =
+pub returns-in_err-execute_text_lines-clause-step : goal.returns-in_err-execute_text_lines-clause-step
+returns-in_err-execute_text_lines-clause-step g c =
     rw (← c.file.view_is) (stopped _ _ _ _ c.from_residual.ensures.1
-    (c.in_err-execute_run.ensures.run (context_over c.args.self.now.context.now) c.args.self.now.pass.now.files c.args.depth c.file.inside.row)
+    (c.in_err-execute_text_lines.ensures.run (context_over c.args.self.now.context.now) c.args.self.now.pass.now.files c.args.depth c.file.inside.row)
     (λ fault advances. advances))
 
 pub returns-in_default-clause-step : goal.returns-in_default-clause-step
 returns-in_default-clause-step g c =
     rw (← c.file.view_is) (steps_line (context_over c.args.self.now.context.now) c.args.self.now.pass.now.files c.args.depth c.file.inside.row c.file.inside.source.now
-    c.file.inside.index c.args.self.now.state c.execute_run.new.state c.in_ok-execute_run.field-0 c.next_line.result c.next_line.ensures
-    (c.in_ok-execute_run.ensures.run (context_over c.args.self.now.context.now) c.args.self.now.pass.now.files c.args.depth c.file.inside.row))
+    c.file.inside.index c.args.self.now.state c.execute_text_lines.new.state c.in_ok-execute_text_lines.field-0 c.next_line.result c.next_line.ensures
+    (c.in_ok-execute_text_lines.ensures.run (context_over c.args.self.now.context.now) c.args.self.now.pass.now.files c.args.depth c.file.inside.row))
 
 pub returns-in_err-next-clause-step : goal.returns-in_err-next-clause-step
 returns-in_err-next-clause-step g c =
@@ -68,14 +68,14 @@ tokens_at-tokens-requires-clause-index g c = rw (← c.file.view_is) at c.requir
 pub section_end-requires : goal.section_end-requires
 section_end-requires g c = rw (← c.file.view_is) at c.requires.index
 
-pub execute_run-requires-clause-index : goal.execute_run-requires-clause-index
-execute_run-requires-clause-index g c = rw (← c.file.view_is) at c.requires.index
+pub execute_text_lines-requires-clause-index : goal.execute_text_lines-requires-clause-index
+execute_text_lines-requires-clause-index g c = rw (← c.file.view_is) at c.requires.index
 
 pub execute_if_line-requires-clause-index : goal.execute_if_line-requires-clause-index
 execute_if_line-requires-clause-index g c = rw (← c.file.view_is) at c.requires.index
 
-pub execute_run-requires-clause-text : goal.execute_run-requires-clause-text
-execute_run-requires-clause-text g c = sym c.line.ensures.directive ∙ none_of c.line.result.now.directive c.in_default.not-Some
+pub execute_text_lines-requires-clause-text : goal.execute_text_lines-requires-clause-text
+execute_text_lines-requires-clause-text g c = sym c.line.ensures.directive ∙ none_of c.line.result.now.directive c.in_default.not-Some
 
 pub execute_if_line-requires-clause-line : goal.execute_if_line-requires-clause-line
 execute_if_line-requires-clause-line g c = sym c.line.ensures.directive ∙ c.in-Some.is

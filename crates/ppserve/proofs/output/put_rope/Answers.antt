@@ -5,7 +5,7 @@ use Rattle.ppexpand.specs.Pieces.{piece_list}
 use Rattle.ppmacro.specs.Substituting.{tokens_of}
 use Rattle.ppserve.specs.code.LinePrefix.{token_line}
 use Rattle.ppserve.proofs.Printing.{puts_as, puts_then}
-use Rattle.ppserve.proofs.output.put_run.Goals as goal
+use Rattle.ppserve.proofs.output.put_rope.Goals as goal
 
 pub returns : goal.returns
 returns g c =

@@ -3,7 +3,7 @@ use Rattle.ppunit.specs.code.Walk.{line_at, IsTextLine}
 use Rattle.ppunit.proofs.RunEnd.{run_start, run_more, run_done}
 use Rattle.ppexpand.proofs.Skipping.{none_by}
 use Rattle.ppunit.proofs.Options.{some_not}
-use Rattle.ppunit.proofs.line_walk.run_end.Goals as goal
+use Rattle.ppunit.proofs.line_walk.text_end.Goals as goal
 
 pub loop-end-init : goal.loop-end-init
 loop-end-init c = run_more c.args.source.now c.args.start c.args.start c.requires.index c.requires.text (run_start c.args.source.now c.args.start (omega (arith, c.requires.index)))

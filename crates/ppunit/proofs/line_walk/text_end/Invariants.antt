@@ -1,6 +1,6 @@
 use Rattle.std.proofs.Common.{◌-◌, length}
 use Rattle.ppunit.proofs.RunEnd.{RunSoFar}
-use Rattle.ppunit.proofs.line_walk.run_end.Given as goal
+use Rattle.ppunit.proofs.line_walk.text_end.Given as goal
 
 abbrev pub invariant-loop-end : goal.invariant-loop-end
 invariant-loop-end l = RunSoFar l.source l.fn.start l.end

@@ -1,6 +1,6 @@
 use Rattle.std.proofs.Common.{sym, ◌∙◌}
 use Rattle.ppunit.proofs.EmptyRuns.{empty_run}
-use Rattle.ppunit.proofs.directives.emit_run.Goals as goal
+use Rattle.ppunit.proofs.directives.emit_text.Goals as goal
 
 -- src/directives.rt:27:9
 pub returns-then-is_empty : goal.returns-then-is_empty
