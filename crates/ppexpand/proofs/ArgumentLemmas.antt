@@ -19,26 +19,26 @@ use Rattle.ppexpand.specs.declared.env.Env.{Env}
 use Rattle.ppmacro.specs.Patterns.{entry_chain}
 use Rattle.ppmacro.specs.declared.patterns.Entry.{Entry}
 use Rattle.std.specs.List.{list_any}
-use Rattle.ppexpand.specs.ExpansionStep.{Call, is_lone_parameter, pre_expands, to_expand, wanted}
+use Rattle.ppexpand.specs.ExpansionStep.{Invocation, is_lone_parameter, pre_expands, to_expand, wanted}
 use Rattle.ppexpand.specs.Expansion.{Expands, ExpandsTo, ExpandsArguments}
 use Rattle.ppexpand.specs.code.ProgramValues.{given_in, expanded_in, ExpansionsKnown, ExpandsArgument, expands, raises}
 use Rattle.ppexpand.proofs.Follows.{ArgumentsFollow, arguments_start, arguments_unused, arguments_used, arguments_refused, arguments_end}
 use Rattle.ppexpand.proofs.Keeping.{expanded-keeps, expanded_in-push, arguments_known}
 
-pub arguments_first : (macros : Macros) (env : Env) (level : ℕ) (call : Call) (remaining : Option ℕ) → ArgumentsFollow macros env level call remaining (wanted call) [] remaining (to_expand 0 (chains_of call.macro) (parameter_names call.macro.kind) call.arguments)
+pub arguments_first : (macros : Macros) (env : Env) (level : ℕ) (invocation : Invocation) (remaining : Option ℕ) → ArgumentsFollow macros env level invocation remaining (wanted invocation) [] remaining (to_expand 0 (chains_of invocation.macro) (parameter_names invocation.macro.kind) invocation.arguments)
 unfolding wanted
-arguments_first macros env level call remaining = arguments_start macros env level call remaining (wanted call)
+arguments_first macros env level invocation remaining = arguments_start macros env level invocation remaining (wanted invocation)
 
 -- an argument's expansion, or its fault, from the outcome of its list
-module _ (macros : Macros) (env : Env) (level : ℕ) (head : Token) (remaining remaining_after : Option ℕ) (list tokens : List Hiding) where
+module _ (macros : Macros) (env : Env) (level : ℕ) (name_token : Token) (remaining remaining_after : Option ℕ) (list tokens : List Hiding) where
   at_level : (o : Option Fault) (one : ExpandsTo macros env (level + 1) remaining list (record { tokens = tokens; fault = o; remaining = remaining_after }))
       → Expands macros env (suc level) remaining one.0 list (record { tokens = tokens; fault = o; remaining = remaining_after })
   at_level o one = subst (λ n. Expands macros env n remaining one.0 list (record { tokens = tokens; fault = o; remaining = remaining_after })) (add-one level) one.1
 
-  pub argument_expands : level < 256 → ExpandsTo macros env (level + 1) remaining list (record { tokens = tokens; fault = None; remaining = remaining_after }) → ExpandsArgument macros env level head remaining list remaining_after (Ok tokens)
+  pub argument_expands : level < 256 → ExpandsTo macros env (level + 1) remaining list (record { tokens = tokens; fault = None; remaining = remaining_after }) → ExpandsArgument macros env level name_token remaining list remaining_after (Ok tokens)
   argument_expands low one = expands low (at_level None one)
 
-  pub argument_raises : (f : Fault) → level < 256 → ExpandsTo macros env (level + 1) remaining list (record { tokens = tokens; fault = Some f; remaining = remaining_after }) → ExpandsArgument macros env level head remaining list remaining_after (Err f)
+  pub argument_raises : (f : Fault) → level < 256 → ExpandsTo macros env (level + 1) remaining list (record { tokens = tokens; fault = Some f; remaining = remaining_after }) → ExpandsArgument macros env level name_token remaining list remaining_after (Err f)
   argument_raises f low one = raises low (at_level (Some f) one)
 
 -- ---- the argument of a parameter
@@ -76,9 +76,9 @@ rest-end cs (n ∷ names) given i (suc j) h = rest-end cs names given i j (omega
 
 -- the argument of the next parameter, which is appended to the expansions of the others, and the rest of the budget after it
 module _ (macros : Macros) (env : Env) (level : ℕ) (first remaining between : Option ℕ) (s u w : HideSetPool) (vs : List (Vec Hidden Global)) (cs : List Chain) (names : List Name) (i : ℕ)
-    (done items : List ArgumentExpansion) (call : Call) (all : List (Option (List Hiding))) where
+    (done items : List ArgumentExpansion) (invocation : Invocation) (all : List (Option (List Hiding))) where
   abbrev Here : Type 0
-  Here = ArgumentsFollow macros env level call first all (expanded_in u vs done) remaining (to_expand i cs (drop i names) (given_in s vs))
+  Here = ArgumentsFollow macros env level invocation first all (expanded_in u vs done) remaining (to_expand i cs (drop i names) (given_in s vs))
 
   abbrev Behind : List (Option (List Hiding))
   Behind = to_expand (i + 1) cs (drop (i + 1) names) (given_in s vs)
@@ -91,16 +91,16 @@ module _ (macros : Macros) (env : Env) (level : ℕ) (first remaining between : 
       ap (expanded_in x vs) appended ∙ expanded_in-push x vs done e ∙ ap (λ n. expanded_in x vs done ++ option_map (hidings x) (option_of (argument_at (lists_of vs) n) e) ∷ []) count
 
   pub follows_unused : i < length names → length done ≡ i → pre_expands i cs ≡ false → items ≡ done ++ Unused ∷ [] → Here
-      → ArgumentsFollow macros env level call first all (expanded_in u vs items) remaining Behind
+      → ArgumentsFollow macros env level invocation first all (expanded_in u vs items) remaining Behind
   follows_unused less count unused appended here =
-      let next : ArgumentsFollow macros env level call first all (expanded_in u vs done) remaining (None ∷ Behind) =
-      subst (ArgumentsFollow macros env level call first all (expanded_in u vs done) remaining) (rest-is cs names (given_in s vs) i false less unused) here in
-      subst (λ xs. ArgumentsFollow macros env level call first all xs remaining Behind) (sym (pushed u Unused count appended))
-      (arguments_unused macros env level call first all (expanded_in u vs done) remaining Behind next)
+      let next : ArgumentsFollow macros env level invocation first all (expanded_in u vs done) remaining (None ∷ Behind) =
+      subst (ArgumentsFollow macros env level invocation first all (expanded_in u vs done) remaining) (rest-is cs names (given_in s vs) i false less unused) here in
+      subst (λ xs. ArgumentsFollow macros env level invocation first all xs remaining Behind) (sym (pushed u Unused count appended))
+      (arguments_unused macros env level invocation first all (expanded_in u vs done) remaining Behind next)
 
-  is_next : i < length names → pre_expands i cs ≡ true → Here → ArgumentsFollow macros env level call first all (expanded_in u vs done) remaining (Some (hidings s argument) ∷ Behind)
+  is_next : i < length names → pre_expands i cs ≡ true → Here → ArgumentsFollow macros env level invocation first all (expanded_in u vs done) remaining (Some (hidings s argument) ∷ Behind)
   is_next less is_used here =
-      subst (ArgumentsFollow macros env level call first all (expanded_in u vs done) remaining)
+      subst (ArgumentsFollow macros env level invocation first all (expanded_in u vs done) remaining)
       (rest-is cs names (given_in s vs) i true less is_used ∙ ap (λ a. Some a ∷ Behind) (argument-in s vs i)) here
 
   pub follows_used : (e : ArgumentExpansion) (tokens : List Hiding) → i < length names → length done ≡ i → pre_expands i cs ≡ true → items ≡ done ++ e ∷ []
@@ -108,29 +108,29 @@ module _ (macros : Macros) (env : Env) (level : ℕ) (first remaining between : 
       → ListsKnown u vs
       → ExpansionsKnown u done
       → option_map (hidings w) (option_of argument e) ≡ Some tokens
-      → ExpandsArgument macros env level call.head.token remaining (hidings s argument) between (Ok tokens)
+      → ExpandsArgument macros env level invocation.name_token.token remaining (hidings s argument) between (Ok tokens)
       → Here
-      → ArgumentsFollow macros env level call first all (expanded_in w vs items) between Behind
+      → ArgumentsFollow macros env level invocation first all (expanded_in w vs items) between Behind
   follows_used e tokens less count is_used appended keeps known done_known here_is one here =
       let same : expanded_in w vs done ≡ expanded_in u vs done = expanded-keeps vs done keeps known done_known in
       let shown : expanded_in w vs items ≡ expanded_in u vs done ++ Some tokens ∷ [] = pushed w e count appended ∙ (λ j. same j ++ here_is j ∷ []) in
-      subst (λ xs. ArgumentsFollow macros env level call first all xs between Behind) (sym shown)
-      (arguments_used macros env level call first all (expanded_in u vs done) remaining between Behind (hidings s argument) tokens (is_next less is_used here) one)
+      subst (λ xs. ArgumentsFollow macros env level invocation first all xs between Behind) (sym shown)
+      (arguments_used macros env level invocation first all (expanded_in u vs done) remaining between Behind (hidings s argument) tokens (is_next less is_used here) one)
 
   pub follows_refused : (f : Fault) → i < length names → pre_expands i cs ≡ true
-      → ExpandsArgument macros env level call.head.token remaining (hidings s argument) between (Err f)
+      → ExpandsArgument macros env level invocation.name_token.token remaining (hidings s argument) between (Err f)
       → Here
-      → ExpandsArguments macros env level call first all between (Err f)
+      → ExpandsArguments macros env level invocation first all between (Err f)
   follows_refused f less is_used one here =
-      arguments_refused macros env level call first all (expanded_in u vs done) remaining between Behind (hidings s argument) f (is_next less is_used here) one
+      arguments_refused macros env level invocation first all (expanded_in u vs done) remaining between Behind (hidings s argument) f (is_next less is_used here) one
 
 pub follows_all : (macros : Macros) (env : Env) (level : ℕ) (first remaining : Option ℕ) (s u : HideSetPool) (vs : List (Vec Hidden Global)) (cs : List Chain) (names : List Name) (i : ℕ) (done : List ArgumentExpansion)
-    (call : Call) (all : List (Option (List Hiding)))
+    (invocation : Invocation) (all : List (Option (List Hiding)))
     → length names ≤ i
-    → ArgumentsFollow macros env level call first all (expanded_in u vs done) remaining (to_expand i cs (drop i names) (given_in s vs))
-    → ExpandsArguments macros env level call first all remaining (Ok (expanded_in u vs done))
-follows_all macros env level first remaining s u vs cs names i done call all end here = arguments_end macros env level call first all (expanded_in u vs done) remaining
-    (subst (ArgumentsFollow macros env level call first all (expanded_in u vs done) remaining) (rest-end cs names (given_in s vs) i i end) here)
+    → ArgumentsFollow macros env level invocation first all (expanded_in u vs done) remaining (to_expand i cs (drop i names) (given_in s vs))
+    → ExpandsArguments macros env level invocation first all remaining (Ok (expanded_in u vs done))
+follows_all macros env level first remaining s u vs cs names i done invocation all end here = arguments_end macros env level invocation first all (expanded_in u vs done) remaining
+    (subst (ArgumentsFollow macros env level invocation first all (expanded_in u vs done) remaining) (rest-end cs names (given_in s vs) i i end) here)
 
 -- the entry of a parameter says whether it is pre-expanded
 pub pre_expanded-alone : (pre_expanded shown : List Bool) (count i : ℕ) (cs ds : List Chain) (space : Bool)

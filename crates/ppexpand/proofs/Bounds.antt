@@ -4,7 +4,7 @@ use Rattle.ppmacro.specs.Names.{Macros}
 use Rattle.ppmacro.specs.Hiding.{Hiding}
 use Rattle.std.specs.Prelude.{List, ◌∷◌, Option}
 use Rattle.ppexpand.specs.declared.env.Env.{Env}
-use Rattle.ppexpand.specs.Expansion.{Outcome, Expands, emits, replaced, call_replaced}
+use Rattle.ppexpand.specs.Expansion.{Outcome, Expands, emits, replaced, invocation_replaced}
 use Rattle.ppexpand.specs.Laws.{Leads, by_emitting, by_replacing, by_invoking, LeadsOn, stays, steps, EndsWithin}
 use Rattle.ppexpand.proofs.Total.{HasOutcome, total}
 use Rattle.ppexpand.proofs.Unique.{same_outcome}
@@ -18,7 +18,7 @@ module _ (macros : Macros) (env : Env) (level : ℕ) where
   unfolding Takes
   before_turn n (by_emitting {t = t} e) h = (suc h.0, record { tokens = t ∷ h.1.tokens; fault = h.1.fault; remaining = h.1.remaining }, omega (arith, h.2), emits e h.3)
   before_turn n (by_replacing e) h = (suc h.0, h.1, omega (arith, h.2), replaced e h.3)
-  before_turn n (by_invoking e a f) h = (suc h.0, h.1, omega (arith, h.2), call_replaced e a f h.3)
+  before_turn n (by_invoking e a f) h = (suc h.0, h.1, omega (arith, h.2), invocation_replaced e a f h.3)
 
   before_turns : {n : ℕ} {remaining remaining_after : Option ℕ} {list last : List Hiding} → LeadsOn macros env level n remaining list remaining_after last → Takes n remaining list
   unfolding Takes

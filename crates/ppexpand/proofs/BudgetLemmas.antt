@@ -7,9 +7,9 @@ use Rattle.pptext.specs.declared.tokens.Fault.{Fault}
 use Rattle.ppmacro.specs.Names.{Macros}
 use Rattle.ppmacro.specs.Hiding.{Hiding}
 use Rattle.ppexpand.specs.declared.env.Env.{Env}
-use Rattle.ppexpand.specs.ExpansionStep.{Call, ExpansionStep, Done, Refused, Emits, Failed, Replaced, Called, expansion_step, wanted, fault_at_expansion, ExpandedArguments}
+use Rattle.ppexpand.specs.ExpansionStep.{Invocation, ExpansionStep, Done, Refused, Emits, Failed, Replaced, Invoked, expansion_step, wanted, fault_at_expansion, ExpandedArguments}
 use Rattle.ppexpand.specs.Budget.{in_budget, exhausted_step, spend_one}
-use Rattle.ppexpand.specs.Expansion.{Outcome, step_in_budget, Expands, done, refused, emits, failed, replaced, argument_refused, call_failed, call_replaced, ExpandsArguments, none, unused, too_deep, pre_expanded, pre_expansion_refused}
+use Rattle.ppexpand.specs.Expansion.{Outcome, step_in_budget, Expands, done, refused, emits, failed, replaced, argument_refused, invocation_failed, invocation_replaced, ExpandsArguments, none, unused, too_deep, pre_expanded, pre_expansion_refused}
 use Rattle.ppexpand.specs.Expansion.{count, count_arguments, IsExpansion, count_expansion}
 use Rattle.ppexpand.specs.Laws.{plus, IsPrefix, IsOver, IsCapped}
 use Rattle.ppexpand.proofs.Unique.{same_outcome}
@@ -19,7 +19,7 @@ use native.Mathlib.Decide.{dec_lt}
 abbrev pub Costs : ExpansionStep → Type 0
 Costs (Failed f) = Unit {0}
 Costs (Replaced next) = Unit {0}
-Costs (Called call) = Unit {0}
+Costs (Invoked invocation) = Unit {0}
 Costs _ = ⊥
 
 -- a step that costs nothing
@@ -39,7 +39,7 @@ never_both (Refused g) f c = c
 never_both (Emits t rest) f c = c
 never_both (Failed g) f c = f
 never_both (Replaced next) f c = f
-never_both (Called call) f c = f
+never_both (Invoked invocation) f c = f
 
 pub nothing_is_free : (list : List Hiding) (t : ExpansionStep) → IsFree (in_budget (Some zero) list t)
 nothing_is_free list Done = tt
@@ -47,7 +47,7 @@ nothing_is_free list (Refused f) = tt
 nothing_is_free list (Emits t rest) = tt
 nothing_is_free list (Failed f) = over_is_free list
 nothing_is_free list (Replaced next) = over_is_free list
-nothing_is_free list (Called call) = over_is_free list
+nothing_is_free list (Invoked invocation) = over_is_free list
 
 -- a step that costs nothing is the same with any budget
 pub free_within : (remaining : Option ℕ) (list : List Hiding) (t : ExpansionStep) → IsFree t → in_budget remaining list t ≡ t
@@ -58,7 +58,7 @@ free_within (Some zero) list (Refused f) h = refl
 free_within (Some zero) list (Emits t rest) h = refl
 free_within (Some zero) list (Failed f) h = absurd h
 free_within (Some zero) list (Replaced next) h = absurd h
-free_within (Some zero) list (Called call) h = absurd h
+free_within (Some zero) list (Invoked invocation) h = absurd h
 
 over_within : (list : List Hiding) (t : ExpansionStep) → Costs t → in_budget (Some zero) list t ≡ exhausted_step list
 over_within list Done h = absurd h
@@ -66,7 +66,7 @@ over_within list (Refused f) h = absurd h
 over_within list (Emits t rest) h = absurd h
 over_within list (Failed f) h = refl
 over_within list (Replaced next) h = refl
-over_within list (Called call) h = refl
+over_within list (Invoked invocation) h = refl
 
 -- this much was spent
 pub plus-plus : (m n : ℕ) (remaining : Option ℕ) → plus m (plus n remaining) ≡ plus (m + n) remaining
@@ -133,13 +133,13 @@ module _ (macros : Macros) (env : Env) where
     spends (emits e more) = spends more
     spends {remaining = remaining} {list = list} (failed {f = f} e) = pays remaining list (Failed f) tt e
     spends {remaining = remaining} {list = list} {out = out} (replaced {next = next} e more) = paid_then remaining list (Replaced next) tt e (count macros env more) out.remaining (spends more)
-    spends {remaining = remaining} {list = list} (argument_refused {remaining_after = remaining_after} {call = call} e a) = paid_then remaining list (Called call) tt e (count_arguments macros env a) remaining_after (spends_arguments a)
-    spends {remaining = remaining} {list = list} (call_failed {remaining_after = remaining_after} {call = call} e a f) = paid_then remaining list (Called call) tt e (count_arguments macros env a) remaining_after (spends_arguments a)
-    spends {remaining = remaining} {list = list} {out = out} (call_replaced {call = call} e a f more) =
-        paid_then remaining list (Called call) tt e (count_arguments macros env a + count macros env more) out.remaining
+    spends {remaining = remaining} {list = list} (argument_refused {remaining_after = remaining_after} {invocation = invocation} e a) = paid_then remaining list (Invoked invocation) tt e (count_arguments macros env a) remaining_after (spends_arguments a)
+    spends {remaining = remaining} {list = list} (invocation_failed {remaining_after = remaining_after} {invocation = invocation} e a f) = paid_then remaining list (Invoked invocation) tt e (count_arguments macros env a) remaining_after (spends_arguments a)
+    spends {remaining = remaining} {list = list} {out = out} (invocation_replaced {invocation = invocation} e a f more) =
+        paid_then remaining list (Invoked invocation) tt e (count_arguments macros env a + count macros env more) out.remaining
         (spends_arguments a ∙ ap (plus (count_arguments macros env a)) (spends more) ∙ plus-plus (count_arguments macros env a) (count macros env more) out.remaining)
 
-    pub spends_arguments : {level : ℕ} {call : Call} {remaining remaining_after : Option ℕ} {as' : List (Option (List Hiding))} {r : ExpandedArguments} (a : ExpandsArguments macros env level call remaining as' remaining_after r)
+    pub spends_arguments : {level : ℕ} {invocation : Invocation} {remaining remaining_after : Option ℕ} {as' : List (Option (List Hiding))} {r : ExpandedArguments} (a : ExpandsArguments macros env level invocation remaining as' remaining_after r)
         → remaining ≡ plus (count_arguments macros env a) remaining_after
     spends_arguments {remaining = remaining} none = plus-nothing remaining
     spends_arguments (unused more) = spends_arguments more
@@ -161,7 +161,7 @@ module _ (macros : Macros) (env : Env) where
       → remaining_after ≡ None
   remaining_none {remaining_after = remaining_after} is d = plus-none (count macros env d) remaining_after (sym is ∙ spends d)
 
-  pub arguments_none : {level : ℕ} {call : Call} {remaining remaining_after : Option ℕ} {as' : List (Option (List Hiding))} {r : ExpandedArguments} → remaining ≡ None → ExpandsArguments macros env level call remaining as' remaining_after r → remaining_after ≡ None
+  pub arguments_none : {level : ℕ} {invocation : Invocation} {remaining remaining_after : Option ℕ} {as' : List (Option (List Hiding))} {r : ExpandedArguments} → remaining ≡ None → ExpandsArguments macros env level invocation remaining as' remaining_after r → remaining_after ≡ None
   arguments_none {remaining_after = remaining_after} is a = plus-none (count_arguments macros env a) remaining_after (sym is ∙ spends_arguments a)
 
   remaining_rest : {level steps : ℕ} {remaining remaining_after : Option ℕ} {list tokens : List Hiding} {fault : Option Fault} (b m : ℕ) → Covers remaining b
@@ -170,8 +170,8 @@ module _ (macros : Macros) (env : Env) where
       → Covers remaining_after m
   remaining_rest {remaining_after = remaining_after} b m is d sum = covers_rest remaining_after (count macros env d) m is (spends d) sum
 
-  arguments_rest : {level : ℕ} {call : Call} {remaining remaining_after : Option ℕ} {as' : List (Option (List Hiding))} {r : ExpandedArguments} (b m : ℕ) → Covers remaining b
-      → (a : ExpandsArguments macros env level call remaining as' remaining_after r)
+  arguments_rest : {level : ℕ} {invocation : Invocation} {remaining remaining_after : Option ℕ} {as' : List (Option (List Hiding))} {r : ExpandedArguments} (b m : ℕ) → Covers remaining b
+      → (a : ExpandsArguments macros env level invocation remaining as' remaining_after r)
       → b ≡ count_arguments macros env a + m
       → Covers remaining_after m
   arguments_rest {remaining_after = remaining_after} b m is a sum = covers_rest remaining_after (count_arguments macros env a) m is (spends_arguments a) sum
@@ -198,26 +198,26 @@ module _ (macros : Macros) (env : Env) where
         subst (λ x. Expands macros env level (Some (suc b)) 0 list (record { tokens = []; fault = Some f; remaining = Some x })) same (failed (paid list is (Failed f) e tt))
     enough zero is (replaced {next = next} e more) n sum = absurd (omega arith)
     enough {list = list} (suc b) is (replaced {next = next} e more) n sum = replaced (paid list is (Replaced next) e tt) (enough b (covers_less is) more n (omega arith))
-    enough zero is (argument_refused {call = call} e a) n sum = absurd (omega arith)
-    enough {list = list} (suc b) is (argument_refused {call = call} e a) n sum = argument_refused (paid list is (Called call) e tt) (enough_arguments b (covers_less is) a n (omega arith))
-    enough zero is (call_failed {call = call} e a f) n sum = absurd (omega arith)
-    enough {list = list} (suc b) is (call_failed {call = call} e a f) n sum = call_failed (paid list is (Called call) e tt) (enough_arguments b (covers_less is) a n (omega arith)) f
-    enough zero is (call_replaced {call = call} e a f more) n sum = absurd (omega arith)
-    enough {list = list} (suc b) is (call_replaced {call = call} e a f more) n sum =
+    enough zero is (argument_refused {invocation = invocation} e a) n sum = absurd (omega arith)
+    enough {list = list} (suc b) is (argument_refused {invocation = invocation} e a) n sum = argument_refused (paid list is (Invoked invocation) e tt) (enough_arguments b (covers_less is) a n (omega arith))
+    enough zero is (invocation_failed {invocation = invocation} e a f) n sum = absurd (omega arith)
+    enough {list = list} (suc b) is (invocation_failed {invocation = invocation} e a f) n sum = invocation_failed (paid list is (Invoked invocation) e tt) (enough_arguments b (covers_less is) a n (omega arith)) f
+    enough zero is (invocation_replaced {invocation = invocation} e a f more) n sum = absurd (omega arith)
+    enough {list = list} (suc b) is (invocation_replaced {invocation = invocation} e a f more) n sum =
         let k = count macros env more in
-        call_replaced (paid list is (Called call) e tt) (enough_arguments b (covers_less is) a (k + n) (omega arith)) f (enough (k + n) (arguments_rest b (k + n) (covers_less is) a (omega arith)) more n refl)
+        invocation_replaced (paid list is (Invoked invocation) e tt) (enough_arguments b (covers_less is) a (k + n) (omega arith)) f (enough (k + n) (arguments_rest b (k + n) (covers_less is) a (omega arith)) more n refl)
 
-    pub enough_arguments : {level : ℕ} {call : Call} {remaining remaining_after : Option ℕ} {as' : List (Option (List Hiding))} {r : ExpandedArguments} (b : ℕ) → Covers remaining b
-        → (a : ExpandsArguments macros env level call remaining as' remaining_after r) (n : ℕ)
+    pub enough_arguments : {level : ℕ} {invocation : Invocation} {remaining remaining_after : Option ℕ} {as' : List (Option (List Hiding))} {r : ExpandedArguments} (b : ℕ) → Covers remaining b
+        → (a : ExpandsArguments macros env level invocation remaining as' remaining_after r) (n : ℕ)
         → b ≡ count_arguments macros env a + n
-        → ExpandsArguments macros env level call (Some b) as' (Some n) r
-    enough_arguments {level = level} {call = call} b is none n sum =
+        → ExpandsArguments macros env level invocation (Some b) as' (Some n) r
+    enough_arguments {level = level} {invocation = invocation} b is none n sum =
         let same : b ≡ n = omega arith in
-        subst (λ x. ExpandsArguments macros env level call (Some b) [] (Some x) (Ok [])) same none
+        subst (λ x. ExpandsArguments macros env level invocation (Some b) [] (Some x) (Ok [])) same none
     enough_arguments b is (unused more) n sum = unused (enough_arguments b is more n sum)
-    enough_arguments {level = level} {call = call} {as' = as'} b is (too_deep h) n sum =
+    enough_arguments {level = level} {invocation = invocation} {as' = as'} b is (too_deep h) n sum =
         let same : b ≡ n = omega arith in
-        subst (λ x. ExpandsArguments macros env level call (Some b) as' (Some x) (Err (fault_at_expansion 21 call.head))) same (too_deep h)
+        subst (λ x. ExpandsArguments macros env level invocation (Some b) as' (Some x) (Err (fault_at_expansion 21 invocation.name_token))) same (too_deep h)
     enough_arguments b is (pre_expanded h one more) n sum =
         let k = count_arguments macros env more in
         pre_expanded h (enough b is one (k + n) (omega arith)) (enough_arguments (k + n) (remaining_rest b (k + n) is one (omega arith)) more n refl)
@@ -228,8 +228,8 @@ module _ (macros : Macros) (env : Env) where
   abbrev pub Stops : ℕ → ℕ → List Hiding → Outcome → Type 0
   Stops level b list whole = (steps : ℕ) × (out : Outcome) × Expands macros env level (Some b) steps list out × IsPrefix out.tokens whole.tokens × IsOver out
 
-  abbrev pub ArgumentsStop : ℕ → Call → ℕ → List (Option (List Hiding)) → Type 0
-  ArgumentsStop level call b as' = (f : Fault) × (f.number ≡ 35) × ExpandsArguments macros env level call (Some b) as' (Some 0) (Err f)
+  abbrev pub ArgumentsStop : ℕ → Invocation → ℕ → List (Option (List Hiding)) → Type 0
+  ArgumentsStop level invocation b as' = (f : Fault) × (f.number ≡ 35) × ExpandsArguments macros env level invocation (Some b) as' (Some 0) (Err f)
 
   pub stops_here : {level : ℕ} (list : List Hiding) (whole : Outcome) (t : ExpansionStep) → expansion_step macros env list ≡ t → Costs t → Stops level 0 list whole
   unfolding expansion_step
@@ -249,11 +249,11 @@ module _ (macros : Macros) (env : Env) where
   stops_passed {t = t} whole e s =
       (suc s.0, record { tokens = t ∷ s.1.tokens; fault = s.1.fault; remaining = s.1.remaining }, emits e s.2, (s.3.0, ap (λ xs. t ∷ xs) s.3.1), record { fault = s.4.fault; is = s.4.is; number = s.4.number; remaining = s.4.remaining })
 
-  pub stops_argument : {level b : ℕ} {list : List Hiding} {call : Call} (whole : Outcome) → expansion_step macros env list ≡ Called call → ArgumentsStop level call b (wanted call) → Stops level (suc b) list whole
+  pub stops_argument : {level b : ℕ} {list : List Hiding} {invocation : Invocation} (whole : Outcome) → expansion_step macros env list ≡ Invoked invocation → ArgumentsStop level invocation b (wanted invocation) → Stops level (suc b) list whole
   stops_argument whole e s =
       (0, record { tokens = []; fault = Some s.0; remaining = Some 0 }, argument_refused e s.2, (whole.tokens, refl), record { fault = s.0; is = refl; number = s.1; remaining = refl })
 
-  pub stops_used : {level b : ℕ} {call : Call} {list : List Hiding} {rest : List (Option (List Hiding))} (whole : Outcome) → level < 256 → Stops (suc level) b list whole → ArgumentsStop level call b (Some list ∷ rest)
+  pub stops_used : {level b : ℕ} {invocation : Invocation} {list : List Hiding} {rest : List (Option (List Hiding))} (whole : Outcome) → level < 256 → Stops (suc level) b list whole → ArgumentsStop level invocation b (Some list ∷ rest)
   stops_used {level = level} {b = b} {list = list} whole h s =
       let o = s.4 in
       (o.fault, o.number, pre_expansion_refused h (subst (λ x. Expands macros env (suc level) (Some b) s.0 list x) (λ i. record { tokens = s.1.tokens; fault = o.is i; remaining = o.remaining i }) s.2))
@@ -272,32 +272,32 @@ module _ (macros : Macros) (env : Env) where
     short {list = list} (suc b) is (replaced {next = next} e more) h =
         let s = short b (covers_less is) more (omega arith) in
         (suc s.0, s.1, replaced (paid list is (Replaced next) e tt) s.2, s.3, s.4)
-    short {list = list} {out = out} zero is (argument_refused {call = call} e a) h = stops_here list out (Called call) (paid list is (Called call) e tt) tt
-    short {list = list} {out = out} (suc b) is (argument_refused {call = call} e a) h = stops_argument out (paid list is (Called call) e tt) (short_arguments b (covers_less is) a (omega arith))
-    short {list = list} {out = out} zero is (call_failed {call = call} e a f) h = stops_here list out (Called call) (paid list is (Called call) e tt) tt
-    short {list = list} {out = out} (suc b) is (call_failed {call = call} e a f) h = stops_argument out (paid list is (Called call) e tt) (short_arguments b (covers_less is) a (omega arith))
-    short {list = list} {out = out} zero is (call_replaced {call = call} e a f more) h = stops_here list out (Called call) (paid list is (Called call) e tt) tt
-    short {level = level} {list = list} {out = out} (suc b) is (call_replaced {call = call} e a f more) h =
+    short {list = list} {out = out} zero is (argument_refused {invocation = invocation} e a) h = stops_here list out (Invoked invocation) (paid list is (Invoked invocation) e tt) tt
+    short {list = list} {out = out} (suc b) is (argument_refused {invocation = invocation} e a) h = stops_argument out (paid list is (Invoked invocation) e tt) (short_arguments b (covers_less is) a (omega arith))
+    short {list = list} {out = out} zero is (invocation_failed {invocation = invocation} e a f) h = stops_here list out (Invoked invocation) (paid list is (Invoked invocation) e tt) tt
+    short {list = list} {out = out} (suc b) is (invocation_failed {invocation = invocation} e a f) h = stops_argument out (paid list is (Invoked invocation) e tt) (short_arguments b (covers_less is) a (omega arith))
+    short {list = list} {out = out} zero is (invocation_replaced {invocation = invocation} e a f more) h = stops_here list out (Invoked invocation) (paid list is (Invoked invocation) e tt) tt
+    short {level = level} {list = list} {out = out} (suc b) is (invocation_replaced {invocation = invocation} e a f more) h =
         elim (dec_lt b (count_arguments macros env a)) [
-          | yes less ↦ stops_argument out (paid list is (Called call) e tt) (short_arguments b (covers_less is) a less)
+          | yes less ↦ stops_argument out (paid list is (Invoked invocation) e tt) (short_arguments b (covers_less is) a less)
           | no not_less ↦
               (let m = count_arguments macros env a in
               let n = b - m in
               let sum : m + n ≡ b = omega arith in
               let s = short n (arguments_rest b n (covers_less is) a (sym sum)) more (omega arith) in
-              (suc s.0, s.1, call_replaced {steps = s.0} {out = s.1} (paid list is (Called call) e tt) (enough_arguments b (covers_less is) a n (sym sum)) f s.2, s.3, s.4))
+              (suc s.0, s.1, invocation_replaced {steps = s.0} {out = s.1} (paid list is (Invoked invocation) e tt) (enough_arguments b (covers_less is) a n (sym sum)) f s.2, s.3, s.4))
         ]
 
-    pub short_arguments : {level : ℕ} {call : Call} {remaining remaining_after : Option ℕ} {as' : List (Option (List Hiding))} {r : ExpandedArguments} (b : ℕ) → Covers remaining b
-        → (a : ExpandsArguments macros env level call remaining as' remaining_after r)
+    pub short_arguments : {level : ℕ} {invocation : Invocation} {remaining remaining_after : Option ℕ} {as' : List (Option (List Hiding))} {r : ExpandedArguments} (b : ℕ) → Covers remaining b
+        → (a : ExpandsArguments macros env level invocation remaining as' remaining_after r)
         → b < count_arguments macros env a
-        → ArgumentsStop level call b as'
+        → ArgumentsStop level invocation b as'
     short_arguments b is none h = absurd (omega arith)
     short_arguments b is (unused more) h =
         let s = short_arguments b is more h in
         (s.0, s.1, unused s.2)
     short_arguments b is (too_deep deep) h = absurd (omega arith)
-    short_arguments {level = level} {call = call} {as' = as'} b is (pre_expanded {between = between} {tokens = tokens} low one more) h =
+    short_arguments {level = level} {invocation = invocation} {as' = as'} b is (pre_expanded {between = between} {tokens = tokens} low one more) h =
         elim (dec_lt b (count macros env one)) [
           | yes less ↦ stops_used (record { tokens = tokens; fault = None; remaining = between }) low (short b is one less)
           | no not_less ↦

@@ -7,11 +7,11 @@ use Rattle.ppmacro.specs.Hiding.{Hiding}
 use Rattle.ppmacro.specs.HideSets.{hidings}
 use Rattle.ppmacro.specs.declared.hidden_token.Hidden.{Hidden}
 use Rattle.ppexpand.specs.declared.env.Env.{Env}
-use Rattle.ppexpand.specs.declared.expand_step.Invocation.{Invocation}
-use Rattle.ppexpand.specs.ExpansionStep.{Call, ExpansionStep, Failed, Replaced, Called, wanted, ExpandedArguments, with_expanded}
+use Rattle.ppexpand.specs.declared.expand_step.Invocation.{Invocation as CodeInvocation}
+use Rattle.ppexpand.specs.ExpansionStep.{Invocation, ExpansionStep, Failed, Replaced, Invoked, wanted, ExpandedArguments, with_expanded}
 use Rattle.ppexpand.specs.Budget.{spend_one}
-use Rattle.ppexpand.specs.Expansion.{Outcome, step_in_budget, Expands, ExpandsTo, ExpandsArguments, argument_refused, call_failed, call_replaced, none, unused, too_deep, pre_expanded, pre_expansion_refused}
-use Rattle.ppexpand.specs.code.ProgramValues.{Advances, EndsWith, HasAdvanced, HasEnded, HasTaken, HasCalled, CallStepsTo, refuses, finishes, ExpandsArgument, expands, raises, deep}
+use Rattle.ppexpand.specs.Expansion.{Outcome, step_in_budget, Expands, ExpandsTo, ExpandsArguments, argument_refused, invocation_failed, invocation_replaced, none, unused, too_deep, pre_expanded, pre_expansion_refused}
+use Rattle.ppexpand.specs.code.ProgramValues.{Advances, EndsWith, HasAdvanced, HasEnded, HasTaken, HasInvoked, ClosedStepsTo, refuses, finishes, ExpandsArgument, expands, raises, deep}
 use Rattle.ppexpand.proofs.Total.{total}
 use Rattle.ppexpand.proofs.Unique.{same_outcome}
 
@@ -74,34 +74,34 @@ module _ (macros : Macros) (env : Env) (level : ℕ) where
 
 -- ---- the step of an invocation
 
-module _ (macros : Macros) (env : Env) (level : ℕ) (remaining : Option ℕ) (list : List Hiding) (call : Call) (found : step_in_budget macros env remaining list ≡ Called call) where
-  call_ends : {remaining_after : Option ℕ} {t : ExpansionStep} → CallStepsTo macros env level call (spend_one remaining) remaining_after t → (f : Fault) → t ≡ Failed f → EndsWith macros env level remaining list (Some f) remaining_after
-  call_ends {remaining_after} (refuses args) f e =
-      argument_refused found (subst (λ g. ExpandsArguments macros env level call (spend_one remaining) (wanted call) remaining_after (Err g)) (let same : _ ≡ f = cc e in same) args)
-  call_ends (finishes args) f e = call_failed found args e
+module _ (macros : Macros) (env : Env) (level : ℕ) (remaining : Option ℕ) (list : List Hiding) (invocation : Invocation) (found : step_in_budget macros env remaining list ≡ Invoked invocation) where
+  invocation_ends : {remaining_after : Option ℕ} {t : ExpansionStep} → ClosedStepsTo macros env level invocation (spend_one remaining) remaining_after t → (f : Fault) → t ≡ Failed f → EndsWith macros env level remaining list (Some f) remaining_after
+  invocation_ends {remaining_after} (refuses args) f e =
+      argument_refused found (subst (λ g. ExpandsArguments macros env level invocation (spend_one remaining) (wanted invocation) remaining_after (Err g)) (let same : _ ≡ f = cc e in same) args)
+  invocation_ends (finishes args) f e = invocation_failed found args e
 
-  call_goes_on : {remaining_after : Option ℕ} {t : ExpansionStep} → CallStepsTo macros env level call (spend_one remaining) remaining_after t → (next : List Hiding) → t ≡ Replaced next → Advances macros env level remaining list remaining_after next []
-  call_goes_on (refuses args) next e = absurd (cc e)
-  call_goes_on (finishes args) next e = record { expansion_step = λ n out d. call_replaced found args e d }
+  invocation_goes_on : {remaining_after : Option ℕ} {t : ExpansionStep} → ClosedStepsTo macros env level invocation (spend_one remaining) remaining_after t → (next : List Hiding) → t ≡ Replaced next → Advances macros env level remaining list remaining_after next []
+  invocation_goes_on (refuses args) next e = absurd (cc e)
+  invocation_goes_on (finishes args) next e = record { expansion_step = λ n out d. invocation_replaced found args e d }
 
-  -- the call is replaced, and the list goes on
-  pub call_taken : (s : HideSetPool) (hs : List Hidden) (emitted more : List Hiding) (remaining_after : Option ℕ) → more ≡ emitted
-      → CallStepsTo macros env level call (spend_one remaining) remaining_after (Replaced (hidings s hs))
+  -- the invocation is replaced, and the list goes on
+  pub invocation_taken : (s : HideSetPool) (hs : List Hidden) (emitted more : List Hiding) (remaining_after : Option ℕ) → more ≡ emitted
+      → ClosedStepsTo macros env level invocation (spend_one remaining) remaining_after (Replaced (hidings s hs))
       → HasAdvanced macros env level remaining list emitted remaining_after (hidings s hs) more
-  call_taken s hs emitted more remaining_after same h = ([], same ∙ sym (append-nil emitted), call_goes_on h (hidings s hs) refl)
+  invocation_taken s hs emitted more remaining_after same h = ([], same ∙ sym (append-nil emitted), invocation_goes_on h (hidings s hs) refl)
 
-  -- the call fails, and the list ends
-  pub call_raises : (emitted more : List Hiding) (f : Fault) (remaining_after : Option ℕ) → more ≡ emitted
-      → CallStepsTo macros env level call (spend_one remaining) remaining_after (Failed f)
+  -- the invocation fails, and the list ends
+  pub invocation_raises : (emitted more : List Hiding) (f : Fault) (remaining_after : Option ℕ) → more ≡ emitted
+      → ClosedStepsTo macros env level invocation (spend_one remaining) remaining_after (Failed f)
       → HasEnded macros env level remaining list emitted (Some f) remaining_after more
-  call_raises emitted more f remaining_after same h = (call_ends h f refl, same)
+  invocation_raises emitted more f remaining_after same h = (invocation_ends h f refl, same)
 
 -- a step that raises a fault is no invocation
-pub begun_raises : (macros : Macros) (env : Env) (level : ℕ) (remaining : Option ℕ) (list emitted : List Hiding) (found : Option Invocation) (call : Invocation → Call) (f : Fault) (remaining_after : Option ℕ) (next more : List Hiding)
-    → MatchOption found ((level : ℕ) → HasTaken macros env level remaining list emitted (Err f) remaining_after next more) (λ c. HasCalled macros env remaining list emitted (call c) (Err f) remaining_after more)
+pub begun_raises : (macros : Macros) (env : Env) (level : ℕ) (remaining : Option ℕ) (list emitted : List Hiding) (found : Option CodeInvocation) (invocation : CodeInvocation → Invocation) (f : Fault) (remaining_after : Option ℕ) (next more : List Hiding)
+    → MatchOption found ((level : ℕ) → HasTaken macros env level remaining list emitted (Err f) remaining_after next more) (λ c. HasInvoked macros env remaining list emitted (invocation c) (Err f) remaining_after more)
     → HasTaken macros env level remaining list emitted (Err f) remaining_after next more
-begun_raises macros env level remaining list emitted None call f remaining_after next more h = h level
-begun_raises macros env level remaining list emitted (Some c) call f remaining_after next more h = absurd (cc h.1)
+begun_raises macros env level remaining list emitted None invocation f remaining_after next more h = h level
+begun_raises macros env level remaining list emitted (Some c) invocation f remaining_after next more h = absurd (cc h.1)
 
 -- what is done of the arguments, before the rest
 abbrev pub before_rest : List (Option (List Hiding)) → ExpandedArguments → ExpandedArguments
@@ -112,10 +112,10 @@ before_rest-more : (so_far : List (Option (List Hiding))) (a : Option (List Hidi
 before_rest-more so_far a (Ok as') = ap Ok (sym (append_assoc so_far (a ∷ []) as'))
 before_rest-more so_far a (Err fault) = refl
 
-module _ (macros : Macros) (env : Env) (level : ℕ) (call : Call) where
+module _ (macros : Macros) (env : Env) (level : ℕ) (invocation : Invocation) where
   -- the rest of the arguments decides the whole
   abbrev pub ArgumentsFollow : Option ℕ → List (Option (List Hiding)) → List (Option (List Hiding)) → Option ℕ → List (Option (List Hiding)) → Type 0
-  ArgumentsFollow first all so_far remaining rest = (remaining_after : Option ℕ) (r : ExpandedArguments) → ExpandsArguments macros env level call remaining rest remaining_after r → ExpandsArguments macros env level call first all remaining_after (before_rest so_far r)
+  ArgumentsFollow first all so_far remaining rest = (remaining_after : Option ℕ) (r : ExpandedArguments) → ExpandsArguments macros env level invocation remaining rest remaining_after r → ExpandsArguments macros env level invocation first all remaining_after (before_rest so_far r)
 
   pub arguments_start : (remaining : Option ℕ) (all : List (Option (List Hiding))) → ArgumentsFollow remaining all [] remaining all
   arguments_start remaining all remaining_after (Ok as') d = d
@@ -124,21 +124,21 @@ module _ (macros : Macros) (env : Env) (level : ℕ) (call : Call) where
   pub arguments_unused : (first : Option ℕ) (all so_far : List (Option (List Hiding))) (remaining : Option ℕ) (rest : List (Option (List Hiding)))
       → ArgumentsFollow first all so_far remaining (None ∷ rest)
       → ArgumentsFollow first all (so_far ++ None ∷ []) remaining rest
-  arguments_unused first all so_far remaining rest h remaining_after r d = subst (ExpandsArguments macros env level call first all remaining_after) (before_rest-more so_far None r) (h remaining_after (with_expanded None r) (unused d))
+  arguments_unused first all so_far remaining rest h remaining_after r d = subst (ExpandsArguments macros env level invocation first all remaining_after) (before_rest-more so_far None r) (h remaining_after (with_expanded None r) (unused d))
 
   pub arguments_used : (first : Option ℕ) (all so_far : List (Option (List Hiding))) (remaining between : Option ℕ) (rest : List (Option (List Hiding))) (list tokens : List Hiding)
       → ArgumentsFollow first all so_far remaining (Some list ∷ rest)
-      → ExpandsArgument macros env level call.head.token remaining list between (Ok tokens)
+      → ExpandsArgument macros env level invocation.name_token.token remaining list between (Ok tokens)
       → ArgumentsFollow first all (so_far ++ Some tokens ∷ []) between rest
   arguments_used first all so_far remaining between rest list tokens h (expands low one) remaining_after r d =
-      subst (ExpandsArguments macros env level call first all remaining_after) (before_rest-more so_far (Some tokens) r) (h remaining_after (with_expanded (Some tokens) r) (pre_expanded low one d))
+      subst (ExpandsArguments macros env level invocation first all remaining_after) (before_rest-more so_far (Some tokens) r) (h remaining_after (with_expanded (Some tokens) r) (pre_expanded low one d))
 
   pub arguments_refused : (first : Option ℕ) (all so_far : List (Option (List Hiding))) (remaining remaining_after : Option ℕ) (rest : List (Option (List Hiding))) (list : List Hiding) (f : Fault)
       → ArgumentsFollow first all so_far remaining (Some list ∷ rest)
-      → ExpandsArgument macros env level call.head.token remaining list remaining_after (Err f)
-      → ExpandsArguments macros env level call first all remaining_after (Err f)
+      → ExpandsArgument macros env level invocation.name_token.token remaining list remaining_after (Err f)
+      → ExpandsArguments macros env level invocation first all remaining_after (Err f)
   arguments_refused first all so_far remaining remaining_after rest list f h (raises low one) = h remaining_after (Err f) (pre_expansion_refused low one)
   arguments_refused first all so_far remaining remaining_after rest list f h (deep high) = h remaining (Err f) (too_deep high)
 
-  pub arguments_end : (first : Option ℕ) (all so_far : List (Option (List Hiding))) (remaining : Option ℕ) → ArgumentsFollow first all so_far remaining [] → ExpandsArguments macros env level call first all remaining (Ok so_far)
+  pub arguments_end : (first : Option ℕ) (all so_far : List (Option (List Hiding))) (remaining : Option ℕ) → ArgumentsFollow first all so_far remaining [] → ExpandsArguments macros env level invocation first all remaining (Ok so_far)
   arguments_end first all so_far remaining h = rw (append-nil so_far) at (h remaining (Ok []) none)

@@ -16,9 +16,9 @@ use Rattle.ppmacro.specs.declared.macros.MacroKind.{MacroKind}
 use Rattle.ppmacro.specs.declared.macros.MacroKind.TheVariants.{Predefined, ObjectLike, FunctionLike}
 use Rattle.ppexpand.specs.declared.env.Env.{Env}
 use Rattle.ppexpand.specs.Arguments.{is_open, Gathered, Closed, UnmatchedQuote, Unclosed, gather, separators, fit_arguments}
-use Rattle.ppexpand.specs.ExpansionStep.{ExpansionStep, Done, Refused, Emits, Failed, Replaced, Called, expansion_step, macro_of, quote_fault, named_step, macro_step, function_step, invocation_step, call_step, replaced_by}
+use Rattle.ppexpand.specs.ExpansionStep.{ExpansionStep, Done, Refused, Emits, Failed, Replaced, Invoked, expansion_step, macro_of, quote_fault, named_step, macro_step, function_step, invocation_step, closed_invocation_step, replaced_by}
 use Rattle.ppexpand.specs.Budget.{exhausted_step, in_budget}
-use Rattle.ppexpand.specs.Expansion.{Outcome, Expands, done, refused, emits, failed, replaced, argument_refused, call_failed, call_replaced}
+use Rattle.ppexpand.specs.Expansion.{Outcome, Expands, done, refused, emits, failed, replaced, argument_refused, invocation_failed, invocation_replaced}
 use Rattle.ppexpand.specs.Laws.{is_fully_expanded, is_always_replaced}
 
 module _ (macros : Macros) (env : Env) where
@@ -38,7 +38,7 @@ module _ (macros : Macros) (env : Env) where
   invoked_settles : (t : Hiding) (d : Macro) (names : List Name) (variadic : Variadic) (g : Gathered) → Settles (invocation_step t d names variadic g)
   invoked_settles t d names variadic (Closed as' close following) = by_count (fit_arguments names variadic as')
     where
-      by_count : (o : Option (List (List Hiding))) → Settles (call_step t d o close following)
+      by_count : (o : Option (List (List Hiding))) → Settles (closed_invocation_step t d o close following)
       by_count (Some bs) = tt
       by_count None = tt
   invoked_settles t d names variadic (UnmatchedQuote q) = tt
@@ -85,7 +85,7 @@ module _ (macros : Macros) (env : Env) where
   within_settles (Some zero) list (Emits t rest) h = h
   within_settles (Some zero) list (Failed f) h = over_settles list
   within_settles (Some zero) list (Replaced next) h = over_settles list
-  within_settles (Some zero) list (Called call) h = over_settles list
+  within_settles (Some zero) list (Invoked invocation) h = over_settles list
 
   pub all_settled : {level n : ℕ} {remaining : Option ℕ} {list : List Hiding} {out : Outcome} → Expands macros env level remaining n list out → AllPass (is_fully_expanded macros) out.tokens
   all_settled (done e) = All-nil (λ x. is_fully_expanded macros x ≡ true)
@@ -96,5 +96,5 @@ module _ (macros : Macros) (env : Env) where
   all_settled (failed e) = All-nil (λ x. is_fully_expanded macros x ≡ true)
   all_settled (replaced e d) = all_settled d
   all_settled (argument_refused e a) = All-nil (λ x. is_fully_expanded macros x ≡ true)
-  all_settled (call_failed e a f) = All-nil (λ x. is_fully_expanded macros x ≡ true)
-  all_settled (call_replaced e a f d) = all_settled d
+  all_settled (invocation_failed e a f) = All-nil (λ x. is_fully_expanded macros x ≡ true)
+  all_settled (invocation_replaced e a f d) = all_settled d

@@ -9,12 +9,12 @@ use Rattle.ppmacro.specs.Substitution.{argument_at, expanded_at}
 use Rattle.ppmacro.specs.Substituting.{lists_of, option_of, options_of, ListsKnown, ArgumentsKnown}
 use Rattle.ppmacro.specs.declared.hidden_token.Hidden.{Hidden}
 use Rattle.ppmacro.specs.declared.hidden_token.ArgumentExpansion.{ArgumentExpansion}
-use Rattle.ppmacro.specs.declared.hidden_token.ArgumentExpansion.TheVariants.{Unused, AsGiven, Made}
+use Rattle.ppmacro.specs.declared.hidden_token.ArgumentExpansion.TheVariants.{Unused, AsGiven, Owned}
 use Rattle.ppmacro.proofs.ArgumentLemmas.{all-known}
 use Rattle.ppmacro.proofs.KeepLemmas.{set-keeps, hiding-keeps, hidings-keeps, known-keeps, known-set, known-sets}
-use Rattle.ppexpand.specs.declared.expand_step.Invocation.{Invocation}
-use Rattle.ppexpand.specs.ExpansionStep.{Call}
-use Rattle.ppexpand.specs.code.ProgramValues.{given_in, expanded_in, owned_tokens, ExpansionsKnown, call_in, CallKnown}
+use Rattle.ppexpand.specs.declared.expand_step.Invocation.{Invocation as CodeInvocation}
+use Rattle.ppexpand.specs.ExpansionStep.{Invocation}
+use Rattle.ppexpand.specs.code.ProgramValues.{given_in, expanded_in, owned_tokens, ExpansionsKnown, invocation_in, InvocationKnown}
 
 pub given-keeps : {s t : HideSetPool} (vs : List (Vec Hidden Global)) → KeepsSets s t → ListsKnown s vs → given_in t vs ≡ given_in s vs
 given-keeps [] k h = refl
@@ -29,7 +29,7 @@ given_known-keeps (v ∷ vs) k h =
 option-keeps : {s t : HideSetPool} (given : List Hidden) (e : ArgumentExpansion) → KeepsSets s t → AllKnown s given → AllKnown s (owned_tokens e) → option_map (hidings t) (option_of given e) ≡ option_map (hidings s) (option_of given e)
 option-keeps given Unused k g h = refl
 option-keeps given AsGiven k g h = ap Some (hidings-keeps given k g)
-option-keeps given (Made v) k g h = ap Some (hidings-keeps v.items k h)
+option-keeps given (Owned v) k g h = ap Some (hidings-keeps v.items k h)
 
 pub expanded-keeps : {s t : HideSetPool} (vs : List (Vec Hidden Global)) (es : List ArgumentExpansion) → KeepsSets s t → ListsKnown s vs → ExpansionsKnown s es → expanded_in t vs es ≡ expanded_in s vs es
 expanded-keeps vs [] k g h = refl
@@ -59,7 +59,7 @@ expanded_in-push s (v ∷ vs) (x ∷ es) e = ap (λ xs. option_map (hidings s) (
 option-at : {s : HideSetPool} (given : List Hidden) (e : ArgumentExpansion) → AllKnown s given → AllKnown s (owned_tokens e) → AllKnown s (unwrap_or (option_of given e) [])
 option-at given Unused g h = h
 option-at given AsGiven g h = g
-option-at given (Made v) g h = h
+option-at given (Owned v) g h = h
 
 expanded-at : {s : HideSetPool} (vs : List (Vec Hidden Global)) (es : List ArgumentExpansion) → ListsKnown s vs → ExpansionsKnown s es → (i : ℕ) → AllKnown s (expanded_at (options_of vs es) i)
 expanded-at vs [] g h i = record { each = tt }
@@ -75,34 +75,34 @@ pub no_arguments_known : (s : HideSetPool) → ArgumentsKnown s [] []
 no_arguments_known s = arguments_known [] [] (record { each = tt }) (record { each = tt })
 
 -- an invocation of the code, with the tokens after its `)`
-abbrev pub call_of : HideSetPool → Invocation → List Hidden → Call
-call_of sets c following = call_in sets c.head c.definition.now c.arguments.items c.base following
+abbrev pub invocation_of : HideSetPool → CodeInvocation → List Hidden → Invocation
+invocation_of sets c following = invocation_in sets c.name_token c.definition.now c.arguments.items c.base following
 
 -- its hide sets exist
-abbrev IsCallKnown : HideSetPool → Invocation → Type 0
-IsCallKnown sets c = CallKnown sets c.head c.arguments.items c.base
+abbrev IsInvocationKnown : HideSetPool → CodeInvocation → Type 0
+IsInvocationKnown sets c = InvocationKnown sets c.name_token c.arguments.items c.base
 
-pub call_known-keeps : {s t : HideSetPool} (c : Invocation) → KeepsSets s t → IsCallKnown s c → IsCallKnown t c
-call_known-keeps c k h = record { head = known-sets c.head k h.head; arguments = given_known-keeps c.arguments.items k h.arguments; base_known = known-set c.base k h.base_known }
+pub invocation_known-keeps : {s t : HideSetPool} (c : CodeInvocation) → KeepsSets s t → IsInvocationKnown s c → IsInvocationKnown t c
+invocation_known-keeps c k h = record { name_token = known-sets c.name_token k h.name_token; arguments = given_known-keeps c.arguments.items k h.arguments; base_known = known-set c.base k h.base_known }
 
-pub call_of-keeps : {s t : HideSetPool} (c : Invocation) (following : List Hidden) → KeepsSets s t → IsCallKnown s c → AllKnown s following → call_of t c following ≡ call_of s c following
-call_of-keeps {s} {t} c following k h rest =
+pub invocation_of-keeps : {s t : HideSetPool} (c : CodeInvocation) (following : List Hidden) → KeepsSets s t → IsInvocationKnown s c → AllKnown s following → invocation_of t c following ≡ invocation_of s c following
+invocation_of-keeps {s} {t} c following k h rest =
     let sets : set_at t c.base ≡ set_at s c.base = set-keeps c.base k h.base_known in
-    let heads : hiding t c.head ≡ hiding s c.head = hiding-keeps c.head k h.head in
+    let name_tokens : hiding t c.name_token ≡ hiding s c.name_token = hiding-keeps c.name_token k h.name_token in
     let lists : given_in t c.arguments.items ≡ given_in s c.arguments.items = given-keeps c.arguments.items k h.arguments in
     let rests : hidings t following ≡ hidings s following = hidings-keeps following k rest in
-    λ i. record { head = heads i; macro = c.definition.now; arguments = lists i; gain = set.insert (sets i) c.head.token.text; following = rests i }
+    λ i. record { name_token = name_tokens i; macro = c.definition.now; arguments = lists i; gain = set.insert (sets i) c.name_token.token.text; following = rests i }
 
 -- an invocation that was made while sets were added
-pub call_made : {s t : HideSetPool} (c : Invocation) (following : List Hidden) (gain : HideSet)
+pub invocation_made : {s t : HideSetPool} (c : CodeInvocation) (following : List Hidden) (gain : HideSet)
     → KeepsSets s t
-    → HasSets s c.head
+    → HasSets s c.name_token
     → ListsKnown s c.arguments.items
     → AllKnown s following
-    → set.insert (set_at t c.base) c.head.token.text ≡ gain
-    → call_of t c following ≡ record { head = hiding s c.head; macro = c.definition.now; arguments = given_in s c.arguments.items; gain = gain; following = hidings s following }
-call_made {s} {t} c following gain k head lists rest gains =
-    let heads : hiding t c.head ≡ hiding s c.head = hiding-keeps c.head k head in
+    → set.insert (set_at t c.base) c.name_token.token.text ≡ gain
+    → invocation_of t c following ≡ record { name_token = hiding s c.name_token; macro = c.definition.now; arguments = given_in s c.arguments.items; gain = gain; following = hidings s following }
+invocation_made {s} {t} c following gain k name_token lists rest gains =
+    let name_tokens : hiding t c.name_token ≡ hiding s c.name_token = hiding-keeps c.name_token k name_token in
     let arguments : given_in t c.arguments.items ≡ given_in s c.arguments.items = given-keeps c.arguments.items k lists in
     let rests : hidings t following ≡ hidings s following = hidings-keeps following k rest in
-    λ i. record { head = heads i; macro = c.definition.now; arguments = arguments i; gain = gains i; following = rests i }
+    λ i. record { name_token = name_tokens i; macro = c.definition.now; arguments = arguments i; gain = gains i; following = rests i }

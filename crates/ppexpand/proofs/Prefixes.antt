@@ -4,7 +4,7 @@ use Rattle.std.specs.FinSet as set
 use Rattle.ppmacro.specs.Names.{Name, HideSet, Macros}
 use Rattle.ppmacro.specs.Hiding.{Hiding}
 use Rattle.ppexpand.specs.declared.env.Env.{Env}
-use Rattle.ppexpand.specs.ExpansionStep.{ExpansionStep, Emits, Replaced, Called}
+use Rattle.ppexpand.specs.ExpansionStep.{ExpansionStep, Emits, Replaced, Invoked}
 use Rattle.ppexpand.specs.Termination.{hides, Holds, Gains, Step, emits}
 use Rattle.ppexpand.specs.Laws.{Leads, by_emitting, by_replacing, by_invoking}
 use Rattle.ppexpand.specs.Expansion.{step_in_budget}
@@ -21,8 +21,8 @@ module _ (macros : Macros) (env : Env) (level : ℕ) where
   pub leads_step : {remaining remaining_after : Option ℕ} {list next : List Hiding} → Leads macros env level remaining list remaining_after next → Step macros (hides list) (hides next)
   leads_step {remaining = remaining} {list = list} {next = next} (by_emitting {t = t} e) = passing list next t (by_turn remaining list (Emits t next) e)
   leads_step {remaining = remaining} {list = list} {next = next} (by_replacing e) = by_turn remaining list (Replaced next) e
-  leads_step {remaining = remaining} {list = list} {next = next} (by_invoking {call = call} {expanded = expanded} e a f) =
-      subst (FinishesTo macros env list) f (finished_steps macros env list call expanded (by_turn remaining list (Called call) e))
+  leads_step {remaining = remaining} {list = list} {next = next} (by_invoking {invocation = invocation} {expanded = expanded} e a f) =
+      subst (FinishesTo macros env list) f (finished_steps macros env list invocation expanded (by_turn remaining list (Invoked invocation) e))
 
 pub gained_more : (hidden one two whole : HideSet) (name : Name) → Holds hidden one → Holds hidden two → Gains one two name whole → Holds (set.insert hidden name) whole
 gained_more hidden one two whole name first second g = extended hidden name whole (λ q h. g.common q (first q h) (second q h)) g.own

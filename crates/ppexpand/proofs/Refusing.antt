@@ -22,9 +22,9 @@ use Rattle.ppmacro.specs.Substitution.{chains_tokens, macro_replacement}
 use Rattle.ppexpand.specs.declared.env.Env.{Env}
 use Rattle.ppexpand.specs.declared.expansion.Expanded.{Expanded}
 use Rattle.ppexpand.specs.Arguments.{is_open, Gathered, Closed, UnmatchedQuote, Unclosed, gather, separators, fit_arguments}
-use Rattle.ppexpand.specs.ExpansionStep.{Call, ExpansionStep, Refused, Emits, Failed, replaced_by, quote_fault, call_step, invocation_step, function_step, no_arguments, macro_step, named_step, macro_of, expansion_step, finish_call, ExpandedArguments, with_expanded}
+use Rattle.ppexpand.specs.ExpansionStep.{Invocation, ExpansionStep, Refused, Emits, Failed, replaced_by, quote_fault, closed_invocation_step, invocation_step, function_step, no_arguments, macro_step, named_step, macro_of, expansion_step, finish_invocation, ExpandedArguments, with_expanded}
 use Rattle.ppexpand.specs.Budget.{spend_one}
-use Rattle.ppexpand.specs.Expansion.{Outcome, step_in_budget, Expands, done, refused, emits, failed, replaced, argument_refused, call_failed, call_replaced, ExpandsArguments, none, unused, too_deep}
+use Rattle.ppexpand.specs.Expansion.{Outcome, step_in_budget, Expands, done, refused, emits, failed, replaced, argument_refused, invocation_failed, invocation_replaced, ExpandsArguments, none, unused, too_deep}
 use Rattle.ppexpand.specs.Expansion.{pre_expanded, pre_expansion_refused, count, count_arguments, ExpandsTo, IsExpansion}
 use Rattle.ppexpand.proofs.BudgetLemmas.{plus-none, spends, spends_arguments}
 
@@ -103,12 +103,12 @@ below_replaced : (r : Result Replacement Fault) (following : List Hiding) → Is
 below_replaced (Ok m) following h = tt
 below_replaced (Err f) following h = h
 
-below_called : (t : Hiding) (d : Macro) (as' : Option (List (List Hiding))) (close : Hiding) (following : List Hiding) → IsTurnBelow (call_step t d as' close following)
-below_called t d (Some as') close following = tt
-below_called t d None close following = omega arith
+below_closed : (t : Hiding) (d : Macro) (as' : Option (List (List Hiding))) (close : Hiding) (following : List Hiding) → IsTurnBelow (closed_invocation_step t d as' close following)
+below_closed t d (Some as') close following = tt
+below_closed t d None close following = omega arith
 
 below_invoked : (t : Hiding) (d : Macro) (names : List Name) (variadic : Variadic) (g : Gathered) → IsTurnBelow (invocation_step t d names variadic g)
-below_invoked t d names variadic (Closed as' close following) = below_called t d (fit_arguments names variadic as') close following
+below_invoked t d names variadic (Closed as' close following) = below_closed t d (fit_arguments names variadic as') close following
 below_invoked t d names variadic (UnmatchedQuote q) = omega arith
 below_invoked t d names variadic Unclosed = omega arith
 
@@ -133,9 +133,9 @@ below_turn macros env (t ∷ rest) =
     turn_either (is_unmatched_quote t.token) (Refused (quote_fault t)) (if set.contains t.hide t.token.text then Emits t rest else named_step env t rest (macro_of macros t.token)) (omega arith)
     (turn_either (set.contains t.hide t.token.text) (Emits t rest) (named_step env t rest (macro_of macros t.token)) tt (below_named env t rest (macro_of macros t.token)))
 
-below_finished : (call : Call) (expanded : List (Option (List Hiding))) → IsTurnBelow (finish_call call expanded)
-unfolding finish_call
-below_finished call expanded = below_replaced _ call.following (below_substituted call.macro (record { given = call.arguments; expanded = expanded }) call.gain call.head.token.used call.head.token.space)
+below_finished : (invocation : Invocation) (expanded : List (Option (List Hiding))) → IsTurnBelow (finish_invocation invocation expanded)
+unfolding finish_invocation
+below_finished invocation expanded = below_replaced _ invocation.following (below_substituted invocation.macro (record { given = invocation.arguments; expanded = expanded }) invocation.gain invocation.name_token.token.used invocation.name_token.token.space)
 
 -- ---- expansions: 21 and those
 
@@ -159,10 +159,10 @@ module _ (macros : Macros) (env : Env) where
     below {list = list} is (failed e) = of_turn list is e
     below is (replaced e more) = below (ap spend_one is) more
     below is (argument_refused e a) = below_arguments (ap spend_one is) a
-    below is (call_failed {call = call} {expanded = expanded} e a f) = subst IsTurnBelow f (below_finished call expanded)
-    below is (call_replaced {remaining_after = remaining_after} e a f more) = below (plus-none (count_arguments macros env a) remaining_after (sym (ap spend_one is) ∙ spends_arguments macros env a)) more
+    below is (invocation_failed {invocation = invocation} {expanded = expanded} e a f) = subst IsTurnBelow f (below_finished invocation expanded)
+    below is (invocation_replaced {remaining_after = remaining_after} e a f more) = below (plus-none (count_arguments macros env a) remaining_after (sym (ap spend_one is) ∙ spends_arguments macros env a)) more
 
-    below_arguments : {level : ℕ} {call : Call} {remaining remaining_after : Option ℕ} {as' : List (Option (List Hiding))} {r : ExpandedArguments} → remaining ≡ None → ExpandsArguments macros env level call remaining as' remaining_after r → IsBelow r
+    below_arguments : {level : ℕ} {invocation : Invocation} {remaining remaining_after : Option ℕ} {as' : List (Option (List Hiding))} {r : ExpandedArguments} → remaining ≡ None → ExpandsArguments macros env level invocation remaining as' remaining_after r → IsBelow r
     below_arguments is none = tt
     below_arguments is (unused {out = out} more) = below_expanded None out (below_arguments is more)
     below_arguments is (too_deep h) = omega arith

@@ -15,8 +15,8 @@ use Rattle.ppmacro.specs.declared.macros.MacroKind.TheVariants.{Predefined, Obje
 use Rattle.ppexpand.specs.declared.env.Env.{Env}
 use Rattle.ppexpand.specs.declared.expansion.Expanded.{Expanded}
 use Rattle.ppexpand.specs.Arguments.{is_open, Gathered, Closed, UnmatchedQuote, Unclosed, gather, separators, fit_arguments}
-use Rattle.ppexpand.specs.ExpansionStep.{predefined_value, Call, ExpansionStep, Done, Refused, Emits, Failed, Replaced, Called, followed_by, replaced_by, fault_at_expansion, quote_fault, gain_of, call_step, invocation_step, function_step, macro_step, named_step, macro_of}
-use Rattle.ppexpand.specs.ExpansionStep.{expansion_step, wanted, finish_call, ExpandedArguments}
+use Rattle.ppexpand.specs.ExpansionStep.{predefined_value, Invocation, ExpansionStep, Done, Refused, Emits, Failed, Replaced, Invoked, followed_by, replaced_by, fault_at_expansion, quote_fault, gain_of, closed_invocation_step, invocation_step, function_step, macro_step, named_step, macro_of}
+use Rattle.ppexpand.specs.ExpansionStep.{expansion_step, wanted, finish_invocation, ExpandedArguments}
 use Rattle.ppexpand.specs.Budget.{spend_one}
 use Rattle.ppexpand.specs.Expansion.{Outcome, step_in_budget, Expands, ExpandsTo, ExpandsArguments, IsExpansion}
 use Rattle.ppexpand.specs.Expansion as in_budget
@@ -28,9 +28,9 @@ expansion_step-nothing : (macros : Macros) (env : Env) → expansion_step macros
 unfolding expansion_step
 expansion_step-nothing macros env = refl
 
-finish_call-is : (call : Call) (expanded : List (Option (List Hiding))) → finish_call call expanded ≡ replaced_by (invocation_result call expanded) call.following
-unfolding finish_call
-finish_call-is call expanded = refl
+finish_invocation-is : (invocation : Invocation) (expanded : List (Option (List Hiding))) → finish_invocation invocation expanded ≡ replaced_by (invocation_result invocation expanded) invocation.following
+unfolding finish_invocation
+finish_invocation-is invocation expanded = refl
 
 module _ (macros : Macros) (env : Env) where
   -- the expansion step of a list, by the standard's rules
@@ -60,7 +60,7 @@ module _ (macros : Macros) (env : Env) where
         → gather 0 (separators names variadic) inside ≡ Closed arguments close following
         → fit_arguments names variadic arguments ≡ None
         → Means (t ∷ paren ∷ inside) (Failed (fault_at_expansion 18 t))
-    begins : {list : List Hiding} {call : Call} → Invokes macros list call → Means list (Called call)
+    begins : {list : List Hiding} {invocation : Invocation} → Invokes macros list invocation → Means list (Invoked invocation)
 
   -- ---- the step of a list is by one of the rules
 
@@ -69,7 +69,7 @@ module _ (macros : Macros) (env : Env) where
       → gather 0 (separators names variadic) inside ≡ Closed arguments close following
       → (o : Option (List (List Hiding)))
       → fit_arguments names variadic arguments ≡ o
-      → Means (t ∷ paren ∷ inside) (call_step t d o close following)
+      → Means (t ∷ paren ∷ inside) (closed_invocation_step t d o close following)
   by_number t paren close inside following d names variadic arguments i g None e = Means.wrong_number i g e
   by_number t paren close inside following d names variadic arguments i g (Some given) e =
       Means.begins (record { paren = paren; inside = inside; names = names; variadic = variadic; arguments = arguments; close = close; laid_out = refl; opens = i; closed = g; fits = e; gains = refl })
@@ -117,8 +117,8 @@ module _ (macros : Macros) (env : Env) where
 
   -- ---- and each rule is the step of its lists
 
-  calls_turn : {t : Hiding} {d : Macro} (rest : List Hiding) → NamesMacro macros t d → (s : MacroKind) → d.kind ≡ s → expansion_step macros env (t ∷ rest) ≡ macro_step env t rest d s
-  calls_turn {t = t} {d = d} rest c s e = expansion_step-named macros env t rest c.no_quote c.not_hidden ∙ ap (named_step env t rest) c.named ∙ ap (macro_step env t rest d) e
+  invocations_turn : {t : Hiding} {d : Macro} (rest : List Hiding) → NamesMacro macros t d → (s : MacroKind) → d.kind ≡ s → expansion_step macros env (t ∷ rest) ≡ macro_step env t rest d s
+  invocations_turn {t = t} {d = d} rest c s e = expansion_step-named macros env t rest c.no_quote c.not_hidden ∙ ap (named_step env t rest) c.named ∙ ap (macro_step env t rest d) e
 
   not_opened : (t : Hiding) (d : Macro) (names : List Name) (variadic : Variadic) (rest : List Hiding) → opens_next rest ≡ false → function_step t d names variadic rest ≡ Emits t rest
   not_opened t d names variadic [] e = refl
@@ -131,30 +131,30 @@ module _ (macros : Macros) (env : Env) where
       → expansion_step macros env (t ∷ paren ∷ inside) ≡ invocation_step t d names variadic g
   invokes_turn {t = t} {paren = paren} {d = d} {names = names} {variadic = variadic} inside i g e =
       let opened : function_step t d names variadic (paren ∷ inside) ≡ invocation_step t d names variadic (gather 0 (separators names variadic) inside) = rw (i.paren_opens) refl in
-      calls_turn (paren ∷ inside) i.names_macro (FunctionLike names variadic) i.kind ∙ opened ∙ ap (invocation_step t d names variadic) e
+      invocations_turn (paren ∷ inside) i.names_macro (FunctionLike names variadic) i.kind ∙ opened ∙ ap (invocation_step t d names variadic) e
 
-  call_step-is : (call : Call) (close : Hiding) (o : Option (List (List Hiding)))
-      → o ≡ Some call.arguments
-      → call.gain ≡ gain_of call.head.hide close.hide call.head.token.text
-      → call_step call.head call.macro o close call.following ≡ Called call
-  call_step-is call close o e g = ap (λ o. call_step call.head call.macro o close call.following) e ∙ (λ i. Called (record { head = call.head; macro = call.macro; arguments = call.arguments; gain = (sym g) i; following = call.following }))
+  closed_invocation_step-is : (invocation : Invocation) (close : Hiding) (o : Option (List (List Hiding)))
+      → o ≡ Some invocation.arguments
+      → invocation.gain ≡ gain_of invocation.name_token.hide close.hide invocation.name_token.token.text
+      → closed_invocation_step invocation.name_token invocation.macro o close invocation.following ≡ Invoked invocation
+  closed_invocation_step-is invocation close o e g = ap (λ o. closed_invocation_step invocation.name_token invocation.macro o close invocation.following) e ∙ (λ i. Invoked (record { name_token = invocation.name_token; macro = invocation.macro; arguments = invocation.arguments; gain = (sym g) i; following = invocation.following }))
 
   meant : {list : List Hiding} {x : ExpansionStep} → Means list x → expansion_step macros env list ≡ x
   meant Means.nothing_left = expansion_step-nothing macros env
   meant (Means.unmatched_quote {t = t} {rest = rest} q) = expansion_step-quote macros env t rest q
   meant (Means.no_macro {t = t} {rest = rest} q n) = expansion_step-unnamed macros env t rest q n
   meant (Means.hidden {t = t} {rest = rest} q h) = expansion_step-hidden macros env t rest q h
-  meant (Means.predefined {rest = rest} {b = b} c e) = calls_turn rest c (Predefined b) e
-  meant (Means.object_like {rest = rest} c e h) = calls_turn rest c ObjectLike e ∙ ap (λ r. replaced_by r rest) h
-  meant (Means.object_refused {rest = rest} c e h) = calls_turn rest c ObjectLike e ∙ ap (λ r. replaced_by r rest) h
-  meant (Means.not_invoked {t = t} {rest = rest} {d = d} {names = names} {variadic = variadic} c e n) = calls_turn rest c (FunctionLike names variadic) e ∙ not_opened t d names variadic rest n
+  meant (Means.predefined {rest = rest} {b = b} c e) = invocations_turn rest c (Predefined b) e
+  meant (Means.object_like {rest = rest} c e h) = invocations_turn rest c ObjectLike e ∙ ap (λ r. replaced_by r rest) h
+  meant (Means.object_refused {rest = rest} c e h) = invocations_turn rest c ObjectLike e ∙ ap (λ r. replaced_by r rest) h
+  meant (Means.not_invoked {t = t} {rest = rest} {d = d} {names = names} {variadic = variadic} c e n) = invocations_turn rest c (FunctionLike names variadic) e ∙ not_opened t d names variadic rest n
   meant (Means.quote_inside {quote = quote} {inside = inside} i g) = invokes_turn inside i (UnmatchedQuote quote) g
   meant (Means.unclosed {inside = inside} i g) = invokes_turn inside i Unclosed g
   meant (Means.wrong_number {t = t} {close = close} {inside = inside} {following = following} {d = d} {arguments = arguments} i g f) =
-      invokes_turn inside i (Closed arguments close following) g ∙ ap (λ o. call_step t d o close following) f
-  meant (Means.begins {call = call} b) =
-      ap (expansion_step macros env) b.laid_out ∙ invokes_turn b.inside b.opens (Closed b.arguments b.close call.following) b.closed
-      ∙ call_step-is call b.close (fit_arguments b.names b.variadic b.arguments) b.fits b.gains
+      invokes_turn inside i (Closed arguments close following) g ∙ ap (λ o. closed_invocation_step t d o close following) f
+  meant (Means.begins {invocation = invocation} b) =
+      ap (expansion_step macros env) b.laid_out ∙ invokes_turn b.inside b.opens (Closed b.arguments b.close invocation.following) b.closed
+      ∙ closed_invocation_step-is invocation b.close (fit_arguments b.names b.variadic b.arguments) b.fits b.gains
 
   -- ---- from a step to a rule
 
@@ -182,26 +182,26 @@ module _ (macros : Macros) (env : Env) where
   at_replaced (Means.predefined c e) more = StandardExpands.predefined c e more
   at_replaced (Means.object_like c e h) more = StandardExpands.object_like c e h more
 
-  at_called : {list : List Hiding} {call : Call} → Means list (Called call) → Invokes macros list call
-  at_called (Means.begins b) = b
+  at_invoked : {list : List Hiding} {invocation : Invocation} → Means list (Invoked invocation) → Invokes macros list invocation
+  at_invoked (Means.begins b) = b
 
   -- the result of an invocation
-  result_failed : (call : Call) (expanded : List (Option (List Hiding))) (f : Fault) (r : Result Replacement Fault) → replaced_by r call.following ≡ Failed f → r ≡ Err f
-  result_failed call expanded f (Ok m) e = absurd (cc)
-  result_failed call expanded f (Err g) e = let same : g ≡ f = cc in ap Err same
+  result_failed : (invocation : Invocation) (expanded : List (Option (List Hiding))) (f : Fault) (r : Result Replacement Fault) → replaced_by r invocation.following ≡ Failed f → r ≡ Err f
+  result_failed invocation expanded f (Ok m) e = absurd (cc)
+  result_failed invocation expanded f (Err g) e = let same : g ≡ f = cc in ap Err same
 
   result_replaced : (following next : List Hiding) (r : Result Replacement Fault) → replaced_by r following ≡ Replaced next → (m : Replacement) × (r ≡ Ok m) × (followed_by following m ≡ next)
   result_replaced following next (Ok m) e = let same : followed_by following m ≡ next = cc in (m, refl, same)
   result_replaced following next (Err f) e = absurd (cc)
 
-  at_next : {level : ℕ} {list next tokens : List Hiding} {fault : Option Fault} {call : Call} {expanded : List (Option (List Hiding))}
-      → Invokes macros list call
-      → StandardExpandsArguments macros env level call (wanted call) (Ok expanded)
-      → finish_call call expanded ≡ Replaced next
+  at_next : {level : ℕ} {list next tokens : List Hiding} {fault : Option Fault} {invocation : Invocation} {expanded : List (Option (List Hiding))}
+      → Invokes macros list invocation
+      → StandardExpandsArguments macros env level invocation (wanted invocation) (Ok expanded)
+      → finish_invocation invocation expanded ≡ Replaced next
       → StandardExpands macros env level next tokens fault
       → StandardExpands macros env level list tokens fault
-  at_next {level = level} {next = next} {tokens = tokens} {fault = fault} {call = call} {expanded = expanded} b a e more =
-      let r = result_replaced call.following next (invocation_result call expanded) (sym (finish_call-is call expanded) ∙ e) in
+  at_next {level = level} {next = next} {tokens = tokens} {fault = fault} {invocation = invocation} {expanded = expanded} b a e more =
+      let r = result_replaced invocation.following next (invocation_result invocation expanded) (sym (finish_invocation-is invocation expanded) ∙ e) in
       StandardExpands.invocation b a r.1 (subst (λ x. StandardExpands macros env level x tokens fault) (sym r.2) more)
 
   -- ---- without a budget, by the standard's rules
@@ -216,16 +216,16 @@ module _ (macros : Macros) (env : Env) where
     standard {list = list} is (in_budget.emits e more) = at_passes (by_rule list is e) (standard is more)
     standard {list = list} is (in_budget.failed e) = at_failed (by_rule list is e)
     standard {list = list} is (in_budget.replaced e more) = at_replaced (by_rule list is e) (standard (ap spend_one is) more)
-    standard {list = list} is (in_budget.argument_refused e a) = StandardExpands.argument_refused (at_called (by_rule list is e)) (standard_arguments (ap spend_one is) a)
-    standard {list = list} is (in_budget.call_failed {call = call} {expanded = expanded} {f = f} e a h) =
-        StandardExpands.invocation_refused (at_called (by_rule list is e)) (standard_arguments (ap spend_one is) a) (result_failed call expanded f (invocation_result call expanded) (sym (finish_call-is call expanded) ∙ h))
-    standard {list = list} is (in_budget.call_replaced e a h more) =
-        at_next (at_called (by_rule list is e)) (standard_arguments (ap spend_one is) a) h (standard (arguments_none macros env (ap spend_one is) a) more)
+    standard {list = list} is (in_budget.argument_refused e a) = StandardExpands.argument_refused (at_invoked (by_rule list is e)) (standard_arguments (ap spend_one is) a)
+    standard {list = list} is (in_budget.invocation_failed {invocation = invocation} {expanded = expanded} {f = f} e a h) =
+        StandardExpands.invocation_refused (at_invoked (by_rule list is e)) (standard_arguments (ap spend_one is) a) (result_failed invocation expanded f (invocation_result invocation expanded) (sym (finish_invocation-is invocation expanded) ∙ h))
+    standard {list = list} is (in_budget.invocation_replaced e a h more) =
+        at_next (at_invoked (by_rule list is e)) (standard_arguments (ap spend_one is) a) h (standard (arguments_none macros env (ap spend_one is) a) more)
 
-    standard_arguments : {level : ℕ} {call : Call} {remaining remaining_after : Option ℕ} {as' : List (Option (List Hiding))} {r : ExpandedArguments}
+    standard_arguments : {level : ℕ} {invocation : Invocation} {remaining remaining_after : Option ℕ} {as' : List (Option (List Hiding))} {r : ExpandedArguments}
         → remaining ≡ None
-        → ExpandsArguments macros env level call remaining as' remaining_after r
-        → StandardExpandsArguments macros env level call as' r
+        → ExpandsArguments macros env level invocation remaining as' remaining_after r
+        → StandardExpandsArguments macros env level invocation as' r
     standard_arguments is in_budget.none = StandardExpandsArguments.none
     standard_arguments is (in_budget.unused more) = StandardExpandsArguments.unused (standard_arguments is more)
     standard_arguments is (in_budget.too_deep h) = StandardExpandsArguments.too_deep h
@@ -260,13 +260,13 @@ module _ (macros : Macros) (env : Env) where
     unbudgeted (StandardExpands.unclosed i g) = failing (Means.unclosed i g)
     unbudgeted (StandardExpands.wrong_number i g f) = failing (Means.wrong_number i g f)
     unbudgeted (StandardExpands.argument_refused b a) = (0, in_budget.argument_refused (meant (Means.begins b)) (unbudgeted_arguments a))
-    unbudgeted (StandardExpands.invocation_refused {call = call} {expanded = expanded} b a e) =
-        (0, in_budget.call_failed (meant (Means.begins b)) (unbudgeted_arguments a) (finish_call-is call expanded ∙ ap (λ r. replaced_by r call.following) e))
-    unbudgeted (StandardExpands.invocation {call = call} {expanded = expanded} b a e rest) =
+    unbudgeted (StandardExpands.invocation_refused {invocation = invocation} {expanded = expanded} b a e) =
+        (0, in_budget.invocation_failed (meant (Means.begins b)) (unbudgeted_arguments a) (finish_invocation-is invocation expanded ∙ ap (λ r. replaced_by r invocation.following) e))
+    unbudgeted (StandardExpands.invocation {invocation = invocation} {expanded = expanded} b a e rest) =
         let more = unbudgeted rest in
-        (suc more.0, in_budget.call_replaced (meant (Means.begins b)) (unbudgeted_arguments a) (finish_call-is call expanded ∙ ap (λ r. replaced_by r call.following) e) more.1)
+        (suc more.0, in_budget.invocation_replaced (meant (Means.begins b)) (unbudgeted_arguments a) (finish_invocation-is invocation expanded ∙ ap (λ r. replaced_by r invocation.following) e) more.1)
 
-    unbudgeted_arguments : {level : ℕ} {call : Call} {as' : List (Option (List Hiding))} {r : ExpandedArguments} → StandardExpandsArguments macros env level call as' r → ExpandsArguments macros env level call None as' None r
+    unbudgeted_arguments : {level : ℕ} {invocation : Invocation} {as' : List (Option (List Hiding))} {r : ExpandedArguments} → StandardExpandsArguments macros env level invocation as' r → ExpandsArguments macros env level invocation None as' None r
     unbudgeted_arguments StandardExpandsArguments.none = in_budget.none
     unbudgeted_arguments (StandardExpandsArguments.unused more) = in_budget.unused (unbudgeted_arguments more)
     unbudgeted_arguments (StandardExpandsArguments.too_deep h) = in_budget.too_deep h

@@ -21,7 +21,7 @@ use Rattle.ppmacro.specs.Chains.{chains_of}
 use Rattle.ppmacro.specs.Substitution.{Arguments, Replacement, macro_replacement, after_ok, chains_tokens, hsadd}
 use Rattle.ppexpand.specs.Arguments.{Gathered, Closed, UnmatchedQuote, Unclosed, argument_role, gather, separators, fit_arguments, separates, fewer, with_token, with_argument, is_open, Quote, Open, Close, Comma, Inner}
 use Rattle.ppexpand.specs.declared.env.Env.{Env}
-use Rattle.ppexpand.specs.ExpansionStep.{Call, ExpansionStep, Done, Refused, Emits, Failed, Replaced, Called, expansion_step, finish_call, space_next, followed_by, replaced_by, gain_of, quote_fault, call_step, invocation_step, function_step, macro_step, named_step}
+use Rattle.ppexpand.specs.ExpansionStep.{Invocation, ExpansionStep, Done, Refused, Emits, Failed, Replaced, Invoked, expansion_step, finish_invocation, space_next, followed_by, replaced_by, gain_of, quote_fault, closed_invocation_step, invocation_step, function_step, macro_step, named_step}
 use Rattle.ppexpand.specs.Budget.{exhausted_step, in_budget}
 use Rattle.ppexpand.specs.ExpansionStep.{macro_of}
 use Rattle.ppexpand.specs.Expansion.{step_in_budget}
@@ -110,12 +110,12 @@ module _ (macros : Macros) (env : Env) where
   HideStep = Step macros
 
   -- where an invocation was found in a list
-  pub record Found (list : List Hiding) (call : Call) : Type 0 where
+  pub record Found (list : List Hiding) (invocation : Invocation) : Type 0 where
     pub inside : List Hiding
     pub close : Hiding
-    pub is : list ≡ call.head ∷ (inside ++ close ∷ call.following)
-    pub outside : IsOutside macros call.head.token.text call.head.hide
-    pub gains : call.gain ≡ gain_of call.head.hide close.hide call.head.token.text
+    pub is : list ≡ invocation.name_token ∷ (inside ++ close ∷ invocation.following)
+    pub outside : IsOutside macros invocation.name_token.token.text invocation.name_token.hide
+    pub gains : invocation.gain ≡ gain_of invocation.name_token.hide close.hide invocation.name_token.token.text
 
   -- what an expansion step says of the list
   abbrev pub StepsTo : List Hiding → ExpansionStep → Type 0
@@ -124,7 +124,7 @@ module _ (macros : Macros) (env : Env) where
   StepsTo list (Emits t rest) = list ≡ t ∷ rest
   StepsTo list (Failed fault) = Unit {0}
   StepsTo list (Replaced next) = HideStep (hides list) (hides next)
-  StepsTo list (Called call) = Found list call
+  StepsTo list (Invoked invocation) = Found list invocation
 
   -- each of these sets has all that the gain has, so h and h' both and k
   gains_sets : (h h' : HideSet) (k : Name) (gain : HideSet)
@@ -167,18 +167,18 @@ module _ (macros : Macros) (env : Env) where
   object_steps t rest out (Ok m) gain = ending.replaced t.token.text out (hides m.tokens) (gains_object t.hide t.token.text m.tokens (gain m refl)) (hides-followed_by rest m)
   object_steps t rest out (Err f) gain = tt
 
-  call_steps : (t p : Hiding) (rest : List Hiding)
+  closed_invocation_steps : (t p : Hiding) (rest : List Hiding)
       → IsOutside macros t.token.text t.hide
       → (d : Macro) (names : List Name) (variadic : Variadic) (g : Gathered)
       → Stands rest g
       → StepsTo (t ∷ (p ∷ rest)) (invocation_step t d names variadic g)
-  call_steps t p rest out d names variadic (Closed as' close following) stands = by_count (fit_arguments names variadic as')
+  closed_invocation_steps t p rest out d names variadic (Closed as' close following) stands = by_count (fit_arguments names variadic as')
     where
-      by_count : (o : Option (List (List Hiding))) → StepsTo (t ∷ (p ∷ rest)) (call_step t d o close following)
+      by_count : (o : Option (List (List Hiding))) → StepsTo (t ∷ (p ∷ rest)) (closed_invocation_step t d o close following)
       by_count (Some bs) = record { inside = p ∷ stands.0; close = close; is = ap (λ xs. t ∷ (p ∷ xs)) stands.1; outside = out; gains = refl }
       by_count None = tt
-  call_steps t p rest out d names variadic (UnmatchedQuote q) stands = tt
-  call_steps t p rest out d names variadic Unclosed stands = tt
+  closed_invocation_steps t p rest out d names variadic (UnmatchedQuote q) stands = tt
+  closed_invocation_steps t p rest out d names variadic Unclosed stands = tt
 
   function_steps : (t : Hiding) (rest : List Hiding)
       → IsOutside macros t.token.text t.hide
@@ -187,7 +187,7 @@ module _ (macros : Macros) (env : Env) where
   function_steps t [] out d names variadic = refl
   function_steps t (p ∷ rest) out d names variadic =
       elim (is_open p.token) as (λ b. StepsTo (t ∷ (p ∷ rest)) (if b then invocation_step t d names variadic (gather 0 (separators names variadic) rest) else Emits t (p ∷ rest))) [
-        | true ↦ call_steps t p rest out d names variadic _ (gathered_stands rest 0 (separators names variadic))
+        | true ↦ closed_invocation_steps t p rest out d names variadic _ (gathered_stands rest 0 (separators names variadic))
         | false ↦ refl
       ]
 
@@ -230,7 +230,7 @@ module _ (macros : Macros) (env : Env) where
   within_steps (Some zero) list (Emits t rest) h = h
   within_steps (Some zero) list (Failed f) h = over_steps list
   within_steps (Some zero) list (Replaced next) h = over_steps list
-  within_steps (Some zero) list (Called call) h = over_steps list
+  within_steps (Some zero) list (Invoked invocation) h = over_steps list
 
   pub turn_within_steps : (remaining : Option ℕ) (list : List Hiding) → StepsTo list (step_in_budget macros env remaining list)
   turn_within_steps remaining list = within_steps remaining list (expansion_step macros env list) (turn_steps list)
@@ -241,14 +241,14 @@ module _ (macros : Macros) (env : Env) where
   FinishesTo list (Failed fault) = Unit {0}
   FinishesTo list _ = ⊥
 
-  finishes : (list : List Hiding) (call : Call) → Found list call → (r : Result Replacement Fault) → ((m : Replacement) → r ≡ Ok m → AllByRecursion (HasGain call.gain) m.tokens) → FinishesTo list (replaced_by r call.following)
-  finishes list call found (Ok m) gain =
-      let lists : hides list ≡ call.head.hide ∷ (hides found.inside ++ found.close.hide ∷ hides call.following) = ap hides found.is ∙ ap (λ hs. call.head.hide ∷ hs) (hides-append found.inside (found.close ∷ call.following)) in
-      subst (λ hs. HideStep hs (hides (followed_by call.following m))) (sym lists)
-      (ending.invocation_step call.head.token.text found.outside (hides found.inside) found.close.hide (hides call.following) refl (hides m.tokens)
-      (gains_sets call.head.hide found.close.hide call.head.token.text call.gain found.gains m.tokens (gain m refl)) (hides-followed_by call.following m))
-  finishes list call found (Err f) gain = tt
+  finishes : (list : List Hiding) (invocation : Invocation) → Found list invocation → (r : Result Replacement Fault) → ((m : Replacement) → r ≡ Ok m → AllByRecursion (HasGain invocation.gain) m.tokens) → FinishesTo list (replaced_by r invocation.following)
+  finishes list invocation found (Ok m) gain =
+      let lists : hides list ≡ invocation.name_token.hide ∷ (hides found.inside ++ found.close.hide ∷ hides invocation.following) = ap hides found.is ∙ ap (λ hs. invocation.name_token.hide ∷ hs) (hides-append found.inside (found.close ∷ invocation.following)) in
+      subst (λ hs. HideStep hs (hides (followed_by invocation.following m))) (sym lists)
+      (ending.invocation_step invocation.name_token.token.text found.outside (hides found.inside) found.close.hide (hides invocation.following) refl (hides m.tokens)
+      (gains_sets invocation.name_token.hide found.close.hide invocation.name_token.token.text invocation.gain found.gains m.tokens (gain m refl)) (hides-followed_by invocation.following m))
+  finishes list invocation found (Err f) gain = tt
 
-  pub finished_steps : (list : List Hiding) (call : Call) (as' : List (Option (List Hiding))) → Found list call → FinishesTo list (finish_call call as')
-  unfolding finish_call
-  finished_steps list call as' found = finishes list call found _ (λ m e. substituted_gain call.macro _ call.gain _ _ m e)
+  pub finished_steps : (list : List Hiding) (invocation : Invocation) (as' : List (Option (List Hiding))) → Found list invocation → FinishesTo list (finish_invocation invocation as')
+  unfolding finish_invocation
+  finished_steps list invocation as' found = finishes list invocation found _ (λ m e. substituted_gain invocation.macro _ invocation.gain _ _ m e)

@@ -28,7 +28,7 @@ unless_failed-weaker (Ok a) o P Q more p = more (Ok a) p
 unless_failed-weaker (Err Raised) o P Q more p = (p.0, p.1, more (Err p.0) p.2)
 unless_failed-weaker (Err OutOfMemory) o P Q more p = tt
 
--- a call that raises a fault, unless it fails, has no value
+-- an invocation that raises a fault, unless it fails, has no value
 pub no_value : {A : Type 0} (r : Result A Stop) (o : Option Fault) (f : Fault) (P : A → Type 0) → UnlessFailed r o (λ x. x ≡ Err f) → IfOk r P
 no_value (Ok a) o f P e = absurd (cc e)
 no_value (Err y) o f P e = tt

@@ -36,7 +36,7 @@ split (y ∷ a) b [] x q e = in_first a (cc) (cc)
 split (y ∷ a) b (z ∷ p) x q e =
     let tails : a ++ b ≡ p ++ x ∷ q = cc in
     elim (split a b p x q tails) [
-      | in_first rest h k ↦ (let heads : y ≡ z = cc in in_first rest (cc) k)
+      | in_first rest h k ↦ (let name_tokens : y ≡ z = cc in in_first rest (cc) k)
       | in_second p' h ↦ in_second p' h
     ]
 

@@ -4,9 +4,9 @@ use Rattle.pptext.specs.declared.tokens.Fault.{Fault}
 use Rattle.ppmacro.specs.Names.{HideSet, Macros}
 use Rattle.ppmacro.specs.Hiding.{Hiding}
 use Rattle.ppexpand.specs.declared.env.Env.{Env}
-use Rattle.ppexpand.specs.ExpansionStep.{Call, ExpansionStep, Done, Refused, Emits, Failed, Replaced, Called, wanted, finish_call, fault_at_expansion, ExpandedArguments, with_expanded}
+use Rattle.ppexpand.specs.ExpansionStep.{Invocation, ExpansionStep, Done, Refused, Emits, Failed, Replaced, Invoked, wanted, finish_invocation, fault_at_expansion, ExpandedArguments, with_expanded}
 use Rattle.ppexpand.specs.Budget.{spend_one}
-use Rattle.ppexpand.specs.Expansion.{Outcome, step_in_budget, Expands, done, refused, emits, failed, replaced, argument_refused, call_failed, call_replaced, ExpandsArguments, none, unused, too_deep, pre_expanded}
+use Rattle.ppexpand.specs.Expansion.{Outcome, step_in_budget, Expands, done, refused, emits, failed, replaced, argument_refused, invocation_failed, invocation_replaced, ExpandsArguments, none, unused, too_deep, pre_expanded}
 use Rattle.ppexpand.specs.Expansion.{pre_expansion_refused}
 use Rattle.ppexpand.specs.Termination as ending
 use Rattle.ppexpand.proofs.Termination as fronts
@@ -18,30 +18,30 @@ module _ (macros : Macros) (env : Env) where
   abbrev pub HasOutcome : ℕ → Option ℕ → List Hiding → Type 0
   HasOutcome level remaining list = (n : ℕ) × (out : Outcome) × Expands macros env level remaining n list out
 
-  abbrev pub HasExpanded : ℕ → Call → Option ℕ → List (Option (List Hiding)) → Type 0
-  HasExpanded level call remaining as' = (remaining_after : Option ℕ) × (r : ExpandedArguments) × ExpandsArguments macros env level call remaining as' remaining_after r
+  abbrev pub HasExpanded : ℕ → Invocation → Option ℕ → List (Option (List Hiding)) → Type 0
+  HasExpanded level invocation remaining as' = (remaining_after : Option ℕ) × (r : ExpandedArguments) × ExpandsArguments macros env level invocation remaining as' remaining_after r
 
   abbrev Deeper : ℕ → Type 0
   Deeper level = level < 256 → (remaining : Option ℕ) (list : List Hiding) → HasOutcome (suc level) remaining list
 
-  by_outcome : (level : ℕ) (call : Call) (remaining : Option ℕ) (list : List Hiding) (rest : List (Option (List Hiding)))
+  by_outcome : (level : ℕ) (invocation : Invocation) (remaining : Option ℕ) (list : List Hiding) (rest : List (Option (List Hiding)))
       → level < 256
-      → ((between : Option ℕ) → HasExpanded level call between rest)
+      → ((between : Option ℕ) → HasExpanded level invocation between rest)
       → (n : ℕ) (tokens : List Hiding) (fault : Option Fault) (between : Option ℕ)
       → Expands macros env (suc level) remaining n list (record { tokens = tokens; fault = fault; remaining = between })
-      → HasExpanded level call remaining (Some list ∷ rest)
-  by_outcome level call remaining list rest h more n tokens None between d = let m = more between in (m.0, with_expanded (Some tokens) m.1, pre_expanded h d m.2)
-  by_outcome level call remaining list rest h more n tokens (Some f) between d = (between, Err f, pre_expansion_refused h d)
+      → HasExpanded level invocation remaining (Some list ∷ rest)
+  by_outcome level invocation remaining list rest h more n tokens None between d = let m = more between in (m.0, with_expanded (Some tokens) m.1, pre_expanded h d m.2)
+  by_outcome level invocation remaining list rest h more n tokens (Some f) between d = (between, Err f, pre_expansion_refused h d)
 
-  arguments_total : (level : ℕ) → Deeper level → (call : Call) (remaining : Option ℕ) (as' : List (Option (List Hiding))) → HasExpanded level call remaining as'
-  arguments_total level deeper call remaining [] = (remaining, Ok [], none)
-  arguments_total level deeper call remaining (None ∷ rest) =
-      let more : HasExpanded level call remaining rest = arguments_total level deeper call remaining rest in
+  arguments_total : (level : ℕ) → Deeper level → (invocation : Invocation) (remaining : Option ℕ) (as' : List (Option (List Hiding))) → HasExpanded level invocation remaining as'
+  arguments_total level deeper invocation remaining [] = (remaining, Ok [], none)
+  arguments_total level deeper invocation remaining (None ∷ rest) =
+      let more : HasExpanded level invocation remaining rest = arguments_total level deeper invocation remaining rest in
       (more.0, with_expanded None more.1, unused more.2)
-  arguments_total level deeper call remaining (Some list ∷ rest) =
+  arguments_total level deeper invocation remaining (Some list ∷ rest) =
       elim (dec_lt level 256) [
-        | yes h ↦ (let one : HasOutcome (suc level) remaining list = deeper h remaining list in by_outcome level call remaining list rest h (λ between. arguments_total level deeper call between rest) one.0 one.1.tokens one.1.fault one.1.remaining one.2)
-        | no h ↦ (remaining, Err (fault_at_expansion 21 call.head), too_deep (omega arith))
+        | yes h ↦ (let one : HasOutcome (suc level) remaining list = deeper h remaining list in by_outcome level invocation remaining list rest h (λ between. arguments_total level deeper invocation between rest) one.0 one.1.tokens one.1.fault one.1.remaining one.2)
+        | no h ↦ (remaining, Err (fault_at_expansion 21 invocation.name_token), too_deep (omega arith))
       ]
 
   Ends : List HideSet → Type 0
@@ -50,26 +50,26 @@ module _ (macros : Macros) (env : Env) where
   abbrev Later : ℕ → List Hiding → Type 0
   Later level list = (remaining : Option ℕ) (next : List Hiding) → ending.Step macros (ending.hides list) (ending.hides next) → HasOutcome level remaining next
 
-  after_call : (level : ℕ) (remaining : Option ℕ) (list : List Hiding)
+  after_invocation : (level : ℕ) (remaining : Option ℕ) (list : List Hiding)
       → Later level list
-      → (call : Call)
-      → step_in_budget macros env remaining list ≡ Called call
+      → (invocation : Invocation)
+      → step_in_budget macros env remaining list ≡ Invoked invocation
       → (remaining_after : Option ℕ) (r : ExpandedArguments)
-      → ExpandsArguments macros env level call (spend_one remaining) (wanted call) remaining_after r
-      → ((as' : List (Option (List Hiding))) → step_lemmas.FinishesTo macros env list (finish_call call as'))
+      → ExpandsArguments macros env level invocation (spend_one remaining) (wanted invocation) remaining_after r
+      → ((as' : List (Option (List Hiding))) → step_lemmas.FinishesTo macros env list (finish_invocation invocation as'))
       → HasOutcome level remaining list
-  after_call level remaining list later call e remaining_after (Err fault) a ends = (0, record { tokens = []; fault = Some fault; remaining = remaining_after }, argument_refused e a)
-  after_call level remaining list later call e remaining_after (Ok as') a ends = by_end (finish_call call as') refl (ends as')
+  after_invocation level remaining list later invocation e remaining_after (Err fault) a ends = (0, record { tokens = []; fault = Some fault; remaining = remaining_after }, argument_refused e a)
+  after_invocation level remaining list later invocation e remaining_after (Ok as') a ends = by_end (finish_invocation invocation as') refl (ends as')
     where
-      by_end : (t : ExpansionStep) → finish_call call as' ≡ t → step_lemmas.FinishesTo macros env list t → HasOutcome level remaining list
+      by_end : (t : ExpansionStep) → finish_invocation invocation as' ≡ t → step_lemmas.FinishesTo macros env list t → HasOutcome level remaining list
       by_end Done f h = absurd h
       by_end (Refused fault) f h = absurd h
-      by_end (Failed fault) f h = (0, record { tokens = []; fault = Some fault; remaining = remaining_after }, call_failed e a f)
+      by_end (Failed fault) f h = (0, record { tokens = []; fault = Some fault; remaining = remaining_after }, invocation_failed e a f)
       by_end (Emits t rest) f h = absurd h
       by_end (Replaced next) f h =
           let rest : HasOutcome level remaining_after next = later remaining_after next h in
-          (suc rest.0, rest.1, call_replaced e a f rest.2)
-      by_end (Called c) f h = absurd h
+          (suc rest.0, rest.1, invocation_replaced e a f rest.2)
+      by_end (Invoked c) f h = absurd h
 
   by_turn : (level : ℕ) → Deeper level → (remaining : Option ℕ) (list : List Hiding) → Later level list → (t : ExpansionStep) → step_in_budget macros env remaining list ≡ t → step_lemmas.StepsTo macros env list t → HasOutcome level remaining list
   by_turn level deeper remaining list later Done e h = (0, record { tokens = []; fault = None; remaining = remaining }, done e)
@@ -82,9 +82,9 @@ module _ (macros : Macros) (env : Env) where
   by_turn level deeper remaining list later (Replaced next) e h =
       let more : HasOutcome level (spend_one remaining) next = later (spend_one remaining) next h in
       (suc more.0, more.1, replaced e more.2)
-  by_turn level deeper remaining list later (Called call) e h =
-      let as' : HasExpanded level call (spend_one remaining) (wanted call) = arguments_total level deeper call (spend_one remaining) (wanted call) in
-      after_call level remaining list later call e as'.0 as'.1 as'.2 (λ bs. step_lemmas.finished_steps macros env list call bs h)
+  by_turn level deeper remaining list later (Invoked invocation) e h =
+      let as' : HasExpanded level invocation (spend_one remaining) (wanted invocation) = arguments_total level deeper invocation (spend_one remaining) (wanted invocation) in
+      after_invocation level remaining list later invocation e as'.0 as'.1 as'.2 (λ bs. step_lemmas.finished_steps macros env list invocation bs h)
 
   list_total : (level : ℕ) → Deeper level → (hs : List HideSet) → Ends hs → (remaining : Option ℕ) (list : List Hiding) → ending.hides list ≡ hs → HasOutcome level remaining list
   unfolding Ends

@@ -4,9 +4,9 @@ use Rattle.pptext.specs.declared.tokens.Fault.{Fault}
 use Rattle.ppmacro.specs.Names.{Macros}
 use Rattle.ppmacro.specs.Hiding.{Hiding}
 use Rattle.ppexpand.specs.declared.env.Env.{Env}
-use Rattle.ppexpand.specs.ExpansionStep.{Call, Done, Refused, Emits, Failed, Replaced, Called, wanted, finish_call, fault_at_expansion, ExpandedArguments, with_expanded}
+use Rattle.ppexpand.specs.ExpansionStep.{Invocation, Done, Refused, Emits, Failed, Replaced, Invoked, wanted, finish_invocation, fault_at_expansion, ExpandedArguments, with_expanded}
 use Rattle.ppexpand.specs.Budget.{spend_one}
-use Rattle.ppexpand.specs.Expansion.{Outcome, step_in_budget, Expands, done, refused, emits, failed, replaced, argument_refused, call_failed, call_replaced, ExpandsArguments, none, unused, too_deep, pre_expanded}
+use Rattle.ppexpand.specs.Expansion.{Outcome, step_in_budget, Expands, done, refused, emits, failed, replaced, argument_refused, invocation_failed, invocation_replaced, ExpandsArguments, none, unused, too_deep, pre_expanded}
 use Rattle.ppexpand.specs.Expansion.{pre_expansion_refused}
 
 module _ (macros : Macros) (env : Env) where
@@ -30,8 +30,8 @@ module _ (macros : Macros) (env : Env) where
   at_done e (failed e') = absurd (cc)
   at_done e (replaced e' d) = absurd (cc)
   at_done e (argument_refused e' a) = absurd (cc)
-  at_done e (call_failed e' a f) = absurd (cc)
-  at_done e (call_replaced e' a f d) = absurd (cc)
+  at_done e (invocation_failed e' a f) = absurd (cc)
+  at_done e (invocation_replaced e' a f d) = absurd (cc)
 
   pub at_refused : {level steps : ℕ} {remaining : Option ℕ} {list : List Hiding} {out : Outcome} {fault : Fault}
       → step_in_budget macros env remaining list ≡ Refused fault
@@ -43,8 +43,8 @@ module _ (macros : Macros) (env : Env) where
   at_refused e (failed e') = absurd (cc)
   at_refused e (replaced e' d) = absurd (cc)
   at_refused e (argument_refused e' a) = absurd (cc)
-  at_refused e (call_failed e' a f) = absurd (cc)
-  at_refused e (call_replaced e' a f d) = absurd (cc)
+  at_refused e (invocation_failed e' a f) = absurd (cc)
+  at_refused e (invocation_replaced e' a f d) = absurd (cc)
 
   pub at_failed : {level steps : ℕ} {remaining : Option ℕ} {list : List Hiding} {out : Outcome} {fault : Fault}
       → step_in_budget macros env remaining list ≡ Failed fault
@@ -56,8 +56,8 @@ module _ (macros : Macros) (env : Env) where
   at_failed e (failed e') = (refl, cc)
   at_failed e (replaced e' d) = absurd (cc)
   at_failed e (argument_refused e' a) = absurd (cc)
-  at_failed e (call_failed e' a f) = absurd (cc)
-  at_failed e (call_replaced e' a f d) = absurd (cc)
+  at_failed e (invocation_failed e' a f) = absurd (cc)
+  at_failed e (invocation_replaced e' a f d) = absurd (cc)
 
   pub at_passes : {level steps : ℕ} {remaining : Option ℕ} {list : List Hiding} {out : Outcome} {t : Hiding} {rest : List Hiding}
       → step_in_budget macros env remaining list ≡ Emits t rest
@@ -66,14 +66,14 @@ module _ (macros : Macros) (env : Env) where
   at_passes e (done e') = absurd (cc)
   at_passes e (refused e') = absurd (cc)
   at_passes {level = level} {remaining = remaining} {t = t} {rest = rest} e (emits {steps = n} {t = t'} {rest = rest'} {out = o} e' d) =
-      let heads : t' ≡ t = cc in
+      let name_tokens : t' ≡ t = cc in
       let rests : rest' ≡ rest = cc in
-      (n, o, refl, (λ i. record { tokens = heads i ∷ o.tokens; fault = o.fault; remaining = o.remaining }), subst (λ r. Expands macros env level remaining n r o) rests d)
+      (n, o, refl, (λ i. record { tokens = name_tokens i ∷ o.tokens; fault = o.fault; remaining = o.remaining }), subst (λ r. Expands macros env level remaining n r o) rests d)
   at_passes e (failed e') = absurd (cc)
   at_passes e (replaced e' d) = absurd (cc)
   at_passes e (argument_refused e' a) = absurd (cc)
-  at_passes e (call_failed e' a f) = absurd (cc)
-  at_passes e (call_replaced e' a f d) = absurd (cc)
+  at_passes e (invocation_failed e' a f) = absurd (cc)
+  at_passes e (invocation_replaced e' a f d) = absurd (cc)
 
   pub at_replaced : {level steps : ℕ} {remaining : Option ℕ} {list next : List Hiding} {out : Outcome}
       → step_in_budget macros env remaining list ≡ Replaced next
@@ -87,64 +87,64 @@ module _ (macros : Macros) (env : Env) where
       let nexts : next' ≡ next = cc in
       (n, refl, subst (λ r. Expands macros env level (spend_one remaining) n r o) nexts d)
   at_replaced e (argument_refused e' a) = absurd (cc)
-  at_replaced e (call_failed e' a f) = absurd (cc)
-  at_replaced e (call_replaced e' a f d) = absurd (cc)
+  at_replaced e (invocation_failed e' a f) = absurd (cc)
+  at_replaced e (invocation_replaced e' a f d) = absurd (cc)
 
   -- what follows after the arguments of an invocation are expanded
-  pub data AfterCall (level : ℕ) (call : Call) : Option ℕ → ExpandedArguments → ℕ → Outcome → Type 0 where
-    by_argument : {remaining_after : Option ℕ} {fault : Fault} {steps : ℕ} {out : Outcome} → IsRefused fault remaining_after steps out → AfterCall level call remaining_after (Err fault) steps out
+  pub data AfterInvocation (level : ℕ) (invocation : Invocation) : Option ℕ → ExpandedArguments → ℕ → Outcome → Type 0 where
+    by_argument : {remaining_after : Option ℕ} {fault : Fault} {steps : ℕ} {out : Outcome} → IsRefused fault remaining_after steps out → AfterInvocation level invocation remaining_after (Err fault) steps out
     by_fault : {remaining_after : Option ℕ} {as' : List (Option (List Hiding))} {fault : Fault} {steps : ℕ} {out : Outcome}
-        → finish_call call as' ≡ Failed fault
+        → finish_invocation invocation as' ≡ Failed fault
         → IsRefused fault remaining_after steps out
-        → AfterCall level call remaining_after (Ok as') steps out
+        → AfterInvocation level invocation remaining_after (Ok as') steps out
     by_next : {remaining_after : Option ℕ} {as' : List (Option (List Hiding))} {next : List Hiding} {steps : ℕ} {out : Outcome}
-        → finish_call call as' ≡ Replaced next
+        → finish_invocation invocation as' ≡ Replaced next
         → IsReplaced level remaining_after next steps out
-        → AfterCall level call remaining_after (Ok as') steps out
+        → AfterInvocation level invocation remaining_after (Ok as') steps out
 
-  abbrev pub IsCalled : ℕ → Option ℕ → Call → ℕ → Outcome → Type 0
-  IsCalled level remaining call steps out = (remaining_after : Option ℕ) × (expanded : ExpandedArguments) × ExpandsArguments macros env level call remaining (wanted call) remaining_after expanded × AfterCall level call remaining_after expanded steps out
+  abbrev pub IsInvoked : ℕ → Option ℕ → Invocation → ℕ → Outcome → Type 0
+  IsInvoked level remaining invocation steps out = (remaining_after : Option ℕ) × (expanded : ExpandedArguments) × ExpandsArguments macros env level invocation remaining (wanted invocation) remaining_after expanded × AfterInvocation level invocation remaining_after expanded steps out
 
-  pub at_called : {level steps : ℕ} {remaining : Option ℕ} {list : List Hiding} {out : Outcome} {call : Call}
-      → step_in_budget macros env remaining list ≡ Called call
+  pub at_invoked : {level steps : ℕ} {remaining : Option ℕ} {list : List Hiding} {out : Outcome} {invocation : Invocation}
+      → step_in_budget macros env remaining list ≡ Invoked invocation
       → Expands macros env level remaining steps list out
-      → IsCalled level (spend_one remaining) call steps out
-  at_called e (done e') = absurd (cc)
-  at_called e (refused e') = absurd (cc)
-  at_called e (emits e' d) = absurd (cc)
-  at_called e (failed e') = absurd (cc)
-  at_called e (replaced e' d) = absurd (cc)
-  at_called {level = level} {remaining = remaining} {call = call} e (argument_refused {remaining_after = remaining_after} {call = call'} {f = fault} e' a) =
-      let calls : call' ≡ call = cc in
-      subst (λ c. IsCalled level (spend_one remaining) c 0 (record { tokens = []; fault = Some fault; remaining = remaining_after })) calls (remaining_after, Err fault, a, by_argument (refl, refl))
-  at_called {level = level} {remaining = remaining} {call = call} e (call_failed {remaining_after = remaining_after} {call = call'} {expanded = as'} {f = fault} e' a f) =
-      let calls : call' ≡ call = cc in
-      subst (λ c. IsCalled level (spend_one remaining) c 0 (record { tokens = []; fault = Some fault; remaining = remaining_after })) calls (remaining_after, Ok as', a, by_fault f (refl, refl))
-  at_called {level = level} {remaining = remaining} {call = call} e (call_replaced {steps = n} {remaining_after = remaining_after} {next = next} {call = call'} {expanded = as'} {out = out} e' a f d) =
-      let calls : call' ≡ call = cc in
-      subst (λ c. IsCalled level (spend_one remaining) c (suc n) out) calls (remaining_after, Ok as', a, by_next f (n, refl, d))
+      → IsInvoked level (spend_one remaining) invocation steps out
+  at_invoked e (done e') = absurd (cc)
+  at_invoked e (refused e') = absurd (cc)
+  at_invoked e (emits e' d) = absurd (cc)
+  at_invoked e (failed e') = absurd (cc)
+  at_invoked e (replaced e' d) = absurd (cc)
+  at_invoked {level = level} {remaining = remaining} {invocation = invocation} e (argument_refused {remaining_after = remaining_after} {invocation = invocation'} {f = fault} e' a) =
+      let calls : invocation' ≡ invocation = cc in
+      subst (λ c. IsInvoked level (spend_one remaining) c 0 (record { tokens = []; fault = Some fault; remaining = remaining_after })) calls (remaining_after, Err fault, a, by_argument (refl, refl))
+  at_invoked {level = level} {remaining = remaining} {invocation = invocation} e (invocation_failed {remaining_after = remaining_after} {invocation = invocation'} {expanded = as'} {f = fault} e' a f) =
+      let calls : invocation' ≡ invocation = cc in
+      subst (λ c. IsInvoked level (spend_one remaining) c 0 (record { tokens = []; fault = Some fault; remaining = remaining_after })) calls (remaining_after, Ok as', a, by_fault f (refl, refl))
+  at_invoked {level = level} {remaining = remaining} {invocation = invocation} e (invocation_replaced {steps = n} {remaining_after = remaining_after} {next = next} {invocation = invocation'} {expanded = as'} {out = out} e' a f d) =
+      let calls : invocation' ≡ invocation = cc in
+      subst (λ c. IsInvoked level (spend_one remaining) c (suc n) out) calls (remaining_after, Ok as', a, by_next f (n, refl, d))
 
-  at_unused : {level : ℕ} {call : Call} {remaining remaining_after : Option ℕ} {rest : List (Option (List Hiding))} {r : ExpandedArguments}
-      → ExpandsArguments macros env level call remaining (None ∷ rest) remaining_after r
-      → (r' : ExpandedArguments) × (r ≡ with_expanded None r') × ExpandsArguments macros env level call remaining rest remaining_after r'
+  at_unused : {level : ℕ} {invocation : Invocation} {remaining remaining_after : Option ℕ} {rest : List (Option (List Hiding))} {r : ExpandedArguments}
+      → ExpandsArguments macros env level invocation remaining (None ∷ rest) remaining_after r
+      → (r' : ExpandedArguments) × (r ≡ with_expanded None r') × ExpandsArguments macros env level invocation remaining rest remaining_after r'
   at_unused (unused {out = out} a) = (out, refl, a)
 
   -- the expansion of an argument that is used
-  data AfterUse (level : ℕ) (call : Call) (remaining : Option ℕ) (list : List Hiding) (rest : List (Option (List Hiding))) : Option ℕ → ExpandedArguments → Type 0 where
-    is_deep : 256 ≤ level → AfterUse level call remaining list rest remaining (Err (fault_at_expansion 21 call.head))
+  data AfterUse (level : ℕ) (invocation : Invocation) (remaining : Option ℕ) (list : List Hiding) (rest : List (Option (List Hiding))) : Option ℕ → ExpandedArguments → Type 0 where
+    is_deep : 256 ≤ level → AfterUse level invocation remaining list rest remaining (Err (fault_at_expansion 21 invocation.name_token))
     is_used : {steps : ℕ} {between remaining_after : Option ℕ} {tokens : List Hiding} {out : ExpandedArguments}
         → level < 256
         → Expands macros env (suc level) remaining steps list (record { tokens = tokens; fault = None; remaining = between })
-        → ExpandsArguments macros env level call between rest remaining_after out
-        → AfterUse level call remaining list rest remaining_after (with_expanded (Some tokens) out)
+        → ExpandsArguments macros env level invocation between rest remaining_after out
+        → AfterUse level invocation remaining list rest remaining_after (with_expanded (Some tokens) out)
     is_refused : {steps : ℕ} {remaining_after : Option ℕ} {tokens : List Hiding} {fault : Fault}
         → level < 256
         → Expands macros env (suc level) remaining steps list (record { tokens = tokens; fault = Some fault; remaining = remaining_after })
-        → AfterUse level call remaining list rest remaining_after (Err fault)
+        → AfterUse level invocation remaining list rest remaining_after (Err fault)
 
-  at_used : {level : ℕ} {call : Call} {remaining remaining_after : Option ℕ} {list : List Hiding} {rest : List (Option (List Hiding))} {r : ExpandedArguments}
-      → ExpandsArguments macros env level call remaining (Some list ∷ rest) remaining_after r
-      → AfterUse level call remaining list rest remaining_after r
+  at_used : {level : ℕ} {invocation : Invocation} {remaining remaining_after : Option ℕ} {list : List Hiding} {rest : List (Option (List Hiding))} {r : ExpandedArguments}
+      → ExpandsArguments macros env level invocation remaining (Some list ∷ rest) remaining_after r
+      → AfterUse level invocation remaining list rest remaining_after r
   at_used (too_deep h) = is_deep h
   at_used (pre_expanded h d a) = is_used h d a
   at_used (pre_expansion_refused h d) = is_refused h d
@@ -156,9 +156,9 @@ module _ (macros : Macros) (env : Env) where
   abbrev Given : Type 0
   Given = Option ℕ × ExpandedArguments
 
-  after_argument : {level : ℕ} {call : Call} {fault : Fault} {remaining remaining_after : Option ℕ} {r : ExpandedArguments} {n : ℕ} {p : Outcome}
+  after_argument : {level : ℕ} {invocation : Invocation} {fault : Fault} {remaining remaining_after : Option ℕ} {r : ExpandedArguments} {n : ℕ} {p : Outcome}
       → ◌≡◌ {A = Given} (remaining, Err fault) (remaining_after, r)
-      → AfterCall level call remaining_after r n p
+      → AfterInvocation level invocation remaining_after r n p
       → (0 ≡ n) × (◌≡◌ {A = Outcome} (record { tokens = []; fault = Some fault; remaining = remaining }) p)
   after_argument {fault = fault} {remaining = remaining} {n = n} {p = p} e (by_argument {remaining_after = remaining_after} {fault = fault'} h) =
       let same : fault' ≡ fault = let rs : Err fault ≡ Err fault' = λ i. (e i).1 in cc in
@@ -168,75 +168,75 @@ module _ (macros : Macros) (env : Env) where
   after_argument {fault = fault} e (by_fault {as' = bs} f h) = let rs : Err fault ≡ Ok bs = λ i. (e i).1 in absurd (cc)
   after_argument {fault = fault} e (by_next {as' = bs} f h) = let rs : Err fault ≡ Ok bs = λ i. (e i).1 in absurd (cc)
 
-  after_fault : {level : ℕ} {call : Call} {as' : List (Option (List Hiding))} {fault : Fault} {remaining remaining_after : Option ℕ} {r : ExpandedArguments} {n : ℕ} {p : Outcome}
-      → finish_call call as' ≡ Failed fault
+  after_fault : {level : ℕ} {invocation : Invocation} {as' : List (Option (List Hiding))} {fault : Fault} {remaining remaining_after : Option ℕ} {r : ExpandedArguments} {n : ℕ} {p : Outcome}
+      → finish_invocation invocation as' ≡ Failed fault
       → ◌≡◌ {A = Given} (remaining, Ok as') (remaining_after, r)
-      → AfterCall level call remaining_after r n p
+      → AfterInvocation level invocation remaining_after r n p
       → (0 ≡ n) × (◌≡◌ {A = Outcome} (record { tokens = []; fault = Some fault; remaining = remaining }) p)
   after_fault {as' = as'} f e (by_argument {fault = fault'} h) = let rs : Ok as' ≡ Err fault' = λ i. (e i).1 in absurd (cc)
-  after_fault {call = call} {as' = as'} {fault = fault} {remaining = remaining} {n = n} {p = p} f e (by_fault {remaining_after = remaining_after} {as' = bs} {fault = fault'} f' h) =
+  after_fault {invocation = invocation} {as' = as'} {fault = fault} {remaining = remaining} {n = n} {p = p} f e (by_fault {remaining_after = remaining_after} {as' = bs} {fault = fault'} f' h) =
       let rs : Ok as' ≡ Ok bs = λ i. (e i).1 in
       let bodies : as' ≡ bs = cc in
-      let same : fault ≡ fault' = let steps : Failed fault ≡ Failed fault' = sym f ∙ ap (finish_call call) bodies ∙ f' in cc in
+      let same : fault ≡ fault' = let steps : Failed fault ≡ Failed fault' = sym f ∙ ap (finish_invocation invocation) bodies ∙ f' in cc in
       let remainders : remaining ≡ remaining_after = λ i. (e i).0 in
       let h' = refused_same h in
       (h'.0, (λ i. record { tokens = []; fault = Some (same i); remaining = remainders i }) ∙ h'.1)
-  after_fault {call = call} {as' = as'} {fault = fault} f e (by_next {as' = bs} {next = next} f' h) =
+  after_fault {invocation = invocation} {as' = as'} {fault = fault} f e (by_next {as' = bs} {next = next} f' h) =
       let rs : Ok as' ≡ Ok bs = λ i. (e i).1 in
       let bodies : as' ≡ bs = cc in
-      let steps : Failed fault ≡ Replaced next = sym f ∙ ap (finish_call call) bodies ∙ f' in absurd (cc)
+      let steps : Failed fault ≡ Replaced next = sym f ∙ ap (finish_invocation invocation) bodies ∙ f' in absurd (cc)
 
-  after_next : {level m : ℕ} {call : Call} {as' : List (Option (List Hiding))} {next : List Hiding} {o : Outcome} {remaining remaining_after : Option ℕ} {r : ExpandedArguments} {n : ℕ} {p : Outcome}
-      → finish_call call as' ≡ Replaced next
+  after_next : {level m : ℕ} {invocation : Invocation} {as' : List (Option (List Hiding))} {next : List Hiding} {o : Outcome} {remaining remaining_after : Option ℕ} {r : ExpandedArguments} {n : ℕ} {p : Outcome}
+      → finish_invocation invocation as' ≡ Replaced next
       → ((k : ℕ) (q : Outcome) → Expands macros env level remaining k next q → (m ≡ k) × (o ≡ q))
       → ◌≡◌ {A = Given} (remaining, Ok as') (remaining_after, r)
-      → AfterCall level call remaining_after r n p
+      → AfterInvocation level invocation remaining_after r n p
       → (suc m ≡ n) × (o ≡ p)
   after_next {as' = as'} f ih e (by_argument {fault = fault'} h) = let rs : Ok as' ≡ Err fault' = λ i. (e i).1 in absurd (cc)
-  after_next {call = call} {as' = as'} {next = next} f ih e (by_fault {as' = bs} {fault = fault} f' h) =
+  after_next {invocation = invocation} {as' = as'} {next = next} f ih e (by_fault {as' = bs} {fault = fault} f' h) =
       let rs : Ok as' ≡ Ok bs = λ i. (e i).1 in
       let bodies : as' ≡ bs = cc in
-      let steps : Replaced next ≡ Failed fault = sym f ∙ ap (finish_call call) bodies ∙ f' in absurd (cc)
-  after_next {level = level} {call = call} {as' = as'} {next = next} {remaining = remaining} {p = p} f ih e (by_next {remaining_after = remaining_after} {as' = bs} {next = next'} f' h) =
+      let steps : Replaced next ≡ Failed fault = sym f ∙ ap (finish_invocation invocation) bodies ∙ f' in absurd (cc)
+  after_next {level = level} {invocation = invocation} {as' = as'} {next = next} {remaining = remaining} {p = p} f ih e (by_next {remaining_after = remaining_after} {as' = bs} {next = next'} f' h) =
       let rs : Ok as' ≡ Ok bs = λ i. (e i).1 in
       let bodies : as' ≡ bs = cc in
-      let steps : Replaced next ≡ Replaced next' = sym f ∙ ap (finish_call call) bodies ∙ f' in
+      let steps : Replaced next ≡ Replaced next' = sym f ∙ ap (finish_invocation invocation) bodies ∙ f' in
       let nexts : next' ≡ next = cc in
       let remainders : remaining_after ≡ remaining = λ i. (sym e i).0 in
       let both = ih h.0 p (subst (λ l. Expands macros env level l h.0 next p) remainders (subst (λ x. Expands macros env level remaining_after h.0 x p) nexts h.2)) in
       (ap suc both.0 ∙ sym h.1, both.1)
 
-  at_none : {level : ℕ} {call : Call} {remaining remaining_after : Option ℕ} {s : ExpandedArguments} → ExpandsArguments macros env level call remaining [] remaining_after s → ◌≡◌ {A = Given} (remaining, Ok []) (remaining_after, s)
+  at_none : {level : ℕ} {invocation : Invocation} {remaining remaining_after : Option ℕ} {s : ExpandedArguments} → ExpandsArguments macros env level invocation remaining [] remaining_after s → ◌≡◌ {A = Given} (remaining, Ok []) (remaining_after, s)
   at_none none = refl
 
-  deep_same : {level : ℕ} {call : Call} {remaining remaining_after : Option ℕ} {list : List Hiding} {rest : List (Option (List Hiding))} {s : ExpandedArguments}
+  deep_same : {level : ℕ} {invocation : Invocation} {remaining remaining_after : Option ℕ} {list : List Hiding} {rest : List (Option (List Hiding))} {s : ExpandedArguments}
       → 256 ≤ level
-      → AfterUse level call remaining list rest remaining_after s
-      → ◌≡◌ {A = Given} (remaining, Err (fault_at_expansion 21 call.head)) (remaining_after, s)
+      → AfterUse level invocation remaining list rest remaining_after s
+      → ◌≡◌ {A = Given} (remaining, Err (fault_at_expansion 21 invocation.name_token)) (remaining_after, s)
   deep_same h (is_deep h') = refl
   deep_same h (is_used h' d a) = absurd (omega arith)
   deep_same h (is_refused h' d) = absurd (omega arith)
 
-  used_same : {level m : ℕ} {call : Call} {list tokens : List Hiding} {rest : List (Option (List Hiding))} {remaining between first remaining_after : Option ℕ} {out s : ExpandedArguments}
+  used_same : {level m : ℕ} {invocation : Invocation} {list tokens : List Hiding} {rest : List (Option (List Hiding))} {remaining between first remaining_after : Option ℕ} {out s : ExpandedArguments}
       → level < 256
       → ((n : ℕ) (p : Outcome) → Expands macros env (suc level) remaining n list p → (m ≡ n) × (◌≡◌ {A = Outcome} (record { tokens = tokens; fault = None; remaining = between }) p))
-      → ((l : Option ℕ) (s' : ExpandedArguments) → ExpandsArguments macros env level call between rest l s' → ◌≡◌ {A = Given} (first, out) (l, s'))
-      → AfterUse level call remaining list rest remaining_after s
+      → ((l : Option ℕ) (s' : ExpandedArguments) → ExpandsArguments macros env level invocation between rest l s' → ◌≡◌ {A = Given} (first, out) (l, s'))
+      → AfterUse level invocation remaining list rest remaining_after s
       → ◌≡◌ {A = Given} (first, with_expanded (Some tokens) out) (remaining_after, s)
   used_same h ih more (is_deep h') = absurd (omega arith)
-  used_same {level = level} {call = call} {tokens = tokens} {rest = rest} {between = between} {out = out} h ih more (is_used {steps = n} {between = other} {remaining_after = remaining_after} {tokens = ts} {out = out'} h' d a) =
+  used_same {level = level} {invocation = invocation} {tokens = tokens} {rest = rest} {between = between} {out = out} h ih more (is_used {steps = n} {between = other} {remaining_after = remaining_after} {tokens = ts} {out = out'} h' d a) =
       let both = (ih n (record { tokens = ts; fault = None; remaining = other }) d).1 in
       let remainders : other ≡ between = λ i. (sym both i).remaining in
-      let whole = more remaining_after out' (subst (λ l. ExpandsArguments macros env level call l rest remaining_after out') remainders a) in
+      let whole = more remaining_after out' (subst (λ l. ExpandsArguments macros env level invocation l rest remaining_after out') remainders a) in
       λ i. ((whole i).0, with_expanded (Some (both i).tokens) (whole i).1)
   used_same {tokens = tokens} h ih more (is_refused {steps = n} {remaining_after = remaining_after} {tokens = ts} {fault = fault} h' d) =
       let both = (ih n (record { tokens = ts; fault = Some fault; remaining = remaining_after }) d).1 in
       let faults : None ≡ Some fault = λ i. (both i).fault in absurd (cc)
 
-  refused_argument_same : {level m : ℕ} {call : Call} {list tokens : List Hiding} {fault : Fault} {rest : List (Option (List Hiding))} {remaining first remaining_after : Option ℕ} {s : ExpandedArguments}
+  refused_argument_same : {level m : ℕ} {invocation : Invocation} {list tokens : List Hiding} {fault : Fault} {rest : List (Option (List Hiding))} {remaining first remaining_after : Option ℕ} {s : ExpandedArguments}
       → level < 256
       → ((n : ℕ) (p : Outcome) → Expands macros env (suc level) remaining n list p → (m ≡ n) × (◌≡◌ {A = Outcome} (record { tokens = tokens; fault = Some fault; remaining = first }) p))
-      → AfterUse level call remaining list rest remaining_after s
+      → AfterUse level invocation remaining list rest remaining_after s
       → ◌≡◌ {A = Given} (first, Err fault) (remaining_after, s)
   refused_argument_same h ih (is_deep h') = absurd (omega arith)
   refused_argument_same {fault = fault} h ih (is_used {steps = n} {between = other} {tokens = ts} h' d a) =
@@ -262,19 +262,19 @@ module _ (macros : Macros) (env : Env) where
         let ih = same_outcome d h.0 p h.2 in
         (ap suc ih.0 ∙ sym h.1, ih.1)
     same_outcome (argument_refused e a) n p d' =
-        let h = at_called e d' in
+        let h = at_invoked e d' in
         after_argument (same_expanded a h.0 h.1 h.2) h.3
-    same_outcome (call_failed e a f) n p d' =
-        let h = at_called e d' in
+    same_outcome (invocation_failed e a f) n p d' =
+        let h = at_invoked e d' in
         after_fault f (same_expanded a h.0 h.1 h.2) h.3
-    same_outcome (call_replaced e a f d) n p d' =
-        let h = at_called e d' in
+    same_outcome (invocation_replaced e a f d) n p d' =
+        let h = at_invoked e d' in
         after_next f (λ k o. same_outcome d k o) (same_expanded a h.0 h.1 h.2) h.3
 
-    pub same_expanded : {level : ℕ} {call : Call} {remaining first : Option ℕ} {as' : List (Option (List Hiding))} {r : ExpandedArguments}
-        → ExpandsArguments macros env level call remaining as' first r
+    pub same_expanded : {level : ℕ} {invocation : Invocation} {remaining first : Option ℕ} {as' : List (Option (List Hiding))} {r : ExpandedArguments}
+        → ExpandsArguments macros env level invocation remaining as' first r
         → (remaining_after : Option ℕ) (s : ExpandedArguments)
-        → ExpandsArguments macros env level call remaining as' remaining_after s
+        → ExpandsArguments macros env level invocation remaining as' remaining_after s
         → ◌≡◌ {A = Given} (first, r) (remaining_after, s)
     same_expanded none l s a = at_none a
     same_expanded (unused a) l s a' =

@@ -2,7 +2,7 @@
 use Rattle.std.specs.Prelude.{ℕ, zero, suc, Bool, true, false, List, [], ◌∷◌, Option, Some, None}
 use Rattle.pptext.specs.Tokens.{fault}
 use Rattle.ppmacro.specs.Hiding.{Hiding}
-use Rattle.ppexpand.specs.ExpansionStep.{ExpansionStep, Done, Refused, Failed, Replaced, Called}
+use Rattle.ppexpand.specs.ExpansionStep.{ExpansionStep, Done, Refused, Failed, Replaced, Invoked}
 
 -- there is a budget, and nothing is left of it
 abbrev pub is_exhausted : Option ℕ → Bool
@@ -18,7 +18,7 @@ exhausted_step (t ∷ rest) = Refused (fault 35 t.token.used [])
 abbrev pub in_budget : Option ℕ → List Hiding → ExpansionStep → ExpansionStep
 in_budget (Some zero) list (Failed f) = exhausted_step list
 in_budget (Some zero) list (Replaced next) = exhausted_step list
-in_budget (Some zero) list (Called call) = exhausted_step list
+in_budget (Some zero) list (Invoked invocation) = exhausted_step list
 in_budget remaining list other = other
 
 -- the rest of a budget after one replacement

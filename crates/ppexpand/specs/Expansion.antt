@@ -7,7 +7,7 @@ use Rattle.ppmacro.specs.Hiding.{Hiding}
 use Rattle.ppmacro.specs.Substitution.{unhidden}
 use Rattle.ppexpand.specs.declared.env.Env.{Env}
 use Rattle.ppexpand.specs.declared.expansion.Expanded.{Expanded}
-use Rattle.ppexpand.specs.ExpansionStep.{Call, ExpansionStep, Done, Refused, Emits, Failed, Replaced, Called, expansion_step, wanted, finish_call, fault_at_expansion}
+use Rattle.ppexpand.specs.ExpansionStep.{Invocation, ExpansionStep, Done, Refused, Emits, Failed, Replaced, Invoked, expansion_step, wanted, finish_invocation, fault_at_expansion}
 use Rattle.ppexpand.specs.ExpansionStep.{ExpandedArguments, with_expanded}
 use Rattle.ppexpand.specs.Budget.{in_budget, spend_one}
 
@@ -50,45 +50,45 @@ module _ (macros : Macros) (env : Env) where
           → step_in_budget remaining list ≡ Replaced next
           → Expands level (spend_one remaining) steps next out
           → Expands level remaining (suc steps) list out
-      argument_refused : {level : ℕ} {remaining remaining_after : Option ℕ} {list : List Hiding} {call : Call} {f : Fault}
-          → step_in_budget remaining list ≡ Called call
-          → ExpandsArguments level call (spend_one remaining) (wanted call) remaining_after (Err f)
+      argument_refused : {level : ℕ} {remaining remaining_after : Option ℕ} {list : List Hiding} {invocation : Invocation} {f : Fault}
+          → step_in_budget remaining list ≡ Invoked invocation
+          → ExpandsArguments level invocation (spend_one remaining) (wanted invocation) remaining_after (Err f)
           → Expands level remaining 0 list (ended remaining_after (Some f))
-      call_failed : {level : ℕ} {remaining remaining_after : Option ℕ} {list : List Hiding} {call : Call} {expanded : List (Option (List Hiding))} {f : Fault}
-          → step_in_budget remaining list ≡ Called call
-          → ExpandsArguments level call (spend_one remaining) (wanted call) remaining_after (Ok expanded)
-          → finish_call call expanded ≡ Failed f
+      invocation_failed : {level : ℕ} {remaining remaining_after : Option ℕ} {list : List Hiding} {invocation : Invocation} {expanded : List (Option (List Hiding))} {f : Fault}
+          → step_in_budget remaining list ≡ Invoked invocation
+          → ExpandsArguments level invocation (spend_one remaining) (wanted invocation) remaining_after (Ok expanded)
+          → finish_invocation invocation expanded ≡ Failed f
           → Expands level remaining 0 list (ended remaining_after (Some f))
-      call_replaced : {level steps : ℕ} {remaining remaining_after : Option ℕ} {list next : List Hiding} {call : Call}
+      invocation_replaced : {level steps : ℕ} {remaining remaining_after : Option ℕ} {list next : List Hiding} {invocation : Invocation}
           {expanded : List (Option (List Hiding))} {out : Outcome}
-          → step_in_budget remaining list ≡ Called call
-          → ExpandsArguments level call (spend_one remaining) (wanted call) remaining_after (Ok expanded)
-          → finish_call call expanded ≡ Replaced next
+          → step_in_budget remaining list ≡ Invoked invocation
+          → ExpandsArguments level invocation (spend_one remaining) (wanted invocation) remaining_after (Ok expanded)
+          → finish_invocation invocation expanded ≡ Replaced next
           → Expands level remaining_after steps next out
           → Expands level remaining (suc steps) list out
 
     -- the arguments of an invocation in a list at this level, each expanded as a list of its own one level deeper (6.10.3.1), in
     -- order, up to the first fault, from one budget; level 256 is the deepest
-    pub data ExpandsArguments : ℕ → Call → Option ℕ → List (Option (List Hiding)) → Option ℕ → ExpandedArguments → Type 0 where
-      none : {level : ℕ} {call : Call} {remaining : Option ℕ}
-          → ExpandsArguments level call remaining [] remaining (Ok [])
-      unused : {level : ℕ} {call : Call} {remaining remaining_after : Option ℕ} {rest : List (Option (List Hiding))} {out : ExpandedArguments}
-          → ExpandsArguments level call remaining rest remaining_after out
-          → ExpandsArguments level call remaining (None ∷ rest) remaining_after (with_expanded None out)
-      too_deep : {level : ℕ} {call : Call} {remaining : Option ℕ} {list : List Hiding} {rest : List (Option (List Hiding))}
+    pub data ExpandsArguments : ℕ → Invocation → Option ℕ → List (Option (List Hiding)) → Option ℕ → ExpandedArguments → Type 0 where
+      none : {level : ℕ} {invocation : Invocation} {remaining : Option ℕ}
+          → ExpandsArguments level invocation remaining [] remaining (Ok [])
+      unused : {level : ℕ} {invocation : Invocation} {remaining remaining_after : Option ℕ} {rest : List (Option (List Hiding))} {out : ExpandedArguments}
+          → ExpandsArguments level invocation remaining rest remaining_after out
+          → ExpandsArguments level invocation remaining (None ∷ rest) remaining_after (with_expanded None out)
+      too_deep : {level : ℕ} {invocation : Invocation} {remaining : Option ℕ} {list : List Hiding} {rest : List (Option (List Hiding))}
           → 256 ≤ level
-          → ExpandsArguments level call remaining (Some list ∷ rest) remaining (Err (fault_at_expansion 21 call.head))
-      pre_expanded : {level steps : ℕ} {call : Call} {remaining between remaining_after : Option ℕ} {list tokens : List Hiding}
+          → ExpandsArguments level invocation remaining (Some list ∷ rest) remaining (Err (fault_at_expansion 21 invocation.name_token))
+      pre_expanded : {level steps : ℕ} {invocation : Invocation} {remaining between remaining_after : Option ℕ} {list tokens : List Hiding}
           {rest : List (Option (List Hiding))} {out : ExpandedArguments}
           → level < 256
           → Expands (suc level) remaining steps list (record { tokens = tokens; fault = None; remaining = between })
-          → ExpandsArguments level call between rest remaining_after out
-          → ExpandsArguments level call remaining (Some list ∷ rest) remaining_after (with_expanded (Some tokens) out)
-      pre_expansion_refused : {level steps : ℕ} {call : Call} {remaining remaining_after : Option ℕ} {list tokens : List Hiding}
+          → ExpandsArguments level invocation between rest remaining_after out
+          → ExpandsArguments level invocation remaining (Some list ∷ rest) remaining_after (with_expanded (Some tokens) out)
+      pre_expansion_refused : {level steps : ℕ} {invocation : Invocation} {remaining remaining_after : Option ℕ} {list tokens : List Hiding}
           {rest : List (Option (List Hiding))} {f : Fault}
           → level < 256
           → Expands (suc level) remaining steps list (record { tokens = tokens; fault = Some f; remaining = remaining_after })
-          → ExpandsArguments level call remaining (Some list ∷ rest) remaining_after (Err f)
+          → ExpandsArguments level invocation remaining (Some list ∷ rest) remaining_after (Err f)
 
   abbrev mutual
     -- the number of replacements in an expansion
@@ -99,11 +99,11 @@ module _ (macros : Macros) (env : Env) where
     count (failed e) = 1
     count (replaced e more) = suc (count more)
     count (argument_refused e arguments) = suc (count_arguments arguments)
-    count (call_failed e arguments f) = suc (count_arguments arguments)
-    count (call_replaced e arguments f more) = suc (count_arguments arguments + count more)
+    count (invocation_failed e arguments f) = suc (count_arguments arguments)
+    count (invocation_replaced e arguments f more) = suc (count_arguments arguments + count more)
 
-    pub count_arguments : {level : ℕ} {call : Call} {remaining remaining_after : Option ℕ} {as' : List (Option (List Hiding))} {out : ExpandedArguments}
-        → ExpandsArguments level call remaining as' remaining_after out
+    pub count_arguments : {level : ℕ} {invocation : Invocation} {remaining remaining_after : Option ℕ} {as' : List (Option (List Hiding))} {out : ExpandedArguments}
+        → ExpandsArguments level invocation remaining as' remaining_after out
         → ℕ
     count_arguments none = 0
     count_arguments (unused more) = count_arguments more

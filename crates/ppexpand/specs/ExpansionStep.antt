@@ -61,24 +61,29 @@ predefined_value b env t gain = record {
 
 -- ---- expansion steps
 
--- an invocation of a function-like macro: the macro name token, the macro, an argument for each parameter but an absent variable argument, the
--- names that are added to the hide sets of the replacement, and the tokens after the matching `)`
-pub record Call : Type 0 where
-  pub head : Hiding
+-- an invocation of a function-like macro: the macro name token, the macro, one argument for each parameter (none for a variable argument that is
+-- absent), the names that are added to the hide sets of the replacement, and the tokens after the matching `)`
+pub record Invocation : Type 0 where
+  pub name_token : Hiding
   pub macro : Macro
   pub arguments : List (List Hiding)
   pub gain : HideSet
   pub following : List Hiding
 
--- The list is empty. Or its first token is refused with a fault, or emitted unchanged, and the rest is left. Or the first token is a macro's name
--- that is to be replaced: the replacement fails, or this list is the result, or the name is invoked.
+-- what happens to the first token of a list
 pub data ExpansionStep : Type 0 where
+  -- there is none
   Done : ExpansionStep
+  -- it raises a fault, and nothing is replaced
   Refused : Fault → ExpansionStep
+  -- it is emitted unchanged; these tokens remain
   Emits : Hiding → List Hiding → ExpansionStep
+  -- it is a macro's name whose replacement fails
   Failed : Fault → ExpansionStep
+  -- it is a macro's name that was replaced; this is the list now
   Replaced : List Hiding → ExpansionStep
-  Called : Call → ExpansionStep
+  -- it is the macro name token of an invocation, whose arguments are still to be expanded
+  Invoked : Invocation → ExpansionStep
 
 -- the next token gets the leading-space flag if a space is pending
 abbrev pub space_next : Bool → List Hiding → List Hiding
@@ -105,13 +110,13 @@ quote_fault t = fault 7 t.token.at t.token.text
 abbrev pub gain_of : HideSet → HideSet → Name → HideSet
 gain_of hide close name = set.insert (set.intersection hide close) name
 
-abbrev pub call_step : Hiding → Macro → Option (List (List Hiding)) → Hiding → List Hiding → ExpansionStep
-call_step t d (Some as') close following =
-    Called (record { head = t; macro = d; arguments = as'; gain = gain_of t.hide close.hide t.token.text; following = following })
-call_step t d None close following = Failed (fault_at_expansion 18 t)
+abbrev pub closed_invocation_step : Hiding → Macro → Option (List (List Hiding)) → Hiding → List Hiding → ExpansionStep
+closed_invocation_step t d (Some as') close following =
+    Invoked (record { name_token = t; macro = d; arguments = as'; gain = gain_of t.hide close.hide t.token.text; following = following })
+closed_invocation_step t d None close following = Failed (fault_at_expansion 18 t)
 
 abbrev pub invocation_step : Hiding → Macro → List Name → Variadic → Gathered → ExpansionStep
-invocation_step t d names variadic (Closed as' close following) = call_step t d (fit_arguments names variadic as') close following
+invocation_step t d names variadic (Closed as' close following) = closed_invocation_step t d (fit_arguments names variadic as') close following
 invocation_step t d names variadic (UnmatchedQuote q) = Failed (quote_fault q)
 invocation_step t d names variadic Unclosed = Failed (fault_at_expansion 17 t)
 
@@ -153,13 +158,13 @@ is_lone_parameter i _ = false
 abbrev pub pre_expands : ℕ → List Chain → Bool
 pre_expands i cs = list_any (λ c. is_lone_parameter i c.operands) cs
 
--- for the parameters from i on: the arguments that are to be expanded; an absent argument is the empty list
+-- for each parameter from i on: its argument if it is to be expanded, and otherwise `None`; an absent variable argument counts as empty
 abbrev pub to_expand : ℕ → List Chain → List Name → List (List Hiding) → List (Option (List Hiding))
 to_expand i cs [] given = []
 to_expand i cs (n ∷ names) given = (if pre_expands i cs then Some (argument_at given i) else None) ∷ to_expand (suc i) cs names given
 
-unfoldable pub wanted : Call → List (Option (List Hiding))
-wanted call = to_expand 0 (chains_of call.macro) (parameter_names call.macro.kind) call.arguments
+unfoldable pub wanted : Invocation → List (Option (List Hiding))
+wanted invocation = to_expand 0 (chains_of invocation.macro) (parameter_names invocation.macro.kind) invocation.arguments
 
 -- the expansions, with one entry for each parameter, or the first fault
 abbrev pub ExpandedArguments : Type 0
@@ -171,7 +176,7 @@ with_expanded a (Ok as') = Ok (a ∷ as')
 with_expanded a (Err f) = Err f
 
 -- the expansion step of an invocation after its arguments are expanded
-unfoldable pub finish_call : Call → List (Option (List Hiding)) → ExpansionStep
-finish_call call expanded = replaced_by
-    (macro_replacement call.macro (record { given = call.arguments; expanded = expanded }) call.gain call.head.token.used call.head.token.space)
-    call.following
+unfoldable pub finish_invocation : Invocation → List (Option (List Hiding)) → ExpansionStep
+finish_invocation invocation expanded = replaced_by
+    (macro_replacement invocation.macro (record { given = invocation.arguments; expanded = expanded }) invocation.gain invocation.name_token.token.used invocation.name_token.token.space)
+    invocation.following

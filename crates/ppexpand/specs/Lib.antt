@@ -5,5 +5,5 @@ pub mod Expansion
 pub mod Standard
 pub mod Termination
 pub mod Laws
-pub mod Pieces
+pub mod Slices
 pub mod code

@@ -14,7 +14,7 @@ use Rattle.ppmacro.specs.declared.macros.Macro.{Macro}
 use Rattle.ppmacro.specs.declared.macros.MacroKind.TheVariants.{Predefined, ObjectLike, FunctionLike}
 use Rattle.ppexpand.specs.declared.env.Env.{Env}
 use Rattle.ppexpand.specs.Arguments.{is_open, Closed, UnmatchedQuote, Unclosed, gather, separators, fit_arguments}
-use Rattle.ppexpand.specs.ExpansionStep.{predefined_value, Call, followed_by, fault_at_expansion, quote_fault, gain_of, no_arguments, macro_of, wanted}
+use Rattle.ppexpand.specs.ExpansionStep.{predefined_value, Invocation, followed_by, fault_at_expansion, quote_fault, gain_of, no_arguments, macro_of, wanted}
 use Rattle.ppexpand.specs.ExpansionStep.{ExpandedArguments, with_expanded}
 
 -- a token names this macro, and its hide set does not have the name (6.10.3, paragraph 9; 6.10.3.4, paragraph 2)
@@ -30,18 +30,18 @@ pub record Opens (macros : Macros) (t paren : Hiding) (d : Macro) (names : List 
   pub paren_opens : is_open paren.token ≡ true
 
 -- a list begins with this invocation: it has a matching `)`, and arguments as the macro's parameters need (6.10.3, paragraphs 4 and 10 to 12)
-pub record Invokes (macros : Macros) (list : List Hiding) (call : Call) : Type 0 where
+pub record Invokes (macros : Macros) (list : List Hiding) (invocation : Invocation) : Type 0 where
   pub paren : Hiding
   pub inside : List Hiding
   pub names : List Name
   pub variadic : Variadic
   pub arguments : List (List Hiding)
   pub close : Hiding
-  pub laid_out : list ≡ call.head ∷ paren ∷ inside
-  pub opens : Opens macros call.head paren call.macro names variadic
-  pub closed : gather 0 (separators names variadic) inside ≡ Closed arguments close call.following
-  pub fits : fit_arguments names variadic arguments ≡ Some call.arguments
-  pub gains : call.gain ≡ gain_of call.head.hide close.hide call.head.token.text
+  pub laid_out : list ≡ invocation.name_token ∷ paren ∷ inside
+  pub opens : Opens macros invocation.name_token paren invocation.macro names variadic
+  pub closed : gather 0 (separators names variadic) inside ≡ Closed arguments close invocation.following
+  pub fits : fit_arguments names variadic arguments ≡ Some invocation.arguments
+  pub gains : invocation.gain ≡ gain_of invocation.name_token.hide close.hide invocation.name_token.token.text
 
 -- whether `(` is next
 abbrev pub opens_next : List Hiding → Bool
@@ -53,9 +53,9 @@ abbrev pub object_result : Hiding → Macro → Result Replacement Fault
 object_result t d = macro_replacement d no_arguments (set.insert t.hide t.token.text) t.token.used t.token.space
 
 -- the replacement of an invocation after its arguments are expanded (6.10.3.1), or the fault
-abbrev pub invocation_result : Call → List (Option (List Hiding)) → Result Replacement Fault
-invocation_result call expanded =
-    macro_replacement call.macro (record { given = call.arguments; expanded = expanded }) call.gain call.head.token.used call.head.token.space
+abbrev pub invocation_result : Invocation → List (Option (List Hiding)) → Result Replacement Fault
+invocation_result invocation expanded =
+    macro_replacement invocation.macro (record { given = invocation.arguments; expanded = expanded }) invocation.gain invocation.name_token.token.used invocation.name_token.token.space
 
 mutual
   -- at this level a list expands to these tokens, up to its end or to this fault
@@ -113,41 +113,41 @@ mutual
         → gather 0 (separators names variadic) inside ≡ Closed arguments close following
         → fit_arguments names variadic arguments ≡ None
         → StandardExpands macros env level (t ∷ paren ∷ inside) [] (Some (fault_at_expansion 18 t))
-    argument_refused : {level : ℕ} {list : List Hiding} {call : Call} {f : Fault}
-        → Invokes macros list call
-        → StandardExpandsArguments macros env level call (wanted call) (Err f)
+    argument_refused : {level : ℕ} {list : List Hiding} {invocation : Invocation} {f : Fault}
+        → Invokes macros list invocation
+        → StandardExpandsArguments macros env level invocation (wanted invocation) (Err f)
         → StandardExpands macros env level list [] (Some f)
-    invocation_refused : {level : ℕ} {list : List Hiding} {call : Call} {expanded : List (Option (List Hiding))} {f : Fault}
-        → Invokes macros list call
-        → StandardExpandsArguments macros env level call (wanted call) (Ok expanded)
-        → invocation_result call expanded ≡ Err f
+    invocation_refused : {level : ℕ} {list : List Hiding} {invocation : Invocation} {expanded : List (Option (List Hiding))} {f : Fault}
+        → Invokes macros list invocation
+        → StandardExpandsArguments macros env level invocation (wanted invocation) (Ok expanded)
+        → invocation_result invocation expanded ≡ Err f
         → StandardExpands macros env level list [] (Some f)
-    invocation : {level : ℕ} {list tokens : List Hiding} {fault : Option Fault} {call : Call} {expanded : List (Option (List Hiding))} {m : Replacement}
-        → Invokes macros list call
-        → StandardExpandsArguments macros env level call (wanted call) (Ok expanded)
-        → invocation_result call expanded ≡ Ok m
-        → StandardExpands macros env level (followed_by call.following m) tokens fault
+    invocation : {level : ℕ} {list tokens : List Hiding} {fault : Option Fault} {invocation : Invocation} {expanded : List (Option (List Hiding))} {m : Replacement}
+        → Invokes macros list invocation
+        → StandardExpandsArguments macros env level invocation (wanted invocation) (Ok expanded)
+        → invocation_result invocation expanded ≡ Ok m
+        → StandardExpands macros env level (followed_by invocation.following m) tokens fault
         → StandardExpands macros env level list tokens fault
 
   -- The arguments of an invocation in a list at this level, each expanded as if it were the rest of the file, one level deeper (6.10.3.1), in order,
   -- up to the first fault; level 256 is the deepest.
-  pub data StandardExpandsArguments (macros : Macros) (env : Env) : ℕ → Call → List (Option (List Hiding)) → ExpandedArguments → Type 0 where
-    none : {level : ℕ} {call : Call} → StandardExpandsArguments macros env level call [] (Ok [])
-    unused : {level : ℕ} {call : Call} {rest : List (Option (List Hiding))} {out : ExpandedArguments}
-        → StandardExpandsArguments macros env level call rest out
-        → StandardExpandsArguments macros env level call (None ∷ rest) (with_expanded None out)
-    too_deep : {level : ℕ} {call : Call} {list : List Hiding} {rest : List (Option (List Hiding))}
+  pub data StandardExpandsArguments (macros : Macros) (env : Env) : ℕ → Invocation → List (Option (List Hiding)) → ExpandedArguments → Type 0 where
+    none : {level : ℕ} {invocation : Invocation} → StandardExpandsArguments macros env level invocation [] (Ok [])
+    unused : {level : ℕ} {invocation : Invocation} {rest : List (Option (List Hiding))} {out : ExpandedArguments}
+        → StandardExpandsArguments macros env level invocation rest out
+        → StandardExpandsArguments macros env level invocation (None ∷ rest) (with_expanded None out)
+    too_deep : {level : ℕ} {invocation : Invocation} {list : List Hiding} {rest : List (Option (List Hiding))}
         → 256 ≤ level
-        → StandardExpandsArguments macros env level call (Some list ∷ rest) (Err (fault_at_expansion 21 call.head))
-    pre_expanded : {level : ℕ} {call : Call} {list tokens : List Hiding} {rest : List (Option (List Hiding))} {out : ExpandedArguments}
+        → StandardExpandsArguments macros env level invocation (Some list ∷ rest) (Err (fault_at_expansion 21 invocation.name_token))
+    pre_expanded : {level : ℕ} {invocation : Invocation} {list tokens : List Hiding} {rest : List (Option (List Hiding))} {out : ExpandedArguments}
         → level < 256
         → StandardExpands macros env (suc level) list tokens None
-        → StandardExpandsArguments macros env level call rest out
-        → StandardExpandsArguments macros env level call (Some list ∷ rest) (with_expanded (Some tokens) out)
-    pre_expansion_refused : {level : ℕ} {call : Call} {list tokens : List Hiding} {rest : List (Option (List Hiding))} {f : Fault}
+        → StandardExpandsArguments macros env level invocation rest out
+        → StandardExpandsArguments macros env level invocation (Some list ∷ rest) (with_expanded (Some tokens) out)
+    pre_expansion_refused : {level : ℕ} {invocation : Invocation} {list tokens : List Hiding} {rest : List (Option (List Hiding))} {f : Fault}
         → level < 256
         → StandardExpands macros env (suc level) list tokens (Some f)
-        → StandardExpandsArguments macros env level call (Some list ∷ rest) (Err f)
+        → StandardExpandsArguments macros env level invocation (Some list ∷ rest) (Err f)
 
 -- the expansion of a list of tokens, up to its end or to this fault, at level 0 and with empty hide sets at first
 pub record IsStandardExpansion (macros : Macros) (env : Env) (tokens expanded : List Token) (fault : Option Fault) : Type 0 where

@@ -38,21 +38,21 @@ module _ (macros : Macros) where
   -- replaced alone or together with all tokens up to a `)`. Each set of the result has this name, and the names in the set of the first token, or in
   -- both that and the set of the `)`.
   pub data Step : List HideSet → List HideSet → Type 0 where
-    emits : {head : HideSet} {rest : List HideSet} → Step (head ∷ rest) rest
-    replaced : {head : HideSet} {rest next : List HideSet} (name : Name)
-        → IsOutside name head
+    emits : {hide : HideSet} {rest : List HideSet} → Step (hide ∷ rest) rest
+    replaced : {hide : HideSet} {rest next : List HideSet} (name : Name)
+        → IsOutside name hide
         → (result : List HideSet)
-        → AllByRecursion (Gains head head name) result
+        → AllByRecursion (Gains hide hide name) result
         → next ≡ result ++ rest
-        → Step (head ∷ rest) next
-    invocation_step : {head : HideSet} {rest next : List HideSet} (name : Name)
-        → IsOutside name head
+        → Step (hide ∷ rest) next
+    invocation_step : {hide : HideSet} {rest next : List HideSet} (name : Name)
+        → IsOutside name hide
         → (inside : List HideSet) (close : HideSet) (following : List HideSet)
         → rest ≡ inside ++ close ∷ following
         → (result : List HideSet)
-        → AllByRecursion (Gains head close name) result
+        → AllByRecursion (Gains hide close name) result
         → next ≡ result ++ following
-        → Step (head ∷ rest) next
+        → Step (hide ∷ rest) next
 
   -- each sequence of steps from this list terminates
   pub data Ends : List HideSet → Type 0 where

@@ -7,6 +7,6 @@ use ppmacro::Table;
 pub(crate) struct Context<'t, 'a> {
     pub(crate) table: &'t Table<'a>,
     pub(crate) env: &'t Env,
-    /// The number of arguments around the list: 0 for a run of text.
+    /// The number of arguments around the list: 0 for text lines.
     pub(crate) level: u32,
 }

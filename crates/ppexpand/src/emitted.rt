@@ -1,26 +1,39 @@
-//! The output of an expansion.
+//! The emitted tokens of an expansion.
 ghost use Rattle.std.specs.Prelude.{◌≡◌, ◌∷◌, ◌++◌, [], flat_map, true, IfOk, IfSome, OnOk};
-ghost use Rattle.ppexpand.specs.Pieces.{piece_list};
+ghost use Rattle.ppexpand.specs.Slices.{slice_tokens};
+ghost use Rattle.ppexpand.specs.code.Pieces.{piece_list};
 ghost use Rattle.ppmacro.specs.Substituting.{tokens_of};
 
 use crate::lists::put;
+use crate::rope_iter::TokenSlice;
 use crate::token_span::TokenSpan;
 use ppmacro::Hidden;
 use pptext::Token;
 use std::alloc::{AllocError, Global};
 use std::marker::Model;
 
-/// The longest span of a file, in tokens, that is emitted one by one. A piece for it would end the vector of the tokens before it, and the
-/// next vector needs another allocation.
-const FEW: usize = 12;
+/// The largest number of tokens of a span that are copied. A longer span becomes a piece, and the tokens after it need a new vector.
+const MOST_COPIED: usize = 12;
 
-/// A part of an output: a span of a file, or tokens that were emitted one by one.
+/// A piece of the emitted tokens: a span of a file, or tokens that were emitted one by one.
 #[derive(Drop)]
-pub enum Piece<'a> {
+pub(crate) enum Piece<'a> {
     /// A span of a file.
-    Shared(TokenSpan<'a>),
+    Span(TokenSpan<'a>),
     /// Tokens that were emitted one by one.
-    Made(Vec<Hidden<'a>>),
+    Singles(Vec<Hidden<'a>>),
+}
+
+impl<'a> Piece<'a> {
+    /// Returns the tokens.
+    pub(crate) fn tokens(&self) -> TokenSlice<'_, 'a>
+        ensures { slice_tokens result ≡ tokens_of (piece_list self.now) }
+    {
+        match self {
+            Piece::Span(span) => TokenSlice::InFile(span.tokens()),
+            Piece::Singles(singles) => TokenSlice::Hidden(singles.as_slice()),
+        }
+    }
 }
 
 /// The emitted tokens: pieces, then the tokens that were emitted one by one since the last piece. Contracts see them as one list.
@@ -36,12 +49,12 @@ impl<'a> Model for Emitted<'a> {
 
     ghost Value = { List Hidden };
 
-    ghost use Rattle.ppexpand.specs.Pieces.{piece_list};
+    ghost use Rattle.ppexpand.specs.code.Pieces.{piece_list};
 
     ghost view = { λ p. flat_map piece_list p.pieces.items ++ p.singles.items };
 }
 
-/// Moves tokens to a vector of exactly their number. The capacity of the old vector stays for the tokens that follow.
+/// Moves tokens to a new vector without spare capacity. The old vector keeps its capacity, for the tokens that follow.
 fn exact_vec<'a>(singles: &mut Vec<Hidden<'a>>) -> Result<Vec<Hidden<'a>>, AllocError>
     ensures same { IfOk result (λ v. v.items ≡ singles.old.items) }
     ensures none { OnOk result (singles.new.items ≡ []) }
@@ -51,19 +64,22 @@ fn exact_vec<'a>(singles: &mut Vec<Hidden<'a>>) -> Result<Vec<Hidden<'a>>, Alloc
     Ok(exact_vec)
 }
 
-/// Makes a piece of the tokens that were emitted one by one, if there are any.
-fn close<'a>(pieces: &mut Vec<Piece<'a>>, singles: &mut Vec<Hidden<'a>>) -> Result<(), AllocError>
+/// Turns the tokens that were emitted one by one into a piece, if there are any.
+fn end_piece<'a>(
+    pieces: &mut Vec<Piece<'a>>,
+    singles: &mut Vec<Hidden<'a>>,
+) -> Result<(), AllocError>
     ensures same { OnOk result (flat_map piece_list pieces.new.items ≡ flat_map piece_list pieces.old.items ++ singles.old.items) }
     ensures closed { OnOk result (singles.new.items ≡ []) }
 {
     if singles.is_empty() {
         return Ok(());
     }
-    put(pieces, Piece::Made(exact_vec(singles)?))
+    put(pieces, Piece::Singles(exact_vec(singles)?))
 }
 
 impl<'a> Emitted<'a> {
-    /// Creates an empty output.
+    /// Creates an empty list.
     pub(crate) fn new(alloc: Global) -> Emitted<'a>
         ensures { result ≡ [] }
     {
@@ -73,7 +89,7 @@ impl<'a> Emitted<'a> {
         }
     }
 
-    /// Creates an empty output, with capacity for `count` tokens that are emitted one by one.
+    /// Creates an empty list, with capacity for `count` tokens that are emitted one by one.
     pub(crate) fn with_capacity(alloc: Global, count: usize) -> Result<Emitted<'a>, AllocError>
         ensures { IfOk result (λ p. p ≡ []) }
     {
@@ -87,11 +103,11 @@ impl<'a> Emitted<'a> {
     pub(crate) fn extend(&mut self, span: TokenSpan<'a>) -> Result<(), AllocError>
         ensures { OnOk result (self.new ≡ self.old ++ span.entry) }
     {
-        if span.len() <= FEW {
+        if span.len() <= MOST_COPIED {
             return push_span(&mut self.singles, span);
         }
-        close(&mut self.pieces, &mut self.singles)?;
-        put(&mut self.pieces, Piece::Shared(span))
+        end_piece(&mut self.pieces, &mut self.singles)?;
+        put(&mut self.pieces, Piece::Span(span))
     }
 
     /// Appends a token.
@@ -102,7 +118,7 @@ impl<'a> Emitted<'a> {
         put(&mut self.singles, hidden)
     }
 
-    /// Frees unused capacity. The output lives until all units are done.
+    /// Frees unused capacity, because the tokens are kept until all units are done.
     pub(crate) fn free_unused(&mut self) -> Result<(), AllocError>
         ensures { OnOk result (self.new ≡ self.old) }
     {
@@ -111,7 +127,7 @@ impl<'a> Emitted<'a> {
         Ok(())
     }
 
-    /// Returns whether the output is empty.
+    /// Returns true only if no tokens were emitted.
     pub(crate) fn is_empty(&self) -> bool
         ensures { result ≡ true → self.now ≡ [] }
     {
@@ -161,14 +177,15 @@ fn push_piece<'a>(tokens: &mut Vec<Hidden<'a>>, piece: Piece<'a>) -> Result<(), 
     ensures { OnOk result (tokens.new.items ≡ tokens.old.items ++ piece_list piece.entry) }
 {
     match piece {
-        Piece::Shared(span) => push_span(tokens, span),
-        Piece::Made(more) => push_all(tokens, more),
+        Piece::Span(span) => push_span(tokens, span),
+        Piece::Singles(singles) => push_all(tokens, singles),
     }
 }
 
 /// An expanded list of tokens, which contracts see as a list.
 ///
-/// It consists of the tokens of the file before the first one that names a macro or is an unmatched quote, and the output after them.
+/// It consists of a prefix of the list that was expanded, up to the first token that names a macro or is an unmatched quote, and of the tokens that
+/// were emitted after it.
 #[derive(Drop)]
 pub struct TokenRope<'a> {
     prefix: &'a [Token],
@@ -187,24 +204,23 @@ impl<'a> Model for TokenRope<'a> {
 }
 
 impl<'a> TokenRope<'a> {
-    /// Joins the first tokens of the file and the output after them.
+    /// Joins a prefix of the list that was expanded and the tokens that were emitted after it.
     pub(crate) fn new(prefix: &'a [Token], emitted: Emitted<'a>) -> TokenRope<'a>
         ensures { result ≡ prefix.now ++ tokens_of emitted.entry }
     {
         TokenRope { prefix, emitted }
     }
 
-    /// Returns the parts in order: the first tokens of the file, the pieces, and the tokens that were emitted one by one at the end.
-    pub fn parts(&self) -> (&'a [Token], &[Piece<'a>], &[Hidden<'a>])
+    /// Returns the prefix, the pieces, and the tokens that were emitted one by one after the last piece.
+    pub(crate) fn split(&self) -> (&'a [Token], &[Piece<'a>], &[Hidden<'a>])
         ensures { result.0.now ++ tokens_of (flat_map piece_list result.1.now ++ result.2.now) ≡ self.now }
     {
         let Emitted { pieces, singles } = &self.emitted;
         (self.prefix, pieces.as_slice(), singles.as_slice())
     }
 
-    /// Returns the tokens as a slice of the file, if no output follows the first tokens of the file.
-    ///
-    /// A name may have been replaced all the same: by no tokens.
+    /// Returns the tokens as a slice of the list that was expanded, if no tokens were emitted after its prefix. Even then a macro may have been
+    /// replaced, by no tokens.
     pub fn unchanged(&self) -> Option<&'a [Token]>
         ensures { IfSome result (λ tokens. tokens.now ≡ self.now) }
     {

@@ -12,12 +12,12 @@ ghost use Rattle.ppmacro.specs.Patterns.{listed};
 ghost use Rattle.ppmacro.specs.Substitution.{Arguments as ArgumentTokens, unhidden, with_space, hsadd, macro_replacement, chains_replacement};
 ghost use Rattle.ppexpand.specs.Arguments.{gather, separators};
 ghost use Rattle.ppexpand.specs.declared.env.Env.{Env};
-ghost use Rattle.ppexpand.specs.ExpansionStep.{Replaced, macro_of, replaced_by, no_arguments, predefined_value, call_step, invocation_step, function_step, macro_step};
-ghost use Rattle.ppexpand.specs.ExpansionStep.{finish_call};
+ghost use Rattle.ppexpand.specs.ExpansionStep.{Replaced, macro_of, replaced_by, no_arguments, predefined_value, closed_invocation_step, invocation_step, function_step, macro_step};
+ghost use Rattle.ppexpand.specs.ExpansionStep.{finish_invocation};
 ghost use Rattle.ppexpand.specs.Budget.{in_budget};
 ghost use Rattle.ppexpand.specs.Expansion.{step_in_budget};
 ghost use Rattle.ppexpand.specs.code.Lists.{next_macro};
-ghost use Rattle.ppexpand.specs.code.ProgramValues.{expanded_in, fitting_in, FittingKnown, ExpansionsKnown, call_in, CallKnown, step_in, ActionKnown, replaced_in};
+ghost use Rattle.ppexpand.specs.code.ProgramValues.{expanded_in, fitting_in, FittingKnown, ExpansionsKnown, invocation_in, InvocationKnown, step_in, ActionKnown, replaced_in};
 ghost use Rattle.ppexpand.specs.code.Action as next;
 ghost use Rattle.ppexpand.specs.code.Stops.{UnlessFailed};
 ghost use Rattle.pptext.specs.Tokens.{fault as fault_at};
@@ -43,7 +43,7 @@ use std::marker::Model;
 #[derive(Drop)]
 pub(crate) struct Invocation<'t, 'x, 'a> {
     /// The macro name token.
-    pub(crate) head: Hidden<'x>,
+    pub(crate) name_token: Hidden<'x>,
     /// The macro.
     pub(crate) definition: &'t Macro<'a>,
     /// An argument for each parameter. An absent variable argument has no entry.
@@ -67,7 +67,7 @@ pub(crate) enum ActionKind<'t, 'x, 'a> {
     /// The token was replaced in the list.
     Replaced,
     /// The token is to be replaced after the arguments are expanded.
-    Called(Invocation<'t, 'x, 'a>),
+    Invoked(Invocation<'t, 'x, 'a>),
 }
 
 /// The action for the next token of a list, which is removed from the list with what belongs to it.
@@ -78,7 +78,7 @@ pub(crate) struct Action<'t, 'x, 'a> {
 
 impl<'t, 'x, 'a> Model for Action<'t, 'x, 'a> {
     ghost use Rattle.ppexpand.specs.code.Action as next;
-    ghost use Rattle.ppexpand.specs.declared.expand_step.ActionKind.TheVariants.{Done, Refused, Failed, Emits, Replaced, Called};
+    ghost use Rattle.ppexpand.specs.declared.expand_step.ActionKind.TheVariants.{Done, Refused, Failed, Emits, Replaced, Invoked};
 
     ghost Value = { next.Action };
 
@@ -88,7 +88,7 @@ impl<'t, 'x, 'a> Model for Action<'t, 'x, 'a> {
       | Failed f ↦ next.Failed f
       | Emits h ↦ next.Emits h
       | Replaced ↦ next.Replaced
-      | Called c ↦ next.Called c.head c.definition.now c.arguments.items c.base
+      | Invoked c ↦ next.Invoked c.name_token c.definition.now c.arguments.items c.base
     ] };
 }
 
@@ -147,61 +147,61 @@ fn replace_by<'x, 'a: 'x>(
     sets: &mut HideSets,
     body: &'a [Token],
     base: Set,
-    head: &Hidden,
+    name_token: &Hidden,
     list: &mut TokenStack<'x>,
 ) -> Result<(), Memory>
     requires base { IsKnown sets.old base }
     requires list { AllKnown sets.old list.old }
     ensures is { OnOk result ((arguments : ArgumentTokens) → Replaced (hidings sets.new list.new)
         ≡ replaced_by (chains_replacement (map lone_chain body.now) arguments
-        (set.insert (set_at sets.old base) head.now.token.text) head.now.token.used head.now.token.space)
+        (set.insert (set_at sets.old base) name_token.now.token.text) name_token.now.token.used name_token.now.token.space)
         (hidings sets.old list.old)) }
     ensures known { OnOk result (AllKnown sets.new list.new) }
     ensures keeps { KeepsSets sets.old sets.new }
 {
     let Some((first, others)) = body.split_first() else {
-        list.space_next(head.space());
+        list.space_next(name_token.space());
         return Ok(());
     };
-    let gain = sets.with(base, head.text())?;
-    push_gained(others, gain, head.used(), list)?;
-    list.push(gained_token(first, head.space(), gain, head.used()))?;
+    let gain = sets.with(base, name_token.text())?;
+    push_gained(others, gain, name_token.used(), list)?;
+    list.push(gained_token(first, name_token.space(), gain, name_token.used()))?;
     Ok(())
 }
 
 /// Returns the action for a macro's name whose replacement fails with this fault, at the expansion location of the name.
-fn failed_at<'t, 'x, 'a>(number: u8, head: &Hidden) -> Result<Action<'t, 'x, 'a>, Memory>
-    ensures { IfOk result (λ n. n ≡ next.Failed (fault_at number head.now.token.used head.now.token.text)) }
+fn failed_at<'t, 'x, 'a>(number: u8, name_token: &Hidden) -> Result<Action<'t, 'x, 'a>, Memory>
+    ensures { IfOk result (λ n. n ≡ next.Failed (fault_at number name_token.now.token.used name_token.now.token.text)) }
 {
     Ok(Action {
-        kind: ActionKind::Failed(fault_at_expansion(number, head)?),
+        kind: ActionKind::Failed(fault_at_expansion(number, name_token)?),
     })
 }
 
 /// Returns the action for an invocation whose `)` is found.
-fn call_step<'t, 'x, 'a: 'x>(
+fn closed_invocation_step<'t, 'x, 'a: 'x>(
     sets: &mut HideSets,
-    head: Hidden<'x>,
+    name_token: Hidden<'x>,
     definition: &'t Macro<'a>,
     arguments: Option<Vec<Vec<Hidden<'x>>>>,
     close: &Hidden,
 ) -> Result<Action<'t, 'x, 'a>, Memory>
-    requires head { HasSets sets.old head }
+    requires name_token { HasSets sets.old name_token }
     requires arguments { FittingKnown sets.old arguments }
     requires close { HasSets sets.old close.now }
     ensures is { IfOk result (λ n. (rest : List Hidden) → AllKnown sets.old rest → step_in sets.new rest n
-        ≡ call_step (hiding sets.old head.entry) definition.now (fitting_in sets.old arguments.entry) (hiding sets.old close.now)
+        ≡ closed_invocation_step (hiding sets.old name_token.entry) definition.now (fitting_in sets.old arguments.entry) (hiding sets.old close.now)
         (hidings sets.old rest)) }
     ensures known { IfOk result (λ n. (rest : List Hidden) → AllKnown sets.old rest → ActionKnown sets.new rest n) }
     ensures keeps { KeepsSets sets.old sets.new }
 {
     let Some(arguments) = arguments else {
-        return failed_at(18, &head);
+        return failed_at(18, &name_token);
     };
-    let base = sets.common_hide_set(&head, close)?;
+    let base = sets.common_hide_set(&name_token, close)?;
     Ok(Action {
-        kind: ActionKind::Called(Invocation {
-            head,
+        kind: ActionKind::Invoked(Invocation {
+            name_token,
             definition,
             arguments,
             base,
@@ -220,31 +220,31 @@ fn failed_quote<'t, 'x, 'a>(quote: &Hidden) -> Result<Action<'t, 'x, 'a>, Memory
 
 /// Returns the action for a macro's name if nothing is left of the budget: a name that is to be replaced is refused.
 fn exhausted_step<'t, 'x, 'a: 'x>(
-    head: Hidden<'x>,
+    name_token: Hidden<'x>,
     definition: &Macro<'a>,
     list: &mut TokenStack<'x>,
 ) -> Result<Action<'t, 'x, 'a>, Memory>
     ensures is { IfOk result (λ n.
         (sets : HideSetPool) (env : Env) → step_in sets list.new n
-        ≡ in_budget (Some 0) (hiding sets head.entry ∷ hidings sets list.old)
-        (macro_step env (hiding sets head.entry) (hidings sets list.old) definition.now definition.now.kind)) }
-    ensures known { IfOk result (λ n. (sets : HideSetPool) → HasSets sets head.entry → AllKnown sets list.old → ActionKnown sets list.new n) }
+        ≡ in_budget (Some 0) (hiding sets name_token.entry ∷ hidings sets list.old)
+        (macro_step env (hiding sets name_token.entry) (hidings sets list.old) definition.now definition.now.kind)) }
+    ensures known { IfOk result (λ n. (sets : HideSetPool) → HasSets sets name_token.entry → AllKnown sets list.old → ActionKnown sets list.new n) }
 {
     if matches!(definition.kind, MacroKind::FunctionLike { .. }) {
         let Some(following) = list.next() else {
             return Ok(Action {
-                kind: ActionKind::Emits(head),
+                kind: ActionKind::Emits(name_token),
             });
         };
         if !is_open(&following) {
             list.push(following)?;
             return Ok(Action {
-                kind: ActionKind::Emits(head),
+                kind: ActionKind::Emits(name_token),
             });
         }
     }
     Ok(Action {
-        kind: ActionKind::Refused(over_budget(&head)),
+        kind: ActionKind::Refused(over_budget(&name_token)),
     })
 }
 
@@ -266,7 +266,7 @@ impl<'x> Replacer<'x> {
         pattern: &Pattern<'a>,
         arguments: Arguments<'_, 'x>,
         base: Set,
-        head: &Hidden,
+        name_token: &Hidden,
         list: &mut TokenStack<'x>,
     ) -> Result<Result<(), Fault>, Memory>
         requires arguments { ArgumentsKnown self.old.sets arguments.given.now arguments.expanded.now }
@@ -274,7 +274,7 @@ impl<'x> Replacer<'x> {
         requires list { AllKnown self.old.sets list.old }
         ensures is { IfOk result (λ r. replaced_in self.new.sets list.new r
             ≡ replaced_by (chains_replacement (listed pattern.now) (arguments_in self.old.sets arguments.entry.given.now arguments.entry.expanded.now)
-            (set.insert (set_at self.old.sets base) head.now.token.text) head.now.token.used head.now.token.space)
+            (set.insert (set_at self.old.sets base) name_token.now.token.text) name_token.now.token.used name_token.now.token.space)
             (hidings self.old.sets list.old)) }
         ensures known { IfOk result (λ r. OnOk r (AllKnown self.new.sets list.new)) }
         ensures keeps { KeepsSets self.old.sets self.new.sets }
@@ -282,9 +282,9 @@ impl<'x> Replacer<'x> {
         let alloc = self.pool.alloc();
         let name = MacroName {
             base,
-            name: head.text(),
-            used: head.used(),
-            space: head.space(),
+            name: name_token.text(),
+            used: name_token.used(),
+            space: name_token.space(),
         };
         match substitute_pattern(alloc, pattern, arguments, &name, &mut self.sets)? {
             Ok((tokens, pending)) => {
@@ -300,21 +300,21 @@ impl<'x> Replacer<'x> {
     fn predefined_step<'t, 'a: 'x>(
         &mut self,
         env: &Env,
-        head: &Hidden<'x>,
+        name_token: &Hidden<'x>,
         predefined: PredefinedMacro,
         list: &mut TokenStack<'x>,
     ) -> Result<Action<'t, 'x, 'a>, Memory>
-        requires head { HasSets self.old.sets head.now }
+        requires name_token { HasSets self.old.sets name_token.now }
         requires list { AllKnown self.old.sets list.old }
         ensures is { IfOk result (λ n. step_in self.new.sets list.new n
-            ≡ Replaced (predefined_value predefined env.now (hiding self.old.sets head.now)
-            (set.insert (hide_of self.old.sets head.now) head.now.token.text) ∷ hidings self.old.sets list.old)) }
+            ≡ Replaced (predefined_value predefined env.now (hiding self.old.sets name_token.now)
+            (set.insert (hide_of self.old.sets name_token.now) name_token.now.token.text) ∷ hidings self.old.sets list.old)) }
         ensures known { IfOk result (λ n. ActionKnown self.new.sets list.new n) }
         ensures keeps { KeepsSets self.old.sets self.new.sets }
     {
-        let gain = self.sets.with_own_name(head)?;
+        let gain = self.sets.with_own_name(name_token)?;
         let alloc = self.pool.alloc();
-        list.push(predefined_value(alloc, predefined, env, head, gain)?)?;
+        list.push(predefined_value(alloc, predefined, env, name_token, gain)?)?;
         Ok(Action {
             kind: ActionKind::Replaced,
         })
@@ -326,7 +326,7 @@ impl<'x> Replacer<'x> {
     fn replace_object<'a: 'x>(
         &mut self,
         base: Set,
-        head: &Hidden<'x>,
+        name_token: &Hidden<'x>,
         definition: &Macro<'a>,
         list: &mut TokenStack<'x>,
     ) -> Result<Result<(), Fault>, Memory>
@@ -334,14 +334,14 @@ impl<'x> Replacer<'x> {
         requires list { AllKnown self.old.sets list.old }
         ensures is { IfOk result (λ r. replaced_in self.new.sets list.new r
             ≡ replaced_by (macro_replacement definition.now no_arguments
-            (set.insert (set_at self.old.sets base) head.now.token.text) head.now.token.used head.now.token.space)
+            (set.insert (set_at self.old.sets base) name_token.now.token.text) name_token.now.token.used name_token.now.token.space)
             (hidings self.old.sets list.old)) }
         ensures known { IfOk result (λ r. OnOk r (AllKnown self.new.sets list.new)) }
         ensures keeps { KeepsSets self.old.sets self.new.sets }
     {
         // Fast path: most object-like macros have no `##`.
         if let Some(body) = definition.lone_tokens() {
-            replace_by(&mut self.sets, body, base, head, list)?;
+            replace_by(&mut self.sets, body, base, name_token, list)?;
             return Ok(Ok(()));
         }
         let chains = definition.chains(self.pool.alloc())?;
@@ -350,27 +350,27 @@ impl<'x> Replacer<'x> {
             given: &[],
             expanded: &[],
         };
-        self.replace(&pattern, none, base, head, list)
+        self.replace(&pattern, none, base, name_token, list)
     }
 
     /// Pushes the replacement of an object-like macro's name. Returns the action, which has the fault if the replacement fails.
     fn object_step<'t, 'a: 'x>(
         &mut self,
-        head: &Hidden<'x>,
+        name_token: &Hidden<'x>,
         definition: &Macro<'a>,
         list: &mut TokenStack<'x>,
     ) -> Result<Action<'t, 'x, 'a>, Memory>
-        requires head { HasSets self.old.sets head.now }
+        requires name_token { HasSets self.old.sets name_token.now }
         requires list { AllKnown self.old.sets list.old }
         ensures is { IfOk result (λ n. step_in self.new.sets list.new n
             ≡ replaced_by (macro_replacement definition.now no_arguments
-            (set.insert (hide_of self.old.sets head.now) head.now.token.text) head.now.token.used head.now.token.space)
+            (set.insert (hide_of self.old.sets name_token.now) name_token.now.token.text) name_token.now.token.used name_token.now.token.space)
             (hidings self.old.sets list.old)) }
         ensures known { IfOk result (λ n. ActionKnown self.new.sets list.new n) }
         ensures keeps { KeepsSets self.old.sets self.new.sets }
     {
-        let base = self.sets.hide_set_of(head)?;
-        match self.replace_object(base, head, definition, list)? {
+        let base = self.sets.hide_set_of(name_token)?;
+        match self.replace_object(base, name_token, definition, list)? {
             Ok(()) => Ok(Action {
                 kind: ActionKind::Replaced,
             }),
@@ -383,16 +383,16 @@ impl<'x> Replacer<'x> {
     /// Removes the rest of an invocation, after its `(`. Returns the action, which has the invocation or the fault.
     fn invocation_step<'t, 'a: 'x>(
         &mut self,
-        head: Hidden<'x>,
+        name_token: Hidden<'x>,
         definition: &'t Macro<'a>,
         names: &[Spelling],
         variadic: Variadic,
         list: &mut TokenStack<'x>,
     ) -> Result<Action<'t, 'x, 'a>, Memory>
-        requires head { HasSets self.old.sets head }
+        requires name_token { HasSets self.old.sets name_token }
         requires list { AllKnown self.old.sets list.old }
         ensures is { IfOk result (λ n. step_in self.new.sets list.new n
-            ≡ invocation_step (hiding self.old.sets head.entry) definition.now names.now variadic
+            ≡ invocation_step (hiding self.old.sets name_token.entry) definition.now names.now variadic
             (gather 0 (separators names.now variadic) (hidings self.old.sets list.old))) }
         ensures known { IfOk result (λ n. ActionKnown self.new.sets list.new n) }
         ensures keeps { KeepsSets self.old.sets self.new.sets }
@@ -400,71 +400,71 @@ impl<'x> Replacer<'x> {
         match gather(&mut self.pool, list, separators(names, variadic))? {
             Gathered::Closed(arguments, close) => {
                 let fitting = fit_arguments(self.pool.alloc(), arguments, names, variadic);
-                call_step(&mut self.sets, head, definition, fitting, &close)
+                closed_invocation_step(&mut self.sets, name_token, definition, fitting, &close)
             }
             Gathered::UnmatchedQuote(quote) => failed_quote(&quote),
-            Gathered::Unclosed => failed_at(17, &head),
+            Gathered::Unclosed => failed_at(17, &name_token),
         }
     }
 
     /// Removes the invocation of a function-like macro's name, if `(` is next. Returns the action, which emits the name otherwise.
     fn function_step<'t, 'a: 'x>(
         &mut self,
-        head: Hidden<'x>,
+        name_token: Hidden<'x>,
         definition: &'t Macro<'a>,
         names: &[Spelling],
         variadic: Variadic,
         list: &mut TokenStack<'x>,
     ) -> Result<Action<'t, 'x, 'a>, Memory>
-        requires head { HasSets self.old.sets head }
+        requires name_token { HasSets self.old.sets name_token }
         requires list { AllKnown self.old.sets list.old }
         ensures is { IfOk result (λ n. step_in self.new.sets list.new n
-            ≡ function_step (hiding self.old.sets head.entry) definition.now names.now variadic (hidings self.old.sets list.old)) }
+            ≡ function_step (hiding self.old.sets name_token.entry) definition.now names.now variadic (hidings self.old.sets list.old)) }
         ensures known { IfOk result (λ n. ActionKnown self.new.sets list.new n) }
         ensures keeps { KeepsSets self.old.sets self.new.sets }
     {
         let Some(next) = list.next() else {
             return Ok(Action {
-                kind: ActionKind::Emits(head),
+                kind: ActionKind::Emits(name_token),
             });
         };
         if !is_open(&next) {
             list.push(next)?;
             return Ok(Action {
-                kind: ActionKind::Emits(head),
+                kind: ActionKind::Emits(name_token),
             });
         }
         // The `(` is dropped before the step.
         drop(next);
-        self.invocation_step(head, definition, names, variadic, list)
+        self.invocation_step(name_token, definition, names, variadic, list)
     }
 
     /// Replaces a macro's name, or removes its invocation. Returns the action.
     fn macro_step<'t, 'a: 'x>(
         &mut self,
         env: &Env,
-        head: Hidden<'x>,
+        name_token: Hidden<'x>,
         definition: &'t Macro<'a>,
         list: &mut TokenStack<'x>,
     ) -> Result<Action<'t, 'x, 'a>, Memory>
-        requires head { HasSets self.old.sets head }
+        requires name_token { HasSets self.old.sets name_token }
         requires list { AllKnown self.old.sets list.old }
         ensures is { IfOk result (λ n. step_in self.new.sets list.new n
-            ≡ macro_step env.now (hiding self.old.sets head.entry) (hidings self.old.sets list.old) definition.now definition.now.kind) }
+            ≡ macro_step env.now (hiding self.old.sets name_token.entry) (hidings self.old.sets list.old) definition.now definition.now.kind) }
         ensures known { IfOk result (λ n. ActionKnown self.new.sets list.new n) }
         ensures keeps { KeepsSets self.old.sets self.new.sets }
     {
         match &definition.kind {
             MacroKind::Predefined(predefined) => {
-                self.predefined_step(env, &head, *predefined, list)
+                self.predefined_step(env, &name_token, *predefined, list)
             }
-            MacroKind::ObjectLike => self.object_step(&head, definition, list),
+            MacroKind::ObjectLike => self.object_step(&name_token, definition, list),
             MacroKind::FunctionLike {
                 parameters,
                 variadic,
             } => {
                 let names = parameters.as_slice();
-                self.function_step(head, definition, names, *variadic, list)
+                self.function_step(name_token, definition, names, *variadic, list)
             }
         }
     }
@@ -486,57 +486,63 @@ impl<'x> Replacer<'x> {
         ensures known { IfOk result (λ n. ActionKnown self.new.sets list.new n) }
         ensures keeps { KeepsSets self.old.sets self.new.sets }
     {
-        let Some(head) = list.next() else {
+        let Some(token) = list.next() else {
             return Ok(Action {
                 kind: ActionKind::Done,
             });
         };
-        if is_quote(&head) {
-            return refused_quote(&head);
+        if is_quote(&token) {
+            return refused_quote(&token);
         }
         let Some(definition) = named else {
             return Ok(Action {
-                kind: ActionKind::Emits(head),
+                kind: ActionKind::Emits(token),
             });
         };
-        if self.sets.hides(&head) {
+        if self.sets.hides(&token) {
             return Ok(Action {
-                kind: ActionKind::Emits(head),
+                kind: ActionKind::Emits(token),
             });
         }
         if is_exhausted(remaining) {
-            return exhausted_step(head, definition, list);
+            return exhausted_step(token, definition, list);
         }
-        self.macro_step(context.env, head, definition, list)
+        self.macro_step(context.env, token, definition, list)
     }
 
     /// Pushes the replacement of an invocation whose arguments are expanded, or puts fault 19 or 20 in `fault`.
     ///
     /// `pattern` is the replacement list of the macro.
     #[inline(never)]
-    pub(crate) fn finish_call<'a: 'x>(
+    pub(crate) fn finish_invocation<'a: 'x>(
         &mut self,
-        call: &Invocation<'_, 'x, 'a>,
+        invocation: &Invocation<'_, 'x, 'a>,
         pattern: &Pattern<'a>,
         expanded: &[ArgumentExpansion<'x>],
         list: &mut TokenStack<'x>,
         fault: &mut Option<Fault>,
     ) -> Result<(), Stop>
-        requires call { CallKnown self.old.sets call.now.head call.now.arguments.items call.now.base }
-        requires chains { listed pattern.now ≡ chains_of call.now.definition.now }
+        requires invocation { InvocationKnown self.old.sets invocation.now.name_token invocation.now.arguments.items invocation.now.base }
+        requires chains { listed pattern.now ≡ chains_of invocation.now.definition.now }
         requires expanded { ExpansionsKnown self.old.sets expanded.now }
         requires list { AllKnown self.old.sets list.old }
         ensures is { UnlessFailed result fault.new (λ r. replaced_in self.new.sets list.new r
-            ≡ finish_call (call_in self.old.sets call.now.head call.now.definition.now call.now.arguments.items call.now.base list.old)
-            (expanded_in self.old.sets call.now.arguments.items expanded.now)) }
+            ≡ finish_invocation (invocation_in self.old.sets invocation.now.name_token invocation.now.definition.now invocation.now.arguments.items invocation.now.base list.old)
+            (expanded_in self.old.sets invocation.now.arguments.items expanded.now)) }
         ensures known { OnOk result (AllKnown self.new.sets list.new) }
         ensures keeps { KeepsSets self.old.sets self.new.sets }
     {
         let arguments = Arguments {
-            given: call.arguments.as_slice(),
+            given: invocation.arguments.as_slice(),
             expanded,
         };
-        match self.replace(pattern, arguments, call.base, &call.head, list)? {
+        match self.replace(
+            pattern,
+            arguments,
+            invocation.base,
+            &invocation.name_token,
+            list,
+        )? {
             Ok(()) => Ok(()),
             Err(found) => {
                 *fault = Some(found);

@@ -15,8 +15,8 @@ ghost use Rattle.ppexpand.specs.Expansion.{ExpandsTo, IsExpansion};
 ghost use Rattle.ppexpand.specs.code.Lists.{NeverExpand, never_expands, next_macro};
 ghost use Rattle.std.specs.List.{AllByRecursion};
 ghost use Rattle.ppexpand.specs.code.Skipping.{HasSkipped};
-ghost use Rattle.ppexpand.specs.code.ProgramValues.{expanded_in, ExpansionsKnown, call_in, CallKnown, replaced_in, owned_tokens, HasExpanded};
-ghost use Rattle.ppexpand.specs.code.ProgramValues.{ExpandsWanted, CallStepsTo, HasTaken, HasCalled};
+ghost use Rattle.ppexpand.specs.code.ProgramValues.{expanded_in, ExpansionsKnown, invocation_in, InvocationKnown, replaced_in, owned_tokens, HasExpanded};
+ghost use Rattle.ppexpand.specs.code.ProgramValues.{ExpandsWanted, ClosedStepsTo, HasTaken, HasInvoked};
 
 use crate::budget::spend_one;
 use crate::context::Context;
@@ -40,7 +40,7 @@ use std::alloc::{AllocError, Global};
 /// and the functions that do not lead there are not inlined into them.
 const DEEPEST: u32 = 256;
 
-/// The initial capacity for tokens that are emitted one by one. It suffices for most runs of text.
+/// The initial capacity for tokens that are emitted one by one. It suffices for most text lines.
 const CAPACITY: usize = 32;
 
 /// Emits the tokens that replacements pushed, up to the first that names a macro or is an unmatched quote. Returns the macro that this
@@ -95,10 +95,13 @@ fn none_expands(table: &Table, tokens: &[Hidden]) -> bool
 
 /// Raises fault 21 at a macro's name: the argument is nested too deep. There is no expansion.
 #[inline(never)]
-fn raise_depth<'x>(head: &Hidden, fault: &mut Option<Fault>) -> Result<ArgumentExpansion<'x>, Stop>
-    ensures { UnlessFailed result fault.new (λ r. r ≡ Err (fault_at 21 head.now.token.used head.now.token.text)) }
+fn raise_depth<'x>(
+    name_token: &Hidden,
+    fault: &mut Option<Fault>,
+) -> Result<ArgumentExpansion<'x>, Stop>
+    ensures { UnlessFailed result fault.new (λ r. r ≡ Err (fault_at 21 name_token.now.token.used name_token.now.token.text)) }
 {
-    *fault = Some(fault_at_expansion(21, head)?);
+    *fault = Some(fault_at_expansion(21, name_token)?);
     Err(Stop::Fault)
 }
 
@@ -106,10 +109,10 @@ fn raise_depth<'x>(head: &Hidden, fault: &mut Option<Fault>) -> Result<ArgumentE
 #[inline(never)]
 fn keep_arguments<'x>(
     pool: &mut VecPool<'x>,
-    call: &mut Option<Invocation<'_, 'x, '_>>,
+    invocation: &mut Option<Invocation<'_, 'x, '_>>,
 ) -> Result<(), AllocError> {
-    match call.take() {
-        Some(call) => pool.keep(call.arguments),
+    match invocation.take() {
+        Some(invocation) => pool.keep(invocation.arguments),
         None => Ok(()),
     }
 }
@@ -141,7 +144,7 @@ impl<'x> Expander<'x> {
     /// list goes on. `Stop::Fault` means that it ends with the fault in `self`.
     ///
     /// Appends emitted tokens to `emitted` and removes what is done from `list`. An invocation of a function-like macro is only put in
-    /// `call`: its arguments are still to be expanded. Otherwise `call` becomes `None`.
+    /// `invocation`: its arguments are still to be expanded. Otherwise `invocation` becomes `None`.
     #[inline(never)]
     fn begin_step<'t, 'a: 'x>(
         &mut self,
@@ -149,23 +152,23 @@ impl<'x> Expander<'x> {
         named: Option<&'t Macro<'a>>,
         list: &mut TokenStack<'x>,
         emitted: &mut Emitted<'x>,
-        call: &mut Option<Invocation<'t, 'x, 'a>>,
+        invocation: &mut Option<Invocation<'t, 'x, 'a>>,
     ) -> Result<bool, Stop>
         requires named { option_copied named ≡ next_macro context.now.table.now.macros (tokens_of list.old) }
         requires list_known { AllKnown self.old.replacer.sets list.old }
         requires emitted_known { AllKnown self.old.replacer.sets emitted.old }
-        ensures on { UnlessFailed result self.new.fault (λ r. MatchOption call.new
+        ensures on { UnlessFailed result self.new.fault (λ r. MatchOption invocation.new
             ((level : ℕ) → HasTaken context.now.table.now.macros context.now.env.now level self.old.remaining (hidings self.old.replacer.sets list.old)
             (hidings self.old.replacer.sets emitted.old) r self.new.remaining (hidings self.new.replacer.sets list.new) (hidings self.new.replacer.sets emitted.new))
-            (λ c. HasCalled context.now.table.now.macros context.now.env.now self.old.remaining (hidings self.old.replacer.sets list.old)
-            (hidings self.old.replacer.sets emitted.old) (call_in self.new.replacer.sets c.head c.definition.now c.arguments.items c.base list.new)
+            (λ c. HasInvoked context.now.table.now.macros context.now.env.now self.old.remaining (hidings self.old.replacer.sets list.old)
+            (hidings self.old.replacer.sets emitted.old) (invocation_in self.new.replacer.sets c.name_token c.definition.now c.arguments.items c.base list.new)
             r self.new.remaining (hidings self.new.replacer.sets emitted.new))) }
-        ensures call_known { OnOk result (IfSome call.new (λ c. CallKnown self.new.replacer.sets c.head c.arguments.items c.base × AllKnown self.new.replacer.sets list.new)) }
+        ensures invocation_known { OnOk result (IfSome invocation.new (λ c. InvocationKnown self.new.replacer.sets c.name_token c.arguments.items c.base × AllKnown self.new.replacer.sets list.new)) }
         ensures list_known { IfOk result (λ goes. goes ≡ true → AllKnown self.new.replacer.sets list.new) }
         ensures emitted_known { OnOk result (AllKnown self.new.replacer.sets emitted.new) }
         ensures keeps { KeepsSets self.old.replacer.sets self.new.replacer.sets }
     {
-        *call = None;
+        *invocation = None;
         let next = self
             .replacer
             .next_step(context, self.remaining, named, list)?;
@@ -176,8 +179,8 @@ impl<'x> Expander<'x> {
                 self.fault = Some(fault);
                 Err(Stop::Fault)
             }
-            ActionKind::Emits(head) => {
-                emitted.push_single(head)?;
+            ActionKind::Emits(token) => {
+                emitted.push_single(token)?;
                 Ok(true)
             }
             ActionKind::Failed(fault) => {
@@ -189,9 +192,9 @@ impl<'x> Expander<'x> {
                 self.remaining = spend_one(self.remaining);
                 Ok(true)
             }
-            ActionKind::Called(found) => {
+            ActionKind::Invoked(found) => {
                 self.remaining = spend_one(self.remaining);
-                *call = Some(found);
+                *invocation = Some(found);
                 Ok(true)
             }
         }
@@ -202,18 +205,18 @@ impl<'x> Expander<'x> {
     fn expand_argument<'a: 'x>(
         &mut self,
         context: &Context<'_, 'a>,
-        head: &Hidden<'x>,
+        name_token: &Hidden<'x>,
         argument: &[Hidden<'x>],
     ) -> Result<ArgumentExpansion<'x>, Stop>
         requires level { context.now.level ≤ 256 }
         requires known { AllKnown self.old.replacer.sets argument.now }
-        ensures is { UnlessFailed result self.new.fault (HasExpanded context.now.table.now.macros context.now.env.now context.now.level head.now.token
+        ensures is { UnlessFailed result self.new.fault (HasExpanded context.now.table.now.macros context.now.env.now context.now.level name_token.now.token
             self.old.remaining self.new.remaining self.old.replacer.sets self.new.replacer.sets argument.now) }
         ensures known { IfOk result (λ e. AllKnown self.new.replacer.sets (owned_tokens e)) }
         ensures keeps { KeepsSets self.old.replacer.sets self.new.replacer.sets }
     {
         if context.level >= DEEPEST {
-            return raise_depth(head, &mut self.fault);
+            return raise_depth(name_token, &mut self.fault);
         }
         // Fast path: most arguments name no macro, and expand to themselves.
         if none_expands(context.table, argument) {
@@ -233,7 +236,7 @@ impl<'x> Expander<'x> {
         };
         self.expand_list(&deeper, &mut list, &mut emitted)?;
         let tokens = emitted.into_vec(self.replacer.pool.alloc())?;
-        Ok(ArgumentExpansion::Made(tokens))
+        Ok(ArgumentExpansion::Owned(tokens))
     }
 
     /// Pre-expands the arguments that the replacement list uses without `#` and `##`, and appends the expansions to `expanded` by parameter.
@@ -243,23 +246,23 @@ impl<'x> Expander<'x> {
     fn expand_arguments<'a: 'x>(
         &mut self,
         context: &Context<'_, 'a>,
-        call: &Invocation<'_, 'x, 'a>,
+        invocation: &Invocation<'_, 'x, 'a>,
         pattern: &Pattern<'a>,
         expanded: &mut Vec<ArgumentExpansion<'x>>,
     ) -> Result<(), Stop>
         requires level { context.now.level ≤ 256 }
-        requires known { CallKnown self.old.replacer.sets call.now.head call.now.arguments.items call.now.base }
-        requires chains { listed pattern.now ≡ chains_of call.now.definition.now }
+        requires known { InvocationKnown self.old.replacer.sets invocation.now.name_token invocation.now.arguments.items invocation.now.base }
+        requires chains { listed pattern.now ≡ chains_of invocation.now.definition.now }
         requires none { expanded.old.items ≡ [] }
         ensures is { UnlessFailed result self.new.fault (λ r. (following : List Hidden) → ExpandsWanted context.now.table.now.macros context.now.env.now context.now.level
-            (call_in self.old.replacer.sets call.now.head call.now.definition.now call.now.arguments.items call.now.base following) self.old.remaining self.new.remaining
-            (result_and r (Ok (expanded_in self.new.replacer.sets call.now.arguments.items expanded.new.items)))) }
+            (invocation_in self.old.replacer.sets invocation.now.name_token invocation.now.definition.now invocation.now.arguments.items invocation.now.base following) self.old.remaining self.new.remaining
+            (result_and r (Ok (expanded_in self.new.replacer.sets invocation.now.arguments.items expanded.new.items)))) }
         ensures known { OnOk result (ExpansionsKnown self.new.replacer.sets expanded.new.items) }
         ensures keeps { KeepsSets self.old.replacer.sets self.new.replacer.sets }
     {
         let pre_expanded = pre_expanded_parameters(
             self.replacer.pool.alloc(),
-            call.definition,
+            invocation.definition,
             pattern,
         )?;
         for (parameter, is_pre_expanded) in pre_expanded.iter().enumerate() {
@@ -267,9 +270,9 @@ impl<'x> Expander<'x> {
                 put(expanded, ArgumentExpansion::Unused)?;
                 continue;
             }
-            let head = &call.head;
-            let tokens = argument_of(call.arguments.as_slice(), parameter);
-            let expansion = self.expand_argument(context, head, tokens)?;
+            let name_token = &invocation.name_token;
+            let tokens = argument_of(invocation.arguments.as_slice(), parameter);
+            let expansion = self.expand_argument(context, name_token, tokens)?;
             put(expanded, expansion)?;
         }
         Ok(())
@@ -277,37 +280,42 @@ impl<'x> Expander<'x> {
 
     /// Replaces an invocation, after its arguments are expanded, and pushes the result onto the rest of its list. Stops at the first fault.
     #[cycle(expansion)]
-    fn replace_call<'a: 'x>(
+    fn replace_invocation<'a: 'x>(
         &mut self,
         context: &Context<'_, 'a>,
-        call: &Invocation<'_, 'x, 'a>,
+        invocation: &Invocation<'_, 'x, 'a>,
         list: &mut TokenStack<'x>,
     ) -> Result<(), Stop>
         requires level { context.now.level ≤ 256 }
-        requires call_known { CallKnown self.old.replacer.sets call.now.head call.now.arguments.items call.now.base }
+        requires invocation_known { InvocationKnown self.old.replacer.sets invocation.now.name_token invocation.now.arguments.items invocation.now.base }
         requires list_known { AllKnown self.old.replacer.sets list.old }
-        ensures is { UnlessFailed result self.new.fault (λ r. CallStepsTo context.now.table.now.macros context.now.env.now context.now.level
-            (call_in self.old.replacer.sets call.now.head call.now.definition.now call.now.arguments.items call.now.base list.old) self.old.remaining self.new.remaining
+        ensures is { UnlessFailed result self.new.fault (λ r. ClosedStepsTo context.now.table.now.macros context.now.env.now context.now.level
+            (invocation_in self.old.replacer.sets invocation.now.name_token invocation.now.definition.now invocation.now.arguments.items invocation.now.base list.old) self.old.remaining self.new.remaining
             (replaced_in self.new.replacer.sets list.new r)) }
         ensures known { OnOk result (AllKnown self.new.replacer.sets list.new) }
         ensures keeps { KeepsSets self.old.replacer.sets self.new.replacer.sets }
     {
-        let pattern = call
+        let pattern = invocation
             .definition
             .pattern(self.replacer.pool.alloc(), context.table.hashing())?;
         let mut expanded = Vec::with_capacity(
             self.replacer.pool.alloc(),
-            parameter_count(call.definition),
+            parameter_count(invocation.definition),
         )?;
-        self.expand_arguments(context, call, &pattern, &mut expanded)?;
-        self.replacer
-            .finish_call(call, &pattern, expanded.as_slice(), list, &mut self.fault)
+        self.expand_arguments(context, invocation, &pattern, &mut expanded)?;
+        self.replacer.finish_invocation(
+            invocation,
+            &pattern,
+            expanded.as_slice(),
+            list,
+            &mut self.fault,
+        )
     }
 
     /// Makes one expansion step of a list, including the arguments of an invocation. `named` is the macro that the next token names, if
     /// any. Returns whether the expansion of the list goes on. `Stop::Fault` means that it ends with the fault in `self`.
     ///
-    /// Appends emitted tokens to `emitted` and removes what is done from `list`. `call` is storage for an invocation, so that it lies in the
+    /// Appends emitted tokens to `emitted` and removes what is done from `list`. `invocation` is storage for one, so that it lies in the
     /// caller's frame.
     #[cycle(expansion)]
     fn advance<'t, 'a: 'x>(
@@ -316,7 +324,7 @@ impl<'x> Expander<'x> {
         named: Option<&'t Macro<'a>>,
         list: &mut TokenStack<'x>,
         emitted: &mut Emitted<'x>,
-        call: &mut Option<Invocation<'t, 'x, 'a>>,
+        invocation: &mut Option<Invocation<'t, 'x, 'a>>,
     ) -> Result<bool, Stop>
         requires level { context.now.level ≤ 256 }
         requires named { option_copied named ≡ next_macro context.now.table.now.macros (tokens_of list.old) }
@@ -329,12 +337,12 @@ impl<'x> Expander<'x> {
         ensures emitted_known { OnOk result (AllKnown self.new.replacer.sets emitted.new) }
         ensures keeps { KeepsSets self.old.replacer.sets self.new.replacer.sets }
     {
-        let goes = self.begin_step(context, named, list, emitted, call)?;
-        let Some(found) = &*call else {
+        let goes = self.begin_step(context, named, list, emitted, invocation)?;
+        let Some(found) = &*invocation else {
             return Ok(goes);
         };
-        self.replace_call(context, found, list)?;
-        keep_arguments(&mut self.replacer.pool, call)?;
+        self.replace_invocation(context, found, list)?;
+        keep_arguments(&mut self.replacer.pool, invocation)?;
         Ok(true)
     }
 
@@ -359,8 +367,8 @@ impl<'x> Expander<'x> {
             let named = skip(context.table, list, emitted)?;
             // The invocation is dropped at the end of the step.
             let goes = {
-                let mut call = None;
-                self.advance(context, named, list, emitted, &mut call)
+                let mut invocation = None;
+                self.advance(context, named, list, emitted, &mut invocation)
             };
             if !goes? {
                 return Ok(());

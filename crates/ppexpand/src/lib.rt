@@ -20,7 +20,7 @@ mod token_stack;
 mod vec_pool;
 
 pub use budget::{is_exhausted, spend_one};
-pub use emitted::{Piece, TokenRope};
+pub use emitted::TokenRope;
 pub use env::Env;
 pub use expansion::{Expanded, expand};
 pub use laws::{
@@ -28,5 +28,4 @@ pub use laws::{
     leaves_fully_expanded_tokens, one_expansion, one_outcome, only_budgets_refuse,
     prefixes_terminate, without_a_budget,
 };
-pub use rope_iter::{RopeIter, TokenRef};
-pub use token_span::TokenSpan;
+pub use rope_iter::{RopeIter, RopeSlices, SliceIter, TokenRef, TokenSlice};

@@ -67,19 +67,19 @@ pub(crate) fn predefined_value<'a>(
     alloc: Global,
     predefined: PredefinedMacro,
     env: &Env,
-    head: &Hidden,
+    name_token: &Hidden,
     gain: Set,
 ) -> Result<Hidden<'a>, AllocError>
-    ensures is { IfOk result (λ h. (sets : HideSetPool) → hiding sets h ≡ predefined_value predefined env.now (hiding sets head.now) (set_at sets gain)) }
+    ensures is { IfOk result (λ h. (sets : HideSetPool) → hiding sets h ≡ predefined_value predefined env.now (hiding sets name_token.now) (set_at sets gain)) }
     ensures gain { IfOk result (λ h. (h.hide ≡ gain) × (h.extra ≡ None)) }
 {
-    let text = Spelling::new(predefined_text(alloc, predefined, env, head.used())?)?;
+    let text = Spelling::new(predefined_text(alloc, predefined, env, name_token.used())?)?;
     let token = Token {
         kind: predefined_kind(predefined),
         text,
-        space: head.space(),
-        at: head.at(),
-        used: head.used(),
+        space: name_token.space(),
+        at: name_token.at(),
+        used: name_token.used(),
     };
     Hidden::synthesized(alloc, token, gain)
 }

@@ -1,8 +1,9 @@
-//! Iterates over an expanded list.
-ghost use Rattle.std.specs.Prelude.{◌≡◌, IfOk};
+//! Iterates over an expanded list: over slices of its tokens, or over its tokens one by one.
+ghost use Rattle.std.specs.Prelude.{◌≡◌, ◌<◌, [], true, false, length, flat_map, IfOk};
 ghost use Rattle.std.specs.Iterator.{YieldsFirstBy, item_count};
 ghost use Rattle.ppmacro.specs.Substituting.{tokens_of};
-ghost use Rattle.ppexpand.specs.Pieces.{piece_list, ref_token};
+ghost use Rattle.ppexpand.specs.Slices.{YieldsSlice, slice_tokens, ref_token};
+ghost use Rattle.ppexpand.specs.code.Pieces.{piece_list};
 
 use crate::emitted::{Piece, TokenRope};
 use crate::lists::put;
@@ -15,9 +16,9 @@ use std::marker::Model;
 #[derive(Clone, Copy)]
 pub enum TokenRef<'r, 'a> {
     /// A token of a file.
-    Shared(&'a Token),
+    InFile(&'a Token),
     /// A token with a hide set.
-    Made(&'r Hidden<'a>),
+    Hidden(&'r Hidden<'a>),
 }
 
 impl<'r, 'a> TokenRef<'r, 'a> {
@@ -26,8 +27,8 @@ impl<'r, 'a> TokenRef<'r, 'a> {
         ensures { result ≡ (ref_token self.now).kind }
     {
         match self {
-            TokenRef::Shared(token) => token.kind,
-            TokenRef::Made(hidden) => hidden.kind(),
+            TokenRef::InFile(token) => token.kind,
+            TokenRef::Hidden(hidden) => hidden.kind(),
         }
     }
 
@@ -36,8 +37,8 @@ impl<'r, 'a> TokenRef<'r, 'a> {
         ensures { result.now ≡ (ref_token self.now).text }
     {
         match self {
-            TokenRef::Shared(token) => token.text.as_bytes(),
-            TokenRef::Made(hidden) => hidden.text(),
+            TokenRef::InFile(token) => token.text.as_bytes(),
+            TokenRef::Hidden(hidden) => hidden.text(),
         }
     }
 
@@ -46,8 +47,8 @@ impl<'r, 'a> TokenRef<'r, 'a> {
         ensures { result ≡ (ref_token self.now).at }
     {
         match self {
-            TokenRef::Shared(token) => token.at,
-            TokenRef::Made(hidden) => hidden.at(),
+            TokenRef::InFile(token) => token.at,
+            TokenRef::Hidden(hidden) => hidden.at(),
         }
     }
 
@@ -56,8 +57,8 @@ impl<'r, 'a> TokenRef<'r, 'a> {
         ensures { result ≡ (ref_token self.now).used }
     {
         match self {
-            TokenRef::Shared(token) => token.used,
-            TokenRef::Made(hidden) => hidden.used(),
+            TokenRef::InFile(token) => token.used,
+            TokenRef::Hidden(hidden) => hidden.used(),
         }
     }
 
@@ -66,8 +67,8 @@ impl<'r, 'a> TokenRef<'r, 'a> {
         ensures { result ≡ (ref_token self.now).space }
     {
         match self {
-            TokenRef::Shared(token) => token.space,
-            TokenRef::Made(hidden) => hidden.space(),
+            TokenRef::InFile(token) => token.space,
+            TokenRef::Hidden(hidden) => hidden.space(),
         }
     }
 
@@ -76,109 +77,161 @@ impl<'r, 'a> TokenRef<'r, 'a> {
         ensures { IfOk result (λ t. t ≡ ref_token self.now) }
     {
         match self {
-            TokenRef::Shared(token) => (*token).clone(),
-            TokenRef::Made(hidden) => hidden.to_token(),
+            TokenRef::InFile(token) => (*token).clone(),
+            TokenRef::Hidden(hidden) => hidden.to_token(),
         }
     }
 }
 
-/// The tokens of a piece: tokens of a file, or tokens that were emitted one by one.
+/// Consecutive tokens of an expanded list, borrowed as they are stored.
 #[derive(Clone, Copy)]
-pub(crate) enum PieceTokens<'r, 'a> {
-    Shared(&'a [Token]),
-    Made(&'r [Hidden<'a>]),
+pub enum TokenSlice<'r, 'a> {
+    /// Tokens of a file.
+    InFile(&'a [Token]),
+    /// Tokens with hide sets.
+    Hidden(&'r [Hidden<'a>]),
 }
 
-/// The remaining tokens of a piece. Contracts see them as a list.
+impl<'r, 'a> TokenSlice<'r, 'a> {
+    /// Returns an iterator over the tokens.
+    pub fn iter(self) -> SliceIter<'r, 'a>
+        ensures { result ≡ slice_tokens self.entry }
+    {
+        SliceIter { rest: self }
+    }
+
+    /// Returns whether there are no tokens.
+    fn is_empty(&self) -> bool
+        ensures yes { result ≡ true → slice_tokens self.now ≡ [] }
+        ensures no { result ≡ false → 0 < length (slice_tokens self.now) }
+    {
+        match self {
+            TokenSlice::InFile(tokens) => tokens.is_empty(),
+            TokenSlice::Hidden(tokens) => tokens.is_empty(),
+        }
+    }
+}
+
+/// Iterates over the tokens of a slice. Contracts see the list of the remaining tokens.
 #[derive(Drop)]
-pub(crate) struct PieceIter<'r, 'a> {
-    source: PieceTokens<'r, 'a>,
+pub struct SliceIter<'r, 'a> {
+    rest: TokenSlice<'r, 'a>,
 }
 
-impl<'r, 'a> Model for PieceIter<'r, 'a> {
+impl<'r, 'a> Model for SliceIter<'r, 'a> {
     ghost use Rattle.std.specs.Prelude.{List};
     ghost use Rattle.pptext.specs.declared.tokens.Token.{Token};
-    ghost use Rattle.ppmacro.specs.Substituting.{tokens_of};
-    ghost use Rattle.ppexpand.specs.declared.rope_iter.PieceTokens.TheVariants.{Shared, Made};
+    ghost use Rattle.ppexpand.specs.Slices.{slice_tokens};
 
     ghost Value = { List Token };
 
-    ghost view = { λ u. elim u.source [ Shared ts ↦ ts.now | Made hs ↦ tokens_of hs.now ] };
+    ghost view = { λ i. slice_tokens i.rest };
 }
 
-impl<'r, 'a> PieceIter<'r, 'a> {
-    /// Creates the iterator over a piece.
-    fn new(piece: &'r Piece<'a>) -> PieceIter<'r, 'a>
-        ensures { result ≡ tokens_of (piece_list piece.now) }
-    {
-        let source = match piece {
-            Piece::Shared(span) => PieceTokens::Shared(span.tokens()),
-            Piece::Made(made) => PieceTokens::Made(made.as_slice()),
-        };
-        PieceIter { source }
-    }
+impl<'r, 'a> Iterator for SliceIter<'r, 'a> {
+    type Item = TokenRef<'r, 'a>;
 
-    /// Removes the first token.
-    fn next(&mut self) -> Option<TokenRef<'r, 'a>>
-        ensures { YieldsFirstBy ref_token (λ rest. rest) self.old result self.new }
-    {
-        match self.source {
-            PieceTokens::Shared(tokens) => {
+    ghost next_gives = { YieldsFirstBy ref_token (λ rest. rest) };
+
+    ghost remaining = { item_count (λ rest. rest) };
+
+    fn next(&mut self) -> Option<TokenRef<'r, 'a>> {
+        match self.rest {
+            TokenSlice::InFile(tokens) => {
                 let (first, others) = tokens.split_first()?;
-                self.source = PieceTokens::Shared(others);
-                Some(TokenRef::Shared(first))
+                self.rest = TokenSlice::InFile(others);
+                Some(TokenRef::InFile(first))
             }
-            PieceTokens::Made(made) => {
-                let (first, others) = made.split_first()?;
-                self.source = PieceTokens::Made(others);
-                Some(TokenRef::Made(first))
+            TokenSlice::Hidden(tokens) => {
+                let (first, others) = tokens.split_first()?;
+                self.rest = TokenSlice::Hidden(others);
+                Some(TokenRef::Hidden(first))
             }
         }
     }
 }
 
-/// The remaining tokens of the current piece, and the pieces after it. Contracts see all their tokens as one list.
+/// The remaining pieces. Contracts see the list of their tokens.
 #[derive(Drop)]
-pub(crate) struct PiecesIter<'r, 'a> {
-    unread: PieceIter<'r, 'a>,
+struct RemainingPieces<'r, 'a> {
     pieces: &'r [Piece<'a>],
 }
 
-impl<'r, 'a> Model for PiecesIter<'r, 'a> {
-    ghost use Rattle.std.specs.Prelude.{List, ◌++◌, flat_map};
+impl<'r, 'a> Model for RemainingPieces<'r, 'a> {
+    ghost use Rattle.std.specs.Prelude.{List, flat_map};
+    ghost use Rattle.pptext.specs.declared.tokens.Token.{Token};
+    ghost use Rattle.ppmacro.specs.Substituting.{tokens_of};
+    ghost use Rattle.ppexpand.specs.code.Pieces.{piece_list};
+
+    ghost Value = { List Token };
+
+    ghost view = { λ r. tokens_of (flat_map piece_list r.pieces.now) };
+}
+
+impl<'r, 'a> RemainingPieces<'r, 'a> {
+    /// Removes the first piece that has tokens, and those before it. Returns its tokens.
+    fn next(&mut self) -> Option<TokenSlice<'r, 'a>>
+        ensures { YieldsSlice slice_tokens self.old result self.new }
+    {
+        loop {
+            let (piece, pieces) = self.pieces.split_first()?;
+            *self = RemainingPieces { pieces };
+            let slice = piece.tokens();
+            if !slice.is_empty() {
+                return Some(slice);
+            }
+        }
+    }
+}
+
+/// Iterates in order over nonempty slices of an expanded list, without allocation. Contracts see the list of the tokens in the remaining slices.
+#[derive(Drop)]
+pub struct RopeSlices<'r, 'a> {
+    prefix: &'a [Token],
+    pieces: RemainingPieces<'r, 'a>,
+    singles: &'r [Hidden<'a>],
+}
+
+impl<'r, 'a> Model for RopeSlices<'r, 'a> {
+    ghost use Rattle.std.specs.Prelude.{List, ◌++◌};
     ghost use Rattle.pptext.specs.declared.tokens.Token.{Token};
     ghost use Rattle.ppmacro.specs.Substituting.{tokens_of};
 
     ghost Value = { List Token };
 
-    ghost use Rattle.ppexpand.specs.Pieces.{piece_list};
-
-    ghost view = { λ l. l.unread ++ tokens_of (flat_map piece_list l.pieces.now) };
+    ghost view = { λ s. s.prefix.now ++ s.pieces ++ tokens_of s.singles.now };
 }
 
-impl<'r, 'a> PiecesIter<'r, 'a> {
-    /// Removes the first token. Skips pieces without tokens.
-    fn next(&mut self) -> Option<TokenRef<'r, 'a>>
-        ensures { YieldsFirstBy ref_token (λ rest. rest) self.old result self.new }
-    {
-        loop {
-            if let Some(token) = self.unread.next() {
-                return Some(token);
-            }
-            let (piece, pieces) = self.pieces.split_first()?;
-            *self = PiecesIter {
-                unread: PieceIter::new(piece),
-                pieces,
-            };
+impl<'r, 'a> Iterator for RopeSlices<'r, 'a> {
+    type Item = TokenSlice<'r, 'a>;
+
+    ghost next_gives = { YieldsSlice slice_tokens };
+
+    ghost remaining = { item_count (λ rest. rest) };
+
+    fn next(&mut self) -> Option<TokenSlice<'r, 'a>> {
+        if !self.prefix.is_empty() {
+            let tokens = self.prefix;
+            self.prefix = Default::default();
+            return Some(TokenSlice::InFile(tokens));
         }
+        if let Some(slice) = self.pieces.next() {
+            return Some(slice);
+        }
+        if self.singles.is_empty() {
+            return None;
+        }
+        let tokens = self.singles;
+        self.singles = Default::default();
+        Some(TokenSlice::Hidden(tokens))
     }
 }
 
 /// Iterates over the tokens of an expanded list in order, without allocation. Contracts see the list of the remaining tokens.
 #[derive(Drop)]
 pub struct RopeIter<'r, 'a> {
-    remaining: PiecesIter<'r, 'a>,
-    singles: PieceIter<'r, 'a>,
+    slice: SliceIter<'r, 'a>,
+    slices: RopeSlices<'r, 'a>,
 }
 
 impl<'r, 'a> Model for RopeIter<'r, 'a> {
@@ -187,7 +240,7 @@ impl<'r, 'a> Model for RopeIter<'r, 'a> {
 
     ghost Value = { List Token };
 
-    ghost view = { λ i. i.remaining ++ i.singles };
+    ghost view = { λ i. i.slice ++ i.slices };
 }
 
 impl<'r, 'a> Iterator for RopeIter<'r, 'a> {
@@ -198,29 +251,35 @@ impl<'r, 'a> Iterator for RopeIter<'r, 'a> {
     ghost remaining = { item_count (λ rest. rest) };
 
     fn next(&mut self) -> Option<TokenRef<'r, 'a>> {
-        if let Some(token) = self.remaining.next() {
-            return Some(token);
+        loop {
+            if let Some(token) = self.slice.next() {
+                return Some(token);
+            }
+            self.slice = self.slices.next()?.iter();
         }
-        self.singles.next()
     }
 }
 
 impl<'a> TokenRope<'a> {
+    /// Returns an iterator over slices of the tokens, in order. No slice is empty.
+    pub fn slices(&self) -> RopeSlices<'_, 'a>
+        ensures { result ≡ self.now }
+    {
+        let (prefix, pieces, singles) = self.split();
+        RopeSlices {
+            prefix,
+            pieces: RemainingPieces { pieces },
+            singles,
+        }
+    }
+
     /// Returns an iterator over the tokens in order, each borrowed.
     pub fn iter(&self) -> RopeIter<'_, 'a>
         ensures { result ≡ self.now }
     {
-        let (prefix, pieces, singles) = self.parts();
         RopeIter {
-            remaining: PiecesIter {
-                unread: PieceIter {
-                    source: PieceTokens::Shared(prefix),
-                },
-                pieces,
-            },
-            singles: PieceIter {
-                source: PieceTokens::Made(singles),
-            },
+            slice: TokenSlice::InFile(Default::default()).iter(),
+            slices: self.slices(),
         }
     }
 
@@ -228,7 +287,7 @@ impl<'a> TokenRope<'a> {
     pub fn to_vec(&self, alloc: Global) -> Result<Vec<Token>, AllocError>
         ensures { IfOk result (λ v. v.items ≡ self.now) }
     {
-        let (prefix, _, _) = self.parts();
+        let (prefix, _, _) = self.split();
         let mut tokens = Vec::with_capacity(alloc, prefix.len())?;
         let mut remaining = self.iter();
         while let Some(token) = remaining.next() {

@@ -77,13 +77,13 @@ fn evaluate_tokens(alloc: Global, at: Place, tokens: &[Token]) -> Result<bool, E
 }
 
 /// Evaluates an expanded list. Copies the tokens only if macros were replaced.
-fn evaluate_rope(alloc: Global, at: Place, run: &TokenRope) -> Result<bool, Error>
-    ensures { UnlessOutOfMemory result (λ c. EvaluatesTokens at run.now c) }
+fn evaluate_rope(alloc: Global, at: Place, rope: &TokenRope) -> Result<bool, Error>
+    ensures { UnlessOutOfMemory result (λ c. EvaluatesTokens at rope.now c) }
 {
-    if let Some(tokens) = run.unchanged() {
+    if let Some(tokens) = rope.unchanged() {
         return evaluate_tokens(alloc, at, tokens);
     }
-    let tokens = run.to_vec(alloc)?;
+    let tokens = rope.to_vec(alloc)?;
     evaluate_tokens(alloc, at, tokens.as_slice())
 }
 

@@ -6,14 +6,14 @@ use Rattle.ppmacro.specs.Substitution.{argument_at, expanded_at}
 use Rattle.ppmacro.specs.Substituting.{lists_of, options_of, ListsKnown, ArgumentsKnown}
 use Rattle.ppmacro.specs.declared.hidden_token.Hidden.{Hidden}
 use Rattle.ppmacro.specs.declared.hidden_token.ArgumentExpansion.{ArgumentExpansion}
-use Rattle.ppmacro.specs.declared.hidden_token.ArgumentExpansion.TheVariants.{Made}
+use Rattle.ppmacro.specs.declared.hidden_token.ArgumentExpansion.TheVariants.{Owned}
 
 given-known : {s : HideSetPool} (vs : List (Vec Hidden Global)) → ListsKnown s vs → (i : ℕ) → AllKnown s (argument_at (lists_of vs) i)
 given-known [] k i = record { each = tt }
 given-known (v ∷ vs) k zero = k.each.0
 given-known (v ∷ vs) k (suc i) = given-known vs (record { each = k.each.1 }) i
 
-expanded-known : {s : HideSetPool} (given vs : List (Vec Hidden Global)) → ListsKnown s vs → (i : ℕ) → AllKnown s (expanded_at (options_of given (map (λ v. Made v) vs)) i)
+expanded-known : {s : HideSetPool} (given vs : List (Vec Hidden Global)) → ListsKnown s vs → (i : ℕ) → AllKnown s (expanded_at (options_of given (map (λ v. Owned v) vs)) i)
 expanded-known given [] k i = record { each = tt }
 expanded-known [] (v ∷ vs) k zero = k.each.0
 expanded-known (g ∷ gs) (v ∷ vs) k zero = k.each.0
@@ -23,7 +23,7 @@ expanded-known (g ∷ gs) (v ∷ vs) k (suc i) = expanded-known gs vs (record { 
 -- Arguments, and either themselves or other lists as their expansions.
 pub all-known : {s : HideSetPool} (given others shown : List (Vec Hidden Global)) (expanded : List ArgumentExpansion)
     → shown ≡ given
-    → expanded ≡ map (λ v. Made v) others
+    → expanded ≡ map (λ v. Owned v) others
     → ListsKnown s given
     → ListsKnown s others
     → ArgumentsKnown s shown expanded

@@ -9,7 +9,7 @@ use Rattle.std.specs.Ordering.{nat_cmp}
 use Rattle.std.specs.Cmp.{Equal-is, tied_itself}
 use Rattle.std.specs.Cmp.Lexicographic.{slice_cmp}
 use Rattle.std.proofs.lemmas.Cmp.{nat_list_cmp_total}
-use Rattle.ppmacro.specs.code.Operations.{Operation, Union, Meet, member_rule}
+use Rattle.ppmacro.specs.code.Operations.{Operation, Union, Intersection, member_rule}
 use Rattle.ppmacro.specs.code.Nodes.{Node, member, IsPool, KeepsNodes, IsBounded}
 use Rattle.ppmacro.specs.Names.{Name, HideSet}
 use Rattle.ppmacro.specs.code.Members.{same_name, selected, hide_set, counted, hide_sets}
@@ -23,7 +23,7 @@ pub record IsNamed (names : List Name) (ns : List Node) : Type 0 where
 -- The result of an operation on two sets.
 abbrev pub made_of : Operation → HideSet → HideSet → HideSet
 made_of Union s t = set.union s t
-made_of Meet s t = set.intersection s t
+made_of Intersection s t = set.intersection s t
 
 name-is : (a b : Name) → same_name a b ≡ true → a ≡ b
 name-is a b e = set.slice_cmp-IsAntisymmetric set.nat_cmp-IsAntisymmetric a b ((Equal-is (slice_cmp nat_cmp a b)).0 e)
@@ -75,11 +75,11 @@ at-same p r i q xs h = λ j. at_name (λ k. h k j) i q xs
 
 contains-made : (o : Operation) (s t : HideSet) (q : Name) → set.contains (made_of o s t) q ≡ member_rule o (set.contains s q) (set.contains t q)
 contains-made Union s t q = set.contains-union nat_list_cmp_total s t q
-contains-made Meet s t q = set.contains-intersection nat_list_cmp_total s t q
+contains-made Intersection s t q = set.contains-intersection nat_list_cmp_total s t q
 
 member_rule-none : (o : Operation) → member_rule o false false ≡ false
 member_rule-none Union = refl
-member_rule-none Meet = refl
+member_rule-none Intersection = refl
 
 -- A node with the members of the result has the set of the result.
 pub made-is : (o : Operation) (names : List Name) (old new : List Node) (a b n : ℕ)

@@ -50,14 +50,14 @@ pairs-after : {a b c : CachedPairs} → KeepsPairs a b → KeepsPairs b c → Ke
 pairs-after h k = record { more = h.more ++ k.more; is = k.is ∙ ap (λ ps. ps ++ k.more) h.is ∙ append_assoc _ h.more k.more }
 
 pub keeps-all : (s : HideSetPool) → KeepsSets s s
-keeps-all s = record { more = []; is = sym (append-nil s.sets); unions = pairs-are refl; meets = pairs-are refl }
+keeps-all s = record { more = []; is = sym (append-nil s.sets); unions = pairs-are refl; intersections = pairs-are refl }
 
 pub keeps-after : {a b c : HideSetPool} → KeepsSets a b → KeepsSets b c → KeepsSets a c
 keeps-after h k = record {
   more = h.more ++ k.more;
   is = k.is ∙ ap (λ s. s ++ k.more) h.is ∙ append_assoc _ h.more k.more;
   unions = pairs-after h.unions k.unions;
-  meets = pairs-after h.meets k.meets;
+  intersections = pairs-after h.intersections k.intersections;
 }
 
 pub known-append : {s : HideSetPool} (gs hs : List Hidden) → AllKnown s gs → AllKnown s hs → AllKnown s (gs ++ hs)

@@ -3,7 +3,7 @@ use Rattle.std.proofs.Common.{◌≡◌, ℕ, ◌<◌, Bool, true, false, cond, 
 use Rattle.std.proofs.Math.Bool as bool
 use Rattle.std.proofs.lemmas.Bool.{eqb-true, eq-eqb, and_parts}
 use Rattle.ppmacro.specs.code.Nodes.{Node, member, word, IsPool, KeepsNodes}
-use Rattle.ppmacro.specs.code.Operations.{Operation, Union, Meet, member_rule, word_rule, known}
+use Rattle.ppmacro.specs.code.Operations.{Operation, Union, Intersection, member_rule, word_rule, known}
 use Rattle.ppmacro.specs.PairCache.{CachedPairs, same_pair, cached_result}
 use Rattle.ppmacro.specs.code.PoolInvariant.{IsAnswer, AreAnswers}
 use Rattle.std.specs.Int.RustNames.{bit_or, bit_and}
@@ -31,7 +31,7 @@ none-chosen false false false p q r o h = (refl, refl, refl, h)
 
 pub unknown : (o : Operation) (ps : CachedPairs) (a b : ℕ) → known o ps a b ≡ None → IsUnknown ps a b
 unknown Union ps a b h = let c = none-chosen (nat_eq a 0) (nat_eq b 0) (nat_eq a b) b a a (cached_result ps a b) h in record { left = c.0; right = c.1; apart = c.2; none = c.3 }
-unknown Meet ps a b h = let c = none-chosen (nat_eq a 0) (nat_eq b 0) (nat_eq a b) a b a (cached_result ps a b) h in record { left = c.0; right = c.1; apart = c.2; none = c.3 }
+unknown Intersection ps a b h = let c = none-chosen (nat_eq a 0) (nat_eq b 0) (nat_eq a b) a b a (cached_result ps a b) h in record { left = c.0; right = c.1; apart = c.2; none = c.3 }
 
 -- A result is known if it is trivial or cached.
 pub trivial_result-known : (o : Operation) (ps : CachedPairs) (a b n : ℕ) → known o [] a b ≡ Some n → known o ps a b ≡ Some n
@@ -45,16 +45,16 @@ trivial_result-known o ps a b n = at o
 
     at : (o : Operation) → known o [] a b ≡ Some n → known o ps a b ≡ Some n
     at Union = from (nat_eq a 0) (nat_eq b 0) (nat_eq a b) b a a
-    at Meet = from (nat_eq a 0) (nat_eq b 0) (nat_eq a b) a b a
+    at Intersection = from (nat_eq a 0) (nat_eq b 0) (nat_eq a b) a b a
 
 pub unsettled-known : (o : Operation) (ps : CachedPairs) (a b : ℕ) → known o [] a b ≡ None → known o ps a b ≡ cached_result ps a b
 unsettled-known Union ps a b h = let u = unknown Union [] a b h in λ i. if u.left i then Some b else (if u.right i then Some a else (if u.apart i then Some a else cached_result ps a b))
-unsettled-known Meet ps a b h = let u = unknown Meet [] a b h in λ i. if u.left i then Some a else (if u.right i then Some b else (if u.apart i then Some a else cached_result ps a b))
+unsettled-known Intersection ps a b h = let u = unknown Intersection [] a b h in λ i. if u.left i then Some a else (if u.right i then Some b else (if u.apart i then Some a else cached_result ps a b))
 
 -- A pair that wasn't known is, once it has a result.
 pub known-by : (o : Operation) (old new : CachedPairs) (a b n : ℕ) → IsUnknown old a b → cached_result new a b ≡ Some n → known o new a b ≡ Some n
 known-by Union old new a b n u h = rw (u.left, u.right, u.apart) h
-known-by Meet old new a b n u h = rw (u.left, u.right, u.apart) h
+known-by Intersection old new a b n u h = rw (u.left, u.right, u.apart) h
 
 -- ---- results
 
@@ -122,11 +122,11 @@ known-is Union ns ps a b n pool h la lb = by-case (IsMade (member_rule Union) ns
     (λ e. record { within = la; is = λ x. sym (bool.or-false (member ns a x)) ∙ (λ i. member ns a x || sym (none-at ns b x pool e) i) })
     (λ e. record { within = la; is = λ x. sym (bool.or_self (member ns a x)) ∙ (λ i. member ns a x || member ns (e i) x) })
     (λ e. let k = found (member_rule Union) ns ps a b n h e in record { within = k.within; is = k.is })
-known-is Meet ns ps a b n pool h la lb = by-case (IsMade (member_rule Meet) ns a b) a b a b a n (cached_result ps a b)
+known-is Intersection ns ps a b n pool h la lb = by-case (IsMade (member_rule Intersection) ns a b) a b a b a n (cached_result ps a b)
     (λ e. record { within = la; is = λ x. none-at ns a x pool e ∙ (λ i. sym (none-at ns a x pool e) i && member ns b x) })
     (λ e. record { within = lb; is = λ x. none-at ns b x pool e ∙ sym (bool.and-false (member ns a x)) ∙ (λ i. member ns a x && sym (none-at ns b x pool e) i) })
     (λ e. record { within = la; is = λ x. sym (bool.and_self (member ns a x)) ∙ (λ i. member ns a x && member ns (e i) x) })
-    (λ e. let k = found (member_rule Meet) ns ps a b n h e in record { within = k.within; is = k.is })
+    (λ e. let k = found (member_rule Intersection) ns ps a b n h e in record { within = k.within; is = k.is })
 
 pub is-answer : (op : Bool → Bool → Bool) (old new : List Node) (a b n : ℕ)
     → IsPool old
@@ -157,7 +157,7 @@ trivial_result-is Union ns a b n pool la lb = by-case (IsSettled Union ns a b) a
     (λ e. record { within = la; is = λ w. sym (or_none (word ns a w)) ∙ (λ i. bit_or (word ns a w) (sym (no-word ns b w pool e) i)) })
     (λ e. record { within = la; is = λ w. sym (or_self (word ns a w)) ∙ (λ i. bit_or (word ns a w) (word ns (e i) w)) })
     (λ e. absurd (cc e))
-trivial_result-is Meet ns a b n pool la lb = by-case (IsSettled Meet ns a b) a b a b a n None
+trivial_result-is Intersection ns a b n pool la lb = by-case (IsSettled Intersection ns a b) a b a b a n None
     (λ e. record { within = la; is = λ w. no-word ns a w pool e ∙ sym (none_and (word ns b w)) ∙ (λ i. bit_and (sym (no-word ns a w pool e) i) (word ns b w)) })
     (λ e. record { within = lb; is = λ w. no-word ns b w pool e ∙ sym (and_none (word ns a w)) ∙ (λ i. bit_and (word ns a w) (sym (no-word ns b w pool e) i)) })
     (λ e. record { within = la; is = λ w. sym (and_self (word ns a w)) ∙ (λ i. bit_and (word ns a w) (word ns (e i) w)) })

@@ -2,7 +2,7 @@
 use Rattle.std.proofs.Common.{◌≡◌, ℕ, zero, suc, ◌<◌, ◌+◌, ◌-◌, ◌*◌, ◌/◌, ◌%◌, ◌^◌, ◌||◌, Bool, true, false, nat_eq, List, length, Result, Ok, Err, IsErr, IfOk, OnErr, refl, sym, ◌∙◌, subst, arith, if◌then◌else◌}
 use Rattle.std.proofs.lemmas.Nat.{and_le_l, or_lt, pow_below}
 use Rattle.std.specs.Int.RustNames.{bit_or}
-use Rattle.ppmacro.specs.code.Operations.{Operation, Union, Meet, member_rule, word_rule}
+use Rattle.ppmacro.specs.code.Operations.{Operation, Union, Intersection, member_rule, word_rule}
 use Rattle.ppmacro.specs.code.Nodes.{Node, node_at, made, word, word_with, member, IsPool}
 use Rattle.ppmacro.proofs.Tries.{or_none, differs, node-same, word-made, word-odd, word-even, word-lt, words-sets_are_unique, words-of, within-at, pos-of}
 use Rattle.ppmacro.proofs.Tries.{made-odd, made-even, one-left, one-right, inserted-bits, member_rule-bits}
@@ -233,7 +233,7 @@ member_rule-found op old mid after n one two here left right first second a b ln
 
 member_rule-below : (o : Operation) (a b : ℕ) → a < 2 ^ 64 → b < 2 ^ 64 → word_rule o a b < 2 ^ 64
 member_rule-below Union a b k l = or_lt 64 a b k l
-member_rule-below Meet a b k l = let m = and_le_l a b in omega (arith, m, k)
+member_rule-below Intersection a b k l = let m = and_le_l a b in omega (arith, m, k)
 
 -- by their members
 pub combine-words : (o : Operation) (ns : List Node) (n one two : ℕ) → IsPool ns → n < length ns → one < length ns → two < length ns → ((x : ℕ) → member ns n x ≡ member_rule o (member ns one x) (member ns two x)) → IsJoin (word_rule o) ns n one two

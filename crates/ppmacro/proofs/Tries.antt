@@ -13,7 +13,7 @@ use Rattle.std.specs.Int.RustNames.{bit_or, bit_and}
 use Rattle.std.specs.List.{list_any, position}
 use Rattle.std.specs.Bool.{Decides}
 use Rattle.indexmap.specs.IndexSet.{insert_key}
-use Rattle.ppmacro.specs.code.Operations.{Operation, Union, Meet, member_rule, word_rule}
+use Rattle.ppmacro.specs.code.Operations.{Operation, Union, Intersection, member_rule, word_rule}
 use Rattle.ppmacro.specs.code.Nodes.{Node, no_node, node_at, made, word_below, word, word_with, has_bit, member, PointsBelow, IsPool, KeepsNodes, IsBounded, first}
 
 -- ---- words
@@ -68,7 +68,7 @@ bit-member_rule Union a b i = (λ j. nat_eq (bit_at_or a b i j) 1) ∙ either-on
     either-one (suc zero) (suc zero) k l = refl
     either-one (suc (suc p)) q k l = absurd (omega (arith, k))
     either-one p (suc (suc q)) k l = absurd (omega (arith, l))
-bit-member_rule Meet a b i = (λ j. nat_eq (bit_at_and a b i j) 1) ∙ both-one (bit_at a i) (bit_at b i) (bit_at-lt a i) (bit_at-lt b i)
+bit-member_rule Intersection a b i = (λ j. nat_eq (bit_at_and a b i j) 1) ∙ both-one (bit_at a i) (bit_at b i) (bit_at-lt a i) (bit_at-lt b i)
   where
     both-one : (p q : ℕ) → p < 2 → q < 2 → nat_eq (min p q) 1 ≡ (nat_eq p 1 && nat_eq q 1)
     both-one zero zero k l = refl
@@ -650,7 +650,7 @@ bounded-insert limit number old new set m l b k is x e = elim (either (nat_eq x 
 -- The result has no member that neither set has.
 one-of : (o : Operation) (a b : Bool) → member_rule o a b ≡ true → (a ≡ true) ⊎ (b ≡ true)
 one-of Union a b h = either a b h
-one-of Meet a b h = inl (and_parts a b h).0
+one-of Intersection a b h = inl (and_parts a b h).0
 
 pub bounded-combine : (o : Operation) (limit : ℕ) (old new : List Node) (one two m : ℕ)
     → IsBounded limit old

@@ -7,7 +7,7 @@ use Rattle.ppmacro.specs.Names.{Name}
 use Rattle.ppmacro.specs.code.Nodes as nodes
 use Rattle.ppmacro.specs.code.Nodes.{Node, IsPool, member, IsBounded}
 use Rattle.ppmacro.specs.code.Members.{same_name, hide_set, hide_sets, counted}
-use Rattle.ppmacro.specs.code.Operations.{Operation, Union, Meet, member_rule}
+use Rattle.ppmacro.specs.code.Operations.{Operation, Union, Intersection, member_rule}
 use Rattle.ppmacro.specs.PairCache.{CachedPairs, KeepsPairs}
 use Rattle.ppmacro.specs.HideSetPool.{HideSetPool}
 use Rattle.ppmacro.specs.HideSets.{set_at, IsKnown, KeepsSets}
@@ -42,7 +42,7 @@ sets_are_unique-seen names ns us ms v m n is k km kn e =
 
 -- The fields as callers see them.
 abbrev seen : Inside → HideSetPool
-seen s = record { sets = hide_sets s.names s.nodes.keys; unions = s.unions; meets = s.meets }
+seen s = record { sets = hide_sets s.names s.nodes.keys; unions = s.unions; intersections = s.intersections }
 
 -- A number in a precondition is that of a node.
 pub node-asked : (s : Inside) {v : HideSetPool} {n m : ℕ} → seen s ≡ v → n ≡ m → IsKnown v m → n < length s.nodes.keys
@@ -53,13 +53,13 @@ pub keeps-seen : (s : Inside) (new : List Node) {v : HideSetPool} {us ms : Cache
     → IsPool s.nodes.keys
     → nodes.KeepsNodes s.nodes.keys new
     → KeepsPairs s.unions us
-    → KeepsPairs s.meets ms
-    → KeepsSets v (record { sets = hide_sets s.names new; unions = us; meets = ms })
-keeps-seen s new {us = us} {ms = ms} is p k unions meets = record {
+    → KeepsPairs s.intersections ms
+    → KeepsSets v (record { sets = hide_sets s.names new; unions = us; intersections = ms })
+keeps-seen s new {us = us} {ms = ms} is p k unions intersections = record {
   more = counted (hide_set s.names new) (past-by 0 s.nodes.keys) k.more;
   is = sets-keep s.names s.nodes.keys new p k ∙ ap (λ v. v.sets ++ counted (hide_set s.names new) (past-by 0 s.nodes.keys) k.more) is;
   unions = subst (λ ps. KeepsPairs ps us) (ap (λ v. v.unions) is) unions;
-  meets = subst (λ ps. KeepsPairs ps ms) (ap (λ v. v.meets) is) meets;
+  intersections = subst (λ ps. KeepsPairs ps ms) (ap (λ v. v.intersections) is) intersections;
 }
 
 -- The result of an operation on two sets.
@@ -81,27 +81,27 @@ made-seen o s new {v = v} {a = a} {b = b} {n = n} is d sa sb ka kb ln h =
 
 -- The fields keep their invariant, with other pairs for this operation.
 abbrev AreKeptThen : Operation → Inside → List Node → CachedPairs → Type 0
-AreKeptThen Union s new ps = IsPoolKept s.names new ps s.meets
-AreKeptThen Meet s new ps = IsPoolKept s.names new s.unions ps
+AreKeptThen Union s new ps = IsPoolKept s.names new ps s.intersections
+AreKeptThen Intersection s new ps = IsPoolKept s.names new s.unions ps
 
 pub selected-made : (o : Operation) (s : Inside) {new : List Node} {ps : CachedPairs}
-    → IsPoolKept s.names s.nodes.keys s.unions s.meets
+    → IsPoolKept s.names s.nodes.keys s.unions s.intersections
     → IsPool new
     → nodes.KeepsNodes s.nodes.keys new
     → ((limit : ℕ) → IsBounded limit s.nodes.keys → IsBounded limit new)
     → AreAnswers (member_rule o) new ps
     → AreKeptThen o s new ps
 selected-made Union s {new = new} k p keeps bounded answers =
-    record { distinct = k.distinct; pool = p; bounded = bounded (length s.names) k.bounded; unions = answers; meets = answers-keep (member_rule Meet) s.nodes.keys new s.meets k.pool keeps k.meets }
-selected-made Meet s {new = new} k p keeps bounded answers =
-    record { distinct = k.distinct; pool = p; bounded = bounded (length s.names) k.bounded; unions = answers-keep (member_rule Union) s.nodes.keys new s.unions k.pool keeps k.unions; meets = answers }
+    record { distinct = k.distinct; pool = p; bounded = bounded (length s.names) k.bounded; unions = answers; intersections = answers-keep (member_rule Intersection) s.nodes.keys new s.intersections k.pool keeps k.intersections }
+selected-made Intersection s {new = new} k p keeps bounded answers =
+    record { distinct = k.distinct; pool = p; bounded = bounded (length s.names) k.bounded; unions = answers-keep (member_rule Union) s.nodes.keys new s.unions k.pool keeps k.unions; intersections = answers }
 
 -- ---- names and nodes are added
 
 pub keeps-named : (names more after : List Name) (old new : List Node) (us ms : CachedPairs) (v w : HideSetPool)
     → after ≡ names ++ more
-    → record { sets = hide_sets names old; unions = us; meets = ms } ≡ v
-    → record { sets = hide_sets after new; unions = us; meets = ms } ≡ w
+    → record { sets = hide_sets names old; unions = us; intersections = ms } ≡ v
+    → record { sets = hide_sets after new; unions = us; intersections = ms } ≡ w
     → IsPoolKept names old us ms
     → nodes.KeepsNodes old new
     → KeepsSets v w
@@ -110,7 +110,7 @@ keeps-named names more after old new us ms v w grown is now p k = record {
   is = sym (ap (λ w. w.sets) now) ∙ sets-keep after old new p.pool k
       ∙ ap (λ ss. ss ++ counted (hide_set after new) (past-by 0 old) k.more) ((λ i. hide_sets (grown i) old) ∙ sets-named names more old p.bounded ∙ ap (λ v. v.sets) is);
   unions = pairs-are (sym (ap (λ v. v.unions) is) ∙ ap (λ w. w.unions) now);
-  meets = pairs-are (sym (ap (λ v. v.meets) is) ∙ ap (λ w. w.meets) now);
+  intersections = pairs-are (sym (ap (λ v. v.intersections) is) ∙ ap (λ w. w.intersections) now);
 }
 
 pub selected-named : (names more after : List Name) (old new : List Node) (us ms : CachedPairs) (n : ℕ)
@@ -127,7 +127,7 @@ selected-named names more after old new us ms n grown d l k p keeps bounded = re
   pool = p;
   bounded = bounded (length after) l (subst (λ ms. IsBounded (length ms) old) (sym grown) (bounded-more names more old k.bounded));
   unions = answers-keep (member_rule Union) old new us k.pool keeps k.unions;
-  meets = answers-keep (member_rule Meet) old new ms k.pool keeps k.meets;
+  intersections = answers-keep (member_rule Intersection) old new ms k.pool keeps k.intersections;
 }
 
 pub with-seen : (names more after : List Name) (old new : List Node) (v : HideSetPool) (a a' x n : ℕ) (q : Name)
@@ -167,7 +167,7 @@ more-there s {v = v} {a = a} {a' = a'} n q is same ka kn e =
 
 pub more-seen : (s : Inside) {v : HideSetPool} {a a' : ℕ} (n x : ℕ) (q : Name)
     → seen s ≡ v
-    → IsPoolKept s.names s.nodes.keys s.unions s.meets
+    → IsPoolKept s.names s.nodes.keys s.unions s.intersections
     → a ≡ a'
     → IsKnown v a'
     → IsKnown v n
@@ -182,7 +182,7 @@ more-seen s {a = a} n x q is k same ka kn lx at e =
 -- a set that is there and made of two
 pub both-seen : (o : Operation) (s : Inside) {v : HideSetPool} {a b a' b' : ℕ} (n : ℕ)
     → seen s ≡ v
-    → IsPoolKept s.names s.nodes.keys s.unions s.meets
+    → IsPoolKept s.names s.nodes.keys s.unions s.intersections
     → a ≡ a'
     → b ≡ b'
     → IsKnown v a'

@@ -9,8 +9,8 @@ use Rattle.ppmacro.specs.PairCache.{CachedPairs, cached_pairs_code}
 pub record HideSetPool : Type 0 where
   pub sets : List HideSet
   pub unions : CachedPairs
-  pub meets : CachedPairs
+  pub intersections : CachedPairs
 
 abbrev pub numbered_code : Coded HideSetPool
 numbered_code = code_by (List HideSet × (CachedPairs × CachedPairs)) (coded× (coded_list (set.code (coded_list coded_ℕ))) (coded× cached_pairs_code cached_pairs_code))
-    (λ n. (n.sets, (n.unions, n.meets))) (λ p. record { sets = p.0; unions = p.1.0; meets = p.1.1 }) (λ _. refl)
+    (λ n. (n.sets, (n.unions, n.intersections))) (λ p. record { sets = p.0; unions = p.1.0; intersections = p.1.1 }) (λ _. refl)

@@ -10,7 +10,7 @@ use Rattle.ppmacro.specs.declared.hidden_token.Hidden.{Hidden}
 
 -- The pool with only the empty set.
 abbrev pub starting : HideSetPool
-starting = record { sets = set.empty ∷ []; unions = []; meets = [] }
+starting = record { sets = set.empty ∷ []; unions = []; intersections = [] }
 
 -- The set with this number.
 abbrev pub set_at : HideSetPool → ℕ → HideSet
@@ -25,7 +25,7 @@ pub record KeepsSets (old new : HideSetPool) : Type 0 where
   pub more : List HideSet
   pub is : new.sets ≡ old.sets ++ more
   pub unions : KeepsPairs old.unions new.unions
-  pub meets : KeepsPairs old.meets new.meets
+  pub intersections : KeepsPairs old.intersections new.intersections
 
 -- The names of a set, and of an extra set if there is one.
 abbrev pub hidden_names : HideSetPool → ℕ → Option ℕ → HideSet

@@ -24,5 +24,5 @@ pub record KeepsPairs (old new : CachedPairs) : Type 0 where
 abbrev pub union_known : CachedPairs → ℕ → ℕ → Option ℕ
 union_known ps a b = if nat_eq a 0 then Some b else (if nat_eq b 0 then Some a else (if nat_eq a b then Some a else cached_result ps a b))
 
-abbrev pub meet_known : CachedPairs → ℕ → ℕ → Option ℕ
-meet_known ps a b = if nat_eq a 0 then Some a else (if nat_eq b 0 then Some b else (if nat_eq a b then Some a else cached_result ps a b))
+abbrev pub intersection_known : CachedPairs → ℕ → ℕ → Option ℕ
+intersection_known ps a b = if nat_eq a 0 then Some a else (if nat_eq b 0 then Some b else (if nat_eq a b then Some a else cached_result ps a b))

@@ -13,7 +13,7 @@ use Rattle.ppmacro.specs.Lexing.{kind_of}
 use Rattle.ppmacro.specs.Substitution.{Arguments, Replacement, argument_at, expanded_at, space_first}
 use Rattle.ppmacro.specs.declared.hidden_token.Hidden.{Hidden}
 use Rattle.ppmacro.specs.declared.hidden_token.ArgumentExpansion.{ArgumentExpansion}
-use Rattle.ppmacro.specs.declared.hidden_token.ArgumentExpansion.TheVariants.{Unused, AsGiven, Made}
+use Rattle.ppmacro.specs.declared.hidden_token.ArgumentExpansion.TheVariants.{Unused, AsGiven, Owned}
 
 abbrev pub tokens_of : List Hidden → List Token
 tokens_of hs = map (λ h. h.token) hs
@@ -37,7 +37,7 @@ lists_of vs = map (λ v. v.items) vs
 abbrev pub option_of : List Hidden → ArgumentExpansion → Option (List Hidden)
 option_of given Unused = None
 option_of given AsGiven = Some given
-option_of given (Made v) = Some v.items
+option_of given (Owned v) = Some v.items
 
 -- The expansion of each argument.
 abbrev pub options_of : List (Vec Hidden Global) → List ArgumentExpansion → List (Option (List Hidden))

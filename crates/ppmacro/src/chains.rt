@@ -1,4 +1,4 @@
-//! The chains of a replacement list: runs of operands that `##` joins (6.10.3.2, 6.10.3.3).
+//! The chains of a replacement list: sequences of operands that `##` joins (6.10.3.2, 6.10.3.3).
 ghost use Rattle.std.specs.Prelude.{◌≡◌, IfOk, OnOk, None, List, [], ◌∷◌, ◌++◌, map, false, position};
 ghost use Rattle.std.specs.Str.{bytes_eq};
 ghost use Rattle.std.specs.Option.{option_map};

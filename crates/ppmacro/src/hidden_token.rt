@@ -147,7 +147,7 @@ pub enum ArgumentExpansion<'a> {
     /// It is the argument itself.
     AsGiven,
     /// It is these tokens.
-    Made(Vec<Hidden<'a>>),
+    Owned(Vec<Hidden<'a>>),
 }
 
 impl<'a> Model for Hidden<'a> {

@@ -2,7 +2,7 @@
 ghost use Rattle.std.specs.Prelude.{◌≡◌, ◌↔◌, IsTrue, ℕ, Some, Ok, IfOk, OnErr};
 ghost use Rattle.std.specs.FinSet as set;
 ghost use Rattle.ppmacro.specs.HideSets.{set_at, IsKnown, KeepsSets, starting};
-ghost use Rattle.ppmacro.specs.PairCache.{union_known, meet_known, KeepsPairs};
+ghost use Rattle.ppmacro.specs.PairCache.{union_known, intersection_known, KeepsPairs};
 
 mod names;
 mod nodes;
@@ -40,7 +40,7 @@ pub struct HideSets {
     names: NameNumbers,
     nodes: IndexSet<Node, Hashing>,
     unions: PairCache,
-    meets: PairCache,
+    intersections: PairCache,
 }
 
 impl Model for HideSets {
@@ -52,9 +52,9 @@ impl Model for HideSets {
 
     ghost coded = { numbered_code };
 
-    ghost view = { λ s. record { sets = hide_sets s.names s.nodes.keys; unions = s.unions; meets = s.meets } };
+    ghost view = { λ s. record { sets = hide_sets s.names s.nodes.keys; unions = s.unions; intersections = s.intersections } };
 
-    ghost invariant = { λ s. IsPoolKept s.names s.nodes.keys s.unions s.meets };
+    ghost invariant = { λ s. IsPoolKept s.names s.nodes.keys s.unions s.intersections };
 }
 
 impl HideSets {
@@ -74,7 +74,7 @@ impl HideSets {
             names: NameNumbers::new(alloc, hashing),
             nodes: nodes::start(alloc, hashing)?,
             unions: PairCache::new(alloc, hashing),
-            meets: PairCache::new(alloc, hashing),
+            intersections: PairCache::new(alloc, hashing),
         })
     }
 
@@ -124,7 +124,7 @@ impl HideSets {
         ensures set { IfOk result (λ s. set_at self.new s ≡ set.insert (set_at self.old hide) name.now) }
         ensures known { IfOk result (λ s. IsKnown self.new s) }
         ensures keeps { KeepsSets self.old self.new }
-        ensures pairs { (self.new.unions ≡ self.old.unions) × (self.new.meets ≡ self.old.meets) }
+        ensures pairs { (self.new.unions ≡ self.old.unions) × (self.new.intersections ≡ self.old.intersections) }
         ensures there { (n : ℕ) → IsKnown self.old n → set_at self.old n ≡ set.insert (set_at self.old hide) name.now → (result ≡ Ok n) × (self.new ≡ self.old) }
     {
         let (alloc, set) = (self.alloc, hide.number);
@@ -144,7 +144,7 @@ impl HideSets {
         ensures remembered { IfOk result (λ n. union_known self.new.unions left right ≡ Some n) }
         ensures again { (n : ℕ) → union_known self.old.unions left right ≡ Some n → (result ≡ Ok n) × (self.new ≡ self.old) }
         ensures unions { KeepsPairs self.old.unions self.new.unions }
-        ensures meets { self.new.meets ≡ self.old.meets }
+        ensures intersections { self.new.intersections ≡ self.old.intersections }
         ensures there { (n : ℕ) → IsKnown self.old n → set_at self.old n ≡ set.union (set_at self.old left) (set_at self.old right)
             → IfOk result (λ m. m ≡ n) × (self.new.sets ≡ self.old.sets) × OnErr result (self.new ≡ self.old) }
     {
@@ -164,16 +164,16 @@ impl HideSets {
         ensures set { IfOk result (λ s. set_at self.new s ≡ set.intersection (set_at self.old left) (set_at self.old right)) }
         ensures known { IfOk result (λ s. IsKnown self.new s) }
         ensures keeps { KeepsSets self.old self.new }
-        ensures remembered { IfOk result (λ n. meet_known self.new.meets left right ≡ Some n) }
-        ensures again { (n : ℕ) → meet_known self.old.meets left right ≡ Some n → (result ≡ Ok n) × (self.new ≡ self.old) }
-        ensures meets { KeepsPairs self.old.meets self.new.meets }
+        ensures remembered { IfOk result (λ n. intersection_known self.new.intersections left right ≡ Some n) }
+        ensures again { (n : ℕ) → intersection_known self.old.intersections left right ≡ Some n → (result ≡ Ok n) × (self.new ≡ self.old) }
+        ensures intersections { KeepsPairs self.old.intersections self.new.intersections }
         ensures unions { self.new.unions ≡ self.old.unions }
         ensures there { (n : ℕ) → IsKnown self.old n → set_at self.old n ≡ set.intersection (set_at self.old left) (set_at self.old right)
             → IfOk result (λ m. m ≡ n) × (self.new.sets ≡ self.old.sets) × OnErr result (self.new ≡ self.old) }
     {
-        let (nodes, pairs) = (&mut self.nodes, &mut self.meets);
+        let (nodes, pairs) = (&mut self.nodes, &mut self.intersections);
         let operation = Operation {
-            kind: OperationKind::Meet,
+            kind: OperationKind::Intersection,
         };
         let number = nodes::combine(nodes, pairs, operation, left.number, right.number)?;
         Ok(Set { number })

@@ -7,9 +7,9 @@ ghost use Rattle.ppserve.specs.Output.{dep_line, fault_text, last_line, shown_it
 ghost use Rattle.ppserve.specs.code.Printing.{Puts};
 ghost use Rattle.ppserve.specs.declared.output.Mode.TheVariants.{Dump, Deps};
 ghost use Rattle.ppmacro.specs.Substituting.{tokens_of};
-ghost use Rattle.ppexpand.specs.Pieces.{piece_list};
+ghost use Rattle.ppexpand.specs.Slices.{slice_tokens};
 ghost use Rattle.ppshelf.specs.Names.{name_in};
-ghost use Rattle.ppunit.specs.Parts.{part_items};
+ghost use Rattle.ppunit.specs.BorrowedItems.{slice_items};
 ghost use Rattle.ppunit.specs.declared.units.Item.TheVariants as item;
 ghost use Rattle.ppserve.specs.code.LinePrefix.{before_spelling, token_line};
 
@@ -18,10 +18,10 @@ use crate::list::List;
 use crate::out_buffer::OutBuffer;
 use crate::streams::{Failed, Sink, VecSink};
 use itoa::Buffer;
-use ppexpand::{Piece, TokenRope};
+use ppexpand::TokenSlice;
 use ppmacro::Hidden;
 use pptext::{Fault, Memory, Place, Spelling, Token};
-use ppunit::{Items, OwnedTexts, Part, Unit, UnitOut};
+use ppunit::{ItemSlice, Items, OwnedTexts, Unit, UnitOut};
 use std::alloc::Global;
 
 /// What is printed of each unit.
@@ -65,10 +65,8 @@ fn printed(alloc: Global, mode: Mode, list: &List, outs: &[UnitOut]) -> Result<V
     Ok(text.into_bytes())
 }
 
-/// Prints the output of units through an empty buffer, without allocating. Fails only if a write fails; a prefix of the
-/// output is then written.
-///
-/// The functions below take buffer and writer apart: in one struct with a `&mut W`, each clause would have to name that loan.
+/// Prints the output of units through an empty buffer, without allocating. Fails only if a write fails; then a prefix of
+/// the output has been written.
 pub(crate) fn print<W: Sink>(
     buf: &mut OutBuffer,
     writer: &mut W,
@@ -93,7 +91,7 @@ pub(crate) fn print<W: Sink>(
     Ok(())
 }
 
-/// What is printed of a list's units: the mode, and the names of the files.
+/// What the lines of all units depend on: the mode, and the names of the files.
 #[derive(Clone, Copy)]
 struct Shown<'n> {
     mode: Mode,
@@ -156,18 +154,19 @@ fn put_shown<W: Sink>(buf: &mut OutBuffer, writer: &mut W, mode: Mode, items: &I
 fn put_items<W: Sink>(buf: &mut OutBuffer, writer: &mut W, items: &Items)
     ensures { Puts W.written W.has_failed writer.old writer.new buf.old buf.new (flat_map item_lines items.now) }
 {
-    for part in items.parts() {
-        put_part(buf, writer, part);
+    let mut slices = items.slices();
+    while let Some(slice) = slices.next() {
+        put_slice(buf, writer, slice);
     }
 }
 
-/// Prints a run of tokens or a pragma.
-fn put_part<W: Sink>(buf: &mut OutBuffer, writer: &mut W, part: &Part)
-    ensures { Puts W.written W.has_failed writer.old writer.new buf.old buf.new (flat_map item_lines (part_items part.now)) }
+/// Prints tokens or a pragma.
+fn put_slice<W: Sink>(buf: &mut OutBuffer, writer: &mut W, slice: ItemSlice)
+    ensures { Puts W.written W.has_failed writer.old writer.new buf.old buf.new (flat_map item_lines (slice_items slice.entry)) }
 {
-    match part {
-        Part::Tokens(run) => put_rope(buf, writer, run),
-        Part::Pragma(at, tokens) => put_pragma(buf, writer, *at, tokens),
+    match slice {
+        ItemSlice::Tokens(tokens) => put_tokens(buf, writer, tokens),
+        ItemSlice::Pragma(at, tokens) => put_pragma(buf, writer, at, tokens),
     }
 }
 
@@ -181,32 +180,17 @@ fn put_pragma<W: Sink>(buf: &mut OutBuffer, writer: &mut W, at: Place, tokens: &
     put_pragma_tokens(buf, writer, tokens);
 }
 
-fn put_rope<W: Sink>(buf: &mut OutBuffer, writer: &mut W, run: &TokenRope)
-    ensures { Puts W.written W.has_failed writer.old writer.new buf.old buf.new (flat_map token_line run.now) }
+/// Prints the lines of tokens.
+fn put_tokens<W: Sink>(buf: &mut OutBuffer, writer: &mut W, tokens: TokenSlice)
+    ensures { Puts W.written W.has_failed writer.old writer.new buf.old buf.new (flat_map token_line (slice_tokens tokens.entry)) }
 {
-    let (prefix, pieces, singles) = run.parts();
-    put_source_tokens(buf, writer, prefix);
-    put_pieces(buf, writer, pieces);
-    put_synthesized(buf, writer, singles);
-}
-
-fn put_pieces<W: Sink>(buf: &mut OutBuffer, writer: &mut W, pieces: &[Piece])
-    ensures { Puts W.written W.has_failed writer.old writer.new buf.old buf.new (flat_map token_line (tokens_of (flat_map piece_list pieces.now))) }
-{
-    for piece in pieces {
-        put_piece(buf, writer, piece);
+    match tokens {
+        TokenSlice::InFile(tokens) => put_source_tokens(buf, writer, tokens),
+        TokenSlice::Hidden(tokens) => put_hidden_tokens(buf, writer, tokens),
     }
 }
 
-fn put_piece<W: Sink>(buf: &mut OutBuffer, writer: &mut W, piece: &Piece)
-    ensures { Puts W.written W.has_failed writer.old writer.new buf.old buf.new (flat_map token_line (tokens_of (piece_list piece.now))) }
-{
-    match piece {
-        Piece::Shared(stretch) => put_source_tokens(buf, writer, stretch.tokens()),
-        Piece::Made(made) => put_synthesized(buf, writer, made.as_slice()),
-    }
-}
-
+/// Prints the lines of a file's tokens.
 fn put_source_tokens<W: Sink>(buf: &mut OutBuffer, writer: &mut W, tokens: &[Token])
     ensures { Puts W.written W.has_failed writer.old writer.new buf.old buf.new (flat_map token_line tokens.now) }
 {
@@ -215,14 +199,16 @@ fn put_source_tokens<W: Sink>(buf: &mut OutBuffer, writer: &mut W, tokens: &[Tok
     }
 }
 
-fn put_synthesized<W: Sink>(buf: &mut OutBuffer, writer: &mut W, made: &[Hidden])
-    ensures { Puts W.written W.has_failed writer.old writer.new buf.old buf.new (flat_map token_line (tokens_of made.now)) }
+/// Prints the lines of tokens with hide sets.
+fn put_hidden_tokens<W: Sink>(buf: &mut OutBuffer, writer: &mut W, tokens: &[Hidden])
+    ensures { Puts W.written W.has_failed writer.old writer.new buf.old buf.new (flat_map token_line (tokens_of tokens.now)) }
 {
-    for hidden in made {
+    for hidden in tokens {
         put_hidden(buf, writer, hidden);
     }
 }
 
+/// Prints the lines of a pragma's tokens.
 fn put_pragma_tokens<W: Sink>(buf: &mut OutBuffer, writer: &mut W, tokens: &[Token])
     ensures { Puts W.written W.has_failed writer.old writer.new buf.old buf.new (flat_map pragma_token_line tokens.now) }
 {
@@ -231,6 +217,7 @@ fn put_pragma_tokens<W: Sink>(buf: &mut OutBuffer, writer: &mut W, tokens: &[Tok
     }
 }
 
+/// Prints the line of a pragma's token.
 fn put_pragma_token<W: Sink>(buf: &mut OutBuffer, writer: &mut W, token: &Token)
     ensures { Puts W.written W.has_failed writer.old writer.new buf.old buf.new (pragma_token_line token.now) }
 {
@@ -238,6 +225,7 @@ fn put_pragma_token<W: Sink>(buf: &mut OutBuffer, writer: &mut W, token: &Token)
     put_token(buf, writer, token);
 }
 
+/// Prints the line of a token with hide sets.
 #[inline(always)]
 fn put_hidden<W: Sink>(buf: &mut OutBuffer, writer: &mut W, hidden: &Hidden)
     ensures { Puts W.written W.has_failed writer.old writer.new buf.old buf.new (token_line hidden.now.token) }
@@ -249,9 +237,10 @@ fn put_hidden<W: Sink>(buf: &mut OutBuffer, writer: &mut W, hidden: &Hidden)
         kind: token.kind,
         space: hidden.space(),
     };
-    put_line(buf, writer, fields, &token.text);
+    put_token_line(buf, writer, fields, &token.text);
 }
 
+/// Prints the line of a token of a file.
 #[inline(always)]
 fn put_token<W: Sink>(buf: &mut OutBuffer, writer: &mut W, token: &Token)
     ensures { Puts W.written W.has_failed writer.old writer.new buf.old buf.new (token_line token.now) }
@@ -262,13 +251,18 @@ fn put_token<W: Sink>(buf: &mut OutBuffer, writer: &mut W, token: &Token)
         kind: token.kind,
         space: token.space,
     };
-    put_line(buf, writer, fields, &token.text);
+    put_token_line(buf, writer, fields, &token.text);
 }
 
 /// Prints the line of a token. Fast path: most spellings are short and are printed as they are; then the line is
-/// written in one step.
+/// copied to the buffer after one look at its capacity.
 #[inline(always)]
-fn put_line<W: Sink>(buf: &mut OutBuffer, writer: &mut W, fields: LineFields, spelling: &Spelling)
+fn put_token_line<W: Sink>(
+    buf: &mut OutBuffer,
+    writer: &mut W,
+    fields: LineFields,
+    spelling: &Spelling,
+)
     ensures { Puts W.written W.has_failed writer.old writer.new buf.old buf.new
         (codes "tok" ++ before_spelling fields.at fields.used fields.kind fields.space ++ escaped spelling.now ++ (10 ∷ [])) }
 {
@@ -279,12 +273,12 @@ fn put_line<W: Sink>(buf: &mut OutBuffer, writer: &mut W, fields: LineFields, sp
             return;
         }
     }
-    put_end(buf, writer, spelling.as_bytes());
+    put_spelling_and_newline(buf, writer, spelling.as_bytes());
 }
 
-/// Prints any spelling and the end of its line.
+/// Prints any spelling and a new-line.
 #[inline(never)]
-fn put_end<W: Sink>(buf: &mut OutBuffer, writer: &mut W, spelling: &[u8])
+fn put_spelling_and_newline<W: Sink>(buf: &mut OutBuffer, writer: &mut W, spelling: &[u8])
     ensures { Puts W.written W.has_failed writer.old writer.new buf.old buf.new (escaped spelling.now ++ (10 ∷ [])) }
 {
     put_escaped(buf, writer, spelling);
@@ -343,14 +337,15 @@ fn put_fault<W: Sink>(buf: &mut OutBuffer, writer: &mut W, fault: &Fault)
     buf.put(writer, b"\n");
 }
 
-fn put_fault_text<W: Sink>(buf: &mut OutBuffer, writer: &mut W, words: &[u8])
-    ensures { Puts W.written W.has_failed writer.old writer.new buf.old buf.new (fault_text words.now) }
+/// Prints the text of a fault after a space, if it has one.
+fn put_fault_text<W: Sink>(buf: &mut OutBuffer, writer: &mut W, text: &[u8])
+    ensures { Puts W.written W.has_failed writer.old writer.new buf.old buf.new (fault_text text.now) }
 {
-    if words.is_empty() {
+    if text.is_empty() {
         return;
     }
     buf.put(writer, b" ");
-    put_escaped(buf, writer, words);
+    put_escaped(buf, writer, text);
 }
 
 /// Prints a location.
@@ -364,6 +359,7 @@ fn put_place<W: Sink>(buf: &mut OutBuffer, writer: &mut W, place: Place)
     put_decimal(buf, writer, u64::from(place.col));
 }
 
+/// Prints a number in decimal.
 fn put_decimal<W: Sink>(buf: &mut OutBuffer, writer: &mut W, number: u64)
     ensures { Puts W.written W.has_failed writer.old writer.new buf.old buf.new (decimal number) }
 {
@@ -371,19 +367,30 @@ fn put_decimal<W: Sink>(buf: &mut OutBuffer, writer: &mut W, number: u64)
     buf.put(writer, buffer.format(number).as_bytes());
 }
 
-/// Prints bytes: those that are printed as they are in runs, and each other one as `%` and two digits.
+/// Prints bytes with escapes: each byte that isn't printed as it is becomes `%` and two hexadecimal digits.
 fn put_escaped<W: Sink>(buf: &mut OutBuffer, writer: &mut W, bytes: &[u8])
     ensures { Puts W.written W.has_failed writer.old writer.new buf.old buf.new (escaped bytes.now) }
 {
     let mut rest = bytes;
     while !rest.is_empty() {
-        let (run, others) = rest.split_at(as_is_len(rest));
-        buf.put(writer, run);
+        let (as_is, others) = rest.split_at(as_is_len(rest));
+        buf.put(writer, as_is);
         let Some((&byte, more)) = others.split_first() else {
             return;
         };
-        put_byte(buf, writer, byte);
+        put_escaped_byte(buf, writer, byte);
         rest = more;
+    }
+}
+
+/// Prints a byte as it is, or as `%` and two hexadecimal digits.
+fn put_escaped_byte<W: Sink>(buf: &mut OutBuffer, writer: &mut W, byte: u8)
+    ensures { Puts W.written W.has_failed writer.old writer.new buf.old buf.new (escaped_byte byte) }
+{
+    if prints_as_is(byte) {
+        buf.put(writer, &[byte]);
+    } else {
+        buf.put(writer, &[b'%', hex(byte / 16), hex(byte % 16)]);
     }
 }
 
@@ -398,16 +405,6 @@ fn as_is_len(bytes: &[u8]) -> usize
         }
     }
     bytes.len()
-}
-
-fn put_byte<W: Sink>(buf: &mut OutBuffer, writer: &mut W, byte: u8)
-    ensures { Puts W.written W.has_failed writer.old writer.new buf.old buf.new (escaped_byte byte) }
-{
-    if prints_as_is(byte) {
-        buf.put(writer, &[byte]);
-    } else {
-        buf.put(writer, &[b'%', hex(byte / 16), hex(byte % 16)]);
-    }
 }
 
 /// Returns whether a byte is printed as it is: 32 to 126 except `%`.

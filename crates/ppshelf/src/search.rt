@@ -154,7 +154,7 @@ fn row_in_directories<D: Disk>(
         (spec.candidates_after number directories.entry.unit.now
         directories.entry.setting.now name.now) found) }
 {
-    let plain = has_no_dot_segments(name);
+    let dotless = has_no_dot_segments(name);
     let count = directories.unit.len() + directories.setting.len();
     for index in number..count {
         let row = row_in_directory(
@@ -162,7 +162,7 @@ fn row_in_directories<D: Disk>(
             shelf,
             directories.at_index(index),
             name,
-            plain,
+            dotless,
             joined,
         )?;
         if let Some(row) = row {
@@ -179,13 +179,13 @@ fn row_in_directory<D: Disk>(
     shelf: &Shelf<D>,
     directory: &[u8],
     name: &[u8],
-    plain: bool,
+    dotless: bool,
     joined: &mut Vec<u8>,
 ) -> Result<Option<usize>, Memory>
-    requires { plain ≡ list_all starts_without_dot (segments name.now) }
+    requires { dotless ≡ list_all starts_without_dot (segments name.now) }
     ensures { IfOk result (λ row. spec.IsRowAt shelf.now.names (spec.follow (spec.follow (Some []) directory.now) name.now) row) }
 {
-    if plain && has_no_dot_segments(directory) {
+    if dotless && has_no_dot_segments(directory) {
         join_path(joined, directory, name)?;
         return Ok(shelf.row_of(joined.as_slice()));
     }

@@ -1,16 +1,16 @@
-//! Tests of `expand`: the parts of a run, its tokens one by one, and the rest of a budget. More expansions, faults and locations
+//! Tests of `expand`: the slices of an expanded list, its tokens one by one, and the rest of a budget. More expansions, faults and locations
 //! are in tests/row_tests.py and tests/token_tests.py, which compare the program's output.
 use crate::defining::{directed, env, source_of};
 use crate::showing::assert_shown;
-use ppexpand::{Expanded, Piece, TokenRef, TokenRope, expand};
+use ppexpand::{Expanded, TokenRef, TokenRope, TokenSlice, expand};
 use ppmacro::{Hidden, Table};
 use pptext::{Memory, Source, Token};
 use std::alloc::{AllocError, Global};
 use std::process::Abort;
 use std::test::Fail;
 
-/// Appends the spellings of source tokens to a text, each after a `.`.
-fn push_shared(text: &mut Vec<u8>, tokens: &[Token]) -> Result<(), AllocError> {
+/// Appends the spellings of a file's tokens to a text, each after a `.`.
+fn push_in_file(text: &mut Vec<u8>, tokens: &[Token]) -> Result<(), AllocError> {
     for token in tokens {
         text.push(b'.')?;
         text.extend_from_slice(token.text.as_bytes())?;
@@ -19,29 +19,28 @@ fn push_shared(text: &mut Vec<u8>, tokens: &[Token]) -> Result<(), AllocError> {
 }
 
 /// Appends the spellings of tokens with hide sets to a text, each after a `!`.
-fn push_made(text: &mut Vec<u8>, made: &[Hidden]) -> Result<(), AllocError> {
-    for hidden in made {
+fn push_hidden(text: &mut Vec<u8>, tokens: &[Hidden]) -> Result<(), AllocError> {
+    for hidden in tokens {
         text.push(b'!')?;
         text.extend_from_slice(hidden.text())?;
     }
     Ok(())
 }
 
-/// Appends the spellings of a run's tokens to a text, part by part: after `.` if the token is in a span of the file, after `!` if
-/// it is on its own.
-fn push_parts(text: &mut Vec<u8>, run: &TokenRope) -> Result<(), AllocError> {
-    let (front, pieces, singles) = run.parts();
-    push_shared(text, front)?;
-    for piece in pieces {
-        match piece {
-            Piece::Shared(stretch) => push_shared(text, stretch.tokens())?,
-            Piece::Made(made) => push_made(text, made.as_slice())?,
+/// Appends the spellings of tokens to a text, slice by slice: after `.` if the token is one of a file, after `!` if it has
+/// hide sets.
+fn push_slices(text: &mut Vec<u8>, rope: &TokenRope) -> Result<(), AllocError> {
+    let mut slices = rope.slices();
+    while let Some(slice) = slices.next() {
+        match slice {
+            TokenSlice::InFile(tokens) => push_in_file(text, tokens)?,
+            TokenSlice::Hidden(tokens) => push_hidden(text, tokens)?,
         }
     }
-    push_made(text, singles)
+    Ok(())
 }
 
-/// Returns whether a token of a run is equal to this one.
+/// Returns whether a token of a list is equal to this one.
 fn is_same(found: &TokenRef, token: &Token) -> Result<bool, AllocError> {
     let marks = found.kind() == token.kind && found.space() == token.space;
     let places = found.at() == token.at && found.used() == token.used;
@@ -49,10 +48,10 @@ fn is_same(found: &TokenRef, token: &Token) -> Result<bool, AllocError> {
     Ok(marks && places && is_spelled && found.to_token()? == *token)
 }
 
-/// Returns whether the tokens of a run, one by one, are those of its list.
-fn yields_all(alloc: Global, run: &TokenRope) -> Result<bool, AllocError> {
-    let tokens = run.to_vec(alloc)?;
-    let mut found = run.iter();
+/// Returns whether the tokens of a list, one by one, are those of its vector.
+fn yields_all(alloc: Global, rope: &TokenRope) -> Result<bool, AllocError> {
+    let tokens = rope.to_vec(alloc)?;
+    let mut found = rope.iter();
     for token in &tokens {
         match found.next() {
             Some(one) if is_same(&one, token)? => {}
@@ -62,10 +61,10 @@ fn yields_all(alloc: Global, run: &TokenRope) -> Result<bool, AllocError> {
     Ok(found.next().is_none())
 }
 
-/// Returns an expansion as text: its parts, and ` same` if it is the unchanged input.
+/// Returns an expansion as text: its slices, and ` same` if it is the unchanged input.
 fn as_text(alloc: Global, expanded: &Expanded) -> Result<Vec<u8>, AllocError> {
     let mut text = Vec::new(alloc);
-    push_parts(&mut text, &expanded.tokens)?;
+    push_slices(&mut text, &expanded.tokens)?;
     if expanded.tokens.unchanged().is_some() {
         text.extend_from_slice(b" same")?;
     }

@@ -5,8 +5,8 @@ use Rattle.std.proofs.lemmas.List.{append-nil}
 use Rattle.pptext.specs.declared.tokens.Fault.{Fault}
 use Rattle.pptext.specs.declared.sources.Directive.TheVariants.{Endif}
 use Rattle.pptext.specs.Lines.{LogicalLine}
-use Rattle.pptext.specs.Tree.{Role, TextLine, ControlLine, Opens, Elses, Closes, Parts, Done, Control, Section, Branches, End, Branch, part_lines}
-use Rattle.pptext.specs.Tree.{branch_lines, AreParts, AreBranches, role, Open, after_line, fault_at, fault_or, group_fault}
+use Rattle.pptext.specs.Tree.{Role, TextLine, ControlLine, Opens, Elses, Closes, GroupParts, Done, Control, Section, Branches, End, Branch, part_lines}
+use Rattle.pptext.specs.Tree.{branch_lines, AreGroupParts, AreBranches, role, Open, after_line, fault_at, fault_or, group_fault}
 use Rattle.pptext.specs.GroupFaults.{HasTree, BeginsTree, Innermost, FirstWrong, IsGroupFault, no_section, after_else, open_section}
 use Rattle.pptext.proofs.Trees.{a_tree, no_fault, parts_pass, one_line, with_text, section_lines}
 
@@ -150,9 +150,9 @@ data Within : Bool → List LogicalLine → Type 0 where
 
 -- With an `#endif` they are a group and branches.
 record Ended (b : Bool) (rest : List LogicalLine) (e : LogicalLine) : Type 0 where
-  parts : Parts
+  parts : GroupParts
   branches : Branches
-  are : AreParts parts
+  are : AreGroupParts parts
   are_branches : AreBranches b branches
   whole : part_lines parts ++ branch_lines branches ≡ rest ++ e ∷ []
 

@@ -5,7 +5,7 @@ use Rattle.std.proofs.lemmas.List.{drop_at, length-append}
 use Rattle.pptext.specs.declared.tokens.Token.{Token}
 use Rattle.pptext.specs.declared.sources.Profile.{Profile}
 use Rattle.pptext.specs.Lines.{LogicalLine, directive_of, IsDirected, AreDirected}
-use Rattle.pptext.specs.Tree.{Role, TextLine, ControlLine, Opens, Elses, Closes, Parts, Done, TextLines, Control, Section, Branches, End, Branch, part_lines, branch_lines, AreParts, AreBranches, role, role_by, branch_after, group_fault}
+use Rattle.pptext.specs.Tree.{Role, TextLine, ControlLine, Opens, Elses, Closes, GroupParts, Done, TextLines, Control, Section, Branches, End, Branch, part_lines, branch_lines, AreGroupParts, AreBranches, role, role_by, branch_after, group_fault}
 use Rattle.pptext.specs.Guard.{IsBlankLine, AreBlank, guard_name, GuardedParts, GuardedBy}
 use Rattle.pptext.specs.code.Grouping.{ClosedAtOnce, FlatGuard}
 use Rattle.pptext.proofs.Trees.{section_lines, branch_line, a_tree, at_most_one}
@@ -21,7 +21,7 @@ text_roles (r ∷ rs) depth k rest all =
     one_role depth k r (rs ++ rest) TextLine all.0 ∙ text_roles rs depth (k + 1) rest all.1 ∙ ap (λ (z : ℕ). branch_after depth z (map role rest)) (omega arith)
 
 mutual
-  pub behind_parts : (ps : Parts) (depth k : ℕ) (rest : List LogicalLine) → AreParts ps → branch_after depth k (map role (part_lines ps ++ rest)) ≡ branch_after depth (k + length (part_lines ps)) (map role rest)
+  pub behind_parts : (ps : GroupParts) (depth k : ℕ) (rest : List LogicalLine) → AreGroupParts ps → branch_after depth k (map role (part_lines ps ++ rest)) ≡ branch_after depth (k + length (part_lines ps)) (map role rest)
   behind_parts Done depth k rest are = ap (λ (z : ℕ). branch_after depth z (map role rest)) (omega arith)
   behind_parts (TextLines rs ps) depth k rest are =
       ap (λ (z : List LogicalLine). branch_after depth k (map role z)) (append_assoc rs (part_lines ps) rest)
@@ -63,7 +63,7 @@ text_if_blank : (rs : List LogicalLine) → AreDirected rs → AllByRecursion Is
 text_if_blank [] are = tt
 text_if_blank (r ∷ rs) (profile, all) = (blank_role profile r all.0, text_if_blank rs (profile, all.1))
 
-blank_lines : (ps : Parts) → AreBlank ps → AllByRecursion IsBlankLine (part_lines ps)
+blank_lines : (ps : GroupParts) → AreBlank ps → AllByRecursion IsBlankLine (part_lines ps)
 blank_lines Done blank = tt
 blank_lines (TextLines rs ps) blank = both rs (part_lines ps) blank.0 (blank_lines ps blank.1)
   where
@@ -77,7 +77,7 @@ parted : (P : LogicalLine → Type 0) (rs qs : List LogicalLine) → AllByRecurs
 parted P [] qs all = (tt, all)
 parted P (r ∷ rs) qs all = let b = parted P rs qs all.1 in ((all.0, b.0), b.1)
 
-blank_parts : (ps : Parts) → AreParts ps → AllByRecursion IsTextIfBlank (part_lines ps) → AllByRecursion IsBlankLine (part_lines ps) → AreBlank ps
+blank_parts : (ps : GroupParts) → AreGroupParts ps → AllByRecursion IsTextIfBlank (part_lines ps) → AllByRecursion IsBlankLine (part_lines ps) → AreBlank ps
 blank_parts Done are texts all = tt
 blank_parts (TextLines rs ps) are texts all =
     let b = parted IsBlankLine rs (part_lines ps) all in
@@ -91,7 +91,7 @@ blank_front : (rs rest : List LogicalLine) (k : ℕ) (x : List ℕ) → AllByRec
 blank_front [] rest k x all later = later k
 blank_front (r ∷ rs) rest k x all later = inl (all.0, blank_front rs rest (k + 1) x all.1 later)
 
-closed_section : (ps qs : Parts) (e : LogicalLine) (k : ℕ) → AreParts ps → role e ≡ Closes → AreBlank qs → ClosedAtOnce k (part_lines ps ++ (e ∷ part_lines qs))
+closed_section : (ps qs : GroupParts) (e : LogicalLine) (k : ℕ) → AreGroupParts ps → role e ≡ Closes → AreBlank qs → ClosedAtOnce k (part_lines ps ++ (e ∷ part_lines qs))
 closed_section ps qs e k are closes blank = record {
   skipped = length (part_lines ps);
   last = e;
@@ -102,7 +102,7 @@ closed_section ps qs e k are closes blank = record {
   blank = blank_lines qs blank;
 }
 
-guarded_flat : (ps : Parts) (x : List ℕ) (k : ℕ) → AreParts ps → GuardedParts ps x → FlatGuard k (part_lines ps) x
+guarded_flat : (ps : GroupParts) (x : List ℕ) (k : ℕ) → AreGroupParts ps → GuardedParts ps x → FlatGuard k (part_lines ps) x
 guarded_flat Done x k are g = absurd g
 guarded_flat (TextLines rs ps) x k are g = blank_front rs (part_lines ps) k x g.0 (λ j. guarded_flat ps x j are.3 g.1)
 guarded_flat (Control r ps) x k are g = absurd g
@@ -118,8 +118,8 @@ text_front (r ∷ rs) rest k x all (inl here) = let later = text_front rs rest (
 text_front (r ∷ rs) rest k x all (inr here) = let opens = here.0 in let text = all.0 in absurd (cc)
 
 -- the first line after the parts of a section is its next branch line
-closed_first : (ps : Parts) (h : LogicalLine) (rest : List LogicalLine) (k : ℕ)
-    → AreParts ps
+closed_first : (ps : GroupParts) (h : LogicalLine) (rest : List LogicalLine) (k : ℕ)
+    → AreGroupParts ps
     → ((j : ℕ) → branch_after 0 j (map role (h ∷ rest)) ≡ Some j)
     → ClosedAtOnce k (part_lines ps ++ (h ∷ rest))
     → (role h ≡ Closes) × AllByRecursion IsBlankLine rest
@@ -133,8 +133,8 @@ closed_first ps h rest k are here closed =
     let tail : closed.rest ≡ rest = cc in
     (ap role head ∙ closed.closes, subst (AllByRecursion IsBlankLine) tail closed.blank)
 
-flat_section : (r : LogicalLine) (ps qs : Parts) (bs : Branches) (x : List ℕ) (k : ℕ)
-    → AreParts (Section r ps bs qs)
+flat_section : (r : LogicalLine) (ps qs : GroupParts) (bs : Branches) (x : List ℕ) (k : ℕ)
+    → AreGroupParts (Section r ps bs qs)
     → AllByRecursion IsTextIfBlank (part_lines (Section r ps bs qs))
     → guard_name r.tokens ≡ Some x
     → ClosedAtOnce k (part_lines ps ++ branch_lines bs ++ part_lines qs)
@@ -148,7 +148,7 @@ flat_section r ps qs (Branch e ps' bs) x k (opens, parts, (before, final, is, in
     let closes : role e ≡ Closes = first.0 in
     absurd (cc)
 
-flat_guarded : (ps : Parts) (x : List ℕ) (k : ℕ) → AreParts ps → AllByRecursion IsTextIfBlank (part_lines ps) → FlatGuard k (part_lines ps) x → GuardedParts ps x
+flat_guarded : (ps : GroupParts) (x : List ℕ) (k : ℕ) → AreGroupParts ps → AllByRecursion IsTextIfBlank (part_lines ps) → FlatGuard k (part_lines ps) x → GuardedParts ps x
 flat_guarded Done x k are texts flat = absurd flat
 flat_guarded (TextLines rs ps) x k are texts flat =
     let f = text_front rs (part_lines ps) k x are.1 flat in
@@ -170,7 +170,7 @@ flat_by_guarded lines x (parts, tree, guarded) =
 
 -- a file has one guard at the most
 
-one_name : (ps : Parts) (x y : List ℕ) → GuardedParts ps x → GuardedParts ps y → x ≡ y
+one_name : (ps : GroupParts) (x y : List ℕ) → GuardedParts ps x → GuardedParts ps y → x ≡ y
 one_name Done x y g h = absurd g
 one_name (TextLines rs ps) x y g h = one_name ps x y g.1 h.1
 one_name (Control r ps) x y g h = absurd g
@@ -178,4 +178,4 @@ one_name (Section r ps (End e) qs) x y g h = let same : Some x ≡ Some y = sym 
 one_name (Section r ps (Branch e ps' bs) qs) x y g h = absurd g
 
 pub one_guard : (lines : List LogicalLine) (x y : List ℕ) → GuardedBy lines x → GuardedBy lines y → x ≡ y
-one_guard lines x y (a, first, g) (b, second, h) = one_name b x y (subst (λ (z : Parts). GuardedParts z x) (at_most_one lines a b first second) g) h
+one_guard lines x y (a, first, g) (b, second, h) = one_name b x y (subst (λ (z : GroupParts). GuardedParts z x) (at_most_one lines a b first second) g) h

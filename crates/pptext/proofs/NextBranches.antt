@@ -5,7 +5,7 @@ use Rattle.std.specs.List.{AllByRecursion}
 use Rattle.std.proofs.lemmas.List.{append-nil, length-append}
 use Rattle.pptext.specs.declared.sources.Line.{Line}
 use Rattle.pptext.specs.Lines.{LogicalLine}
-use Rattle.pptext.specs.Tree.{TextLine, Parts, Done, TextLines, Control, Section, Branches, End, Branch, part_lines, branch_lines, AreParts, AreBranches, Tree, Role, role}
+use Rattle.pptext.specs.Tree.{TextLine, GroupParts, Done, TextLines, Control, Section, Branches, End, Branch, part_lines, branch_lines, AreGroupParts, AreBranches, Tree, Role, role}
 use Rattle.pptext.specs.Sources.{next_branch, spans}
 use Rattle.pptext.specs.NextBranches.{part_branches, later_branches}
 use Rattle.pptext.proofs.Trees.{section_lines, branch_line}
@@ -27,7 +27,7 @@ text_links (r ∷ rs) k rest all =
     ∙ ap (λ (z : List (Option ℕ)). None ∷ z) (text_links rs (k + 1) rest all.1 ∙ ap (λ z. map (λ r. None) rs ++ links z rest) (omega arith))
 
 mutual
-  parts_links : (ps : Parts) (k : ℕ) (rest : List LogicalLine) → AreParts ps → links k (part_lines ps ++ rest) ≡ part_branches k ps ++ links (k + length (part_lines ps)) rest
+  parts_links : (ps : GroupParts) (k : ℕ) (rest : List LogicalLine) → AreGroupParts ps → links k (part_lines ps ++ rest) ≡ part_branches k ps ++ links (k + length (part_lines ps)) rest
   parts_links Done k rest are = ap (λ z. links z rest) (omega arith)
   parts_links (TextLines rs ps) k rest are =
       ap (links k) (append_assoc rs (part_lines ps) rest)
@@ -65,7 +65,7 @@ mutual
       ∙ ap (λ (z : List (Option ℕ)). part_branches (k + 1) ps ++ z) (branches_links bs final next rest more ∙ ap (λ z. later_branches next bs ++ links z rest) end))
       ∙ simp append_assoc
 
-pub next_branches : (lines : List LogicalLine) (parts : Parts) → Tree lines parts → map (λ (l : Line). l.next_branch) (spans 0 0 lines) ≡ part_branches 0 parts
+pub next_branches : (lines : List LogicalLine) (parts : GroupParts) → Tree lines parts → map (λ (l : Line). l.next_branch) (spans 0 0 lines) ≡ part_branches 0 parts
 next_branches lines parts tree =
     span_links 0 0 lines
     ∙ ap (links 0) (sym tree.whole ∙ sym (append-nil (part_lines parts)))

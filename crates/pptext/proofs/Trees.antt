@@ -3,8 +3,8 @@ use Rattle.std.proofs.Common.{◌≡◌, ◌↔◌, Bool, true, false, List, [],
 use Rattle.std.specs.List.{AllByRecursion}
 use Rattle.std.proofs.lemmas.List.{append-nil}
 use Rattle.pptext.specs.Lines.{LogicalLine}
-use Rattle.pptext.specs.Tree.{Role, TextLine, ControlLine, Opens, Elses, Closes, Parts, Done, TextLines, Control, Section, Branches, End, Branch, part_lines}
-use Rattle.pptext.specs.Tree.{branch_lines, BeginsTextLines, AreParts, AreBranches, Tree, role, Open, after_line, fault_or, group_fault}
+use Rattle.pptext.specs.Tree.{Role, TextLine, ControlLine, Opens, Elses, Closes, GroupParts, Done, TextLines, Control, Section, Branches, End, Branch, part_lines}
+use Rattle.pptext.specs.Tree.{branch_lines, BeginsTextLines, AreGroupParts, AreBranches, Tree, role, Open, after_line, fault_or, group_fault}
 
 -- a tree has no fault
 
@@ -15,14 +15,14 @@ text_lines : (os : List Open) (rs rest : List LogicalLine) → AllByRecursion (�
 text_lines os [] rest all = refl
 text_lines os (r ∷ rs) rest all = one_line os r (rs ++ rest) TextLine all.0 ∙ text_lines os rs rest all.1
 
-pub section_lines : (r : LogicalLine) (ps qs : Parts) (bs : Branches) (rest : List LogicalLine) → part_lines (Section r ps bs qs) ++ rest ≡ r ∷ part_lines ps ++ (branch_lines bs ++ (part_lines qs ++ rest))
+pub section_lines : (r : LogicalLine) (ps qs : GroupParts) (bs : Branches) (rest : List LogicalLine) → part_lines (Section r ps bs qs) ++ rest ≡ r ∷ part_lines ps ++ (branch_lines bs ++ (part_lines qs ++ rest))
 section_lines r ps qs bs rest = simp append_assoc
 
-pub branch_line : (r : LogicalLine) (ps : Parts) (bs : Branches) (rest : List LogicalLine) → branch_lines (Branch r ps bs) ++ rest ≡ r ∷ part_lines ps ++ (branch_lines bs ++ rest)
+pub branch_line : (r : LogicalLine) (ps : GroupParts) (bs : Branches) (rest : List LogicalLine) → branch_lines (Branch r ps bs) ++ rest ≡ r ∷ part_lines ps ++ (branch_lines bs ++ rest)
 branch_line r ps bs rest = ap (λ (z : List LogicalLine). r ∷ z) (append_assoc (part_lines ps) (branch_lines bs) rest)
 
 mutual
-  pub parts_pass : (ps : Parts) (os : List Open) (rest : List LogicalLine) → AreParts ps → group_fault os (part_lines ps ++ rest) ≡ group_fault os rest
+  pub parts_pass : (ps : GroupParts) (os : List Open) (rest : List LogicalLine) → AreGroupParts ps → group_fault os (part_lines ps ++ rest) ≡ group_fault os rest
   parts_pass Done os rest are = refl
   parts_pass (TextLines rs ps) os rest are =
       ap (group_fault os) (append_assoc rs (part_lines ps) rest) ∙ text_lines os rs (part_lines ps ++ rest) are.1 ∙ parts_pass ps os rest are.3
@@ -43,16 +43,16 @@ mutual
       ∙ parts_pass ps ((o, final) ∷ os) (branch_lines bs ++ rest) parts
       ∙ branches_pass bs o final os rest more
 
-pub no_fault : (lines : List LogicalLine) (parts : Parts) → Tree lines parts → group_fault [] lines ≡ None
+pub no_fault : (lines : List LogicalLine) (parts : GroupParts) → Tree lines parts → group_fault [] lines ≡ None
 no_fault lines parts tree =
     ap (group_fault []) (sym tree.whole ∙ sym (append-nil (part_lines parts))) ∙ parts_pass parts [] [] tree.each
 
 -- lines without fault have a tree: a prefix of the lines after open sections is parts, then each section's branches and parts
 
 record LeadingLexeme (Rest : List LogicalLine → Type 0) (lines : List LogicalLine) : Type 0 where
-  parts : Parts
+  parts : GroupParts
   rest : List LogicalLine
-  are : AreParts parts
+  are : AreGroupParts parts
   whole : part_lines parts ++ rest ≡ lines
   behind : Rest rest
 
@@ -60,7 +60,7 @@ abbrev Behind : List Open → List LogicalLine → Type 0
 Behind [] rest = rest ≡ []
 Behind (o ∷ os) rest = (bs : Branches) × (more : List LogicalLine) × AreBranches o.1 bs × (branch_lines bs ++ more ≡ rest) × LeadingLexeme (Behind os) more
 
-pub with_text : (r : LogicalLine) (ps : Parts) → role r ≡ TextLine → AreParts ps → (qs : Parts) × AreParts qs × (part_lines qs ≡ r ∷ part_lines ps)
+pub with_text : (r : LogicalLine) (ps : GroupParts) → role r ≡ TextLine → AreGroupParts ps → (qs : GroupParts) × AreGroupParts qs × (part_lines qs ≡ r ∷ part_lines ps)
 with_text r Done is are = (TextLines (r ∷ []) Done, ((λ (e : r ∷ [] ≡ []). cc), (is, tt), (λ (e : ⊥). e), tt), refl)
 with_text r (TextLines rs ps) is are = (TextLines (r ∷ rs) ps, ((λ (e : r ∷ rs ≡ []). cc), (is, are.1), are.2, are.3), refl)
 with_text r (Control q ps) is are = (TextLines (r ∷ []) (Control q ps), ((λ (e : r ∷ [] ≡ []). cc), (is, tt), (λ (e : ⊥). e), are), refl)
@@ -114,21 +114,21 @@ prefix [] [] e = record { parts = Done; rest = []; are = tt; whole = refl; behin
 prefix [] (o ∷ os) e = absurd (cc)
 prefix (r ∷ rs) os e = front_at r rs os (role r) refl (prefix rs) (sym (one_line os r rs (role r) refl) ∙ e)
 
-pub a_tree : (lines : List LogicalLine) → group_fault [] lines ≡ None → (parts : Parts) × Tree lines parts
+pub a_tree : (lines : List LogicalLine) → group_fault [] lines ≡ None → (parts : GroupParts) × Tree lines parts
 a_tree lines e =
     let f = prefix lines [] e in
     (f.parts, record { whole = sym (append-nil (part_lines f.parts)) ∙ ap (λ (z : List LogicalLine). part_lines f.parts ++ z) (sym f.behind) ∙ f.whole; each = f.are })
 
-pub tree_exactly : (lines : List LogicalLine) → (group_fault [] lines ≡ None) ↔ ((parts : Parts) × Tree lines parts)
+pub tree_exactly : (lines : List LogicalLine) → (group_fault [] lines ≡ None) ↔ ((parts : GroupParts) × Tree lines parts)
 tree_exactly lines = (a_tree lines, λ t. no_fault lines t.0 t.1)
 
 -- Reading the lines from the last to the first gives back their tree: the parts that begin them, and after those the branches and parts
 -- of each section that is open there.
 
 abbrev Reading : Type 0
-Reading = Parts × List (Branches × Parts)
+Reading = GroupParts × List (Branches × GroupParts)
 
-abbrev text_before : LogicalLine → Parts → Parts
+abbrev text_before : LogicalLine → GroupParts → GroupParts
 text_before r (TextLines rs ps) = TextLines (r ∷ rs) ps
 text_before r ps = TextLines (r ∷ []) ps
 
@@ -148,24 +148,24 @@ read (r ∷ rs) = line_before (role r) r (read rs)
 read_line : (r : LogicalLine) (rs : List LogicalLine) (s : Role) (behind : Reading) → role r ≡ s → read rs ≡ behind → read (r ∷ rs) ≡ line_before s r behind
 read_line r rs s behind is e = ap (λ (z : Role). line_before z r (read rs)) is ∙ ap (line_before s r) e
 
-text_first : (r : LogicalLine) (ps : Parts) → (¬ BeginsTextLines ps) → text_before r ps ≡ TextLines (r ∷ []) ps
+text_first : (r : LogicalLine) (ps : GroupParts) → (¬ BeginsTextLines ps) → text_before r ps ≡ TextLines (r ∷ []) ps
 text_first r Done alone = refl
 text_first r (TextLines rs ps) alone = absurd (alone tt)
 text_first r (Control q ps) alone = refl
 text_first r (Section q ps bs qs) alone = refl
 
-read_run : (r : LogicalLine) (rs rest : List LogicalLine) (ps : Parts) (bs : List (Branches × Parts))
+read_run : (r : LogicalLine) (rs rest : List LogicalLine) (ps : GroupParts) (bs : List (Branches × GroupParts))
     → role r ≡ TextLine
     → AllByRecursion (λ r. role r ≡ TextLine) rs
     → (¬ BeginsTextLines ps)
     → read rest ≡ (ps, bs)
     → read (r ∷ rs ++ rest) ≡ (TextLines (r ∷ rs) ps, bs)
-read_run r [] rest ps bs is all alone e = read_line r rest TextLine (ps, bs) is e ∙ ap (λ (z : Parts). (z, bs)) (text_first r ps alone)
+read_run r [] rest ps bs is all alone e = read_line r rest TextLine (ps, bs) is e ∙ ap (λ (z : GroupParts). (z, bs)) (text_first r ps alone)
 read_run r (q ∷ rs) rest ps bs is all alone e =
     read_line r (q ∷ rs ++ rest) TextLine (TextLines (q ∷ rs) ps, bs) is (read_run q rs rest ps bs all.0 all.1 alone e)
 
 mutual
-  read_parts : (ps : Parts) (rest : List LogicalLine) (bs : List (Branches × Parts)) → AreParts ps → read rest ≡ (Done, bs) → read (part_lines ps ++ rest) ≡ (ps, bs)
+  read_parts : (ps : GroupParts) (rest : List LogicalLine) (bs : List (Branches × GroupParts)) → AreGroupParts ps → read rest ≡ (Done, bs) → read (part_lines ps ++ rest) ≡ (ps, bs)
   read_parts Done rest bs are e = e
   read_parts (TextLines [] ps) rest bs are e = absurd (are.0 refl)
   read_parts (TextLines (r ∷ rs) ps) rest bs are e =
@@ -177,16 +177,16 @@ mutual
       (read_parts ps (branch_lines b ++ (part_lines qs ++ rest)) ((b, qs) ∷ bs) are.1
       (read_branches b false (part_lines qs ++ rest) qs bs are.2 (read_parts qs rest bs are.3 e)))
 
-  read_branches : (b : Branches) (last : Bool) (rest : List LogicalLine) (qs : Parts) (bs : List (Branches × Parts)) → AreBranches last b → read rest ≡ (qs, bs) → read (branch_lines b ++ rest) ≡ (Done, (b, qs) ∷ bs)
+  read_branches : (b : Branches) (last : Bool) (rest : List LogicalLine) (qs : GroupParts) (bs : List (Branches × GroupParts)) → AreBranches last b → read rest ≡ (qs, bs) → read (branch_lines b ++ rest) ≡ (Done, (b, qs) ∷ bs)
   read_branches (End r) last rest qs bs are e = read_line r rest Closes (qs, bs) are e
   read_branches (Branch r ps b) last rest qs bs (first, final, is, parts, more) e =
       ap read (branch_line r ps b rest)
       ∙ read_line r (part_lines ps ++ (branch_lines b ++ rest)) (Elses final) (ps, (b, qs) ∷ bs) is
       (read_parts ps (branch_lines b ++ rest) ((b, qs) ∷ bs) parts (read_branches b final rest qs bs more e))
 
-read_tree : (lines : List LogicalLine) (parts : Parts) → Tree lines parts → read lines ≡ (parts, [])
+read_tree : (lines : List LogicalLine) (parts : GroupParts) → Tree lines parts → read lines ≡ (parts, [])
 read_tree lines parts tree =
     ap read (sym tree.whole ∙ sym (append-nil (part_lines parts))) ∙ read_parts parts [] [] tree.each refl
 
-pub at_most_one : (lines : List LogicalLine) (a b : Parts) → Tree lines a → Tree lines b → a ≡ b
+pub at_most_one : (lines : List LogicalLine) (a b : GroupParts) → Tree lines a → Tree lines b → a ≡ b
 at_most_one lines a b x y = ap (λ (z : Reading). z.0) (sym (read_tree lines a x) ∙ read_tree lines b y)

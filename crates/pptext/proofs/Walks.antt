@@ -2,7 +2,7 @@
 use Rattle.std.proofs.Common.{◌≡◌, ℕ, ◌+◌, ◌<◌, Bool, List, ◌∷◌, ◌++◌, map, length, ap, ◌∙◌, arith, None, Some}
 use Rattle.std.proofs.lemmas.List.{length-map}
 use Rattle.pptext.specs.Lines.{LogicalLine}
-use Rattle.pptext.specs.Tree.{Role, TextLine, ControlLine, Opens, Elses, Closes, Parts, Branches, End, Branch, part_lines, branch_lines, AreParts, AreBranches, role, branch_after}
+use Rattle.pptext.specs.Tree.{Role, TextLine, ControlLine, Opens, Elses, Closes, GroupParts, Branches, End, Branch, part_lines, branch_lines, AreGroupParts, AreBranches, role, branch_after}
 use Rattle.pptext.specs.Sources.{next_branch}
 use Rattle.pptext.proofs.Guards.{behind_parts}
 use Rattle.pptext.proofs.GuardScan.{branch_within}
@@ -34,8 +34,8 @@ first_branch (End r) last k rest is = ap (λ (z : Role). branch_after 0 k (z ∷
 first_branch (Branch r ps bs) last k rest (before, final, is, parts, more) = ap (λ (z : Role). branch_after 0 k (z ∷ map role (part_lines ps ++ branch_lines bs ++ rest))) is
 
 -- it is the first line of the branches after the parts of the group
-pub next_behind : (ps : Parts) (bs : Branches) (last : Bool) (k : ℕ) (rest : List LogicalLine)
-    → AreParts ps
+pub next_behind : (ps : GroupParts) (bs : Branches) (last : Bool) (k : ℕ) (rest : List LogicalLine)
+    → AreGroupParts ps
     → AreBranches last bs
     → branch_after 0 k (map role (part_lines ps ++ (branch_lines bs ++ rest))) ≡ Some (k + length (part_lines ps))
 next_behind ps bs last k rest parts are = behind_parts ps 0 k (branch_lines bs ++ rest) parts ∙ first_branch bs last (k + length (part_lines ps)) rest are

@@ -2,10 +2,10 @@
 use Rattle.std.specs.Prelude.{◌≡◌, List, [], ◌∷◌, ◌++◌}
 use Rattle.pptext.specs.declared.tokens.Fault.{Fault}
 use Rattle.pptext.specs.Lines.{LogicalLine}
-use Rattle.pptext.specs.Tree.{Parts, Branches, Done, Section, Tree, Closes, role, fault_at}
+use Rattle.pptext.specs.Tree.{GroupParts, Branches, Done, Section, Tree, Closes, role, fault_at}
 
 abbrev pub HasTree : List LogicalLine → Type 0
-HasTree lines = (parts : Parts) × Tree lines parts
+HasTree lines = (parts : GroupParts) × Tree lines parts
 
 -- some list of lines that begins with these has a tree
 abbrev pub BeginsTree : List LogicalLine → Type 0
@@ -18,7 +18,7 @@ pub record Innermost (lines : List LogicalLine) (opening : LogicalLine) : Type 0
   pub whole : lines ≡ before ++ opening ∷ rest
   pub end : LogicalLine
   pub closes : role end ≡ Closes
-  pub parts : Parts
+  pub parts : GroupParts
   pub branches : Branches
   pub section : Tree (opening ∷ rest ++ end ∷ []) (Section opening parts branches Done)
 

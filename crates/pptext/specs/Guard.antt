@@ -5,13 +5,13 @@ use Rattle.std.specs.Str.{bytes_eq}
 use Rattle.pptext.specs.declared.tokens.Token.{Token}
 use Rattle.pptext.specs.Lines.{LogicalLine}
 use Rattle.pptext.specs.Tokens.{is_identifier_kind}
-use Rattle.pptext.specs.Tree.{Parts, Done, TextLines, Section, End, Tree}
+use Rattle.pptext.specs.Tree.{GroupParts, Done, TextLines, Section, End, Tree}
 
 -- a line without tokens
 abbrev pub IsBlankLine : LogicalLine → Type 0
 IsBlankLine r = r.tokens ≡ []
 
-abbrev pub AreBlank : Parts → Type 0
+abbrev pub AreBlank : GroupParts → Type 0
 AreBlank Done = Unit {0}
 AreBlank (TextLines rs ps) = AllByRecursion IsBlankLine rs × AreBlank ps
 AreBlank ps = ⊥
@@ -37,11 +37,11 @@ guard_name (s ∷ d ∷ n ∷ f ∷ l ∷ x ∷ r ∷ []) = ident_if (is_not_def
 guard_name ts = None
 
 -- one if-section without other branches, and no token outside it
-abbrev pub GuardedParts : Parts → List ℕ → Type 0
+abbrev pub GuardedParts : GroupParts → List ℕ → Type 0
 GuardedParts (TextLines rs ps) x = AllByRecursion IsBlankLine rs × GuardedParts ps x
 GuardedParts (Section r ps (End e) qs) x = (guard_name r.tokens ≡ Some x) × AreBlank qs
 GuardedParts ps x = ⊥
 
 -- the whole file is one if-section with this guard
 abbrev pub GuardedBy : List LogicalLine → List ℕ → Type 0
-GuardedBy lines x = (parts : Parts) × Tree lines parts × GuardedParts parts x
+GuardedBy lines x = (parts : GroupParts) × Tree lines parts × GuardedParts parts x

@@ -1,11 +1,11 @@
 -- The next branch lines by the tree (6.10): the line after the group that an opening line or a branch begins.
 use Rattle.std.specs.Prelude.{ℕ, ◌+◌, List, [], ◌∷◌, ◌++◌, map, length, Option, None, Some}
-use Rattle.pptext.specs.Tree.{Parts, Done, TextLines, Control, Section, Branches, End, Branch, part_lines, branch_lines}
+use Rattle.pptext.specs.Tree.{GroupParts, Done, TextLines, Control, Section, Branches, End, Branch, part_lines, branch_lines}
 
 -- For each line of the parts, of which the first has index k: the index of the line that follows its group, which is its if-section's next branch
 -- line or `#endif`. None for a line that begins no group.
 abbrev mutual
-  pub part_branches : ℕ → Parts → List (Option ℕ)
+  pub part_branches : ℕ → GroupParts → List (Option ℕ)
   part_branches k Done = []
   part_branches k (TextLines rs ps) = map (λ r. None) rs ++ part_branches (k + length rs) ps
   part_branches k (Control r ps) = None ∷ part_branches (k + 1) ps

@@ -38,22 +38,22 @@ role_by (Some d) = role_named d
 abbrev pub role : LogicalLine → Role
 role r = role_by r.directive
 
--- A group: text runs, control lines and if-sections. An if-section has its opening line, its first group, and its branches.
+-- A group: text lines, control lines and if-sections. An if-section has its opening line, its first group, and its branches.
 mutual
-  pub data Parts : Type 0 where
-    Done : Parts
-    TextLines : List LogicalLine → Parts → Parts
-    Control : LogicalLine → Parts → Parts
-    Section : LogicalLine → Parts → Branches → Parts → Parts
+  pub data GroupParts : Type 0 where
+    Done : GroupParts
+    TextLines : List LogicalLine → GroupParts → GroupParts
+    Control : LogicalLine → GroupParts → GroupParts
+    Section : LogicalLine → GroupParts → Branches → GroupParts → GroupParts
 
   -- the lines of the branches with their groups, and the line of `#endif`
   pub data Branches : Type 0 where
     End : LogicalLine → Branches
-    Branch : LogicalLine → Parts → Branches → Branches
+    Branch : LogicalLine → GroupParts → Branches → Branches
 
 -- the lines of the parts, end to end
 abbrev mutual
-  pub part_lines : Parts → List LogicalLine
+  pub part_lines : GroupParts → List LogicalLine
   part_lines Done = []
   part_lines (TextLines rs ps) = rs ++ part_lines ps
   part_lines (Control r ps) = r ∷ part_lines ps
@@ -63,26 +63,26 @@ abbrev mutual
   branch_lines (End r) = r ∷ []
   branch_lines (Branch r ps bs) = r ∷ part_lines ps ++ branch_lines bs
 
-abbrev pub BeginsTextLines : Parts → Type 0
+abbrev pub BeginsTextLines : GroupParts → Type 0
 BeginsTextLines (TextLines rs ps) = Unit {0}
 BeginsTextLines ps = ⊥
 
--- Each line is where its directive's name puts it, a text run is as long as possible, and only `#endif` follows `#else`.
+-- Each line is where its directive's name puts it, text lines stand together as far as possible, and only `#endif` follows `#else`.
 abbrev mutual
-  pub AreParts : Parts → Type 0
-  AreParts Done = Unit {0}
-  AreParts (TextLines rs ps) = (rs ≢ []) × AllByRecursion (λ r. role r ≡ TextLine) rs × (¬ BeginsTextLines ps) × AreParts ps
-  AreParts (Control r ps) = (role r ≡ ControlLine) × AreParts ps
-  AreParts (Section r ps bs qs) = (role r ≡ Opens) × AreParts ps × AreBranches false bs × AreParts qs
+  pub AreGroupParts : GroupParts → Type 0
+  AreGroupParts Done = Unit {0}
+  AreGroupParts (TextLines rs ps) = (rs ≢ []) × AllByRecursion (λ r. role r ≡ TextLine) rs × (¬ BeginsTextLines ps) × AreGroupParts ps
+  AreGroupParts (Control r ps) = (role r ≡ ControlLine) × AreGroupParts ps
+  AreGroupParts (Section r ps bs qs) = (role r ≡ Opens) × AreGroupParts ps × AreBranches false bs × AreGroupParts qs
 
   pub AreBranches : Bool → Branches → Type 0
   AreBranches last (End r) = role r ≡ Closes
-  AreBranches last (Branch r ps bs) = (last ≡ false) × (final : Bool) × (role r ≡ Elses final) × AreParts ps × AreBranches final bs
+  AreBranches last (Branch r ps bs) = (last ≡ false) × (final : Bool) × (role r ≡ Elses final) × AreGroupParts ps × AreBranches final bs
 
 -- the tree of a file
-pub record Tree (lines : List LogicalLine) (parts : Parts) : Type 0 where
+pub record Tree (lines : List LogicalLine) (parts : GroupParts) : Type 0 where
   pub whole : part_lines parts ≡ lines
-  pub each : AreParts parts
+  pub each : AreGroupParts parts
 
 -- an open if-section: the line that opened it, and whether its `#else` has occurred
 abbrev pub Open : Type 0

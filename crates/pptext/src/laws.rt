@@ -19,7 +19,7 @@ ghost use Rattle.pptext.specs.Lines.{LogicalLine, lines_of};
 ghost use Rattle.pptext.specs.NextBranches.{part_branches};
 ghost use Rattle.pptext.specs.Sources.{Reads, tokens_of, spans, IsUnmatchedQuote, IsOneToken};
 ghost use Rattle.pptext.specs.Spellings.{Spells};
-ghost use Rattle.pptext.specs.Tree.{group_fault, Parts, Tree};
+ghost use Rattle.pptext.specs.Tree.{group_fault, GroupParts, Tree};
 
 /// A text is tokenized into comments, white space, new-lines and tokens in only one way (5.1.1.2, 6.4).
 pub fn one_tokenization()
@@ -61,12 +61,12 @@ pub fn continued_token()
 
 /// A file's lines have a tree of groups (6.10) if and only if they have no fault.
 pub fn tree_unless_fault()
-    ensures { (lines : List LogicalLine) → (group_fault [] lines ≡ None) ↔ ((parts : Parts) × Tree lines parts) }
+    ensures { (lines : List LogicalLine) → (group_fault [] lines ≡ None) ↔ ((parts : GroupParts) × Tree lines parts) }
 {}
 
 /// A file's lines have at most one tree of groups (6.10).
 pub fn one_tree()
-    ensures { (lines : List LogicalLine) (a b : Parts) → Tree lines a → Tree lines b → a ≡ b }
+    ensures { (lines : List LogicalLine) (a b : GroupParts) → Tree lines a → Tree lines b → a ≡ b }
 {}
 
 /// There is exactly one function from texts to the kind of the one token that a text is (6.4).
@@ -84,7 +84,7 @@ pub fn which_group_fault()
 /// In the tree of groups (6.10), the next branch line of a line follows its group: it is the next branch of its
 /// if-section or its `#endif`. So whoever skips the group continues there.
 pub fn next_branches()
-    ensures { (lines : List LogicalLine) (parts : Parts) → Tree lines parts → map (λ l. l.next_branch) (spans 0 0 lines) ≡ part_branches 0 parts }
+    ensures { (lines : List LogicalLine) (parts : GroupParts) → Tree lines parts → map (λ l. l.next_branch) (spans 0 0 lines) ≡ part_branches 0 parts }
 {}
 
 /// A file has at most one include guard, so `Source::guard` returns the only one.

@@ -26,7 +26,7 @@ use std::marker::Model;
 pub(crate) enum LeadingLexeme {
     /// A new-line.
     NewLine,
-    /// A run of blanks.
+    /// Consecutive blanks.
     Blank(usize),
     /// A comment.
     Comment(usize),

@@ -2,7 +2,7 @@
 use Rattle.std.proofs.Common.{◌≡◌, ℕ, zero, suc, ◌+◌, ◌-◌, ◌<◌, ◌≤◌, List, [], true, false, Option, Some, Ok, Err, refl, arith}
 use Rattle.pptext.specs.declared.tokens.Place.{Place}
 use Rattle.pptext.specs.Lines.{LogicalLine}
-use Rattle.pptext.specs.Tree.{Parts, Branches}
+use Rattle.pptext.specs.Tree.{GroupParts, Branches}
 use Rattle.pptext.specs.Tokens.{fault}
 use Rattle.ppexpand.specs.Expansion.{count_expansion}
 use Rattle.ppexpand.proofs.BudgetLemmas.{Covers, covers_less}
@@ -24,23 +24,23 @@ module _ (context : Context) where
   over_here {at = at} s t fits h = (with_remaining s (Some 0), fault 35 at [], over_same s t (fault 35 at []) refl h, Opened.exhausted fits refl)
 
   mutual
-    pub group_short : {depth row : ℕ} {r : Reached} {ps : Parts} {end : Reached} (b : ℕ) → Covers r.state.remaining b
+    pub group_short : {depth row : ℕ} {r : Reached} {ps : GroupParts} {end : Reached} (b : ℕ) → Covers r.state.remaining b
         → (d : Group context depth row r ps end)
         → b < count_group d
         → Stops end.state (λ t f. Group context depth row (holding b r) ps (stopped t f))
     group_short b is Group.stays less = absurd (omega arith)
     group_short b is Group.done less = absurd (omega arith)
-    group_short {end = end} b is (Group.run {s = s} {lines = lines} {m = m} gives rest) less =
+    group_short {end = end} b is (Group.text_lines {s = s} {lines = lines} {m = m} gives rest) less =
         let c = count_expansion gives.expands in
         elim (dec_lt b c) [
           | yes less ↦
               (let x = run_short s (text_tokens lines) m b is gives less in
-              (x.0, x.1, over_then x.0 m.state end.state x.1 x.2 (group_before context rest), Group.run x.3 Group.stays))
+              (x.0, x.1, over_then x.0 m.state end.state x.1 x.2 (group_before context rest), Group.text_lines x.3 Group.stays))
           | no not_less ↦
               (let sum : b ≡ c + (b - c) = omega arith in
               let remaining = run_rest s (text_tokens lines) m b (b - c) is gives sum in
               let x = group_short (b - c) remaining rest (omega arith) in
-              (x.0, x.1, x.2, Group.run {end = stopped x.0 x.1} (run_enough s (text_tokens lines) m b is gives (b - c) sum) x.3))
+              (x.0, x.1, x.2, Group.text_lines {end = stopped x.0 x.1} (run_enough s (text_tokens lines) m b is gives (b - c) sum) x.3))
         ]
     group_short {end = end} b is (Group.control {s = s} {m = m} here rest) less =
         let c = count_control here in
@@ -162,18 +162,18 @@ module _ (context : Context) where
         → (d : ExecutesInclude context depth row following s line m)
         → b < count_includes d
         → Stops m.state (λ t f. ExecutesInclude context depth row following (with_remaining s (Some b)) line (stopped t f))
-    includes_short b is (ExecutesInclude.misnamed {s = s} {line = line} {remaining_after = remaining_after} {f = f} asks) less =
+    includes_short b is (ExecutesInclude.operand_fault {s = s} {line = line} {remaining_after = remaining_after} {f = f} asks) less =
         let x = asks_short s line.tokens remaining_after (Err f) b is asks less in
-        (with_remaining s (Some 0), x.0, over_same s (with_remaining s remaining_after) x.0 x.1 (same_state s), ExecutesInclude.misnamed x.2)
+        (with_remaining s (Some 0), x.0, over_same s (with_remaining s remaining_after) x.0 x.1 (same_state s), ExecutesInclude.operand_fault x.2)
     includes_short b is (ExecutesInclude.missing {s = s} {line = line} {remaining_after = remaining_after} a asks finds) less =
         let x = asks_short s line.tokens remaining_after (Ok a) b is asks less in
-        (with_remaining s (Some 0), x.0, over_same s (with_remaining s remaining_after) x.0 x.1 (same_state s), ExecutesInclude.misnamed x.2)
+        (with_remaining s (Some 0), x.0, over_same s (with_remaining s remaining_after) x.0 x.1 (same_state s), ExecutesInclude.operand_fault x.2)
     includes_short b is (ExecutesInclude.included {s = s} {line = line} {remaining_after = remaining_after} a found {m = m} asks finds opens) less =
         let c = count_names_header s line.tokens remaining_after (Ok a) asks in
         elim (dec_lt b c) [
           | yes less ↦
               (let x = asks_short s line.tokens remaining_after (Ok a) b is asks less in
-              (with_remaining s (Some 0), x.0, over_same s m.state x.0 x.1 (opened_before context opens), ExecutesInclude.misnamed x.2))
+              (with_remaining s (Some 0), x.0, over_same s m.state x.0 x.1 (opened_before context opens), ExecutesInclude.operand_fault x.2))
           | no not_less ↦
               (let sum : b ≡ c + (b - c) = omega arith in
               let remaining = asks_rest s line.tokens remaining_after (Ok a) b (b - c) is asks sum in
@@ -187,12 +187,12 @@ module _ (context : Context) where
         → Stops m.state (λ t f. Opened context depth at (with_remaining s (Some b)) row directory (stopped t f))
     opened_short b is (Opened.too_deep deep) less = absurd (omega arith)
     opened_short b is (Opened.exhausted fits spent) less = absurd (omega arith)
-    opened_short {depth} {row} {directory} {at} zero is (Opened.read_once {s = s} fits more once) less = over_here {depth = depth} {row = row} {directory = directory} {at = at} s (with_dependency (with_one_spent s) row) fits (depends s row)
-    opened_short (suc b) is (Opened.read_once fits more once) less = absurd (omega arith)
+    opened_short {depth} {row} {directory} {at} zero is (Opened.not_read_again {s = s} fits more once) less = over_here {depth = depth} {row = row} {directory = directory} {at = at} s (with_dependency (with_one_spent s) row) fits (depends s row)
+    opened_short (suc b) is (Opened.not_read_again fits more once) less = absurd (omega arith)
     opened_short {depth} {row} {directory} {at} zero is (Opened.not_readable {s = s} fits more once file) less = over_here {depth = depth} {row = row} {directory = directory} {at = at} s (with_dependency (with_one_spent s) row) fits (depends s row)
     opened_short (suc b) is (Opened.not_readable fits more once file) less = absurd (omega arith)
-    opened_short {depth} {row} {directory} {at} zero is (Opened.faulty {s = s} fits more once file reads) less = over_here {depth = depth} {row = row} {directory = directory} {at = at} s (with_dependency (with_one_spent s) row) fits (depends s row)
-    opened_short (suc b) is (Opened.faulty fits more once file reads) less = absurd (omega arith)
+    opened_short {depth} {row} {directory} {at} zero is (Opened.content_fault {s = s} fits more once file reads) less = over_here {depth = depth} {row = row} {directory = directory} {at = at} s (with_dependency (with_one_spent s) row) fits (depends s row)
+    opened_short (suc b) is (Opened.content_fault fits more once file reads) less = absurd (omega arith)
     opened_short {depth} {row} {directory} {at} zero is (Opened.read {s = s} {m = m} fits more once file reads tree here) less =
         over_here {depth = depth} {row = row} {directory = directory} {at = at} s (in_file_context (file_context s) m.state) fits (before_then s (with_dependency s row) m.state (depends s row) (group_before context here))
     opened_short (suc b) is (Opened.read {s = s} {m = m} fits more once file reads tree here) less =

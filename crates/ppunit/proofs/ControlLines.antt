@@ -4,7 +4,7 @@ use Rattle.pptext.specs.declared.tokens.Fault.{Fault}
 use Rattle.pptext.specs.declared.sources.Directive.{Directive}
 use Rattle.pptext.specs.declared.sources.Directive.TheVariants.{Null}
 use Rattle.pptext.specs.Lines.{LogicalLine}
-use Rattle.pptext.specs.Tree.{Parts, Control, AreParts, role, role_by}
+use Rattle.pptext.specs.Tree.{GroupParts, Control, AreGroupParts, role, role_by}
 use Rattle.pptext.specs.Classes.{opens_section, ends_group}
 use Rattle.ppunit.specs.States.{State, Context, going}
 use Rattle.ppunit.specs.Group.{Group}
@@ -15,9 +15,9 @@ use Rattle.ppunit.proofs.FirstLine.{lay_control, control_role, First, text, cont
 use Rattle.ppunit.proofs.Advancing.{ends_front, ends_stop, stands_behind, AdvancesFrom, advances, first_at, run_result}
 
 control_on : (context : Files → Context) (files : Files) (depth row : ℕ) (lines : List LogicalLine) (index : ℕ) (s t : State) (f : Option Fault)
-    (r : LogicalLine) (qs : Parts) (k : Outer)
+    (r : LogicalLine) (qs : GroupParts) (k : Outer)
     → drop index lines ≡ r ∷ lay qs k
-    → AreParts qs
+    → AreGroupParts qs
     → AreOuter k
     → ((more : Files) → Extends more files → Controls (context more) depth row s r (record { state = t; fault = f }))
     → AdvancesFrom context files depth row lines s t (run_result (index + 1) f) (Control r qs) k
@@ -27,7 +27,7 @@ control_on context files depth row lines index s t (Some f) r qs k there are out
     λ more grows. ends_stop (context more) depth row (going s) t f (Control r qs) k (Group.control (controls more grows) Group.stays)
 
 control_by : (context : Files → Context) (files : Files) (depth row : ℕ) (lines : List LogicalLine) (index : ℕ) (s t : State) (f : Option Fault)
-    (ps : Parts) (k : Outer)
+    (ps : GroupParts) (k : Outer)
     → role (line_at lines index) ≡ role_by (Some Null)
     → First (line_at lines index) ps k
     → StandsAt lines index ps k
@@ -54,7 +54,7 @@ control_advances context files depth row lines index s t f d within is opens end
     (λ ps k stands. control_by context files depth row lines index s t f ps k (ap role_by is ∙ control_role d opens ends)
     (first_at lines index ps k within stands) stands controls)
 
-passes_by : (depth row : ℕ) (lines : List LogicalLine) (index : ℕ) (s : State) (ps : Parts) (k : Outer)
+passes_by : (depth row : ℕ) (lines : List LogicalLine) (index : ℕ) (s : State) (ps : GroupParts) (k : Outer)
     → role (line_at lines index) ≡ role_by (Some Null)
     → First (line_at lines index) ps k
     → StandsAt lines index ps k

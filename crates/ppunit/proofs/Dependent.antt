@@ -9,7 +9,7 @@ use Rattle.pptext.specs.declared.sources.Profile.{Profile}
 use Rattle.pptext.specs.declared.sources.Directive.{Directive}
 use Rattle.pptext.specs.declared.sources.Directive.TheVariants.{Define, Undef, Line, Pragma, Null, Unknown}
 use Rattle.pptext.specs.Lines.{LogicalLine}
-use Rattle.pptext.specs.Tree.{hash_place, Parts, Branches}
+use Rattle.pptext.specs.Tree.{hash_place, GroupParts, Branches}
 use Rattle.ppmacro.specs.Names.{Macros}
 use Rattle.ppmacro.specs.Define.{after_define, after_undef}
 use Rattle.ppshelf.specs.Files.{Files}
@@ -74,10 +74,10 @@ module _ (context : Context) where
       cases false = All-push (λ r. r < length context.names) rows row all within
 
   mutual
-    group_within : {depth row : ℕ} {r : Reached} {ps : Parts} {end : Reached} → Group context depth row r ps end → Within r.state.deps → Within end.state.deps
+    group_within : {depth row : ℕ} {r : Reached} {ps : GroupParts} {end : Reached} → Group context depth row r ps end → Within r.state.deps → Within end.state.deps
     group_within Group.stays all = all
     group_within Group.done all = all
-    group_within (Group.run {s = s} {lines = lines} {m = m} gives rest) all = group_within rest (subst Within (sym (run_keeps s (text_tokens lines) m gives)) all)
+    group_within (Group.text_lines {s = s} {lines = lines} {m = m} gives rest) all = group_within rest (subst Within (sym (run_keeps s (text_tokens lines) m gives)) all)
     group_within (Group.control here rest) all = group_within rest (control_within here all)
     group_within (Group.taken decides here rest) all = group_within rest (group_within here all)
     group_within (Group.skipped decides here rest) all = group_within rest (branches_within here all)
@@ -99,16 +99,16 @@ module _ (context : Context) where
     control_within (Controls.include is q here) all = includes_within here all
 
     includes_within : {depth row : ℕ} {following : Option ℕ} {s : State} {line : LogicalLine} {m : Reached} → ExecutesInclude context depth row following s line m → Within s.deps → Within m.state.deps
-    includes_within (ExecutesInclude.misnamed asks) all = all
+    includes_within (ExecutesInclude.operand_fault asks) all = all
     includes_within (ExecutesInclude.missing a asks finds) all = all
     includes_within (ExecutesInclude.included a found asks finds opens) all = opened_within opens (first_within context.names _ (Some found) finds) all
 
     opened_within : {depth row : ℕ} {directory : Option ℕ} {at : Place} {s : State} {m : Reached} → Opened context depth at s row directory m → row < length context.names → Within s.deps → Within m.state.deps
     opened_within (Opened.too_deep deep) within all = all
     opened_within (Opened.exhausted fits spent) within all = all
-    opened_within {row = row} {s = s} (Opened.read_once fits some known) within all = among_within row s.deps within all
+    opened_within {row = row} {s = s} (Opened.not_read_again fits some known) within all = among_within row s.deps within all
     opened_within {row = row} {s = s} (Opened.not_readable fits some new is) within all = among_within row s.deps within all
-    opened_within {row = row} {s = s} (Opened.faulty fits some new is reads) within all = among_within row s.deps within all
+    opened_within {row = row} {s = s} (Opened.content_fault fits some new is reads) within all = among_within row s.deps within all
     opened_within {row = row} {s = s} (Opened.read fits some new is reads tree here) within all = group_within here (among_within row s.deps within all)
 
   defines_within : {defines : List (List ℕ)} {s : State} {m : Reached} → Defines context defines s m → Within s.deps → Within m.state.deps

@@ -2,7 +2,7 @@
 use Rattle.std.proofs.Common.{◌≡◌, ℕ, zero, suc, ◌+◌, List, [], true, false, Option, Some, None, Ok, Err, refl, sym, subst, arith}
 use Rattle.pptext.specs.declared.tokens.Place.{Place}
 use Rattle.pptext.specs.Lines.{LogicalLine}
-use Rattle.pptext.specs.Tree.{Parts, Branches, Done, End}
+use Rattle.pptext.specs.Tree.{GroupParts, Branches, Done, End}
 use Rattle.pptext.specs.Tokens.{fault}
 use Rattle.ppexpand.proofs.BudgetLemmas.{Covers, without, covers_less, covers_rest}
 use Rattle.ppunit.specs.States.{State, Context, Reached, going, stopped, with_remaining, search_of}
@@ -14,7 +14,7 @@ use Rattle.ppunit.proofs.Spends.{group_spends, branches_spend, control_spends, d
 use Rattle.ppunit.proofs.EnoughForLines.{holding, run_enough, asks_enough, decides_enough, control_by_enough, asks_rest, decides_rest, run_rest, covered}
 
 module _ (context : Context) where
-  pub group_rest : {depth row : ℕ} {r : Reached} {ps : Parts} {end : Reached} (b m : ℕ) → Covers r.state.remaining b
+  pub group_rest : {depth row : ℕ} {r : Reached} {ps : GroupParts} {end : Reached} (b m : ℕ) → Covers r.state.remaining b
       → (d : Group context depth row r ps end)
       → b ≡ count_group d + m
       → Covers end.state.remaining m
@@ -39,7 +39,7 @@ module _ (context : Context) where
   defines_rest {r = r} b m is d sum = covers_rest r.state.remaining (count_defines d) m is (defines_spends context d) sum
 
   mutual
-    pub group_enough : {depth row : ℕ} {r : Reached} {ps : Parts} {end : Reached} (b : ℕ) → Covers r.state.remaining b
+    pub group_enough : {depth row : ℕ} {r : Reached} {ps : GroupParts} {end : Reached} (b : ℕ) → Covers r.state.remaining b
         → (d : Group context depth row r ps end) (n : ℕ)
         → b ≡ count_group d + n
         → Group context depth row (holding b r) ps (holding n end)
@@ -49,9 +49,9 @@ module _ (context : Context) where
     group_enough {depth} {row} b is (Group.done {s = s}) n sum =
         let same : b ≡ n = omega arith in
         subst (λ x. Group context depth row (holding b (going s)) Done (holding x (going s))) same Group.done
-    group_enough b is (Group.run {s = s} {lines = lines} {m = m} gives rest) n sum =
+    group_enough b is (Group.text_lines {s = s} {lines = lines} {m = m} gives rest) n sum =
         let k = count_group rest in
-        Group.run (run_enough s (text_tokens lines) m b is gives (k + n) (omega arith)) (group_enough (k + n) (run_rest s (text_tokens lines) m b (k + n) is gives (omega arith)) rest n refl)
+        Group.text_lines (run_enough s (text_tokens lines) m b is gives (k + n) (omega arith)) (group_enough (k + n) (run_rest s (text_tokens lines) m b (k + n) is gives (omega arith)) rest n refl)
     group_enough b is (Group.control here rest) n sum =
         let k = count_group rest in
         Group.control (control_enough b is here (k + n) (omega arith)) (group_enough (k + n) (control_rest b (k + n) is here (omega arith)) rest n refl)
@@ -106,8 +106,8 @@ module _ (context : Context) where
         → (d : ExecutesInclude context depth row following s line m) (n : ℕ)
         → b ≡ count_includes d + n
         → ExecutesInclude context depth row following (with_remaining s (Some b)) line (holding n m)
-    includes_enough b is (ExecutesInclude.misnamed {s = s} {line = line} {remaining_after = remaining_after} {f = f} asks) n sum =
-        ExecutesInclude.misnamed (asks_enough s line.tokens remaining_after (Err f) b is asks n sum)
+    includes_enough b is (ExecutesInclude.operand_fault {s = s} {line = line} {remaining_after = remaining_after} {f = f} asks) n sum =
+        ExecutesInclude.operand_fault (asks_enough s line.tokens remaining_after (Err f) b is asks n sum)
     includes_enough b is (ExecutesInclude.missing {s = s} {line = line} {remaining_after = remaining_after} a asks finds) n sum =
         ExecutesInclude.missing a (asks_enough s line.tokens remaining_after (Ok a) b is asks n sum) finds
     includes_enough b is (ExecutesInclude.included {s = s} {line = line} {remaining_after = remaining_after} a found asks finds opens) n sum =
@@ -126,18 +126,18 @@ module _ (context : Context) where
         let same : 0 ≡ n = omega arith in
         subst (λ x. Opened context depth at (with_remaining s (Some 0)) row directory (holding x (stopped s (fault 35 at [])))) same (Opened.exhausted fits refl)
     opened_enough (suc b) is (Opened.exhausted {s = s} fits spent) n sum = absurd (covered s.remaining b is spent)
-    opened_enough zero is (Opened.read_once fits more once) n sum = absurd (omega arith)
-    opened_enough {depth} {row} {directory} {at} {s} {m} (suc b) is (Opened.read_once fits more once) n sum =
+    opened_enough zero is (Opened.not_read_again fits more once) n sum = absurd (omega arith)
+    opened_enough {depth} {row} {directory} {at} {s} {m} (suc b) is (Opened.not_read_again fits more once) n sum =
         let same : b ≡ n = omega arith in
-        subst (λ x. Opened context depth at (with_remaining s (Some (suc b))) row directory (holding x m)) same (Opened.read_once fits refl once)
+        subst (λ x. Opened context depth at (with_remaining s (Some (suc b))) row directory (holding x m)) same (Opened.not_read_again fits refl once)
     opened_enough zero is (Opened.not_readable fits more once file) n sum = absurd (omega arith)
     opened_enough {depth} {row} {directory} {at} {s} {m} (suc b) is (Opened.not_readable fits more once file) n sum =
         let same : b ≡ n = omega arith in
         subst (λ x. Opened context depth at (with_remaining s (Some (suc b))) row directory (holding x m)) same (Opened.not_readable fits refl once file)
-    opened_enough zero is (Opened.faulty fits more once file reads) n sum = absurd (omega arith)
-    opened_enough {depth} {row} {directory} {at} {s} {m} (suc b) is (Opened.faulty fits more once file reads) n sum =
+    opened_enough zero is (Opened.content_fault fits more once file reads) n sum = absurd (omega arith)
+    opened_enough {depth} {row} {directory} {at} {s} {m} (suc b) is (Opened.content_fault fits more once file reads) n sum =
         let same : b ≡ n = omega arith in
-        subst (λ x. Opened context depth at (with_remaining s (Some (suc b))) row directory (holding x m)) same (Opened.faulty fits refl once file reads)
+        subst (λ x. Opened context depth at (with_remaining s (Some (suc b))) row directory (holding x m)) same (Opened.content_fault fits refl once file reads)
     opened_enough zero is (Opened.read fits more once file reads tree here) n sum = absurd (omega arith)
     opened_enough (suc b) is (Opened.read {s = s} fits more once file reads tree here) n sum =
         Opened.read fits refl once file reads tree (group_enough b (covers_less is) here n (omega arith))

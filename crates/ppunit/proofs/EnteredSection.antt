@@ -4,7 +4,7 @@ use Rattle.pptext.specs.declared.tokens.Fault.{Fault}
 use Rattle.pptext.specs.declared.sources.Directive.{Directive}
 use Rattle.pptext.specs.declared.sources.Directive.TheVariants.{If}
 use Rattle.pptext.specs.Lines.{LogicalLine}
-use Rattle.pptext.specs.Tree.{Parts, Section, Branches, role, role_by}
+use Rattle.pptext.specs.Tree.{GroupParts, Section, Branches, role, role_by}
 use Rattle.pptext.specs.Classes.{opens_section}
 use Rattle.pptext.proofs.Walks.{next_of_opening}
 use Rattle.ppunit.specs.States.{Search, State, Context, search_of, going, with_remaining}
@@ -16,15 +16,15 @@ use Rattle.ppunit.proofs.FirstLine.{lay_section, opening_role, First, text, cont
 use Rattle.ppunit.proofs.FoundBranch.{decides_around}
 use Rattle.ppunit.proofs.Advancing.{ends_front, ends_stop, stands_behind, AdvancesFrom, advances, first_at}
 
-record SectionAt (lines : List LogicalLine) (index : ℕ) (ps : Parts) (k : Outer) : Type 0 where
-  first : Parts
-  following : Parts
+record SectionAt (lines : List LogicalLine) (index : ℕ) (ps : GroupParts) (k : Outer) : Type 0 where
+  first : GroupParts
+  following : GroupParts
   branches : Branches
   whole : ps ≡ Section (line_at lines index) first branches following
   at : BranchesAt lines index first branches following k
   stands : StandsAt lines (index + 1) first ((branches, following) ∷ k)
 
-section_by : (lines : List LogicalLine) (index : ℕ) (ps : Parts) (k : Outer) → role (line_at lines index) ≡ role_by (Some If) → First (line_at lines index) ps k → StandsAt lines index ps k → SectionAt lines index ps k
+section_by : (lines : List LogicalLine) (index : ℕ) (ps : GroupParts) (k : Outer) → role (line_at lines index) ≡ role_by (Some If) → First (line_at lines index) ps k → StandsAt lines index ps k → SectionAt lines index ps k
 section_by lines index (Section x ps bs qs) k is (opening same other) stands =
     let r = line_at lines index in
     let there : drop index lines ≡ r ∷ lay ps ((bs, qs) ∷ k) = stands.rest ∙ lay_section x ps qs bs k ∙ ap (λ (z : LogicalLine). z ∷ lay ps ((bs, qs) ∷ k)) same in
@@ -41,7 +41,7 @@ section_by lines index ps k is (text same) stands = absurd (cc)
 section_by lines index ps k is (control same other) stands = absurd (cc)
 section_by lines index ps k is (ending differs) stands = absurd (differs.not_opening is)
 
-section_at : (lines : List LogicalLine) (index : ℕ) (d : Directive) (ps : Parts) (k : Outer)
+section_at : (lines : List LogicalLine) (index : ℕ) (d : Directive) (ps : GroupParts) (k : Outer)
     → index < length lines
     → (line_at lines index).directive ≡ Some d
     → opens_section d ≡ true
@@ -60,7 +60,7 @@ pub enter_taken : (context : Files → Context) (search : Search) (files : Files
     → Advances context files depth row lines index s (with_remaining s remaining_after) (Ok (index + 1))
 enter_taken context search files depth row lines index s remaining_after d within is opens by decides ps k stands =
     let a = section_at lines index d ps k within is opens stands in
-    subst (λ (z : Parts). AdvancesFrom context files depth row lines s (with_remaining s remaining_after) (Ok (index + 1)) z k) (sym a.whole) (
+    subst (λ (z : GroupParts). AdvancesFrom context files depth row lines s (with_remaining s remaining_after) (Ok (index + 1)) z k) (sym a.whole) (
       a.first,
       (a.branches, a.following) ∷ k,
       a.stands,
@@ -69,7 +69,7 @@ enter_taken context search files depth row lines index s remaining_after d withi
     )
 
 skipped_to : (context : Files → Context) (search : Search) (files : Files) (depth row : ℕ) (lines : List LogicalLine) (index : ℕ) (s t : State)
-    (remaining_after : Option ℕ) (r : LogicalLine) (ps qs : Parts) (bs : Branches) (k : Outer) (found : Result ℕ Fault)
+    (remaining_after : Option ℕ) (r : LogicalLine) (ps qs : GroupParts) (bs : Branches) (k : Outer) (found : Result ℕ Fault)
     → ((more : Files) → search_of (context more) ≡ search)
     → Decides search row s r remaining_after (Ok false)
     → FindsBranch search row lines (with_remaining s remaining_after) t bs qs k found
@@ -86,12 +86,12 @@ pub enter_skipped : (context : Files → Context) (search : Search) (files : Fil
     → opens_section d ≡ true
     → ((more : Files) → search_of (context more) ≡ search)
     → Decides search row s (line_at lines index) remaining_after (Ok false)
-    → ((ps : Parts) (bs : Branches) (qs : Parts) (k : Outer) → BranchesAt lines index ps bs qs k → FindsBranch search row lines (with_remaining s remaining_after) t bs qs k found)
+    → ((ps : GroupParts) (bs : Branches) (qs : GroupParts) (k : Outer) → BranchesAt lines index ps bs qs k → FindsBranch search row lines (with_remaining s remaining_after) t bs qs k found)
     → Advances context files depth row lines index s t found
 enter_skipped context search files depth row lines index s t remaining_after d found within is opens by decides finds =
     advances context files depth row lines index s t found (λ ps k stands.
     let a = section_at lines index d ps k within is opens stands in
-    subst (λ (z : Parts). AdvancesFrom context files depth row lines s t found z k) (sym a.whole)
+    subst (λ (z : GroupParts). AdvancesFrom context files depth row lines s t found z k) (sym a.whole)
     (skipped_to context search files depth row lines index s t remaining_after (line_at lines index) a.first a.following a.branches k found by decides
     (finds a.first a.branches a.following k a.at)))
 
@@ -105,6 +105,6 @@ pub enter_refused : (context : Files → Context) (search : Search) (files : Fil
     → Advances context files depth row lines index s (with_remaining s remaining_after) (Err f)
 enter_refused context search files depth row lines index s remaining_after d f within is opens by decides ps k stands =
     let a = section_at lines index d ps k within is opens stands in
-    subst (λ (z : Parts). AdvancesFrom context files depth row lines s (with_remaining s remaining_after) (Err f) z k) (sym a.whole)
+    subst (λ (z : GroupParts). AdvancesFrom context files depth row lines s (with_remaining s remaining_after) (Err f) z k) (sym a.whole)
     (λ more grows. ends_stop (context more) depth row (going s) (with_remaining s remaining_after) f (Section (line_at lines index) a.first a.branches a.following) k
     (Group.condition_fault (decides_around (context more) search row s (line_at lines index) remaining_after (Err f) (by more) decides)))

@@ -7,29 +7,29 @@ use Rattle.pptext.specs.declared.directives.Class.{Class}
 use Rattle.pptext.specs.declared.directives.Class.TheVariants as class
 use Rattle.pptext.specs.Classes.{class_of, opens, opens_section, elifs, ends, ends_group}
 use Rattle.pptext.specs.Lines.{LogicalLine}
-use Rattle.pptext.specs.Tree.{TextLine, ControlLine, Opens, Elses, Parts, Done, TextLines, Control, Section, Branches, End, Branch, part_lines, branch_lines, AreParts, AreBranches, role, role_in, role_by}
+use Rattle.pptext.specs.Tree.{TextLine, ControlLine, Opens, Elses, GroupParts, Done, TextLines, Control, Section, Branches, End, Branch, part_lines, branch_lines, AreGroupParts, AreBranches, role, role_in, role_by}
 use Rattle.ppunit.specs.States.{Search, State}
 use Rattle.ppunit.specs.Conditions.{Decides}
 use Rattle.ppunit.specs.code.Walk.{Outer, lay, AreOuter, ContinuesIf, ContinuesBy}
 
 -- ---- what is laid
 
-pub lay_run : (rs : List LogicalLine) (ps : Parts) (k : Outer) → lay (TextLines rs ps) k ≡ rs ++ lay ps k
+pub lay_run : (rs : List LogicalLine) (ps : GroupParts) (k : Outer) → lay (TextLines rs ps) k ≡ rs ++ lay ps k
 lay_run rs ps [] = refl
 lay_run rs ps ((bs, qs) ∷ k) = append_assoc rs (part_lines ps) (branch_lines bs ++ lay qs k)
 
-pub lay_control : (r : LogicalLine) (ps : Parts) (k : Outer) → lay (Control r ps) k ≡ r ∷ lay ps k
+pub lay_control : (r : LogicalLine) (ps : GroupParts) (k : Outer) → lay (Control r ps) k ≡ r ∷ lay ps k
 lay_control r ps [] = refl
 lay_control r ps ((bs, qs) ∷ k) = refl
 
-pub lay_section : (r : LogicalLine) (ps qs : Parts) (bs : Branches) (k : Outer) → lay (Section r ps bs qs) k ≡ r ∷ lay ps ((bs, qs) ∷ k)
+pub lay_section : (r : LogicalLine) (ps qs : GroupParts) (bs : Branches) (k : Outer) → lay (Section r ps bs qs) k ≡ r ∷ lay ps ((bs, qs) ∷ k)
 lay_section r ps qs bs [] = ap (λ (z : List LogicalLine). r ∷ z) (append_assoc (part_lines ps) (branch_lines bs) (part_lines qs))
 lay_section r ps qs bs ((cs, rs) ∷ k) =
     ap (λ (z : List LogicalLine). r ∷ z)
     (append_assoc (part_lines ps ++ branch_lines bs) (part_lines qs) (branch_lines cs ++ lay rs k)
     ∙ append_assoc (part_lines ps) (branch_lines bs) (part_lines qs ++ (branch_lines cs ++ lay rs k)))
 
-pub lay_branch : (r : LogicalLine) (ps qs : Parts) (bs : Branches) (k : Outer) → branch_lines (Branch r ps bs) ++ lay qs k ≡ r ∷ lay ps ((bs, qs) ∷ k)
+pub lay_branch : (r : LogicalLine) (ps qs : GroupParts) (bs : Branches) (k : Outer) → branch_lines (Branch r ps bs) ++ lay qs k ≡ r ∷ lay ps ((bs, qs) ∷ k)
 lay_branch r ps qs bs k = ap (λ (z : List LogicalLine). r ∷ z) (append_assoc (part_lines ps) (branch_lines bs) (lay qs k))
 
 -- ---- directives and the grammar
@@ -111,13 +111,13 @@ branches_differ (Branch x ps bs) last r rest following (before, final, is, parts
     record { not_text = λ h. cc; not_control = λ h. cc; not_opening = λ h. cc }
 
 -- what the first line is to the parts that it belongs to
-pub data First (r : LogicalLine) : Parts → Outer → Type 0 where
-  text : {rs : List LogicalLine} {ps : Parts} {k : Outer} → role r ≡ role_by None → First r (TextLines rs ps) k
-  control : {x : LogicalLine} {ps : Parts} {k : Outer} → x ≡ r → role r ≡ role_by (Some Null) → First r (Control x ps) k
-  opening : {x : LogicalLine} {ps qs : Parts} {bs : Branches} {k : Outer} → x ≡ r → role r ≡ role_by (Some If) → First r (Section x ps bs qs) k
-  ending : {bs : Branches} {qs : Parts} {k : Outer} → Differs r → First r Done ((bs, qs) ∷ k)
+pub data First (r : LogicalLine) : GroupParts → Outer → Type 0 where
+  text : {rs : List LogicalLine} {ps : GroupParts} {k : Outer} → role r ≡ role_by None → First r (TextLines rs ps) k
+  control : {x : LogicalLine} {ps : GroupParts} {k : Outer} → x ≡ r → role r ≡ role_by (Some Null) → First r (Control x ps) k
+  opening : {x : LogicalLine} {ps qs : GroupParts} {bs : Branches} {k : Outer} → x ≡ r → role r ≡ role_by (Some If) → First r (Section x ps bs qs) k
+  ending : {bs : Branches} {qs : GroupParts} {k : Outer} → Differs r → First r Done ((bs, qs) ∷ k)
 
-pub first_of : (ps : Parts) (k : Outer) (r : LogicalLine) (following : List LogicalLine) → lay ps k ≡ r ∷ following → AreParts ps → AreOuter k → First r ps k
+pub first_of : (ps : GroupParts) (k : Outer) (r : LogicalLine) (following : List LogicalLine) → lay ps k ≡ r ∷ following → AreGroupParts ps → AreOuter k → First r ps k
 first_of Done [] r following e are outer = absurd (cc)
 first_of Done ((bs, qs) ∷ k) r following e are outer = ending (branches_differ bs outer.0.0 r (lay qs k) following outer.0.1 e)
 first_of (TextLines [] ps) k r following e are outer = absurd (are.0 refl)

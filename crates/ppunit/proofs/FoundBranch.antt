@@ -5,7 +5,7 @@ use Rattle.pptext.specs.declared.sources.Directive.{Directive}
 use Rattle.pptext.specs.declared.sources.Directive.TheVariants.{Elif, Else, Endif}
 use Rattle.pptext.specs.Lines.{LogicalLine}
 use Rattle.pptext.specs.Sources.{next_branch}
-use Rattle.pptext.specs.Tree.{Parts, Branches, End, Branch, part_lines, branch_lines, role, role_by}
+use Rattle.pptext.specs.Tree.{GroupParts, Branches, End, Branch, part_lines, branch_lines, role, role_by}
 use Rattle.pptext.proofs.Walks.{next_of_branch}
 use Rattle.ppunit.specs.States.{Search, State, Context, search_of, Reached, going, stopped, with_remaining}
 use Rattle.ppunit.specs.Group.{Group, Branched}
@@ -16,14 +16,14 @@ use Rattle.ppunit.proofs.FirstLine.{lay_branch, endif_directive, else_directive,
 use Rattle.ppunit.proofs.Advancing.{stands_behind}
 use Rattle.ppunit.proofs.SectionEnds.{branches_next, branches_there, next_inside}
 
-at_branches : (lines : List LogicalLine) (index : ℕ) (ps : Parts) (bs : Branches) (qs : Parts) (k : Outer)
+at_branches : (lines : List LogicalLine) (index : ℕ) (ps : GroupParts) (bs : Branches) (qs : GroupParts) (k : Outer)
     → BranchesAt lines index ps bs qs k
     → (next_branch index (role (line_at lines index)) (drop (suc index) lines) ≡ Some (index + 1 + length (part_lines ps)))
     × (drop (index + 1 + length (part_lines ps)) lines ≡ branch_lines bs ++ lay qs k)
 at_branches lines index ps bs qs k b =
     (branches_next lines index b.line ps qs bs b.outer.0.0 (lay qs k) b.rest b.next b.parts b.outer.0.1, branches_there lines index b.line ps (branch_lines bs ++ lay qs k) b.rest)
 
-pub found_at : (lines : List LogicalLine) (index next : ℕ) (ps : Parts) (bs : Branches) (qs : Parts) (k : Outer)
+pub found_at : (lines : List LogicalLine) (index next : ℕ) (ps : GroupParts) (bs : Branches) (qs : GroupParts) (k : Outer)
     → BranchesAt lines index ps bs qs k
     → next_branch index (role (line_at lines index)) (drop (suc index) lines) ≡ Some next
     → drop next lines ≡ branch_lines bs ++ lay qs k
@@ -80,7 +80,7 @@ pub decides_around : (context : Context) (search : Search) (row : ℕ) (s : Stat
     → Decides (search_of context) row s r remaining_after taken
 decides_around context search row s r remaining_after taken by decides = subst (λ (z : Search). Decides z row s r remaining_after taken) (sym by) decides
 
-pub enter_branch : (search : Search) (row : ℕ) (lines : List LogicalLine) (next : ℕ) (s : State) (remaining_after : Option ℕ) (bs : Branches) (qs : Parts) (k : Outer)
+pub enter_branch : (search : Search) (row : ℕ) (lines : List LogicalLine) (next : ℕ) (s : State) (remaining_after : Option ℕ) (bs : Branches) (qs : GroupParts) (k : Outer)
     → drop next lines ≡ branch_lines bs ++ lay qs k
     → AreOuter ((bs, qs) ∷ k)
     → EntersAt search row lines next s remaining_after (Ok true)
@@ -113,7 +113,7 @@ enter_branch search row lines next s remaining_after (Branch r ps bs) qs k e ((l
       λ context by depth end rest. (rest.0, Branched.branch_taken other (decides_around context search row s r remaining_after (Ok true) by decides) rest.1, rest.2),
     )
 
-pub refuse_branch : (search : Search) (row : ℕ) (lines : List LogicalLine) (next : ℕ) (s : State) (remaining_after : Option ℕ) (f : Fault) (bs : Branches) (qs : Parts) (k : Outer)
+pub refuse_branch : (search : Search) (row : ℕ) (lines : List LogicalLine) (next : ℕ) (s : State) (remaining_after : Option ℕ) (f : Fault) (bs : Branches) (qs : GroupParts) (k : Outer)
     → drop next lines ≡ branch_lines bs ++ lay qs k
     → AreOuter ((bs, qs) ∷ k)
     → EntersAt search row lines next s remaining_after (Err f)
@@ -132,10 +132,10 @@ refuse_branch search row lines next s remaining_after f (Branch r ps bs) qs k e 
     (decides_around context search row s r remaining_after (Err f) by (branch_decides search row lines next s remaining_after (Err f) r (lay ps ((bs, qs) ∷ k)) there is entered))
 
 -- the branches that are left, and the state in which they come: what they reach the branches reach from the state before
-abbrev pub Later : Search → ℕ → List LogicalLine → ℕ → State → State → Branches → Parts → Outer → Type 0
-Later search row lines index s t bs qs k = (ps : Parts) × (cs : Branches) × BranchesAt lines index ps cs qs k × ((context : Context) → search_of context ≡ search → (depth : ℕ) (m : Reached) → Branched context depth row t cs m → Branched context depth row s bs m)
+abbrev pub Later : Search → ℕ → List LogicalLine → ℕ → State → State → Branches → GroupParts → Outer → Type 0
+Later search row lines index s t bs qs k = (ps : GroupParts) × (cs : Branches) × BranchesAt lines index ps cs qs k × ((context : Context) → search_of context ≡ search → (depth : ℕ) (m : Reached) → Branched context depth row t cs m → Branched context depth row s bs m)
 
-pass_branch : (search : Search) (row : ℕ) (lines : List LogicalLine) (next : ℕ) (s : State) (remaining_after : Option ℕ) (bs : Branches) (qs : Parts) (k : Outer)
+pass_branch : (search : Search) (row : ℕ) (lines : List LogicalLine) (next : ℕ) (s : State) (remaining_after : Option ℕ) (bs : Branches) (qs : GroupParts) (k : Outer)
     → drop next lines ≡ branch_lines bs ++ lay qs k
     → AreOuter ((bs, qs) ∷ k)
     → EntersAt search row lines next s remaining_after (Ok false)
@@ -161,7 +161,7 @@ pass_branch search row lines next s remaining_after (Branch r ps bs) qs k e ((la
 pub record BranchSoFar (search : Search) (row : ℕ) (lines : List LogicalLine) (start : ℕ) (s t : State) (index : ℕ) : Type 0 where
   pub within : index < length lines
   pub from : start ≤ index
-  pub so_far : (ps : Parts) (bs : Branches) (qs : Parts) (k : Outer) → BranchesAt lines start ps bs qs k → Later search row lines index s t bs qs k
+  pub so_far : (ps : GroupParts) (bs : Branches) (qs : GroupParts) (k : Outer) → BranchesAt lines start ps bs qs k → Later search row lines index s t bs qs k
 
 pub branch_start : (search : Search) (row : ℕ) (lines : List LogicalLine) (start : ℕ) (s : State) → start < length lines → BranchSoFar search row lines start s s start
 branch_start search row lines start s within = record { within = within; from = omega arith; so_far = λ ps bs qs k b. (ps, bs, b, λ context by depth m here. here) }
@@ -186,7 +186,7 @@ pub branch_taken : (search : Search) (row : ℕ) (lines : List LogicalLine) (sta
     → BranchSoFar search row lines start s t index
     → next_branch index (role (line_at lines index)) (drop (suc index) lines) ≡ Some next
     → EntersAt search row lines next t remaining_after (Ok true)
-    → (ps : Parts) (bs : Branches) (qs : Parts) (k : Outer)
+    → (ps : GroupParts) (bs : Branches) (qs : GroupParts) (k : Outer)
     → BranchesAt lines start ps bs qs k
     → FindsBranch search row lines s (with_remaining t remaining_after) bs qs k (Ok (next + 1))
 branch_taken search row lines start next index s t remaining_after sofar found entered ps bs qs k b =
@@ -198,7 +198,7 @@ pub branch_refused : (search : Search) (row : ℕ) (lines : List LogicalLine) (s
     → BranchSoFar search row lines start s t index
     → next_branch index (role (line_at lines index)) (drop (suc index) lines) ≡ Some next
     → EntersAt search row lines next t remaining_after (Err fault)
-    → (ps : Parts) (bs : Branches) (qs : Parts) (k : Outer)
+    → (ps : GroupParts) (bs : Branches) (qs : GroupParts) (k : Outer)
     → BranchesAt lines start ps bs qs k
     → FindsBranch search row lines s (with_remaining t remaining_after) bs qs k (Err fault)
 branch_refused search row lines start next index s t remaining_after fault sofar found entered ps bs qs k b =
@@ -210,7 +210,7 @@ branch_refused search row lines start next index s t remaining_after fault sofar
 pub branch_found : (search : Search) (row : ℕ) (lines : List LogicalLine) (start index : ℕ) (s t : State)
     → BranchSoFar search row lines start s t index
     → next_branch index (role (line_at lines index)) (drop (suc index) lines) ≡ None
-    → (ps : Parts) (bs : Branches) (qs : Parts) (k : Outer)
+    → (ps : GroupParts) (bs : Branches) (qs : GroupParts) (k : Outer)
     → BranchesAt lines start ps bs qs k
     → ⊥
 branch_found search row lines start index s t sofar none ps bs qs k b =

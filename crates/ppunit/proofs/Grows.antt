@@ -2,7 +2,7 @@
 use Rattle.std.proofs.Common.{◌≡◌, ℕ, suc, ◌+◌, List, true, false, Option, Ok, refl, ap}
 use Rattle.pptext.specs.declared.tokens.Place.{Place}
 use Rattle.pptext.specs.Lines.{LogicalLine}
-use Rattle.pptext.specs.Tree.{Parts, Branches}
+use Rattle.pptext.specs.Tree.{GroupParts, Branches}
 use Rattle.ppexpand.specs.Expansion.{count_expansion}
 use Rattle.ppshelf.specs.Content.{unreadable}
 use Rattle.ppshelf.specs.Files.{Files, Extends}
@@ -21,12 +21,12 @@ module _ (context : Context) (more : Files) (grows : Extends more context.files)
   both p q = λ i. p i + q i
 
   mutual
-    pub group_grows : {depth row : ℕ} {r : Reached} {ps : Parts} {end : Reached} (d : Group context depth row r ps end) → (e : Group wider depth row r ps end) × (count_group e ≡ count_group d)
+    pub group_grows : {depth row : ℕ} {r : Reached} {ps : GroupParts} {end : Reached} (d : Group context depth row r ps end) → (e : Group wider depth row r ps end) × (count_group e ≡ count_group d)
     group_grows Group.stays = (Group.stays, refl)
     group_grows Group.done = (Group.done, refl)
-    group_grows (Group.run gives rest) =
+    group_grows (Group.text_lines gives rest) =
         let r = group_grows rest in
-        (Group.run gives r.0, ap (λ n. count_expansion gives.expands + n) r.1)
+        (Group.text_lines gives r.0, ap (λ n. count_expansion gives.expands + n) r.1)
     group_grows (Group.control here rest) =
         let h = control_grows here in
         let r = group_grows rest in
@@ -60,7 +60,7 @@ module _ (context : Context) (more : Files) (grows : Extends more context.files)
     control_grows (Controls.include is q here) = let h = includes_grow here in (Controls.include is q h.0, h.1)
 
     includes_grow : {depth row : ℕ} {following : Option ℕ} {s : State} {line : LogicalLine} {m : Reached} (d : ExecutesInclude context depth row following s line m) → (e : ExecutesInclude wider depth row following s line m) × (count_includes e ≡ count_includes d)
-    includes_grow (ExecutesInclude.misnamed asks) = (ExecutesInclude.misnamed asks, refl)
+    includes_grow (ExecutesInclude.operand_fault asks) = (ExecutesInclude.operand_fault asks, refl)
     includes_grow (ExecutesInclude.missing a asks finds) = (ExecutesInclude.missing a asks finds, refl)
     includes_grow (ExecutesInclude.included {s = s} {line = line} {remaining_after = remaining_after} a found asks finds opens) =
         let o = opened_grows opens in
@@ -69,9 +69,9 @@ module _ (context : Context) (more : Files) (grows : Extends more context.files)
     pub opened_grows : {depth row : ℕ} {directory : Option ℕ} {at : Place} {s : State} {m : Reached} (d : Opened context depth at s row directory m) → (e : Opened wider depth at s row directory m) × (count_opened e ≡ count_opened d)
     opened_grows (Opened.too_deep deep) = (Opened.too_deep deep, refl)
     opened_grows (Opened.exhausted fits spent) = (Opened.exhausted fits spent, refl)
-    opened_grows (Opened.read_once fits some known) = (Opened.read_once fits some known, refl)
+    opened_grows (Opened.not_read_again fits some known) = (Opened.not_read_again fits some known, refl)
     opened_grows {depth} {row} (Opened.not_readable fits some new is) = (Opened.not_readable fits some new (grows row unreadable is), refl)
-    opened_grows {depth} {row} (Opened.faulty fits some new is reads) = (Opened.faulty fits some new (grows row _ is) reads, refl)
+    opened_grows {depth} {row} (Opened.content_fault fits some new is reads) = (Opened.content_fault fits some new (grows row _ is) reads, refl)
     opened_grows {depth} {row} (Opened.read fits some new is reads tree here) =
         let h = group_grows here in
         (Opened.read fits some new (grows row _ is) reads tree h.0, ap suc h.1)

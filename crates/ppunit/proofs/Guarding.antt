@@ -6,7 +6,7 @@ use Rattle.std.proofs.lemmas.List.{append-nil}
 use Rattle.pptext.specs.declared.tokens.Place.{Place}
 use Rattle.pptext.specs.declared.tokens.Token.{Token}
 use Rattle.pptext.specs.Lines.{LogicalLine}
-use Rattle.pptext.specs.Tree.{Parts, Done, TextLines, Control, Section, End, Branch, part_lines, AreParts}
+use Rattle.pptext.specs.Tree.{GroupParts, Done, TextLines, Control, Section, End, Branch, part_lines, AreGroupParts}
 use Rattle.pptext.specs.Guard.{IsBlankLine, AreBlank, GuardedParts, GuardedBy}
 use Rattle.pptext.proofs.Trees.{at_most_one}
 use Rattle.ppexpand.specs.ExpansionStep.{expansion_step}
@@ -66,21 +66,21 @@ both_free p q = λ i. p i + q i
 
 module _ (context : Context) (depth row : ℕ) (s : State) where
   -- the parts change nothing, at no cost
-  abbrev Passes : Parts → Type 0
+  abbrev Passes : GroupParts → Type 0
   Passes ps = (d : Group context depth row (going s) ps (going s)) × (count_group d ≡ 0)
 
-  run_passes : (rs : List LogicalLine) (ps : Parts) → GivesNothing s (text_tokens rs) → Passes ps → Passes (TextLines rs ps)
-  run_passes rs ps (gives, free) (rest, more) = (Group.run gives rest, both_free free more)
+  run_passes : (rs : List LogicalLine) (ps : GroupParts) → GivesNothing s (text_tokens rs) → Passes ps → Passes (TextLines rs ps)
+  run_passes rs ps (gives, free) (rest, more) = (Group.text_lines gives rest, both_free free more)
 
-  blank_group : (ps : Parts) → AreBlank ps → Passes ps
+  blank_group : (ps : GroupParts) → AreBlank ps → Passes ps
   blank_group Done blank = (Group.done, refl)
   blank_group (TextLines rs ps) blank = run_passes rs ps (blank_gives s rs blank.0) (blank_group ps blank.1)
   blank_group (Control r ps) blank = absurd blank
   blank_group (Section r ps bs qs) blank = absurd blank
 
-  pub guarded_group : (ps : Parts) (x : List ℕ)
+  pub guarded_group : (ps : GroupParts) (x : List ℕ)
       → AllByRecursion (IsSpelledLine context.profile) (part_lines ps)
-      → AreParts ps
+      → AreGroupParts ps
       → GuardedParts ps x
       → is_macro_name s.macros x ≡ true
       → Passes ps
@@ -101,14 +101,14 @@ guards_leave_out context depth row directory at s bytes lines x fits is reads (p
     spelled = subst (AllByRecursion (IsSpelledLine context.profile)) (sym tree.whole) (source_spelled context.profile row bytes lines reads)
 
     cases : (b : Bool) → has_row row s.once ≡ b → (d : Opened context depth at s row directory (going (with_dependency (with_one_spent s) row))) × (count_opened d ≡ 1)
-    cases true once = (Opened.read_once fits some once, refl)
+    cases true once = (Opened.not_read_again fits some once, refl)
     cases false new =
         let inside = guarded_group context depth row (entering context (with_one_spent s) row directory) parts x spelled tree.each guarded known in
         (Opened.read fits some new is reads tree inside.0, ap suc inside.1)
 
 -- ---- where a file is left out
 
-parts_guard : (ps : Parts) (x y : List ℕ) → GuardedParts ps x → GuardedParts ps y → x ≡ y
+parts_guard : (ps : GroupParts) (x y : List ℕ) → GuardedParts ps x → GuardedParts ps y → x ≡ y
 parts_guard Done x y g h = absurd g
 parts_guard (TextLines rs ps) x y g h = parts_guard ps x y g.1 h.1
 parts_guard (Control r ps) x y g h = absurd g
@@ -118,7 +118,7 @@ parts_guard (Section r ps (Branch e ps' bs) qs) x y g h = absurd g
 -- lines have at most one guard
 pub one_guard : (lines : List LogicalLine) (x y : List ℕ) → GuardedBy lines x → GuardedBy lines y → x ≡ y
 one_guard lines x y (parts, tree, guarded) (parts', tree', guarded') =
-    parts_guard parts x y guarded (subst (λ (z : Parts). GuardedParts z y) (at_most_one lines parts' parts tree' tree) guarded')
+    parts_guard parts x y guarded (subst (λ (z : GroupParts). GuardedParts z y) (at_most_one lines parts' parts tree' tree) guarded')
 
 pub opens_left_out : (context : Context) (depth row : ℕ) (directory : Option ℕ) (at : Place) (s a : State) (content : Content) (lines : List LogicalLine)
     → depth ≤ deepest

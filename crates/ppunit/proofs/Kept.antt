@@ -7,7 +7,7 @@ use Rattle.pptext.specs.declared.sources.Directive.{Directive}
 use Rattle.pptext.specs.declared.sources.Directive.TheVariants.{Define, Undef, Line, Pragma, Null, Unknown}
 use Rattle.pptext.specs.declared.sources.Profile.{Profile}
 use Rattle.pptext.specs.Lines.{LogicalLine}
-use Rattle.pptext.specs.Tree.{Parts, Branches, hash_place}
+use Rattle.pptext.specs.Tree.{GroupParts, Branches, hash_place}
 use Rattle.ppmacro.specs.Names.{Macros}
 use Rattle.ppexpand.specs.Laws.{IsPrefix}
 use Rattle.ppunit.specs.declared.units.Item.{Item}
@@ -76,10 +76,10 @@ run_before s tokens m g = subst (λ x. Before s x.state) (sym g.is) ((map item.T
 
 module _ (context : Context) where
   mutual
-    pub group_before : {depth row : ℕ} {r : Reached} {ps : Parts} {end : Reached} → Group context depth row r ps end → Before r.state end.state
+    pub group_before : {depth row : ℕ} {r : Reached} {ps : GroupParts} {end : Reached} → Group context depth row r ps end → Before r.state end.state
     group_before (Group.stays {s = s}) = same_state s
     group_before (Group.done {s = s}) = same_state s
-    group_before (Group.run {s = s} {lines = lines} {m = m} {end = end} gives rest) = before_then s m.state end.state (run_before s (text_tokens lines) m gives) (group_before rest)
+    group_before (Group.text_lines {s = s} {lines = lines} {m = m} {end = end} gives rest) = before_then s m.state end.state (run_before s (text_tokens lines) m gives) (group_before rest)
     group_before (Group.control {s = s} {m = m} {end = end} here rest) = before_then s m.state end.state (control_before here) (group_before rest)
     group_before (Group.taken {s = s} {m = m} {end = end} decides here rest) = before_then s m.state end.state (group_before here) (group_before rest)
     group_before (Group.skipped {s = s} {m = m} {end = end} decides here rest) = before_then s m.state end.state (branches_before here) (group_before rest)
@@ -100,14 +100,14 @@ module _ (context : Context) where
     control_before (Controls.include e q here) = includes_before here
 
     includes_before : {depth row : ℕ} {following : Option ℕ} {s : State} {line : LogicalLine} {m : Reached} → ExecutesInclude context depth row following s line m → Before s m.state
-    includes_before (ExecutesInclude.misnamed {s = s} asks) = same_state s
+    includes_before (ExecutesInclude.operand_fault {s = s} asks) = same_state s
     includes_before (ExecutesInclude.missing {s = s} a asks finds) = same_state s
     includes_before (ExecutesInclude.included a found asks finds opens) = opened_before opens
 
     pub opened_before : {depth row : ℕ} {directory : Option ℕ} {at : Place} {s : State} {m : Reached} → Opened context depth at s row directory m → Before s m.state
     opened_before (Opened.too_deep {s = s} deep) = same_state s
     opened_before (Opened.exhausted {s = s} fits spent) = same_state s
-    opened_before {row = row} (Opened.read_once {s = s} fits more once) = depends s row
+    opened_before {row = row} (Opened.not_read_again {s = s} fits more once) = depends s row
     opened_before {row = row} (Opened.not_readable {s = s} fits more once file) = depends s row
-    opened_before {row = row} (Opened.faulty {s = s} fits more once file reads) = depends s row
+    opened_before {row = row} (Opened.content_fault {s = s} fits more once file reads) = depends s row
     opened_before {row = row} (Opened.read {s = s} {m = m} fits more once file reads tree here) = before_then s (with_dependency s row) m.state (depends s row) (group_before here)

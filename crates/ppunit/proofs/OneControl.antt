@@ -98,16 +98,16 @@ module _ (expansions : OneExpansion) (decisions : OneDecision) (rows : OneRow) (
   same_asked : (s : State) (line : List Token) (remaining_after following : Option ℕ) (a b : IncludeName) → NamesHeader s line remaining_after (Ok a) → NamesHeader s line following (Ok b) → a ≡ b
   same_asked s line remaining_after following a b p q = let one : Ok a ≡ Ok b = (asks_once expansions decisions s line remaining_after following (Ok a) (Ok b) p q).0 in cc
 
-  pub after_misnamed : {depth row : ℕ} {start : Option ℕ} {s : State} {line : LogicalLine} {remaining_after : Option ℕ} {f : Fault} {m : Reached}
+  pub after_operand_fault : {depth row : ℕ} {start : Option ℕ} {s : State} {line : LogicalLine} {remaining_after : Option ℕ} {f : Fault} {m : Reached}
       → NamesHeader s line.tokens remaining_after (Err f)
       → ExecutesInclude context depth row start s line m
       → stopped (with_remaining s remaining_after) f ≡ m
-  after_misnamed {s = s} {line = line} {remaining_after = remaining_after} {f = f} asks (ExecutesInclude.misnamed {remaining_after = following} {f = g} asks') =
+  after_operand_fault {s = s} {line = line} {remaining_after = remaining_after} {f = f} asks (ExecutesInclude.operand_fault {remaining_after = following} {f = g} asks') =
       let one = asks_once expansions decisions s line.tokens remaining_after following (Err f) (Err g) asks asks' in
       stopped_again expansions decisions context {A = IncludeName} s remaining_after following f g one.0 one.1
-  after_misnamed {s = s} {line = line} {remaining_after = remaining_after} {f = f} asks (ExecutesInclude.missing {remaining_after = following} a asks' finds) =
+  after_operand_fault {s = s} {line = line} {remaining_after = remaining_after} {f = f} asks (ExecutesInclude.missing {remaining_after = following} a asks' finds) =
       let one : Err f ≡ Ok a = (asks_once expansions decisions s line.tokens remaining_after following (Err f) (Ok a) asks asks').0 in absurd (cc)
-  after_misnamed {s = s} {line = line} {remaining_after = remaining_after} {f = f} asks (ExecutesInclude.included {remaining_after = following} a found asks' finds opens) =
+  after_operand_fault {s = s} {line = line} {remaining_after = remaining_after} {f = f} asks (ExecutesInclude.included {remaining_after = following} a found asks' finds opens) =
       let one : Err f ≡ Ok a = (asks_once expansions decisions s line.tokens remaining_after following (Err f) (Ok a) asks asks').0 in absurd (cc)
 
   pub after_missing : {depth row : ℕ} {start : Option ℕ} {s : State} {line : LogicalLine} {remaining_after : Option ℕ} {m : Reached} (a : IncludeName)
@@ -115,7 +115,7 @@ module _ (expansions : OneExpansion) (decisions : OneDecision) (rows : OneRow) (
       → FindsFile context row start a None
       → ExecutesInclude context depth row start s line m
       → stopped (with_remaining s remaining_after) (line_fault 31 line.tokens a.name) ≡ m
-  after_missing {s = s} {line = line} {remaining_after = remaining_after} a asks finds (ExecutesInclude.misnamed {remaining_after = following} {f = f} asks') =
+  after_missing {s = s} {line = line} {remaining_after = remaining_after} a asks finds (ExecutesInclude.operand_fault {remaining_after = following} {f = f} asks') =
       let one : Ok a ≡ Err f = (asks_once expansions decisions s line.tokens remaining_after following (Ok a) (Err f) asks asks').0 in absurd (cc)
   after_missing {s = s} {line = line} {remaining_after = remaining_after} a asks finds (ExecutesInclude.missing {remaining_after = following} b asks' finds') =
       let same = same_asked s line.tokens remaining_after following a b asks asks' in
@@ -130,7 +130,7 @@ module _ (expansions : OneExpansion) (decisions : OneDecision) (rows : OneRow) (
       → FindsFile context row start a (Some found)
       → ExecutesInclude context depth row start s line m
       → Opened context (suc depth) (hash_place line.tokens) (with_remaining s remaining_after) found.0 (Some found.1) m
-  after_included {s = s} {line = line} {remaining_after = remaining_after} a found asks finds (ExecutesInclude.misnamed {remaining_after = following} {f = f} asks') =
+  after_included {s = s} {line = line} {remaining_after = remaining_after} a found asks finds (ExecutesInclude.operand_fault {remaining_after = following} {f = f} asks') =
       let one : Ok a ≡ Err f = (asks_once expansions decisions s line.tokens remaining_after following (Ok a) (Err f) asks asks').0 in absurd (cc)
   after_included {row = row} {start = start} {s = s} {line = line} {remaining_after = remaining_after} a found asks finds (ExecutesInclude.missing {remaining_after = following} b asks' finds') =
       let same = same_asked s line.tokens remaining_after following a b asks asks' in

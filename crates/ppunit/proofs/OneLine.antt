@@ -11,7 +11,7 @@ use Rattle.pptext.specs.declared.directives.Question.TheVariants.{Defined, Value
 use Rattle.pptext.specs.Classes.{question_by}
 use Rattle.pptext.specs.Lines.{LogicalLine}
 use Rattle.pptext.specs.Sources.{Reads}
-use Rattle.pptext.specs.Tree.{hash_place, Parts, Tree}
+use Rattle.pptext.specs.Tree.{hash_place, GroupParts, Tree}
 use Rattle.ppmacro.specs.Names.{Macros}
 use Rattle.ppexpand.specs.declared.env.Env.{Env}
 use Rattle.ppexpand.specs.declared.expansion.Expanded.{Expanded}
@@ -45,7 +45,7 @@ OneReading =
     → a ≡ b
 
 abbrev pub OneTree : Type 0
-OneTree = (lines : List LogicalLine) (a b : Parts) → Tree lines a → Tree lines b → a ≡ b
+OneTree = (lines : List LogicalLine) (a b : GroupParts) → Tree lines a → Tree lines b → a ≡ b
 
 abbrev pub OneRow : Type 0
 OneRow = (names : List (List ℕ)) → AreNames names → (candidates : List Candidate) (a b : Option (ℕ × ℕ)) → IsFirstRow names candidates a → IsFirstRow names candidates b → a ≡ b

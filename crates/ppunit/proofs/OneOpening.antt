@@ -4,7 +4,7 @@ use Rattle.pptext.specs.declared.tokens.Place.{Place}
 use Rattle.pptext.specs.declared.tokens.Fault.{Fault}
 use Rattle.pptext.specs.Lines.{LogicalLine}
 use Rattle.pptext.specs.Sources.{Reads}
-use Rattle.pptext.specs.Tree.{Parts, Tree}
+use Rattle.pptext.specs.Tree.{GroupParts, Tree}
 use Rattle.pptext.specs.Tokens.{fault}
 use Rattle.ppexpand.specs.Budget.{is_exhausted}
 use Rattle.ppshelf.specs.Content.{unreadable, readable}
@@ -22,9 +22,9 @@ module _ (readings : OneReading) (trees : OneTree) (context : Context) where
       → stopped s (fault 32 at (name_in context.names row)) ≡ m
   at_deep deep (Opened.too_deep d) = refl
   at_deep deep (Opened.exhausted fits spent) = absurd (omega arith)
-  at_deep deep (Opened.read_once fits some known) = absurd (omega arith)
+  at_deep deep (Opened.not_read_again fits some known) = absurd (omega arith)
   at_deep deep (Opened.not_readable fits some new is) = absurd (omega arith)
-  at_deep deep (Opened.faulty fits some new is reads) = absurd (omega arith)
+  at_deep deep (Opened.content_fault fits some new is reads) = absurd (omega arith)
   at_deep deep (Opened.read fits some new is reads tree here) = absurd (omega arith)
 
   -- the file is among those that are read once, or it is not; something is left, or nothing is
@@ -38,9 +38,9 @@ module _ (readings : OneReading) (trees : OneTree) (context : Context) where
       → stopped s (fault 35 at []) ≡ m
   at_over fits e (Opened.too_deep d) = absurd (omega arith)
   at_over fits e (Opened.exhausted f spent) = refl
-  at_over {s = s} fits e (Opened.read_once f some known) = absurd (one_way (is_exhausted s.remaining) e some)
+  at_over {s = s} fits e (Opened.not_read_again f some known) = absurd (one_way (is_exhausted s.remaining) e some)
   at_over {s = s} fits e (Opened.not_readable f some new is) = absurd (one_way (is_exhausted s.remaining) e some)
-  at_over {s = s} fits e (Opened.faulty f some new is reads) = absurd (one_way (is_exhausted s.remaining) e some)
+  at_over {s = s} fits e (Opened.content_fault f some new is reads) = absurd (one_way (is_exhausted s.remaining) e some)
   at_over {s = s} fits e (Opened.read f some new is reads tree here) = absurd (one_way (is_exhausted s.remaining) e some)
 
   pub at_known : {depth row : ℕ} {directory : Option ℕ} {at : Place} {s : State} {m : Reached}
@@ -51,9 +51,9 @@ module _ (readings : OneReading) (trees : OneTree) (context : Context) where
       → going (with_dependency (with_one_spent s) row) ≡ m
   at_known fits some e (Opened.too_deep d) = absurd (omega arith)
   at_known {s = s} fits some e (Opened.exhausted f spent) = absurd (one_way (is_exhausted s.remaining) spent some)
-  at_known fits some e (Opened.read_once f more known) = refl
+  at_known fits some e (Opened.not_read_again f more known) = refl
   at_known {row = row} {s = s} fits some e (Opened.not_readable f more new is) = absurd (one_way (has_row row s.once) e new)
-  at_known {row = row} {s = s} fits some e (Opened.faulty f more new is reads) = absurd (one_way (has_row row s.once) e new)
+  at_known {row = row} {s = s} fits some e (Opened.content_fault f more new is reads) = absurd (one_way (has_row row s.once) e new)
   at_known {row = row} {s = s} fits some e (Opened.read f more new is reads tree here) = absurd (one_way (has_row row s.once) e new)
 
   pub at_unreadable : {depth row : ℕ} {directory : Option ℕ} {at : Place} {s : State} {m : Reached}
@@ -65,9 +65,9 @@ module _ (readings : OneReading) (trees : OneTree) (context : Context) where
       → stopped (with_dependency (with_one_spent s) row) (fault 6 at (name_in context.names row)) ≡ m
   at_unreadable fits some new e (Opened.too_deep d) = absurd (omega arith)
   at_unreadable {s = s} fits some new e (Opened.exhausted f spent) = absurd (one_way (is_exhausted s.remaining) spent some)
-  at_unreadable {row = row} {s = s} fits some new e (Opened.read_once f more known) = absurd (one_way (has_row row s.once) known new)
+  at_unreadable {row = row} {s = s} fits some new e (Opened.not_read_again f more known) = absurd (one_way (has_row row s.once) known new)
   at_unreadable fits some new e (Opened.not_readable f more n is) = refl
-  at_unreadable fits some new e (Opened.faulty {bytes = bytes} f more n is reads) =
+  at_unreadable fits some new e (Opened.content_fault {bytes = bytes} f more n is reads) =
       let differs : Some unreadable ≡ Some (readable bytes) = sym e ∙ is in absurd (cc)
   at_unreadable fits some new e (Opened.read {bytes = bytes} f more n is reads tree here) =
       let differs : Some unreadable ≡ Some (readable bytes) = sym e ∙ is in absurd (cc)
@@ -85,7 +85,7 @@ module _ (readings : OneReading) (trees : OneTree) (context : Context) where
 
   pub data AfterReading (depth : ℕ) (at : Place) (s : State) (row : ℕ) (directory : Option ℕ) : Result (List LogicalLine) Fault → Reached → Type 0 where
     by_fault : {f : Fault} → AfterReading depth at s row directory (Err f) (stopped (with_dependency (with_one_spent s) row) f)
-    by_lines : {lines : List LogicalLine} {parts : Parts} {m : Reached}
+    by_lines : {lines : List LogicalLine} {parts : GroupParts} {m : Reached}
         → Tree lines parts
         → Group context depth row (going (entering context (with_one_spent s) row directory)) parts m
         → AfterReading depth at s row directory (Ok lines) (leaving s m)
@@ -100,10 +100,10 @@ module _ (readings : OneReading) (trees : OneTree) (context : Context) where
       → AfterReading depth at s row directory x m
   at_reading bytes x fits some new e p (Opened.too_deep d) = absurd (omega arith)
   at_reading {s = s} bytes x fits some new e p (Opened.exhausted f spent) = absurd (one_way (is_exhausted s.remaining) spent some)
-  at_reading {row = row} {s = s} bytes x fits some new e p (Opened.read_once f more known) = absurd (one_way (has_row row s.once) known new)
+  at_reading {row = row} {s = s} bytes x fits some new e p (Opened.not_read_again f more known) = absurd (one_way (has_row row s.once) known new)
   at_reading bytes x fits some new e p (Opened.not_readable f more n is) =
       let differs : Some unreadable ≡ Some (readable bytes) = sym is ∙ e in absurd (cc)
-  at_reading {depth = depth} {row = row} {directory = directory} {at = at} {s = s} bytes x fits some new e p (Opened.faulty {bytes = c} {f = g} f more n is reads) =
+  at_reading {depth = depth} {row = row} {directory = directory} {at = at} {s = s} bytes x fits some new e p (Opened.content_fault {bytes = c} {f = g} f more n is reads) =
       subst (λ z. AfterReading depth at s row directory z (stopped (with_dependency (with_one_spent s) row) g)) (same_reading row c bytes (Err g) x is reads e p) by_fault
   at_reading {depth = depth} {row = row} {directory = directory} {at = at} {s = s} bytes x fits some new e p
       (Opened.read {bytes = c} {lines = lines} {m = m} f more n is reads tree here) =
@@ -113,10 +113,10 @@ module _ (readings : OneReading) (trees : OneTree) (context : Context) where
   after_fault {row = row} {s = s} {f = f} e (by_fault {f = g}) = let same : f ≡ g = cc in ap (λ x. stopped (with_dependency (with_one_spent s) row) x) same
   after_fault e (by_lines tree here) = absurd (cc)
 
-  abbrev pub AfterLines : ℕ → State → ℕ → Option ℕ → Parts → Reached → Type 0
+  abbrev pub AfterLines : ℕ → State → ℕ → Option ℕ → GroupParts → Reached → Type 0
   AfterLines depth s row directory parts m = (n : Reached) × (m ≡ leaving s n) × Group context depth row (going (entering context (with_one_spent s) row directory)) parts n
 
-  pub after_lines : {depth row : ℕ} {directory : Option ℕ} {at : Place} {s : State} {lines : List LogicalLine} {parts : Parts} {x : Result (List LogicalLine) Fault}
+  pub after_lines : {depth row : ℕ} {directory : Option ℕ} {at : Place} {s : State} {lines : List LogicalLine} {parts : GroupParts} {x : Result (List LogicalLine) Fault}
       {m : Reached}
       → Ok lines ≡ x
       → Tree lines parts

@@ -3,7 +3,7 @@ use Rattle.std.proofs.Common.{◌≡◌, ◌≢◌, ℕ, Bool, true, false, List
 use Rattle.pptext.specs.declared.tokens.Fault.{Fault}
 use Rattle.pptext.specs.declared.sources.Directive.TheVariants.{Else}
 use Rattle.pptext.specs.Lines.{LogicalLine}
-use Rattle.pptext.specs.Tree.{Parts, Done, TextLines, Control, Section, Branches, End, Branch}
+use Rattle.pptext.specs.Tree.{GroupParts, Done, TextLines, Control, Section, Branches, End, Branch}
 use Rattle.ppunit.specs.States.{State, Context, Reached, going, stopped, with_remaining, search_of}
 use Rattle.ppunit.specs.DirectiveLines.{text_tokens}
 use Rattle.ppunit.specs.Conditions.{Decides}
@@ -12,25 +12,25 @@ use Rattle.ppunit.specs.Group.{Group, Branched, Controls}
 use Rattle.ppunit.proofs.OneLine.{OneExpansion, OneDecision, decides_once}
 
 module _ (expansions : OneExpansion) (decisions : OneDecision) (context : Context) where
-  abbrev pub AfterRun : ℕ → ℕ → State → List LogicalLine → Parts → Reached → Type 0
+  abbrev pub AfterRun : ℕ → ℕ → State → List LogicalLine → GroupParts → Reached → Type 0
   AfterRun depth row s rs ps end = (m : Reached) × EmitsText s (text_tokens rs) m × Group context depth row m ps end
 
-  pub at_run : {depth row : ℕ} {s : State} {rs : List LogicalLine} {ps : Parts} {end : Reached} → Group context depth row (going s) (TextLines rs ps) end → AfterRun depth row s rs ps end
-  at_run (Group.run {m = m} gives rest) = (m, gives, rest)
+  pub at_run : {depth row : ℕ} {s : State} {rs : List LogicalLine} {ps : GroupParts} {end : Reached} → Group context depth row (going s) (TextLines rs ps) end → AfterRun depth row s rs ps end
+  at_run (Group.text_lines {m = m} gives rest) = (m, gives, rest)
 
-  abbrev pub AfterControl : ℕ → ℕ → State → LogicalLine → Parts → Reached → Type 0
+  abbrev pub AfterControl : ℕ → ℕ → State → LogicalLine → GroupParts → Reached → Type 0
   AfterControl depth row s line ps end = (m : Reached) × Controls context depth row s line m × Group context depth row m ps end
 
-  pub at_control : {depth row : ℕ} {s : State} {line : LogicalLine} {ps : Parts} {end : Reached} → Group context depth row (going s) (Control line ps) end → AfterControl depth row s line ps end
+  pub at_control : {depth row : ℕ} {s : State} {line : LogicalLine} {ps : GroupParts} {end : Reached} → Group context depth row (going s) (Control line ps) end → AfterControl depth row s line ps end
   at_control (Group.control {m = m} here rest) = (m, here, rest)
 
   pub at_done : {depth row : ℕ} {s : State} {end : Reached} → Group context depth row (going s) Done end → going s ≡ end
   at_done Group.done = refl
 
-  pub at_stop : {depth row : ℕ} {s : State} {f : Fault} {ps : Parts} {end : Reached} → Group context depth row (stopped s f) ps end → stopped s f ≡ end
+  pub at_stop : {depth row : ℕ} {s : State} {f : Fault} {ps : GroupParts} {end : Reached} → Group context depth row (stopped s f) ps end → stopped s f ≡ end
   at_stop Group.stays = refl
 
-  pub data AfterSection (depth row : ℕ) (s : State) (line : LogicalLine) (ps : Parts) (bs : Branches) (qs : Parts) : Reached → Type 0 where
+  pub data AfterSection (depth row : ℕ) (s : State) (line : LogicalLine) (ps : GroupParts) (bs : Branches) (qs : GroupParts) : Reached → Type 0 where
     is_taken : {remaining_after : Option ℕ} {m end : Reached}
         → Decides (search_of context) row s line remaining_after (Ok true)
         → Group context depth row (going (with_remaining s remaining_after)) ps m
@@ -43,7 +43,7 @@ module _ (expansions : OneExpansion) (decisions : OneDecision) (context : Contex
         → AfterSection depth row s line ps bs qs end
     is_refused : {remaining_after : Option ℕ} {f : Fault} → Decides (search_of context) row s line remaining_after (Err f) → AfterSection depth row s line ps bs qs (stopped (with_remaining s remaining_after) f)
 
-  pub at_section : {depth row : ℕ} {s : State} {line : LogicalLine} {ps qs : Parts} {bs : Branches} {end : Reached} → Group context depth row (going s) (Section line ps bs qs) end → AfterSection depth row s line ps bs qs end
+  pub at_section : {depth row : ℕ} {s : State} {line : LogicalLine} {ps qs : GroupParts} {bs : Branches} {end : Reached} → Group context depth row (going s) (Section line ps bs qs) end → AfterSection depth row s line ps bs qs end
   at_section (Group.taken decides here rest) = is_taken decides here rest
   at_section (Group.skipped decides here rest) = is_skipped decides here rest
   at_section (Group.condition_fault decides) = is_refused decides
@@ -51,7 +51,7 @@ module _ (expansions : OneExpansion) (decisions : OneDecision) (context : Contex
   pub at_end : {depth row : ℕ} {s : State} {line : LogicalLine} {m : Reached} → Branched context depth row s (End line) m → going s ≡ m
   at_end Branched.ended = refl
 
-  pub data AfterBranch (depth row : ℕ) (s : State) (line : LogicalLine) (ps : Parts) (bs : Branches) : Reached → Type 0 where
+  pub data AfterBranch (depth row : ℕ) (s : State) (line : LogicalLine) (ps : GroupParts) (bs : Branches) : Reached → Type 0 where
     is_else : {m : Reached} → line.directive ≡ Some Else → Group context depth row (going s) ps m → AfterBranch depth row s line ps bs m
     is_elif : {remaining_after : Option ℕ} {m : Reached}
         → line.directive ≢ Some Else
@@ -68,7 +68,7 @@ module _ (expansions : OneExpansion) (decisions : OneDecision) (context : Contex
         → Decides (search_of context) row s line remaining_after (Err f)
         → AfterBranch depth row s line ps bs (stopped (with_remaining s remaining_after) f)
 
-  pub at_branch : {depth row : ℕ} {s : State} {line : LogicalLine} {ps : Parts} {bs : Branches} {m : Reached} → Branched context depth row s (Branch line ps bs) m → AfterBranch depth row s line ps bs m
+  pub at_branch : {depth row : ℕ} {s : State} {line : LogicalLine} {ps : GroupParts} {bs : Branches} {m : Reached} → Branched context depth row s (Branch line ps bs) m → AfterBranch depth row s line ps bs m
   at_branch (Branched.otherwise is here) = is_else is here
   at_branch (Branched.branch_taken is decides here) = is_elif is decides here
   at_branch (Branched.branch_skipped is decides rest) = is_passed is decides rest
@@ -76,14 +76,14 @@ module _ (expansions : OneExpansion) (decisions : OneDecision) (context : Contex
 
   -- ---- if-sections, by what was found of the first derivation
 
-  abbrev SameGroup : ℕ → ℕ → Reached → Parts → Reached → Type 0
+  abbrev SameGroup : ℕ → ℕ → Reached → GroupParts → Reached → Type 0
   SameGroup depth row r ps y = (z : Reached) → Group context depth row r ps z → y ≡ z
 
   abbrev SameBranches : ℕ → ℕ → State → Branches → Reached → Type 0
   SameBranches depth row s bs y = (z : Reached) → Branched context depth row s bs z → y ≡ z
 
   -- the same decision leaves the same
-  taken_again : (depth row : ℕ) (s : State) (line : LogicalLine) (ps : Parts) (remaining_after following : Option ℕ) (into_output : Result Bool Fault) (z : Reached)
+  taken_again : (depth row : ℕ) (s : State) (line : LogicalLine) (ps : GroupParts) (remaining_after following : Option ℕ) (into_output : Result Bool Fault) (z : Reached)
       → Decides (search_of context) row s line remaining_after into_output
       → Decides (search_of context) row s line following into_output
       → Group context depth row (going (with_remaining s following)) ps z
@@ -116,7 +116,7 @@ module _ (expansions : OneExpansion) (decisions : OneDecision) (context : Contex
   same_decision : (row : ℕ) (s : State) (line : LogicalLine) (remaining_after following : Option ℕ) (a b : Result Bool Fault) → Decides (search_of context) row s line remaining_after a → Decides (search_of context) row s line following b → a ≡ b
   same_decision row s line remaining_after following a b p q = (decides_once expansions decisions (search_of context) row s line remaining_after following a b p q).0
 
-  pub after_taken : {depth row : ℕ} {s : State} {line : LogicalLine} {ps qs : Parts} {bs : Branches} {remaining_after : Option ℕ} {m y : Reached}
+  pub after_taken : {depth row : ℕ} {s : State} {line : LogicalLine} {ps qs : GroupParts} {bs : Branches} {remaining_after : Option ℕ} {m y : Reached}
       → Decides (search_of context) row s line remaining_after (Ok true)
       → SameGroup depth row (going (with_remaining s remaining_after)) ps m
       → SameGroup depth row m qs y
@@ -130,7 +130,7 @@ module _ (expansions : OneExpansion) (decisions : OneDecision) (context : Contex
   after_taken {row = row} {s = s} {line = line} {remaining_after = remaining_after} decides here rest z (is_refused {remaining_after = following} {f = f} decides') =
       let differs : Ok true ≡ Err f = same_decision row s line remaining_after following (Ok true) (Err f) decides decides' in absurd (cc)
 
-  pub after_skipped : {depth row : ℕ} {s : State} {line : LogicalLine} {ps qs : Parts} {bs : Branches} {remaining_after : Option ℕ} {m y : Reached}
+  pub after_skipped : {depth row : ℕ} {s : State} {line : LogicalLine} {ps qs : GroupParts} {bs : Branches} {remaining_after : Option ℕ} {m y : Reached}
       → Decides (search_of context) row s line remaining_after (Ok false)
       → SameBranches depth row (with_remaining s remaining_after) bs m
       → SameGroup depth row m qs y
@@ -144,7 +144,7 @@ module _ (expansions : OneExpansion) (decisions : OneDecision) (context : Contex
   after_skipped {row = row} {s = s} {line = line} {remaining_after = remaining_after} decides here rest z (is_refused {remaining_after = following} {f = f} decides') =
       let differs : Ok false ≡ Err f = same_decision row s line remaining_after following (Ok false) (Err f) decides decides' in absurd (cc)
 
-  pub after_refused : {depth row : ℕ} {s : State} {line : LogicalLine} {ps qs : Parts} {bs : Branches} {remaining_after : Option ℕ} {f : Fault}
+  pub after_refused : {depth row : ℕ} {s : State} {line : LogicalLine} {ps qs : GroupParts} {bs : Branches} {remaining_after : Option ℕ} {f : Fault}
       → Decides (search_of context) row s line remaining_after (Err f)
       → (z : Reached)
       → AfterSection depth row s line ps bs qs z
@@ -158,7 +158,7 @@ module _ (expansions : OneExpansion) (decisions : OneDecision) (context : Contex
   not_both : (line : LogicalLine) → line.directive ≡ Some Else → line.directive ≢ Some Else → ⊥
   not_both line e f = f e
 
-  pub after_else : {depth row : ℕ} {s : State} {line : LogicalLine} {ps : Parts} {bs : Branches} {y : Reached}
+  pub after_else : {depth row : ℕ} {s : State} {line : LogicalLine} {ps : GroupParts} {bs : Branches} {y : Reached}
       → line.directive ≡ Some Else
       → SameGroup depth row (going s) ps y
       → (z : Reached)
@@ -169,7 +169,7 @@ module _ (expansions : OneExpansion) (decisions : OneDecision) (context : Contex
   after_else {line = line} is here z (is_passed is' decides rest) = absurd (not_both line is is')
   after_else {line = line} is here z (is_faulty is' decides) = absurd (not_both line is is')
 
-  pub after_elif : {depth row : ℕ} {s : State} {line : LogicalLine} {ps : Parts} {bs : Branches} {remaining_after : Option ℕ} {y : Reached}
+  pub after_elif : {depth row : ℕ} {s : State} {line : LogicalLine} {ps : GroupParts} {bs : Branches} {remaining_after : Option ℕ} {y : Reached}
       → line.directive ≢ Some Else
       → Decides (search_of context) row s line remaining_after (Ok true)
       → SameGroup depth row (going (with_remaining s remaining_after)) ps y
@@ -184,7 +184,7 @@ module _ (expansions : OneExpansion) (decisions : OneDecision) (context : Contex
   after_elif {row = row} {s = s} {line = line} {remaining_after = remaining_after} is decides here z (is_faulty {remaining_after = following} {f = f} is' decides') =
       let differs : Ok true ≡ Err f = same_decision row s line remaining_after following (Ok true) (Err f) decides decides' in absurd (cc)
 
-  pub after_passed : {depth row : ℕ} {s : State} {line : LogicalLine} {ps : Parts} {bs : Branches} {remaining_after : Option ℕ} {y : Reached}
+  pub after_passed : {depth row : ℕ} {s : State} {line : LogicalLine} {ps : GroupParts} {bs : Branches} {remaining_after : Option ℕ} {y : Reached}
       → line.directive ≢ Some Else
       → Decides (search_of context) row s line remaining_after (Ok false)
       → SameBranches depth row (with_remaining s remaining_after) bs y
@@ -199,7 +199,7 @@ module _ (expansions : OneExpansion) (decisions : OneDecision) (context : Contex
   after_passed {row = row} {s = s} {line = line} {remaining_after = remaining_after} is decides rest z (is_faulty {remaining_after = following} {f = f} is' decides') =
       let differs : Ok false ≡ Err f = same_decision row s line remaining_after following (Ok false) (Err f) decides decides' in absurd (cc)
 
-  pub after_faulty : {depth row : ℕ} {s : State} {line : LogicalLine} {ps : Parts} {bs : Branches} {remaining_after : Option ℕ} {f : Fault}
+  pub after_faulty : {depth row : ℕ} {s : State} {line : LogicalLine} {ps : GroupParts} {bs : Branches} {remaining_after : Option ℕ} {f : Fault}
       → line.directive ≢ Some Else
       → Decides (search_of context) row s line remaining_after (Err f)
       → (z : Reached)

@@ -4,7 +4,7 @@ use Rattle.pptext.specs.declared.tokens.Place.{Place}
 use Rattle.pptext.specs.declared.tokens.Fault.{Fault}
 use Rattle.pptext.specs.Lines.{LogicalLine}
 use Rattle.pptext.specs.Sources.{Reads}
-use Rattle.pptext.specs.Tree.{Parts, Branches, Tree}
+use Rattle.pptext.specs.Tree.{GroupParts, Branches, Tree}
 use Rattle.ppshelf.specs.Names.{AreNames}
 use Rattle.ppunit.specs.States.{State, Context, Reached, going, stopped, leaving}
 use Rattle.ppunit.specs.DirectiveLines.{text_tokens}
@@ -12,16 +12,16 @@ use Rattle.ppunit.specs.Group.{Group, Branched, Controls, ExecutesInclude, Opene
 use Rattle.ppunit.specs.Unit.{Defines, unread, processed, Translates, definitions_fault, translated, command_file, command_text, first_place}
 use Rattle.ppunit.proofs.OneLine.{OneExpansion, OneDecision, OneReading, OneTree, OneRow, run_once}
 use Rattle.ppunit.proofs.OneSection.{AfterRun, at_run, AfterControl, at_control, at_done, at_stop, at_section, at_end, at_branch, after_taken, after_skipped, after_refused, after_else, after_elif, after_passed, after_faulty}
-use Rattle.ppunit.proofs.OneControl.{at_error, at_ignored, at_quote, at_other, at_include, after_misnamed, after_missing, after_included}
+use Rattle.ppunit.proofs.OneControl.{at_error, at_ignored, at_quote, at_other, at_include, after_operand_fault, after_missing, after_included}
 use Rattle.ppunit.proofs.OneOpening.{at_deep, at_over, at_known, at_unreadable, at_reading, after_fault, AfterLines, after_lines}
 
 module _ (expansions : OneExpansion) (decisions : OneDecision) (readings : OneReading) (trees : OneTree) (rows : OneRow) where
   module _ (context : Context) (once : AreNames context.names) where
     mutual
-      pub group_once : {depth row : ℕ} {r : Reached} {ps : Parts} {y : Reached} → Group context depth row r ps y → (z : Reached) → Group context depth row r ps z → y ≡ z
+      pub group_once : {depth row : ℕ} {r : Reached} {ps : GroupParts} {y : Reached} → Group context depth row r ps y → (z : Reached) → Group context depth row r ps z → y ≡ z
       group_once Group.stays z d = at_stop expansions decisions context d
       group_once Group.done z d = at_done expansions decisions context d
-      group_once {depth} {row} (Group.run {s = s} {lines = rs} {ps = ps} {m = m} gives rest) z d =
+      group_once {depth} {row} (Group.text_lines {s = s} {lines = rs} {ps = ps} {m = m} gives rest) z d =
           let h : AfterRun expansions decisions context depth row s rs ps z = at_run expansions decisions context d in
           group_once rest z (subst (λ x. Group context depth row x ps z) (run_once expansions decisions s (text_tokens rs) h.0 m h.1 gives) h.2)
       group_once {depth} {row} (Group.control {s = s} {line = line} {ps = ps} {m = m} here rest) z d =
@@ -46,16 +46,16 @@ module _ (expansions : OneExpansion) (decisions : OneDecision) (readings : OneRe
       control_once (Controls.include is q here) z d = includes_once here z (at_include expansions decisions rows context once is q d)
 
       includes_once : {depth row : ℕ} {following : Option ℕ} {s : State} {line : LogicalLine} {y : Reached} → ExecutesInclude context depth row following s line y → (z : Reached) → ExecutesInclude context depth row following s line z → y ≡ z
-      includes_once (ExecutesInclude.misnamed asks) z d = after_misnamed expansions decisions rows context once asks d
+      includes_once (ExecutesInclude.operand_fault asks) z d = after_operand_fault expansions decisions rows context once asks d
       includes_once (ExecutesInclude.missing a asks finds) z d = after_missing expansions decisions rows context once a asks finds d
       includes_once (ExecutesInclude.included a found asks finds opens) z d = opened_once opens z (after_included expansions decisions rows context once a found asks finds d)
 
       pub opened_once : {depth row : ℕ} {directory : Option ℕ} {at : Place} {s : State} {y : Reached} → Opened context depth at s row directory y → (z : Reached) → Opened context depth at s row directory z → y ≡ z
       opened_once (Opened.too_deep deep) z d = at_deep readings trees context deep d
       opened_once (Opened.exhausted fits spent) z d = at_over readings trees context fits spent d
-      opened_once (Opened.read_once fits some known) z d = at_known readings trees context fits some known d
+      opened_once (Opened.not_read_again fits some known) z d = at_known readings trees context fits some known d
       opened_once (Opened.not_readable fits some new is) z d = at_unreadable readings trees context fits some new is d
-      opened_once (Opened.faulty {bytes = bytes} {f = f} fits some new is reads) z d = after_fault readings trees context refl (at_reading readings trees context bytes (Err f) fits some new is reads d)
+      opened_once (Opened.content_fault {bytes = bytes} {f = f} fits some new is reads) z d = after_fault readings trees context refl (at_reading readings trees context bytes (Err f) fits some new is reads d)
       opened_once {depth} {row} {directory} {at} {s} (Opened.read {bytes = bytes} {lines = lines} {parts = parts} {m = m} fits some new is reads tree here) z d =
           let h : AfterLines readings trees context depth s row directory parts z = after_lines readings trees context refl tree (at_reading readings trees context bytes (Ok lines) fits some new is reads d) in
           ap (λ x. leaving s x) (group_once here h.0 h.2) ∙ sym h.1
@@ -68,7 +68,7 @@ module _ (expansions : OneExpansion) (decisions : OneDecision) (readings : OneRe
 
     data AfterCommands (s : State) : Result (List LogicalLine) Fault → Reached → Type 0 where
       is_unread : {f : Fault} → AfterCommands s (Err f) (stopped s f)
-      is_processed : {lines : List LogicalLine} {parts : Parts} {m : Reached} → Tree lines parts → Group context 0 command_file (going s) parts m → AfterCommands s (Ok lines) m
+      is_processed : {lines : List LogicalLine} {parts : GroupParts} {m : Reached} → Tree lines parts → Group context 0 command_file (going s) parts m → AfterCommands s (Ok lines) m
 
     at_commands : {defines : List (List ℕ)} {s : State} {m : Reached} (x : Result (List LogicalLine) Fault)
         → Reads context.profile command_file (command_text defines) x
@@ -80,7 +80,7 @@ module _ (expansions : OneExpansion) (decisions : OneDecision) (readings : OneRe
     unread_once {s = s} {f = f} e (is_unread {f = g}) = let same : f ≡ g = cc in ap (λ x. stopped s x) same
     unread_once e (is_processed tree here) = absurd (cc)
 
-    processed_once : {s : State} {lines : List LogicalLine} {parts : Parts} {y : Reached} {x : Result (List LogicalLine) Fault} {m : Reached}
+    processed_once : {s : State} {lines : List LogicalLine} {parts : GroupParts} {y : Reached} {x : Result (List LogicalLine) Fault} {m : Reached}
         → Ok lines ≡ x
         → Tree lines parts
         → Group context 0 command_file (going s) parts y

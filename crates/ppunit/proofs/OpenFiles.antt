@@ -2,7 +2,7 @@
 use Rattle.std.proofs.Common.{◌≡◌, ℕ, suc, ◌≤◌, List, [], ◌∷◌, length, Option, None, Some, Err}
 use Rattle.pptext.specs.declared.tokens.Fault.{Fault}
 use Rattle.pptext.specs.Lines.{LogicalLine}
-use Rattle.pptext.specs.Tree.{Parts, Tree}
+use Rattle.pptext.specs.Tree.{GroupParts, Tree}
 use Rattle.ppshelf.specs.Files.{Files, Extends}
 use Rattle.ppunit.specs.code.Opening.{OpenFile, Entered}
 use Rattle.ppunit.specs.Group.{Group, Controls}
@@ -13,7 +13,7 @@ use Rattle.ppunit.proofs.Advancing.{ends_stop}
 
 -- what is left of a file: parts, and the sections around them
 abbrev pub Rest : Type 0
-Rest = Parts × Outer
+Rest = GroupParts × Outer
 
 -- each file waits at the line after the one that included the next
 abbrev pub Waits : List SuspendedFile → List Rest → Type 0
@@ -35,7 +35,7 @@ pub record StackAt (context : Files → Context) (files : Files) (whole : Files 
 
 -- the same for each tree of the first file
 pub record StackSoFar (context : Files → Context) (files : Files) (row : ℕ) (lines : List LogicalLine) (s : State) (ws : List SuspendedFile) (file : OpenFile) (t : State) : Type 0 where
-  pub so_far : (parts : Parts) → Tree lines parts → StackAt context files (λ more m. Group (context more) 0 row (going s) parts m) ws file t
+  pub so_far : (parts : GroupParts) → Tree lines parts → StackAt context files (λ more m. Group (context more) 0 row (going s) parts m) ws file t
 
 pub stack_start : (context : Files → Context) (files : Files) (s : State) (file : OpenFile) → file.index ≡ 0 → StackSoFar context files file.row file.lines s [] file s
 stack_start context files s file begins = record {

@@ -5,7 +5,7 @@ use Rattle.pptext.specs.declared.tokens.Fault.{Fault}
 use Rattle.pptext.specs.declared.sources.Profile.{Profile}
 use Rattle.pptext.specs.Lines.{LogicalLine}
 use Rattle.pptext.specs.Sources.{IsSource}
-use Rattle.pptext.specs.Tree.{Parts, Tree, group_fault}
+use Rattle.pptext.specs.Tree.{GroupParts, Tree, group_fault}
 use Rattle.pptext.proofs.Trees.{a_tree}
 use Rattle.ppexpand.specs.Budget.{is_exhausted}
 use Rattle.ppshelf.specs.Content.{unreadable, readable}
@@ -38,7 +38,7 @@ pub opens_known : (context : Context) (depth row : ℕ) (directory : Option ℕ)
     → known ≡ true
     → Opened context depth at s row directory (going t)
 opens_known context depth row directory at name s a t known (fits, some, pays) joins is true-is =
-    let here = Opened.read_once {depth = depth} {row = row} {directory = directory} {at = at} {s = s} fits some
+    let here = Opened.not_read_again {depth = depth} {row = row} {directory = directory} {at = at} {s = s} fits some
     (ap (λ (z : State). has_row row z.once) (sym pays) ∙ sym is ∙ true-is) in
     subst (λ (z : State). Opened context depth at s row directory (going z)) (sym (joins ∙ ap (λ (z : State). with_dependency z row) pays)) here
 
@@ -69,11 +69,11 @@ opens_faulty library files more depth row directory at s t f (fits, some, new, i
         subst (λ (z : Fault). Opened (context_over library more) depth at s row directory (stopped (with_dependency (with_one_spent s) row) z)) (sym probe_result)
         (Opened.not_readable fits some new (grows row unreadable known))
     by (inr (unreadable, known, reads)) = absurd reads
-    by (inr (readable bytes, known, reads)) = Opened.faulty fits some new (grows row (readable bytes) known) reads
+    by (inr (readable bytes, known, reads)) = Opened.content_fault fits some new (grows row (readable bytes) known) reads
 
 tree_of : (profile : Profile) (row : ℕ) (bytes : List ℕ) (lines : List LogicalLine)
     → IsSource profile row bytes lines
-    → (parts : Parts) × Tree lines parts
+    → (parts : GroupParts) × Tree lines parts
 tree_of profile row bytes lines source = a_tree lines (ap (group_fault []) source.same ∙ source.grouped)
 
 -- what the predefined names stand for where a file begins

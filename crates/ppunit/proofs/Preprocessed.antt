@@ -7,7 +7,7 @@ use Rattle.pptext.specs.Errors.{UnlessOutOfMemory}
 use Rattle.pptext.specs.declared.sources.Profile.{Profile}
 use Rattle.pptext.specs.Lines.{LogicalLine}
 use Rattle.pptext.specs.Sources.{IsSource, Reads}
-use Rattle.pptext.specs.Tree.{Parts, Tree, group_fault}
+use Rattle.pptext.specs.Tree.{GroupParts, Tree, group_fault}
 use Rattle.ppshelf.specs.Files.{Files, Extends}
 use Rattle.ppunit.specs.States.{State, in_file_context, Context, Reached, going, stopped, output}
 use Rattle.ppunit.specs.declared.units.Unit.{Unit as UnitOfList}
@@ -21,12 +21,12 @@ use Rattle.ppunit.proofs.WholeFile.{extends_trans}
 
 -- the files without fault are those with a tree
 abbrev pub TreesUnlessFault : Type 0
-TreesUnlessFault = (lines : List LogicalLine) → (group_fault [] lines ≡ None) ↔ ((parts : Parts) × Tree lines parts)
+TreesUnlessFault = (lines : List LogicalLine) → (group_fault [] lines ≡ None) ↔ ((parts : GroupParts) × Tree lines parts)
 
 -- a file without fault has a tree
 pub source_tree : TreesUnlessFault → (profile : Profile) (file : ℕ) (bytes : List ℕ) (lines : List LogicalLine)
     → IsSource profile file bytes lines
-    → (parts : Parts) × Tree lines parts
+    → (parts : GroupParts) × Tree lines parts
 source_tree trees profile file bytes lines is = (trees lines).0 (ap (group_fault []) is.same ∙ is.grouped)
 
 pub defines_walked : TreesUnlessFault → (context : Files → Context) (files : Files) (profile : Profile) (defines : List (List ℕ))

@@ -3,7 +3,7 @@ use Rattle.std.proofs.Common.{◌≡◌, ◌≢◌, ℕ, List, true, false, Opti
 use Rattle.pptext.specs.declared.tokens.Place.{Place}
 use Rattle.pptext.specs.declared.tokens.Fault.{Fault}
 use Rattle.pptext.specs.Lines.{LogicalLine}
-use Rattle.pptext.specs.Tree.{Parts, Branches}
+use Rattle.pptext.specs.Tree.{GroupParts, Branches}
 use Rattle.ppexpand.specs.Budget.{spend_one, is_exhausted}
 use Rattle.ppunit.specs.States.{State, Context, Reached, search_of}
 use Rattle.ppunit.specs.DirectiveLines.{text_tokens}
@@ -18,10 +18,10 @@ never_spent (Some n) is e = absurd (cc)
 
 module _ (context : Context) where
   mutual
-    group_other : {depth row : ℕ} {r : Reached} {ps : Parts} {end : Reached} → r.state.remaining ≡ None → IsOther r.fault → Group context depth row r ps end → IsOther end.fault
+    group_other : {depth row : ℕ} {r : Reached} {ps : GroupParts} {end : Reached} → r.state.remaining ≡ None → IsOther r.fault → Group context depth row r ps end → IsOther end.fault
     group_other is h Group.stays = h
     group_other is h Group.done = tt
-    group_other is h (Group.run {s = s} {lines = lines} {m = m} gives rest) = group_other (run_none s (text_tokens lines) m is gives) (run_other s (text_tokens lines) m is gives) rest
+    group_other is h (Group.text_lines {s = s} {lines = lines} {m = m} gives rest) = group_other (run_none s (text_tokens lines) m is gives) (run_other s (text_tokens lines) m is gives) rest
     group_other is h (Group.control here rest) = group_other (control_none context is here) (control_other is here) rest
     group_other {row = row} is h (Group.taken {s = s} {line = line} {remaining_after = remaining_after} decides here rest) =
         let remaining = decides_none (search_of context) row s line remaining_after (Ok true) is decides in
@@ -46,16 +46,16 @@ module _ (context : Context) where
     control_other is (Controls.include e q here) = includes_other is here
 
     includes_other : {depth row : ℕ} {following : Option ℕ} {s : State} {line : LogicalLine} {m : Reached} → s.remaining ≡ None → ExecutesInclude context depth row following s line m → IsOther m.fault
-    includes_other is (ExecutesInclude.misnamed {s = s} {line = line} {remaining_after = remaining_after} {f = f} asks) = asks_other s line.tokens remaining_after f is asks
+    includes_other is (ExecutesInclude.operand_fault {s = s} {line = line} {remaining_after = remaining_after} {f = f} asks) = asks_other s line.tokens remaining_after f is asks
     includes_other is (ExecutesInclude.missing a asks finds) = λ h. absurd (omega arith)
     includes_other is (ExecutesInclude.included {s = s} {line = line} {remaining_after = remaining_after} a found asks finds opens) = opened_other (asks_none s line.tokens remaining_after (Ok a) is asks) opens
 
     opened_other : {depth row : ℕ} {directory : Option ℕ} {at : Place} {s : State} {m : Reached} → s.remaining ≡ None → Opened context depth at s row directory m → IsOther m.fault
     opened_other is (Opened.too_deep deep) = λ e. absurd (omega arith)
     opened_other is (Opened.exhausted {s = s} fits spent) = absurd (never_spent s.remaining is spent)
-    opened_other is (Opened.read_once fits more once) = tt
+    opened_other is (Opened.not_read_again fits more once) = tt
     opened_other is (Opened.not_readable fits more once file) = λ e. absurd (omega arith)
-    opened_other is (Opened.faulty fits more once file reads) = reads_other reads
+    opened_other is (Opened.content_fault fits more once file reads) = reads_other reads
     opened_other is (Opened.read fits more once file reads tree here) = group_other (ap spend_one is) tt here
 
   defines_other : {defines : List (List ℕ)} {s : State} {m : Reached} → s.remaining ≡ None → Defines context defines s m → IsOther m.fault

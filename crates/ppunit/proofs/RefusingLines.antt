@@ -11,7 +11,7 @@ use Rattle.pptext.specs.Classes.{question_by}
 use Rattle.pptext.specs.declared.sources.Profile.{Profile}
 use Rattle.pptext.specs.Lines.{LogicalLine, lines_of}
 use Rattle.pptext.specs.Sources.{IsFaultOf}
-use Rattle.pptext.specs.Tree.{Role, Elses, Closes, role, Open, after_line, fault_at_end, fault_or, group_fault, Parts, Branches, hash_place}
+use Rattle.pptext.specs.Tree.{Role, Elses, Closes, role, Open, after_line, fault_at_end, fault_or, group_fault, GroupParts, Branches, hash_place}
 use Rattle.pptext.specs.Profiles.{is_gnu}
 use Rattle.pptext.specs.Tokens.{is_unmatched_quote}
 use Rattle.ppmacro.specs.Names.{Macros}
@@ -48,7 +48,7 @@ pub run_none : (s : State) (tokens : List Token) (m : Reached) → s.remaining �
 run_none s tokens m is g = still_none (count_expansion g.expands) is (run_spends s tokens m g)
 
 module _ (context : Context) where
-  pub group_none : {depth row : ℕ} {r : Reached} {ps : Parts} {end : Reached} → r.state.remaining ≡ None → Group context depth row r ps end → end.state.remaining ≡ None
+  pub group_none : {depth row : ℕ} {r : Reached} {ps : GroupParts} {end : Reached} → r.state.remaining ≡ None → Group context depth row r ps end → end.state.remaining ≡ None
   group_none is d = still_none (count_group d) is (group_spends context d)
 
   pub branches_none : {depth row : ℕ} {s : State} {bs : Branches} {m : Reached} → s.remaining ≡ None → Branched context depth row s bs m → m.state.remaining ≡ None
@@ -103,7 +103,7 @@ reads_other {profile} (IsFaultOf.bad_groups {lexemes = lexemes} e c g) = subst I
 -- ---- what replaces: the same as expansion
 
 expansion_other : {macros : Macros} {env : Env} {remaining : Option ℕ} {tokens : List Token} {e : Expanded} → remaining ≡ None → IsExpansion macros env remaining tokens e → IsOther e.fault
-expansion_other {macros} {env} {tokens = tokens} {e = e} is x = each_other e.fault (λ f faulty. expansion_never_refused macros env (subst (λ l. IsExpansion macros env l tokens e) is x) faulty)
+expansion_other {macros} {env} {tokens = tokens} {e = e} is x = each_other e.fault (λ f content_fault. expansion_never_refused macros env (subst (λ l. IsExpansion macros env l tokens e) is x) content_fault)
 
 pub run_other : (s : State) (tokens : List Token) (m : Reached) → s.remaining ≡ None → EmitsText s tokens m → IsOther m.fault
 run_other s tokens m is g = subst (λ r. IsOther r.fault) (sym g.is) (expansion_other is g.expands)

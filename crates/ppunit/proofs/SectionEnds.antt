@@ -4,7 +4,7 @@ use Rattle.std.proofs.lemmas.List.{length-drop}
 use Rattle.pptext.specs.declared.sources.Directive.{Directive}
 use Rattle.pptext.specs.Lines.{LogicalLine}
 use Rattle.pptext.specs.Sources.{next_branch}
-use Rattle.pptext.specs.Tree.{Parts, Done, Branches, End, Branch, part_lines, branch_lines, AreParts, AreBranches, role, role_by, branch_after}
+use Rattle.pptext.specs.Tree.{GroupParts, Done, Branches, End, Branch, part_lines, branch_lines, AreGroupParts, AreBranches, role, role_by, branch_after}
 use Rattle.pptext.specs.Classes.{ends_group}
 use Rattle.pptext.proofs.Walks.{next_within, next_of_branch, next_of_end, next_behind}
 use Rattle.ppunit.specs.States.{State, Context, going}
@@ -17,10 +17,10 @@ use Rattle.ppunit.proofs.Advancing.{AdvancesFrom, first_at}
 
 -- ---- the end of a section
 
-pub branches_next : (lines : List LogicalLine) (index : ℕ) (r : LogicalLine) (ps qs : Parts) (bs : Branches) (last : Bool) (rest : List LogicalLine)
+pub branches_next : (lines : List LogicalLine) (index : ℕ) (r : LogicalLine) (ps qs : GroupParts) (bs : Branches) (last : Bool) (rest : List LogicalLine)
     → drop index lines ≡ r ∷ (part_lines ps ++ (branch_lines bs ++ rest))
     → ((n : ℕ) (following : List LogicalLine) → next_branch n (role r) following ≡ branch_after 0 (n + 1) (map role following))
-    → AreParts ps
+    → AreGroupParts ps
     → AreBranches last bs
     → next_branch index (role (line_at lines index)) (drop (suc index) lines) ≡ Some (index + 1 + length (part_lines ps))
 branches_next lines index r ps qs bs last rest e next parts are =
@@ -28,7 +28,7 @@ branches_next lines index r ps qs bs last rest e next parts are =
     ap (λ (z : LogicalLine). next_branch index (role z) (drop (suc index) lines)) h.here ∙ next index (drop (suc index) lines)
     ∙ ap (λ (z : List LogicalLine). branch_after 0 (index + 1) (map role z)) h.following ∙ next_behind ps bs last (index + 1) rest parts are
 
-pub branches_there : (lines : List LogicalLine) (index : ℕ) (r : LogicalLine) (ps : Parts) (rest : List LogicalLine) → drop index lines ≡ r ∷ (part_lines ps ++ rest) → drop (index + 1 + length (part_lines ps)) lines ≡ rest
+pub branches_there : (lines : List LogicalLine) (index : ℕ) (r : LogicalLine) (ps : GroupParts) (rest : List LogicalLine) → drop index lines ≡ r ∷ (part_lines ps ++ rest) → drop (index + 1 + length (part_lines ps)) lines ≡ rest
 branches_there lines index r ps rest e =
     ap (λ (z : ℕ). drop z lines) (omega arith) ∙ drop_further lines (r ∷ part_lines ps) rest index e
 
@@ -99,7 +99,7 @@ section_done lines branch index sofar found last bs rest e are =
 
 -- ---- the end of a group
 
-end_by : (context : Files → Context) (files : Files) (depth row : ℕ) (lines : List LogicalLine) (index next : ℕ) (s : State) (ps : Parts)
+end_by : (context : Files → Context) (files : Files) (depth row : ℕ) (lines : List LogicalLine) (index next : ℕ) (s : State) (ps : GroupParts)
     (k : Outer)
     → Differs (line_at lines index)
     → First (line_at lines index) ps k

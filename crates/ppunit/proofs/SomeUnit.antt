@@ -15,7 +15,7 @@ use Rattle.pptext.specs.Classes.{class_of, asked_by, class_by, question_by}
 use Rattle.pptext.specs.Lines.{LogicalLine}
 use Rattle.pptext.specs.Sources.{Reads, IsSource}
 use Rattle.pptext.specs.Tokens.{fault}
-use Rattle.pptext.specs.Tree.{hash_place, ControlLine, Opens, Elses, role, role_in, role_by, Parts, Done, TextLines, Control, Section, Branches, End, Branch, AreParts, AreBranches, Tree, group_fault}
+use Rattle.pptext.specs.Tree.{hash_place, ControlLine, Opens, Elses, role, role_in, role_by, GroupParts, Done, TextLines, Control, Section, Branches, End, Branch, AreGroupParts, AreBranches, Tree, group_fault}
 use Rattle.ppmacro.specs.Names.{Macros}
 use Rattle.ppmacro.specs.Define.{after_define, after_undef}
 use Rattle.ppexpand.specs.declared.env.Env.{Env}
@@ -58,7 +58,7 @@ abbrev pub SomeRow : Type 0
 SomeRow = (names : List (List ℕ)) (cs : List Candidate) → (found : Option (ℕ × ℕ)) × IsFirstRow names cs found
 
 abbrev pub SomeTree : Type 0
-SomeTree = (lines : List LogicalLine) → group_fault [] lines ≡ None → (parts : Parts) × Tree lines parts
+SomeTree = (lines : List LogicalLine) → group_fault [] lines ≡ None → (parts : GroupParts) × Tree lines parts
 
 -- ---- what a line is by its role
 
@@ -177,7 +177,7 @@ module _ (expansions : SomeExpansion) (decisions : SomeDecision) where
       including : (row : ℕ) (from : Option ℕ) (s : State) (line : LogicalLine) (remaining_after : Option ℕ) (include_name : Result IncludeName Fault)
           → NamesHeader s line.tokens remaining_after include_name
           → (m : Reached) × ExecutesInclude context depth row from s line m
-      including row from s line remaining_after (Err f) asking = (stopped (with_remaining s remaining_after) f, ExecutesInclude.misnamed asking)
+      including row from s line remaining_after (Err f) asking = (stopped (with_remaining s remaining_after) f, ExecutesInclude.operand_fault asking)
       including row from s line remaining_after (Ok a) asking =
           let r = rows context.names (candidates_for context row from a) in
           finding row from s line remaining_after a asking r.0 r.1
@@ -200,32 +200,32 @@ module _ (expansions : SomeExpansion) (decisions : SomeDecision) where
       some_control row s line is = control_by row s line (unmatched_quote line.tokens) refl (sort_of context.profile row line.directive is)
 
       -- after a state or a fault
-      abbrev SomeGroup : ℕ → Reached → Parts → Type 0
+      abbrev SomeGroup : ℕ → Reached → GroupParts → Type 0
       SomeGroup row r ps = (m : Reached) × Group context depth row r ps m
 
       abbrev SomeBranched : ℕ → State → Branches → Type 0
       SomeBranched row s bs = (m : Reached) × Branched context depth row s bs m
 
-      goes_on_by : (row : ℕ) (ps : Parts) → ((s : State) → SomeGroup row (going s) ps) → (s : State) (f : Option Fault) → SomeGroup row (record { state = s; fault = f }) ps
+      goes_on_by : (row : ℕ) (ps : GroupParts) → ((s : State) → SomeGroup row (going s) ps) → (s : State) (f : Option Fault) → SomeGroup row (record { state = s; fault = f }) ps
       goes_on_by row ps all s None = all s
       goes_on_by row ps all s (Some f) = (stopped s f, Group.stays)
 
-      goes_on : (row : ℕ) (ps : Parts) → ((s : State) → SomeGroup row (going s) ps) → (r : Reached) → SomeGroup row r ps
+      goes_on : (row : ℕ) (ps : GroupParts) → ((s : State) → SomeGroup row (going s) ps) → (r : Reached) → SomeGroup row r ps
       goes_on row ps all r = goes_on_by row ps all r.state r.fault
 
-      at_run : (row : ℕ) (s : State) (lines : List LogicalLine) (ps : Parts) → ((t : State) → SomeGroup row (going t) ps) → SomeGroup row (going s) (TextLines lines ps)
+      at_run : (row : ℕ) (s : State) (lines : List LogicalLine) (ps : GroupParts) → ((t : State) → SomeGroup row (going t) ps) → SomeGroup row (going s) (TextLines lines ps)
       at_run row s lines ps rest =
           let m = some_run s (text_tokens lines) in
           let g = goes_on row ps rest m.0 in
-          (g.0, Group.run m.1 g.1)
+          (g.0, Group.text_lines m.1 g.1)
 
-      at_control : (row : ℕ) (s : State) (line : LogicalLine) (ps : Parts) → role line ≡ ControlLine → ((t : State) → SomeGroup row (going t) ps) → SomeGroup row (going s) (Control line ps)
+      at_control : (row : ℕ) (s : State) (line : LogicalLine) (ps : GroupParts) → role line ≡ ControlLine → ((t : State) → SomeGroup row (going t) ps) → SomeGroup row (going s) (Control line ps)
       at_control row s line ps is rest =
           let m = some_control row s line is in
           let g = goes_on row ps rest m.0 in
           (g.0, Group.control m.1 g.1)
 
-      at_section : (row : ℕ) (s : State) (line : LogicalLine) (ps qs : Parts) (bs : Branches) (taken : Result Bool Fault) (remaining_after : Option ℕ)
+      at_section : (row : ℕ) (s : State) (line : LogicalLine) (ps qs : GroupParts) (bs : Branches) (taken : Result Bool Fault) (remaining_after : Option ℕ)
           → Decides (search_of context) row s line remaining_after taken
           → ((t : State) → SomeGroup row (going t) ps)
           → ((t : State) → SomeBranched row t bs)
@@ -241,7 +241,7 @@ module _ (expansions : SomeExpansion) (decisions : SomeDecision) where
           let g = goes_on row qs rest m.0 in
           (g.0, Group.skipped decides m.1 g.1)
 
-      at_elif : (row : ℕ) (s : State) (line : LogicalLine) (ps : Parts) (bs : Branches) (taken : Result Bool Fault) (remaining_after : Option ℕ)
+      at_elif : (row : ℕ) (s : State) (line : LogicalLine) (ps : GroupParts) (bs : Branches) (taken : Result Bool Fault) (remaining_after : Option ℕ)
           → line.directive ≢ Some Else
           → Decides (search_of context) row s line remaining_after taken
           → ((t : State) → SomeGroup row (going t) ps)
@@ -251,7 +251,7 @@ module _ (expansions : SomeExpansion) (decisions : SomeDecision) where
       at_elif row s line ps bs (Ok true) remaining_after is decides here more = let m = here (with_remaining s remaining_after) in (m.0, Branched.branch_taken is decides m.1)
       at_elif row s line ps bs (Ok false) remaining_after is decides here more = let m = more (with_remaining s remaining_after) in (m.0, Branched.branch_skipped is decides m.1)
 
-      at_branch : (row : ℕ) (s : State) (line : LogicalLine) (ps : Parts) (bs : Branches) (final : Bool)
+      at_branch : (row : ℕ) (s : State) (line : LogicalLine) (ps : GroupParts) (bs : Branches) (final : Bool)
           → role line ≡ Elses final
           → ((t : State) → SomeGroup row (going t) ps)
           → ((t : State) → SomeBranched row t bs)
@@ -261,7 +261,7 @@ module _ (expansions : SomeExpansion) (decisions : SomeDecision) where
           let d = some_deciding (search_of context) row s line (elif_conditional line.directive is) in
           at_elif row s line ps bs d.0 d.1 (not_else line.directive is) d.2 here more
 
-      opening_line : (row : ℕ) (s : State) (line : LogicalLine) (ps qs : Parts) (bs : Branches)
+      opening_line : (row : ℕ) (s : State) (line : LogicalLine) (ps qs : GroupParts) (bs : Branches)
           → role line ≡ Opens
           → ((t : State) → SomeGroup row (going t) ps)
           → ((t : State) → SomeBranched row t bs)
@@ -272,7 +272,7 @@ module _ (expansions : SomeExpansion) (decisions : SomeDecision) where
           at_section row s line ps qs bs d.0 d.1 d.2 here branches rest
 
       mutual
-        some_group : (ps : Parts) → AreParts ps → (row : ℕ) (s : State) → SomeGroup row (going s) ps
+        some_group : (ps : GroupParts) → AreGroupParts ps → (row : ℕ) (s : State) → SomeGroup row (going s) ps
         some_group Done good row s = (going s, Group.done)
         some_group (TextLines lines ps) good row s = at_run row s lines ps (λ t. some_group ps good.3 row t)
         some_group (Control line ps) good row s = at_control row s line ps good.0 (λ t. some_group ps good.1 row t)
@@ -286,7 +286,7 @@ module _ (expansions : SomeExpansion) (decisions : SomeDecision) where
 
       -- ---- a file
 
-      tree_of : (profile : Profile) (row : ℕ) (bytes : List ℕ) (lines : List LogicalLine) → IsSource profile row bytes lines → (parts : Parts) × Tree lines parts
+      tree_of : (profile : Profile) (row : ℕ) (bytes : List ℕ) (lines : List LogicalLine) → IsSource profile row bytes lines → (parts : GroupParts) × Tree lines parts
       tree_of profile row bytes lines is = trees lines (ap (λ x. group_fault [] x) is.same ∙ is.grouped)
 
       reading_file : (at : Place) (s : State) (row : ℕ) (directory : Option ℕ) (bytes : List ℕ)
@@ -297,7 +297,7 @@ module _ (expansions : SomeExpansion) (decisions : SomeDecision) where
           → (r : Result (List LogicalLine) Fault)
           → Reads context.profile row bytes r
           → (m : Reached) × Opened context depth at s row directory m
-      reading_file at s row directory bytes fits some new is (Err f) reads = (stopped (with_dependency (with_one_spent s) row) f, Opened.faulty fits some new is reads)
+      reading_file at s row directory bytes fits some new is (Err f) reads = (stopped (with_dependency (with_one_spent s) row) f, Opened.content_fault fits some new is reads)
       reading_file at s row directory bytes fits some new is (Ok lines) reads =
           let t = tree_of context.profile row bytes lines reads in
           let g = some_group t.0 t.1.each row (entering context (with_one_spent s) row directory) in
@@ -324,7 +324,7 @@ module _ (expansions : SomeExpansion) (decisions : SomeDecision) where
           → (b : Bool)
           → has_row row s.once ≡ b
           → (m : Reached) × Opened context depth at s row directory m
-      at_once at s row directory within fits some true e = (going (with_dependency (with_one_spent s) row), Opened.read_once fits some e)
+      at_once at s row directory within fits some true e = (going (with_dependency (with_one_spent s) row), Opened.not_read_again fits some e)
       at_once at s row directory within fits some false e = at_content at s row directory fits some e (file_at context.files row) refl (known row within)
 
       at_budget : (at : Place) (s : State) (row : ℕ) (directory : Option ℕ) → row < length context.names → depth ≤ deepest → (b : Bool) → is_exhausted s.remaining ≡ b → (m : Reached) × Opened context depth at s row directory m

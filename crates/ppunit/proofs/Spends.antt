@@ -10,7 +10,7 @@ use Rattle.pptext.specs.declared.directives.Question.TheVariants.{Defined, Value
 use Rattle.pptext.specs.Classes.{question_by}
 use Rattle.pptext.specs.declared.sources.Profile.{Profile}
 use Rattle.pptext.specs.Lines.{LogicalLine}
-use Rattle.pptext.specs.Tree.{Parts, Branches, hash_place}
+use Rattle.pptext.specs.Tree.{GroupParts, Branches, hash_place}
 use Rattle.ppmacro.specs.Names.{Macros}
 use Rattle.ppexpand.specs.Budget.{spend_one, is_exhausted}
 use Rattle.ppexpand.specs.Expansion.{count_expansion}
@@ -123,10 +123,10 @@ run_spends s tokens m g = expansion_spends s.macros s.env g.expands ∙ ap (plus
 
 module _ (context : Context) where
   mutual
-    pub group_spends : {depth row : ℕ} {r : Reached} {ps : Parts} {end : Reached} (d : Group context depth row r ps end) → r.state.remaining ≡ plus (count_group d) end.state.remaining
+    pub group_spends : {depth row : ℕ} {r : Reached} {ps : GroupParts} {end : Reached} (d : Group context depth row r ps end) → r.state.remaining ≡ plus (count_group d) end.state.remaining
     group_spends (Group.stays {s = s}) = plus-nothing s.remaining
     group_spends (Group.done {s = s}) = plus-nothing s.remaining
-    group_spends (Group.run {s = s} {lines = lines} {m = m} gives rest) = both _ _ _ (run_spends s (text_tokens lines) m gives) (group_spends rest)
+    group_spends (Group.text_lines {s = s} {lines = lines} {m = m} gives rest) = both _ _ _ (run_spends s (text_tokens lines) m gives) (group_spends rest)
     group_spends (Group.control here rest) = both _ _ _ (control_spends here) (group_spends rest)
     group_spends {row = row} (Group.taken {s = s} {line = line} {remaining_after = remaining_after} decides here rest) =
         both _ _ _ (decides_spends (search_of context) row s line remaining_after (Ok true) decides) (both _ _ _ (group_spends here) (group_spends rest))
@@ -149,7 +149,7 @@ module _ (context : Context) where
     control_spends (Controls.include e q here) = includes_spend here
 
     pub includes_spend : {depth row : ℕ} {following : Option ℕ} {s : State} {line : LogicalLine} {m : Reached} (d : ExecutesInclude context depth row following s line m) → s.remaining ≡ plus (count_includes d) m.state.remaining
-    includes_spend (ExecutesInclude.misnamed {s = s} {line = line} {remaining_after = remaining_after} {f = f} asks) = asks_spends s line.tokens remaining_after (Err f) asks
+    includes_spend (ExecutesInclude.operand_fault {s = s} {line = line} {remaining_after = remaining_after} {f = f} asks) = asks_spends s line.tokens remaining_after (Err f) asks
     includes_spend (ExecutesInclude.missing {s = s} {line = line} {remaining_after = remaining_after} a asks finds) = asks_spends s line.tokens remaining_after (Ok a) asks
     includes_spend (ExecutesInclude.included {s = s} {line = line} {remaining_after = remaining_after} a found asks finds opens) =
         both _ _ _ (asks_spends s line.tokens remaining_after (Ok a) asks) (opened_spends opens)
@@ -157,9 +157,9 @@ module _ (context : Context) where
     pub opened_spends : {depth row : ℕ} {directory : Option ℕ} {at : Place} {s : State} {m : Reached} (d : Opened context depth at s row directory m) → s.remaining ≡ plus (count_opened d) m.state.remaining
     opened_spends (Opened.too_deep {s = s} deep) = plus-nothing s.remaining
     opened_spends (Opened.exhausted {s = s} fits spent) = plus-nothing s.remaining
-    opened_spends (Opened.read_once {s = s} fits more once) = pays s.remaining more
+    opened_spends (Opened.not_read_again {s = s} fits more once) = pays s.remaining more
     opened_spends (Opened.not_readable {s = s} fits more once file) = pays s.remaining more
-    opened_spends (Opened.faulty {s = s} fits more once file reads) = pays s.remaining more
+    opened_spends (Opened.content_fault {s = s} fits more once file reads) = pays s.remaining more
     opened_spends (Opened.read {s = s} {m = m} fits more once file reads tree here) = pays_then s.remaining m.state.remaining _ more (group_spends here)
 
   pub defines_spends : {defines : List (List ℕ)} {s : State} {m : Reached} (d : Defines context defines s m) → s.remaining ≡ plus (count_defines d) m.state.remaining

@@ -4,7 +4,7 @@ use Rattle.std.proofs.lemmas.List.{take_at}
 use Rattle.std.specs.List.{AllByRecursion}
 use Rattle.pptext.specs.declared.tokens.Fault.{Fault}
 use Rattle.pptext.specs.Lines.{LogicalLine}
-use Rattle.pptext.specs.Tree.{Parts, Done, TextLines, Control, Section, End, Branch, part_lines, branch_lines, BeginsTextLines, AreParts, role, role_by}
+use Rattle.pptext.specs.Tree.{GroupParts, Done, TextLines, Control, Section, End, Branch, part_lines, branch_lines, BeginsTextLines, AreGroupParts, role, role_by}
 use Rattle.ppunit.specs.States.{State, Context, going}
 use Rattle.ppunit.specs.Group.{Group}
 use Rattle.ppunit.specs.Directives.{EmitsText}
@@ -21,7 +21,7 @@ text_lines (r ∷ rs) all = (text_directive r.directive all.0, text_lines rs all
 no_text : (r : LogicalLine) → role r ≢ role_by None → ¬ IsTextLine r
 no_text r differs is = differs (ap role_by is)
 
-behind_run : (ps : Parts) (k : Outer) → AreParts ps → AreOuter k → (¬ BeginsTextLines ps) → IsRest (lay ps k)
+behind_run : (ps : GroupParts) (k : Outer) → AreGroupParts ps → AreOuter k → (¬ BeginsTextLines ps) → IsRest (lay ps k)
 behind_run Done [] are outer alone = tt
 behind_run Done ((End r, qs) ∷ k) are outer alone =
     no_text r (branches_differ (End r) outer.0.0 r (lay qs k) (lay qs k) outer.0.1 refl).not_text
@@ -42,13 +42,13 @@ run_tokens_are lines front rest index end e is =
     ap (take (end - index)) e ∙ take_at front rest (end - index) count
 
 run_by : (context : Files → Context) (files : Files) (depth row : ℕ) (lines : List LogicalLine) (index end : ℕ) (s t : State) (f : Option Fault)
-    (ps : Parts) (k : Outer)
+    (ps : GroupParts) (k : Outer)
     → role (line_at lines index) ≡ role_by None
     → First (line_at lines index) ps k
     → StandsAt lines index ps k
     → RunOf lines index end
     → EmitsText s (text_tokens (take (end - index) (drop index lines))) (record { state = t; fault = f })
-    → (rs : List LogicalLine) × (qs : Parts) × (ps ≡ TextLines rs qs) × (drop end lines ≡ lay qs k) × EmitsText s (text_tokens rs)
+    → (rs : List LogicalLine) × (qs : GroupParts) × (ps ≡ TextLines rs qs) × (drop end lines ≡ lay qs k) × EmitsText s (text_tokens rs)
     (record { state = t; fault = f })
 run_by context files depth row lines index end s t f (TextLines rs ps) k is (text same) stands run gives =
     let there = stands.rest ∙ lay_run rs ps k in
@@ -60,16 +60,16 @@ run_by context files depth row lines index end s t f ps k is (opening same other
 run_by context files depth row lines index end s t f ps k is (ending differs) stands run gives = absurd (differs.not_text is)
 
 run_on : (context : Files → Context) (files : Files) (depth row : ℕ) (lines : List LogicalLine) (index end : ℕ) (s t : State) (f : Option Fault)
-    (rs : List LogicalLine) (qs : Parts) (k : Outer)
-    → AreParts qs
+    (rs : List LogicalLine) (qs : GroupParts) (k : Outer)
+    → AreGroupParts qs
     → AreOuter k
     → drop end lines ≡ lay qs k
     → EmitsText s (text_tokens rs) (record { state = t; fault = f })
     → AdvancesFrom context files depth row lines s t (run_result end f) (TextLines rs qs) k
 run_on context files depth row lines index end s t None rs qs k are outer there gives =
-    (qs, k, record { rest = there; parts = are; outer = outer }, λ more grows last rest. ends_front (context more) depth row (going s) (going t) (TextLines rs qs) qs k last (λ o g. Group.run gives g) rest)
+    (qs, k, record { rest = there; parts = are; outer = outer }, λ more grows last rest. ends_front (context more) depth row (going s) (going t) (TextLines rs qs) qs k last (λ o g. Group.text_lines gives g) rest)
 run_on context files depth row lines index end s t (Some f) rs qs k are outer there gives =
-    λ more grows. ends_stop (context more) depth row (going s) t f (TextLines rs qs) k (Group.run gives Group.stays)
+    λ more grows. ends_stop (context more) depth row (going s) t f (TextLines rs qs) k (Group.text_lines gives Group.stays)
 
 pub run_advances : (context : Files → Context) (files : Files) (depth row : ℕ) (lines : List LogicalLine) (index end : ℕ) (s t : State)
     (f : Option Fault)
@@ -81,5 +81,5 @@ pub run_advances : (context : Files → Context) (files : Files) (depth row : �
 run_advances context files depth row lines index end s t f within is run gives =
     advances context files depth row lines index s t (run_result end f) (λ ps k stands.
     let b = run_by context files depth row lines index end s t f ps k (ap role_by is) (first_at lines index ps k within stands) stands run gives in
-    let are = subst AreParts b.2 stands.parts in
-    subst (λ (z : Parts). AdvancesFrom context files depth row lines s t (run_result end f) z k) (sym b.2) (run_on context files depth row lines index end s t f b.0 b.1 k are.3 stands.outer b.3 b.4))
+    let are = subst AreGroupParts b.2 stands.parts in
+    subst (λ (z : GroupParts). AdvancesFrom context files depth row lines s t (run_result end f) z k) (sym b.2) (run_on context files depth row lines index end s t f b.0 b.1 k are.3 stands.outer b.3 b.4))

@@ -3,7 +3,7 @@ use Rattle.std.proofs.Common.{◌≡◌, ℕ, ◌≤◌, List, [], ◌∷◌, le
 use Rattle.std.proofs.lemmas.List.{drop_all}
 use Rattle.pptext.specs.declared.tokens.Fault.{Fault}
 use Rattle.pptext.specs.Lines.{LogicalLine}
-use Rattle.pptext.specs.Tree.{Parts, Done, TextLines, Control, Section, End, Branch, AreParts, Tree}
+use Rattle.pptext.specs.Tree.{GroupParts, Done, TextLines, Control, Section, End, Branch, AreGroupParts, Tree}
 use Rattle.ppunit.specs.States.{State, Context, Reached, going, stopped}
 use Rattle.ppunit.specs.Group.{Group}
 use Rattle.ppshelf.specs.Files.{Files, Extends}
@@ -12,13 +12,13 @@ use Rattle.ppunit.proofs.FirstLine.{lay_run, lay_control, lay_section}
 
 -- as far as the lines of a file go that have been passed: its end leads to what is to be reached
 pub record FileSoFar (context : Files → Context) (files : Files) (whole : Files → Reached → Type 0) (depth row : ℕ) (lines : List LogicalLine) (index : ℕ) (t : State) : Type 0 where
-  pub parts : Parts
+  pub parts : GroupParts
   pub outer : Outer
   pub stands : StandsAt lines index parts outer
   pub ends : (more : Files) → Extends more files → (end : Reached) → Ends (context more) depth row (going t) parts outer end → whole more end
 
 pub file_start : (context : Files → Context) (files : Files) (whole : Files → Reached → Type 0) (depth row : ℕ) (lines : List LogicalLine)
-    (index : ℕ) (t : State) (parts : Parts)
+    (index : ℕ) (t : State) (parts : GroupParts)
     → index ≡ 0
     → Tree lines parts
     → ((more : Files) → Extends more files → (end : Reached) → Group (context more) depth row (going t) parts end → whole more end)
@@ -50,7 +50,7 @@ pub file_stop : (context : Files → Context) (old new : Files) (whole : Files �
 file_stop context old new whole depth row lines index t u fault sofar wider step more grows =
     sofar.ends more (extends_trans more new old grows wider) (stopped u fault) (step sofar.parts sofar.outer sofar.stands more grows)
 
-nothing_laid : (context : Context) (depth row : ℕ) (t : State) (ps : Parts) (k : Outer) → lay ps k ≡ [] → AreParts ps → Ends context depth row (going t) ps k (going t)
+nothing_laid : (context : Context) (depth row : ℕ) (t : State) (ps : GroupParts) (k : Outer) → lay ps k ≡ [] → AreGroupParts ps → Ends context depth row (going t) ps k (going t)
 nothing_laid context depth row t Done [] e are = Group.done
 nothing_laid context depth row t Done ((End r, qs) ∷ k) e are = absurd (cc)
 nothing_laid context depth row t Done ((Branch r ps bs, qs) ∷ k) e are = absurd (cc)

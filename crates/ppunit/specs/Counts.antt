@@ -10,7 +10,7 @@ use Rattle.pptext.specs.declared.directives.Question.TheVariants.{Value}
 use Rattle.pptext.specs.Classes.{question_by}
 use Rattle.pptext.specs.declared.sources.Profile.{Profile}
 use Rattle.pptext.specs.Lines.{LogicalLine}
-use Rattle.pptext.specs.Tree.{hash_place, Parts, Branches}
+use Rattle.pptext.specs.Tree.{hash_place, GroupParts, Branches}
 use Rattle.ppexpand.specs.Expansion.{count_expansion}
 use Rattle.ppexpr.specs.Conditions.{count_condition}
 use Rattle.ppunit.specs.States.{Search, search_of, State, Context, Reached}
@@ -68,10 +68,10 @@ count_control_by profile row _ s line m h = 0
 -- ---- groups: their lines, and the files that they include
 
 abbrev mutual
-  pub count_group : {context : Context} {depth row : ℕ} {r : Reached} {ps : Parts} {end : Reached} → Group context depth row r ps end → ℕ
+  pub count_group : {context : Context} {depth row : ℕ} {r : Reached} {ps : GroupParts} {end : Reached} → Group context depth row r ps end → ℕ
   count_group Group.stays = 0
   count_group Group.done = 0
-  count_group (Group.run gives rest) = count_expansion gives.expands + count_group rest
+  count_group (Group.text_lines gives rest) = count_expansion gives.expands + count_group rest
   count_group (Group.control here rest) = count_control here + count_group rest
   count_group {context} {depth} {row} (Group.taken {s = s} {line = line} {remaining_after = remaining_after} decides here rest) =
       count_decides (search_of context) row s line remaining_after (Ok true) decides + (count_group here + count_group rest)
@@ -103,7 +103,7 @@ abbrev mutual
   pub count_includes : {context : Context} {depth row : ℕ} {search_after : Option ℕ} {s : State} {line : LogicalLine} {m : Reached}
       → ExecutesInclude context depth row search_after s line m
       → ℕ
-  count_includes (ExecutesInclude.misnamed {s = s} {line = line} {remaining_after = remaining_after} {f = f} asks) = count_names_header s line.tokens remaining_after (Err f) asks
+  count_includes (ExecutesInclude.operand_fault {s = s} {line = line} {remaining_after = remaining_after} {f = f} asks) = count_names_header s line.tokens remaining_after (Err f) asks
   count_includes (ExecutesInclude.missing {s = s} {line = line} {remaining_after = remaining_after} a asks finds) = count_names_header s line.tokens remaining_after (Ok a) asks
   count_includes (ExecutesInclude.included {s = s} {line = line} {remaining_after = remaining_after} a found asks finds opens) =
       count_names_header s line.tokens remaining_after (Ok a) asks + count_opened opens
@@ -113,7 +113,7 @@ abbrev mutual
       → ℕ
   count_opened (Opened.too_deep deep) = 0
   count_opened (Opened.exhausted fits spent) = 0
-  count_opened (Opened.read_once fits more once) = 1
+  count_opened (Opened.not_read_again fits more once) = 1
   count_opened (Opened.not_readable fits more once is) = 1
-  count_opened (Opened.faulty fits more once is reads) = 1
+  count_opened (Opened.content_fault fits more once is reads) = 1
   count_opened (Opened.read fits more once is reads tree here) = suc (count_group here)

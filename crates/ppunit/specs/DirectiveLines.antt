@@ -36,6 +36,6 @@ abbrev pub one_identifier : List Token → Option (List ℕ)
 one_identifier (t ∷ []) = if is_identifier t then Some t.text else None
 one_identifier ts = None
 
--- the tokens of a run of text lines
+-- the tokens of text lines
 abbrev pub text_tokens : List LogicalLine → List Token
 text_tokens lines = flat_map (λ line. line.tokens) lines

@@ -25,7 +25,7 @@ use Rattle.ppunit.specs.DirectiveLines.{operands, line_fault, named_fault, space
 use Rattle.ppunit.specs.LineControl.{Presumed, presumed, renumbered}
 use Rattle.ppunit.specs.Including.{IncludeName, begins_with_header, name_of_header, name_or, name_of_expansion_or, if_possible_name}
 
--- a run of text lines emits its expansion (6.10.3), up to its first fault
+-- consecutive text lines emit their expansion (6.10.3), up to its first fault
 pub record EmitsText (s : State) (tokens : List Token) (r : Reached) : Type 0 where
   pub expanded : Expanded
   pub expands : IsExpansion s.macros s.env s.remaining tokens expanded

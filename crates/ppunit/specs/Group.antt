@@ -9,7 +9,7 @@ use Rattle.pptext.specs.Classes.{class_by}
 use Rattle.pptext.specs.Lines.{LogicalLine}
 use Rattle.pptext.specs.Sources.{Reads}
 use Rattle.pptext.specs.Tokens.{fault}
-use Rattle.pptext.specs.Tree.{hash_place, Parts, Done, TextLines, Control, Section, Branches, End, Branch, Tree}
+use Rattle.pptext.specs.Tree.{hash_place, GroupParts, Done, TextLines, Control, Section, Branches, End, Branch, Tree}
 use Rattle.ppexpand.specs.Budget.{is_exhausted}
 use Rattle.ppshelf.specs.Content.{unreadable, readable}
 use Rattle.ppshelf.specs.Files.{file_at}
@@ -28,55 +28,55 @@ deepest = 200
 
 mutual
   -- A group in the file at index `row`, at an include depth. After its first fault a unit does nothing more.
-  pub data Group (context : Context) : ℕ → ℕ → Reached → Parts → Reached → Type 0 where
-    stays : {depth row : ℕ} {s : State} {f : Fault} {ps : Parts} → Group context depth row (stopped s f) ps (stopped s f)
+  pub data Group (context : Context) : ℕ → ℕ → Reached → GroupParts → Reached → Type 0 where
+    stays : {depth row : ℕ} {s : State} {f : Fault} {ps : GroupParts} → Group context depth row (stopped s f) ps (stopped s f)
     done : {depth row : ℕ} {s : State} → Group context depth row (going s) Done (going s)
-    run : {depth row : ℕ} {s : State} {lines : List LogicalLine} {ps : Parts} {m end : Reached}
+    text_lines : {depth row : ℕ} {s : State} {lines : List LogicalLine} {ps : GroupParts} {m end : Reached}
         → EmitsText s (text_tokens lines) m
         → Group context depth row m ps end
         → Group context depth row (going s) (TextLines lines ps) end
-    control : {depth row : ℕ} {s : State} {line : LogicalLine} {ps : Parts} {m end : Reached}
+    control : {depth row : ℕ} {s : State} {line : LogicalLine} {ps : GroupParts} {m end : Reached}
         → Controls context depth row s line m
         → Group context depth row m ps end
         → Group context depth row (going s) (Control line ps) end
-    taken : {depth row : ℕ} {s : State} {line : LogicalLine} {ps qs : Parts} {bs : Branches} {remaining_after : Option ℕ} {m end : Reached}
+    taken : {depth row : ℕ} {s : State} {line : LogicalLine} {ps qs : GroupParts} {bs : Branches} {remaining_after : Option ℕ} {m end : Reached}
         → Decides (search_of context) row s line remaining_after (Ok true)
         → Group context depth row (going (with_remaining s remaining_after)) ps m
         → Group context depth row m qs end
         → Group context depth row (going s) (Section line ps bs qs) end
-    skipped : {depth row : ℕ} {s : State} {line : LogicalLine} {ps qs : Parts} {bs : Branches} {remaining_after : Option ℕ} {m end : Reached}
+    skipped : {depth row : ℕ} {s : State} {line : LogicalLine} {ps qs : GroupParts} {bs : Branches} {remaining_after : Option ℕ} {m end : Reached}
         → Decides (search_of context) row s line remaining_after (Ok false)
         → Branched context depth row (with_remaining s remaining_after) bs m
         → Group context depth row m qs end
         → Group context depth row (going s) (Section line ps bs qs) end
-    condition_fault : {depth row : ℕ} {s : State} {line : LogicalLine} {ps qs : Parts} {bs : Branches} {remaining_after : Option ℕ} {f : Fault}
+    condition_fault : {depth row : ℕ} {s : State} {line : LogicalLine} {ps qs : GroupParts} {bs : Branches} {remaining_after : Option ℕ} {f : Fault}
         → Decides (search_of context) row s line remaining_after (Err f)
         → Group context depth row (going s) (Section line ps bs qs) (stopped (with_remaining s remaining_after) f)
 
   -- the branches of an if-section, up to the first that is taken (6.10.1)
   pub data Branched (context : Context) : ℕ → ℕ → State → Branches → Reached → Type 0 where
     ended : {depth row : ℕ} {s : State} {line : LogicalLine} → Branched context depth row s (End line) (going s)
-    otherwise : {depth row : ℕ} {s : State} {line : LogicalLine} {ps : Parts} {bs : Branches} {m : Reached}
+    otherwise : {depth row : ℕ} {s : State} {line : LogicalLine} {ps : GroupParts} {bs : Branches} {m : Reached}
         → line.directive ≡ Some Else
         → Group context depth row (going s) ps m
         → Branched context depth row s (Branch line ps bs) m
-    branch_taken : {depth row : ℕ} {s : State} {line : LogicalLine} {ps : Parts} {bs : Branches} {remaining_after : Option ℕ} {m : Reached}
+    branch_taken : {depth row : ℕ} {s : State} {line : LogicalLine} {ps : GroupParts} {bs : Branches} {remaining_after : Option ℕ} {m : Reached}
         → line.directive ≢ Some Else
         → Decides (search_of context) row s line remaining_after (Ok true)
         → Group context depth row (going (with_remaining s remaining_after)) ps m
         → Branched context depth row s (Branch line ps bs) m
-    branch_skipped : {depth row : ℕ} {s : State} {line : LogicalLine} {ps : Parts} {bs : Branches} {remaining_after : Option ℕ} {m : Reached}
+    branch_skipped : {depth row : ℕ} {s : State} {line : LogicalLine} {ps : GroupParts} {bs : Branches} {remaining_after : Option ℕ} {m : Reached}
         → line.directive ≢ Some Else
         → Decides (search_of context) row s line remaining_after (Ok false)
         → Branched context depth row (with_remaining s remaining_after) bs m
         → Branched context depth row s (Branch line ps bs) m
-    branch_condition_fault : {depth row : ℕ} {s : State} {line : LogicalLine} {ps : Parts} {bs : Branches} {remaining_after : Option ℕ} {f : Fault}
+    branch_condition_fault : {depth row : ℕ} {s : State} {line : LogicalLine} {ps : GroupParts} {bs : Branches} {remaining_after : Option ℕ} {f : Fault}
         → line.directive ≢ Some Else
         → Decides (search_of context) row s line remaining_after (Err f)
         → Branched context depth row s (Branch line ps bs) (stopped (with_remaining s remaining_after) f)
 
-  -- A control line. `#include_next` searches the directories after the one in which the file of this line was found, or
-  -- all of them if that is the unit's own file.
+  -- A control line. `#include_next` searches the directories after the one in which the file of this line was found. In the
+  -- unit's own file it searches as `#include` does.
   pub data Controls (context : Context) : ℕ → ℕ → State → LogicalLine → Reached → Type 0 where
     error : {depth row : ℕ} {s : State} {line : LogicalLine}
         → class_by line.directive ≡ Some class.Error
@@ -98,11 +98,11 @@ mutual
         → ExecutesInclude context depth row (if next then s.directory else None) s line m
         → Controls context depth row s line m
 
-  -- An include line without unmatched quotes (6.10.2): its operands have a fault, or no file is found for the header, or
-  -- the file that is found is opened one level deeper. The search begins after the directory with the number `following`, or
-  -- at the first directory if there is none.
+  -- An include line without unmatched quotes (6.10.2): its operands name no header or their expansion has a fault, or no file
+  -- is found for the header, or the file that is found is opened one level deeper. The search begins after the directory
+  -- with the number `search_after`, or at the first directory if there is none.
   pub data ExecutesInclude (context : Context) : ℕ → ℕ → Option ℕ → State → LogicalLine → Reached → Type 0 where
-    misnamed : {depth row : ℕ} {search_after : Option ℕ} {s : State} {line : LogicalLine} {remaining_after : Option ℕ} {f : Fault}
+    operand_fault : {depth row : ℕ} {search_after : Option ℕ} {s : State} {line : LogicalLine} {remaining_after : Option ℕ} {f : Fault}
         → NamesHeader s line.tokens remaining_after (Err f)
         → ExecutesInclude context depth row search_after s line (stopped (with_remaining s remaining_after) f)
     missing : {depth row : ℕ} {search_after : Option ℕ} {s : State} {line : LogicalLine} {remaining_after : Option ℕ} (a : IncludeName)
@@ -117,8 +117,8 @@ mutual
 
   -- Opening the file at index `row`, for the line at location `at`. `directory` is the number of the directory in which
   -- it was found; a unit's own file has none. The opening fails if it is too deep or the budget is exhausted. Otherwise
-  -- it costs one of the budget, and the file is a dependency. If the file has `#pragma once` and was already read in
-  -- this unit, nothing else happens. Otherwise its content is needed: if that isn't known, no case applies.
+  -- it costs one of the budget, and the file is a dependency. If `#pragma once` was executed in this
+  -- file before, nothing else happens. Otherwise its content is needed: if that isn't known, no constructor applies.
   pub data Opened (context : Context) : ℕ → Place → State → ℕ → Option ℕ → Reached → Type 0 where
     too_deep : {depth row : ℕ} {directory : Option ℕ} {at : Place} {s : State}
         → deepest < depth
@@ -127,7 +127,7 @@ mutual
         → depth ≤ deepest
         → is_exhausted s.remaining ≡ true
         → Opened context depth at s row directory (stopped s (fault 35 at []))
-    read_once : {depth row : ℕ} {directory : Option ℕ} {at : Place} {s : State}
+    not_read_again : {depth row : ℕ} {directory : Option ℕ} {at : Place} {s : State}
         → depth ≤ deepest
         → is_exhausted s.remaining ≡ false
         → has_row row s.once ≡ true
@@ -138,14 +138,14 @@ mutual
         → has_row row s.once ≡ false
         → file_at context.files row ≡ Some unreadable
         → Opened context depth at s row directory (stopped (with_dependency (with_one_spent s) row) (fault 6 at (name_in context.names row)))
-    faulty : {depth row : ℕ} {directory : Option ℕ} {at : Place} {s : State} {bytes : List ℕ} {f : Fault}
+    content_fault : {depth row : ℕ} {directory : Option ℕ} {at : Place} {s : State} {bytes : List ℕ} {f : Fault}
         → depth ≤ deepest
         → is_exhausted s.remaining ≡ false
         → has_row row s.once ≡ false
         → file_at context.files row ≡ Some (readable bytes)
         → Reads context.profile row bytes (Err f)
         → Opened context depth at s row directory (stopped (with_dependency (with_one_spent s) row) f)
-    read : {depth row : ℕ} {directory : Option ℕ} {at : Place} {s : State} {bytes : List ℕ} {lines : List LogicalLine} {parts : Parts} {m : Reached}
+    read : {depth row : ℕ} {directory : Option ℕ} {at : Place} {s : State} {bytes : List ℕ} {lines : List LogicalLine} {parts : GroupParts} {m : Reached}
         → depth ≤ deepest
         → is_exhausted s.remaining ≡ false
         → has_row row s.once ≡ false

@@ -16,6 +16,5 @@ pub mod Laws
 pub mod Capped
 pub mod WellFormed
 pub mod Guarded
-pub mod Parts
 pub mod BorrowedItems
 pub mod code

@@ -5,7 +5,7 @@ use Rattle.pptext.specs.declared.tokens.Fault.{Fault}
 use Rattle.pptext.specs.declared.sources.Profile.{Profile}
 use Rattle.pptext.specs.Lines.{LogicalLine}
 use Rattle.pptext.specs.Sources.{Reads}
-use Rattle.pptext.specs.Tree.{Parts, Tree}
+use Rattle.pptext.specs.Tree.{GroupParts, Tree}
 use Rattle.ppmacro.specs.Predefined.{predefined}
 use Rattle.ppshelf.specs.Files.{Files}
 pub use Rattle.ppunit.specs.CommandFile.{CommandMacros, command_file, command_line, command_text}
@@ -39,7 +39,7 @@ pub data Defines (context : Context) (defines : List (List ℕ)) : State → Rea
   unread : {s : State} {f : Fault}
       → Reads context.profile command_file (command_text defines) (Err f)
       → Defines context defines s (stopped s f)
-  processed : {s : State} {lines : List LogicalLine} {parts : Parts} {m : Reached}
+  processed : {s : State} {lines : List LogicalLine} {parts : GroupParts} {m : Reached}
       → Reads context.profile command_file (command_text defines) (Ok lines)
       → Tree lines parts
       → Group context 0 command_file (going s) parts m

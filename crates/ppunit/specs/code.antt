@@ -1,4 +1,5 @@
 -- Vocabulary of the code: only contracts inside this crate and views cite these files. No theorem rests on them.
+pub mod Chunks
 pub mod Opening
 pub mod OperandExpansion
 pub mod Preprocessor

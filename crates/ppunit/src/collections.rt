@@ -1,5 +1,5 @@
 //! File indices and items. Their models are lists.
-ghost use Rattle.ppunit.specs.Parts.{part_items};
+ghost use Rattle.ppunit.specs.code.Chunks.{chunk_items};
 ghost use Rattle.std.specs.Prelude.{flat_map, ◌≡◌, map, IfOk, OnOk, ◌++◌, ◌∷◌, []};
 ghost use Rattle.ppunit.specs.declared.units.Item.TheVariants as item;
 ghost use Rattle.ppunit.specs.Dependencies.{has_row, with_row};
@@ -60,9 +60,9 @@ impl Rows {
     }
 }
 
-/// A part of the output: a run of tokens, or a pragma with its location and its tokens.
+/// A chunk of the items: tokens, or a pragma with its location and its tokens.
 #[derive(Drop)]
-pub enum Part<'a> {
+pub(crate) enum Chunk<'a> {
     Tokens(TokenRope<'a>),
     Pragma(Place, &'a [Token]),
 }
@@ -70,7 +70,7 @@ pub enum Part<'a> {
 /// The items of a unit's output. Its model is their list.
 #[derive(Drop)]
 pub struct Items<'a> {
-    parts: Vec<Part<'a>>,
+    chunks: Vec<Chunk<'a>>,
 }
 
 impl<'a> Model for Items<'a> {
@@ -79,9 +79,9 @@ impl<'a> Model for Items<'a> {
 
     ghost Value = { List Item };
 
-    ghost use Rattle.ppunit.specs.Parts.{part_items};
+    ghost use Rattle.ppunit.specs.code.Chunks.{chunk_items};
 
-    ghost view = { λ s. flat_map part_items s.parts.items };
+    ghost view = { λ s. flat_map chunk_items s.chunks.items };
 }
 
 impl<'a> Items<'a> {
@@ -90,7 +90,7 @@ impl<'a> Items<'a> {
         ensures { result ≡ [] }
     {
         Items {
-            parts: Vec::new(alloc),
+            chunks: Vec::new(alloc),
         }
     }
 
@@ -98,16 +98,16 @@ impl<'a> Items<'a> {
     pub(crate) fn trim(self) -> Items<'a>
         ensures { result ≡ self.entry }
     {
-        let mut parts = self.parts;
-        parts.shrink_to_fit();
-        Items { parts }
+        let mut chunks = self.chunks;
+        chunks.shrink_to_fit();
+        Items { chunks }
     }
 
-    /// Borrows the parts. Printing reads these, which is faster than the iterator.
-    pub fn parts(&self) -> &[Part<'a>]
-        ensures { flat_map part_items result.now ≡ self.now }
+    /// Borrows the chunks.
+    pub(crate) fn chunks(&self) -> &[Chunk<'a>]
+        ensures { flat_map chunk_items result.now ≡ self.now }
     {
-        self.parts.as_slice()
+        self.chunks.as_slice()
     }
 
     /// Copies the items into one vector. Fails if an allocation fails.
@@ -115,8 +115,8 @@ impl<'a> Items<'a> {
         ensures { IfOk result (λ v. v.items ≡ self.now) }
     {
         let mut items = Vec::new(alloc);
-        for part in &self.parts {
-            copy_part(alloc, &mut items, part)?;
+        for chunk in &self.chunks {
+            copy_chunk(alloc, &mut items, chunk)?;
         }
         Ok(items)
     }
@@ -125,26 +125,26 @@ impl<'a> Items<'a> {
     pub(crate) fn push_pragma(&mut self, at: Place, tokens: &'a [Token]) -> Result<(), AllocError>
         ensures { OnOk result (self.new ≡ self.old ++ item.Pragma at tokens.now ∷ []) }
     {
-        self.parts.push(Part::Pragma(at, tokens))?;
+        self.chunks.push(Chunk::Pragma(at, tokens))?;
         Ok(())
     }
 
-    /// Appends a run of tokens.
-    pub(crate) fn extend(&mut self, run: TokenRope<'a>) -> Result<(), AllocError>
-        ensures { OnOk result (self.new ≡ self.old ++ map item.Token run.entry) }
+    /// Appends tokens.
+    pub(crate) fn extend(&mut self, rope: TokenRope<'a>) -> Result<(), AllocError>
+        ensures { OnOk result (self.new ≡ self.old ++ map item.Token rope.entry) }
     {
-        self.parts.push(Part::Tokens(run))?;
+        self.chunks.push(Chunk::Tokens(rope))?;
         Ok(())
     }
 }
 
-/// Appends copies of a part's items.
-fn copy_part(alloc: Global, items: &mut Vec<Item>, part: &Part) -> Result<(), AllocError>
-    ensures { OnOk result (items.new.items ≡ items.old.items ++ part_items part.now) }
+/// Appends copies of a chunk's items.
+fn copy_chunk(alloc: Global, items: &mut Vec<Item>, chunk: &Chunk) -> Result<(), AllocError>
+    ensures { OnOk result (items.new.items ≡ items.old.items ++ chunk_items chunk.now) }
 {
-    match part {
-        Part::Tokens(run) => push_tokens(items, run.to_vec(alloc)?),
-        Part::Pragma(at, tokens) => {
+    match chunk {
+        Chunk::Tokens(rope) => push_tokens(items, rope.to_vec(alloc)?),
+        Chunk::Pragma(at, tokens) => {
             let tokens = Tokens::new(Vec::from_clones(alloc, tokens)?);
             items.push(Item::Pragma(*at, tokens))?;
             Ok(())

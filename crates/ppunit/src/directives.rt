@@ -16,7 +16,7 @@ use ppmacro::{define, undef};
 use pptext::{Directive, Error, Fault, Profile, Token};
 use std::alloc::{AllocError, Global};
 
-/// Emits the expansion of a run of text lines, up to its first fault (6.10.3).
+/// Emits the expansion of consecutive text lines, up to its first fault (6.10.3).
 pub(crate) fn emit_text<'x>(
     alloc: Global,
     state: &mut State<'x>,
@@ -24,7 +24,7 @@ pub(crate) fn emit_text<'x>(
 ) -> Result<(), Error>
     ensures { UnlessOutOfMemory result (λ r. spec.EmitsText state.old tokens.now (record { state = state.new; fault = result_err r })) }
 {
-    // Blank lines between directives are a run as well.
+    // Blank lines between directives are text lines too.
     if tokens.is_empty() {
         return Ok(());
     }

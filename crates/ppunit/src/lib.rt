@@ -23,10 +23,10 @@ mod states;
 mod units;
 mod well_formed;
 
-pub use collections::{Items, Part, Rows};
+pub use collections::{Items, Rows};
 pub use command_macros::CommandMacros;
 pub use guards::guard_changes_nothing;
-pub use items::{ItemRef, ItemsIter};
+pub use items::{ItemRef, ItemSlice, ItemSlices, ItemsIter};
 pub use laws::{
     budget_caps_units, growth, larger_budgets_give_no_less, one_value, only_budgets_refuse,
     some_value, stays_in_budget,

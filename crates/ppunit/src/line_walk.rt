@@ -6,7 +6,7 @@ ghost use Rattle.std.specs.List.{AllByRecursion};
 ghost use Rattle.std.specs.Result.{result_err};
 ghost use Rattle.pptext.specs.Lines.{LogicalLine};
 ghost use Rattle.pptext.specs.Errors.{UnlessOutOfMemory};
-ghost use Rattle.pptext.specs.Tree.{Parts, Branches, branch_lines, AreBranches};
+ghost use Rattle.pptext.specs.Tree.{GroupParts, Branches, branch_lines, AreBranches};
 ghost use Rattle.pptext.specs.Classes.{opens_section, ends_group};
 ghost use Rattle.pptext.specs.declared.sources.Directive.{Directive};
 ghost use Rattle.ppshelf.specs.Files.{Files};
@@ -30,17 +30,17 @@ use pptext::{Class, Directive, Error, Source, Token};
 use std::alloc::Global;
 use std::marker::Model;
 
-/// Returns the index of the line after the run of text lines that begins at `start`.
+/// Returns the index of the line after the text lines that begin at `start`.
 fn text_end(source: &Source, start: usize) -> usize
     requires index { start < length source.now }
     requires text { IsTextLine (line_at source.now start) }
     ensures within { result ≤ length source.now }
     ensures further { start < result }
-    ensures run { (run rest : List LogicalLine)
-        → drop start source.now ≡ run ++ rest
-        → AllByRecursion IsTextLine run
+    ensures text_lines { (lines rest : List LogicalLine)
+        → drop start source.now ≡ lines ++ rest
+        → AllByRecursion IsTextLine lines
         → IsRest rest
-        → (result ≡ start + length run) × (drop result source.now ≡ rest) }
+        → (result ≡ start + length lines) × (drop result source.now ≡ rest) }
 {
     let lines = line_count(source);
     let mut end = start + 1;
@@ -86,7 +86,7 @@ fn find_branch<D: Disk>(
     requires start { start < length source.now }
     ensures further { IfOk result (λ next. start < next) }
     ensures found { UnlessOutOfMemory result (λ next.
-        (ps : Parts) (bs : Branches) (qs : Parts) (k : Outer)
+        (ps : GroupParts) (bs : Branches) (qs : GroupParts) (k : Outer)
         → BranchesAt source.now start ps bs qs k
         → FindsBranch (search_in_unit context.now) row source.now state.old state.new bs qs k next) }
 {
@@ -100,7 +100,7 @@ fn find_branch<D: Disk>(
     Ok(index + 1)
 }
 
-/// Returns the index of the line after the `#endif` of the if-section that has this branch line.
+/// Returns the index of the line after the `#endif` of the if-section that has the branch line or `#endif` at `branch`.
 fn section_end(source: &Source, branch: usize) -> usize
     requires { branch < length source.now }
     ensures further { branch < result }
@@ -131,7 +131,7 @@ fn execute_if_line<D: Disk>(
     requires line { (line_at source.now index).directive ≡ Some directive }
     requires opens { opens_section directive ≡ true }
     ensures further { IfOk result (λ next. index < next) }
-    ensures entered { (files : Files) (depth : ℕ)
+    ensures advances { (files : Files) (depth : ℕ)
         → UnlessOutOfMemory result (λ next. Advances (context_over context.now) files depth row source.now index state.old state.new next) }
 {
     if decide(context, state, row, directive, &tokens_at(source, index))? {
@@ -140,7 +140,7 @@ fn execute_if_line<D: Disk>(
     find_branch(context, state, row, source, index)
 }
 
-/// Expands a run of text lines and emits its tokens. Returns the index of the line after it.
+/// Expands consecutive text lines and emits their tokens. Returns the index of the line after them.
 fn execute_text_lines<'x>(
     alloc: Global,
     state: &mut State<'x>,
@@ -150,7 +150,7 @@ fn execute_text_lines<'x>(
     requires index { index < length source.now }
     requires text { IsTextLine (line_at source.now index) }
     ensures further { IfOk result (λ next. index < next) }
-    ensures run { (context : Files → Context) (files : Files) (depth row : ℕ)
+    ensures text_lines { (context : Files → Context) (files : Files) (depth row : ℕ)
         → UnlessOutOfMemory result (λ next. Advances context files depth row source.now index state.old state.new next) }
 {
     let end = text_end(source, index);
@@ -160,17 +160,17 @@ fn execute_text_lines<'x>(
 
 /// For `#include_next`, returns the number of the directory in which the current file was found: the search begins after it.
 /// Otherwise returns `None`: the search begins at the first directory.
-fn directory_before(next: bool, state: &State) -> Option<usize>
+fn search_after(next: bool, state: &State) -> Option<usize>
     ensures { result ≡ (if next then state.now.directory else None) }
 {
     if next { state.directory } else { None }
 }
 
-/// The next line to process: the first of a file that was just opened, if there is one, and then the line at index
-/// `line`.
+/// Where execution continues: in the file `entered`, if a line opened one, and after it at the line at `index` of the
+/// current file.
 #[derive(Drop)]
 struct NextLine<'a> {
-    line: usize,
+    index: usize,
     entered: Option<Entered<'a>>,
 }
 
@@ -180,15 +180,15 @@ impl<'a> Model for NextLine<'a> {
 
     ghost Value = { ℕ × Option Entered };
 
-    ghost view = { λ n. (n.line, n.entered) };
+    ghost view = { λ n. (n.index, n.entered) };
 }
 
-/// Returns the next line, the one at index `line`, after a line that opened no file.
-fn next_line<'a>(line: usize) -> NextLine<'a>
-    ensures { result ≡ (line, None) }
+/// Returns that execution continues at the line at `index`: no file was opened.
+fn next_line<'a>(index: usize) -> NextLine<'a>
+    ensures { result ≡ (index, None) }
 {
     NextLine {
-        line,
+        index,
         entered: None,
     }
 }
@@ -245,7 +245,7 @@ impl<'x, 'a: 'x, D: Disk> Preprocessor<'_, 'x, 'a, D> {
             Class::Includes(next) => {
                 refuse_unmatched_quote(&line.tokens)?;
                 let row = line.row;
-                let directory = directory_before(next, &self.state);
+                let directory = search_after(next, &self.state);
                 self.include(depth, Opening { row, directory }, &line.tokens)
             }
             _ => {
@@ -256,7 +256,7 @@ impl<'x, 'a: 'x, D: Disk> Preprocessor<'_, 'x, 'a, D> {
         }
     }
 
-    /// Executes one run of text lines or one directive line. Returns what comes next, or the fault.
+    /// Executes consecutive text lines or one directive line. Returns where execution continues.
     fn step(&mut self, depth: u32, file: &OpenFile<'x>) -> Result<NextLine<'a>, Error>
         requires depth { depth ≤ 200 }
         requires index { file.now.index < length file.now.lines }
@@ -292,7 +292,7 @@ impl<'x, 'a: 'x, D: Disk> Preprocessor<'_, 'x, 'a, D> {
         };
         let entered = self.execute_line(depth, directive_line)?;
         Ok(NextLine {
-            line: index + 1,
+            index: index + 1,
             entered,
         })
     }
@@ -312,8 +312,8 @@ impl<'x, 'a: 'x, D: Disk> Preprocessor<'_, 'x, 'a, D> {
             if file.index < line_count(file.source) {
                 match self.step(suspended.depth(), &file) {
                     Ok(next) => {
-                        let NextLine { line, entered } = next;
-                        file.index = line;
+                        let NextLine { index, entered } = next;
+                        file.index = index;
                         // Fast path: most lines open no file.
                         if let Some(entered) = entered {
                             file = suspended.enter(file, entered)?;

@@ -13,4 +13,4 @@ pub data Action : Type 0 where
   Emits : Hidden → Action
   Failed : Fault → Action
   Replaced : Action
-  Called : Hidden → Macro → List (Vec Hidden Global) → ℕ → Action
+  Invoked : Hidden → Macro → List (Vec Hidden Global) → ℕ → Action

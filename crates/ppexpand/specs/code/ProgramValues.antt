@@ -16,9 +16,9 @@ use Rattle.ppmacro.specs.Substituting.{lists_of, option_of, options_of, ListsKno
 use Rattle.ppmacro.specs.declared.macros.Macro.{Macro}
 use Rattle.ppmacro.specs.declared.hidden_token.Hidden.{Hidden}
 use Rattle.ppmacro.specs.declared.hidden_token.ArgumentExpansion.{ArgumentExpansion}
-use Rattle.ppmacro.specs.declared.hidden_token.ArgumentExpansion.TheVariants.{Unused, AsGiven, Made}
+use Rattle.ppmacro.specs.declared.hidden_token.ArgumentExpansion.TheVariants.{Unused, AsGiven, Owned}
 use Rattle.ppexpand.specs.declared.env.Env.{Env}
-use Rattle.ppexpand.specs.ExpansionStep.{Call, ExpansionStep, Done, Refused, Emits, Failed, Replaced, Called, wanted, finish_call, ExpandedArguments}
+use Rattle.ppexpand.specs.ExpansionStep.{Invocation, ExpansionStep, Done, Refused, Emits, Failed, Replaced, Invoked, wanted, finish_invocation, ExpandedArguments}
 use Rattle.ppexpand.specs.Budget.{spend_one}
 use Rattle.ppexpand.specs.code.Action as next
 use Rattle.ppexpand.specs.Expansion.{Outcome, step_in_budget, Expands, ExpandsArguments}
@@ -43,7 +43,7 @@ FittingKnown sets (Some v) = ListsKnown sets v.items
 abbrev pub owned_tokens : ArgumentExpansion → List Hidden
 owned_tokens Unused = []
 owned_tokens AsGiven = []
-owned_tokens (Made v) = v.items
+owned_tokens (Owned v) = v.items
 
 -- the hide sets of all these tokens exist
 pub record ExpansionsKnown (sets : HideSetPool) (es : List ArgumentExpansion) : Type 0 where
@@ -57,18 +57,18 @@ is_bare _ = false
 -- ---- expansion steps
 
 -- an invocation: the macro name token, the macro, the arguments, the intersection of the hide sets of the name and the `)`, and the tokens after it
-abbrev pub call_in : HideSetPool → Hidden → Macro → List (Vec Hidden Global) → ℕ → List Hidden → Call
-call_in sets head macro given base following = record {
-  head = hiding sets head;
+abbrev pub invocation_in : HideSetPool → Hidden → Macro → List (Vec Hidden Global) → ℕ → List Hidden → Invocation
+invocation_in sets name_token macro given base following = record {
+  name_token = hiding sets name_token;
   macro = macro;
   arguments = given_in sets given;
-  gain = set.insert (set_at sets base) head.token.text;
+  gain = set.insert (set_at sets base) name_token.token.text;
   following = hidings sets following;
 }
 
 -- the hide sets of an invocation exist
-pub record CallKnown (sets : HideSetPool) (name : Hidden) (given : List (Vec Hidden Global)) (base : ℕ) : Type 0 where
-  pub head : HasSets sets name
+pub record InvocationKnown (sets : HideSetPool) (name : Hidden) (given : List (Vec Hidden Global)) (base : ℕ) : Type 0 where
+  pub name_token : HasSets sets name
   pub arguments : ListsKnown sets given
   pub base_known : IsKnown sets base
 
@@ -76,15 +76,15 @@ pub record CallKnown (sets : HideSetPool) (name : Hidden) (given : List (Vec Hid
 abbrev pub step_in : HideSetPool → List Hidden → next.Action → ExpansionStep
 step_in sets following next.Done = Done
 step_in sets following (next.Refused f) = Refused f
-step_in sets following (next.Emits head) = Emits (hiding sets head) (hidings sets following)
+step_in sets following (next.Emits token) = Emits (hiding sets token) (hidings sets following)
 step_in sets following (next.Failed f) = Failed f
 step_in sets following next.Replaced = Replaced (hidings sets following)
-step_in sets following (next.Called head macro given base) = Called (call_in sets head macro given base following)
+step_in sets following (next.Invoked name_token macro given base) = Invoked (invocation_in sets name_token macro given base following)
 
 abbrev pub ActionKnown : HideSetPool → List Hidden → next.Action → Type 0
-ActionKnown sets following (next.Emits head) = HasSets sets head × AllKnown sets following
+ActionKnown sets following (next.Emits token) = HasSets sets token × AllKnown sets following
 ActionKnown sets following next.Replaced = AllKnown sets following
-ActionKnown sets following (next.Called head macro given base) = CallKnown sets head given base × AllKnown sets following
+ActionKnown sets following (next.Invoked name_token macro given base) = InvocationKnown sets name_token given base × AllKnown sets following
 ActionKnown sets following _ = Unit {0}
 
 -- the expansion step of a replacement after which this list is left
@@ -95,37 +95,37 @@ replaced_in sets following (Err f) = Failed f
 -- ---- expansion
 
 -- an argument of an invocation at this level has this expansion or this fault, and leaves this much of the budget
-pub data ExpandsArgument (macros : Macros) (env : Env) (level : ℕ) (head : Token) (remaining : Option ℕ) (list : List Hiding)
+pub data ExpandsArgument (macros : Macros) (env : Env) (level : ℕ) (name_token : Token) (remaining : Option ℕ) (list : List Hiding)
     : Option ℕ → Result (List Hiding) Fault → Type 0 where
   expands : {steps : ℕ} {remaining_after : Option ℕ} {tokens : List Hiding}
       → level < 256
       → Expands macros env (suc level) remaining steps list (record { tokens = tokens; fault = None; remaining = remaining_after })
-      → ExpandsArgument macros env level head remaining list remaining_after (Ok tokens)
+      → ExpandsArgument macros env level name_token remaining list remaining_after (Ok tokens)
   raises : {steps : ℕ} {remaining_after : Option ℕ} {tokens : List Hiding} {f : Fault}
       → level < 256
       → Expands macros env (suc level) remaining steps list (record { tokens = tokens; fault = Some f; remaining = remaining_after })
-      → ExpandsArgument macros env level head remaining list remaining_after (Err f)
-  deep : 256 ≤ level → ExpandsArgument macros env level head remaining list remaining (Err (fault 21 head.used head.text))
+      → ExpandsArgument macros env level name_token remaining list remaining_after (Err f)
+  deep : 256 ≤ level → ExpandsArgument macros env level name_token remaining list remaining (Err (fault 21 name_token.used name_token.text))
 
 -- an argument of an invocation at this level has an expansion, and this value of the program stands for it, or it has this fault
 abbrev pub HasExpanded : Macros → Env → ℕ → Token → Option ℕ → Option ℕ → HideSetPool → HideSetPool → List Hidden → Result ArgumentExpansion Fault → Type 0
-HasExpanded macros env level head remaining remaining_after before sets given (Ok e) = (tokens : List Hiding)
+HasExpanded macros env level name_token remaining remaining_after before sets given (Ok e) = (tokens : List Hiding)
     × (option_map (hidings sets) (option_of given e) ≡ Some tokens)
-    × ExpandsArgument macros env level head remaining (hidings before given) remaining_after (Ok tokens)
-HasExpanded macros env level head remaining remaining_after before sets given (Err f) = ExpandsArgument macros env level head remaining (hidings before given) remaining_after (Err f)
+    × ExpandsArgument macros env level name_token remaining (hidings before given) remaining_after (Ok tokens)
+HasExpanded macros env level name_token remaining remaining_after before sets given (Err f) = ExpandsArgument macros env level name_token remaining (hidings before given) remaining_after (Err f)
 
 -- the arguments of an invocation at this level that are to be expanded have these expansions or this fault, and leave this much of the budget
-abbrev pub ExpandsWanted : Macros → Env → ℕ → Call → Option ℕ → Option ℕ → ExpandedArguments → Type 0
-ExpandsWanted macros env level call remaining remaining_after r = ExpandsArguments macros env level call remaining (wanted call) remaining_after r
+abbrev pub ExpandsWanted : Macros → Env → ℕ → Invocation → Option ℕ → Option ℕ → ExpandedArguments → Type 0
+ExpandsWanted macros env level invocation remaining remaining_after r = ExpandsArguments macros env level invocation remaining (wanted invocation) remaining_after r
 
 -- an invocation at this level has this expansion step: its arguments are expanded, then it is replaced
-pub data CallStepsTo (macros : Macros) (env : Env) (level : ℕ) (call : Call) (remaining : Option ℕ) : Option ℕ → ExpansionStep → Type 0 where
+pub data ClosedStepsTo (macros : Macros) (env : Env) (level : ℕ) (invocation : Invocation) (remaining : Option ℕ) : Option ℕ → ExpansionStep → Type 0 where
   refuses : {remaining_after : Option ℕ} {f : Fault}
-      → ExpandsWanted macros env level call remaining remaining_after (Err f)
-      → CallStepsTo macros env level call remaining remaining_after (Failed f)
+      → ExpandsWanted macros env level invocation remaining remaining_after (Err f)
+      → ClosedStepsTo macros env level invocation remaining remaining_after (Failed f)
   finishes : {remaining_after : Option ℕ} {expanded : List (Option (List Hiding))}
-      → ExpandsWanted macros env level call remaining remaining_after (Ok expanded)
-      → CallStepsTo macros env level call remaining remaining_after (finish_call call expanded)
+      → ExpandsWanted macros env level invocation remaining remaining_after (Ok expanded)
+      → ClosedStepsTo macros env level invocation remaining remaining_after (finish_invocation invocation expanded)
 
 -- one expansion step leads from the first list to the second, and emits these tokens
 pub record Advances (macros : Macros) (env : Env) (level : ℕ) (remaining : Option ℕ) (list : List Hiding) (remaining_after : Option ℕ)
@@ -155,6 +155,6 @@ HasTaken macros env level remaining list emitted (Ok false) remaining_after next
 HasTaken macros env level remaining list emitted (Err f) remaining_after next more = HasEnded macros env level remaining list emitted (Some f) remaining_after more
 
 -- a list begins with this invocation, which is counted; nothing was emitted, and the list goes on
-abbrev pub HasCalled : Macros → Env → Option ℕ → List Hiding → List Hiding → Call → Result Bool Fault → Option ℕ → List Hiding → Type 0
-HasCalled macros env remaining list emitted call r remaining_after more =
-    (step_in_budget macros env remaining list ≡ Called call) × (r ≡ Ok true) × (remaining_after ≡ spend_one remaining) × (more ≡ emitted)
+abbrev pub HasInvoked : Macros → Env → Option ℕ → List Hiding → List Hiding → Invocation → Result Bool Fault → Option ℕ → List Hiding → Type 0
+HasInvoked macros env remaining list emitted invocation r remaining_after more =
+    (step_in_budget macros env remaining list ≡ Invoked invocation) × (r ≡ Ok true) × (remaining_after ≡ spend_one remaining) × (more ≡ emitted)

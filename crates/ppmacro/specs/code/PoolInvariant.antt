@@ -5,7 +5,7 @@ use Rattle.std.specs.List.{AllByRecursion, IsDistinct}
 use Rattle.ppmacro.specs.Names.{Name}
 use Rattle.ppmacro.specs.code.Nodes.{Node, member, IsPool, IsBounded}
 use Rattle.ppmacro.specs.code.Members.{same_name}
-use Rattle.ppmacro.specs.code.Operations.{Union, Meet, member_rule}
+use Rattle.ppmacro.specs.code.Operations.{Union, Intersection, member_rule}
 use Rattle.ppmacro.specs.PairCache.{CachedPairs}
 
 -- A cached result of a pair is the set that `op` makes of both.
@@ -24,4 +24,4 @@ pub record IsPoolKept (names : List Name) (ns : List Node) (us ms : CachedPairs)
   pub pool : IsPool ns
   pub bounded : IsBounded (length names) ns
   pub unions : AreAnswers (member_rule Union) ns us
-  pub meets : AreAnswers (member_rule Meet) ns ms
+  pub intersections : AreAnswers (member_rule Intersection) ns ms

@@ -4,7 +4,7 @@ ghost use Rattle.std.specs.Prelude.{◌≡◌, Some, None, Ok, ◌<◌, ◌||◌
 ghost use Rattle.std.specs.Int.RustNames.{bit_or};
 ghost use Rattle.ppmacro.specs.code.Nodes.{node_at, word, word_with, member, IsPool, KeepsNodes, PointsBelow, IsBounded, first};
 ghost use Rattle.ppmacro.specs.code.Operations.{member_rule, word_rule, known};
-ghost use Rattle.ppmacro.specs.PairCache.{union_known, meet_known, KeepsPairs};
+ghost use Rattle.ppmacro.specs.PairCache.{union_known, intersection_known, KeepsPairs};
 ghost use Rattle.ppmacro.specs.code.PoolInvariant.{AreAnswers};
 
 use super::pair_cache::PairCache;
@@ -42,7 +42,7 @@ impl Model for Node {
 #[derive(Clone, Copy)]
 pub(crate) enum OperationKind {
     Union,
-    Meet,
+    Intersection,
 }
 
 /// An operation on two sets.
@@ -54,15 +54,15 @@ pub(crate) struct Operation {
 impl Model for Operation {
     ghost use Rattle.std.specs.Prelude.{◌≡◌, refl};
     ghost use Rattle.ppmacro.specs.code.Operations as specification;
-    ghost use Rattle.ppmacro.specs.declared.hide_sets.nodes.OperationKind.TheVariants.{Union, Meet};
+    ghost use Rattle.ppmacro.specs.declared.hide_sets.nodes.OperationKind.TheVariants.{Union, Intersection};
 
     ghost Value = { specification.Operation };
 
-    ghost view = { λ o. elim o.kind [ Union ↦ specification.Union | Meet ↦ specification.Meet ] };
+    ghost view = { λ o. elim o.kind [ Union ↦ specification.Union | Intersection ↦ specification.Intersection ] };
 
-    ghost inverse = { λ o. record { kind = elim o [ specification.Union ↦ Union | specification.Meet ↦ Meet ] } };
+    ghost inverse = { λ o. record { kind = elim o [ specification.Union ↦ Union | specification.Intersection ↦ Intersection ] } };
 
-    ghost inverse_ok = { λ o h. elim o.kind as (λ k. inverse (view (record { kind = k })) ≡ record { kind = k }) [ Union ↦ refl | Meet ↦ refl ] };
+    ghost inverse_ok = { λ o h. elim o.kind as (λ k. inverse (view (record { kind = k })) ≡ record { kind = k }) [ Union ↦ refl | Intersection ↦ refl ] };
 }
 
 impl Operation {
@@ -72,7 +72,7 @@ impl Operation {
     {
         match self.kind {
             OperationKind::Union => left | right,
-            OperationKind::Meet => left & right,
+            OperationKind::Intersection => left & right,
         }
     }
 }
@@ -264,7 +264,7 @@ fn trivial_union(one: u32, two: u32) -> Option<u32>
 
 /// Returns the intersection if a set is empty or both are equal.
 fn trivial_meet(one: u32, two: u32) -> Option<u32>
-    ensures { result ≡ meet_known [] one two }
+    ensures { result ≡ intersection_known [] one two }
 {
     if one == 0 {
         return Some(one);
@@ -284,7 +284,7 @@ fn trivial_result(operation: Operation, one: u32, two: u32) -> Option<u32>
 {
     match operation.kind {
         OperationKind::Union => trivial_union(one, two),
-        OperationKind::Meet => trivial_meet(one, two),
+        OperationKind::Intersection => trivial_meet(one, two),
     }
 }
 

@@ -37,7 +37,7 @@ fn expansion_tokens<'g, 'a>(
             none
         }
         ArgumentExpansion::AsGiven => argument,
-        ArgumentExpansion::Made(tokens) => tokens.as_slice(),
+        ArgumentExpansion::Owned(tokens) => tokens.as_slice(),
     }
 }
 

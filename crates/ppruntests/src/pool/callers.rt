@@ -21,7 +21,6 @@ type Found<'a> = (Pass<'a, Stage>, Vec<u8>, bool);
 
 /// Appends the text of a unit's output.
 fn push_one<'a>(
-    alloc: Global,
     shelf: &'a Shelf<Stage>,
     pass: &mut Pass<'a, Stage>,
     disk: &Stage,
@@ -34,6 +33,7 @@ fn push_one<'a>(
     requires unit { IsUnitOf (length shelf.now.names) setting.now.profile unit.now }
     ensures { pass.new.shelf ≡ shelf.now }
 {
+    let alloc = *text.allocator();
     let out = preprocess(alloc, shelf, pass, disk, setting, unit)?;
     Ok(push_unit(alloc, text, &out)?)
 }
@@ -54,7 +54,7 @@ fn all_in_turn<'a>(
 {
     let mut text = Vec::new(alloc);
     for unit in units {
-        push_one(alloc, shelf, pass, disk, setting, unit, &mut text)?;
+        push_one(shelf, pass, disk, setting, unit, &mut text)?;
     }
     Ok(text)
 }

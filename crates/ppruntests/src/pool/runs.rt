@@ -10,7 +10,7 @@ use super::stage::{Change, Meeting, Scene, Stage};
 use pppool::{Batch, Retain, run, run_retaining};
 use ppshelf::{Pass, ReadFault, Shelf};
 use pptext::Memory;
-use ppunit::{Setting, Unit, UnitOut};
+use ppunit::UnitOut;
 use std::alloc::Global;
 use std::process::Abort;
 use std::sync::atomic::Ordering::SeqCst;
@@ -39,35 +39,21 @@ pub(crate) struct Case {
 fn run_once<'a, R: Threads + Sync>(
     rt: &R,
     alloc: Global,
-    shelf: &'a Shelf<Stage>,
     pass: &mut Pass<'a, Stage>,
-    disk: &Stage,
-    setting: &Setting,
-    units: &'a [Unit],
-    parallelism: Parallelism,
+    batch: &Batch<'a, '_, Stage, Stage>,
+    retain: Retain,
 ) -> Result<Vec<UnitOut<'a>>, Memory>
-    requires pass { pass.old.shelf ≡ shelf.now }
-    requires count { length units.now ≤ most_rows }
-    requires profile { shelf.now.profile ≡ setting.now.profile }
-    requires rows { All (IsUnitOf (length shelf.now.names) setting.now.profile) units.now }
-    ensures { pass.new.shelf ≡ shelf.now }
+    requires pass { pass.old.shelf ≡ batch.now.shelf.now }
+    requires workers { (1 ≤ batch.now.workers) × (batch.now.workers ≤ 64) }
+    requires block { (1 ≤ batch.now.block) × (batch.now.block ≤ 1024) }
+    requires count { length batch.now.units.now ≤ most_rows }
+    requires profile { batch.now.shelf.now.profile ≡ batch.now.setting.now.profile }
+    requires rows { All (IsUnitOf (length batch.now.shelf.now.names) batch.now.setting.now.profile) batch.now.units.now }
+    ensures { pass.new.shelf ≡ batch.now.shelf.now }
 {
-    let (workers, block) = (
-        parallelism.workers.clamp(1, 64),
-        parallelism.block.clamp(1, 1024),
-    );
-    let batch = Batch {
-        shelf,
-        disk,
-        gate: disk,
-        setting,
-        units,
-        workers,
-        block,
-    };
-    match parallelism.retain {
-        Retain::Everything => run(rt, alloc, pass, &batch),
-        Retain::WithoutItems => run_retaining(rt, alloc, pass, &batch, Retain::WithoutItems),
+    match retain {
+        Retain::Everything => run(rt, alloc, pass, batch),
+        Retain::WithoutItems => run_retaining(rt, alloc, pass, batch, Retain::WithoutItems),
     }
 }
 
@@ -76,27 +62,18 @@ fn run_once<'a, R: Threads + Sync>(
 fn run_over<'a, R: Threads + Sync + Abort>(
     rt: &R,
     alloc: Global,
-    shelf: &'a Shelf<Stage>,
-    disk: &Stage,
-    setting: &Setting,
-    units: &'a [Unit],
-    parallelism: Parallelism,
+    batch: &Batch<'a, '_, Stage, Stage>,
+    retain: Retain,
 ) -> Result<Vec<UnitOut<'a>>, Memory>
-    requires count { length units.now ≤ most_rows }
-    requires profile { shelf.now.profile ≡ setting.now.profile }
-    requires rows { All (IsUnitOf (length shelf.now.names) setting.now.profile) units.now }
+    requires workers { (1 ≤ batch.now.workers) × (batch.now.workers ≤ 64) }
+    requires block { (1 ≤ batch.now.block) × (batch.now.block ≤ 1024) }
+    requires count { length batch.now.units.now ≤ most_rows }
+    requires profile { batch.now.shelf.now.profile ≡ batch.now.setting.now.profile }
+    requires rows { All (IsUnitOf (length batch.now.shelf.now.names) batch.now.setting.now.profile) batch.now.units.now }
 {
-    let mut pass = shelf.pass()?;
-    let first = run_once(
-        rt,
-        alloc,
-        shelf,
-        &mut pass,
-        disk,
-        setting,
-        units,
-        parallelism,
-    );
+    let mut pass = batch.shelf.pass()?;
+    let first = run_once(rt, alloc, &mut pass, batch, retain);
+    let disk = batch.disk;
     if first.is_ok() || disk.fault == ReadFault::Unreadable {
         // A run fails if one of its reads has no memory.
         assert!(rt;
@@ -106,34 +83,7 @@ fn run_over<'a, R: Threads + Sync + Abort>(
         );
         return first;
     }
-    run_once(
-        rt,
-        alloc,
-        shelf,
-        &mut pass,
-        disk,
-        setting,
-        units,
-        parallelism,
-    )
-}
-
-/// Runs units, and returns the text of their outputs.
-fn text_over<R: Threads + Sync + Abort>(
-    rt: &R,
-    alloc: Global,
-    shelf: &Shelf<Stage>,
-    disk: &Stage,
-    setting: &Setting,
-    units: &[Unit],
-    parallelism: Parallelism,
-) -> Result<Vec<u8>, Memory>
-    requires count { length units.now ≤ most_rows }
-    requires profile { shelf.now.profile ≡ setting.now.profile }
-    requires rows { All (IsUnitOf (length shelf.now.names) setting.now.profile) units.now }
-{
-    let outs = run_over(rt, alloc, shelf, disk, setting, units, parallelism)?;
-    Ok(as_text(alloc, outs.as_slice())?)
+    run_once(rt, alloc, &mut pass, batch, retain)
 }
 
 /// Runs the units with these files and definitions, and returns the text of their outputs.
@@ -149,15 +99,17 @@ fn text_by<R: Threads + Sync + Abort>(
 {
     let setting = setting_of(alloc)?;
     let units = units_of(alloc, shelf, rows)?;
-    Ok(text_over(
-        rt,
-        alloc,
+    let batch = Batch {
         shelf,
         disk,
-        &setting,
-        units.as_slice(),
-        parallelism,
-    )?)
+        gate: disk,
+        setting: &setting,
+        units: units.as_slice(),
+        workers: parallelism.workers.clamp(1, 64),
+        block: parallelism.block.clamp(1, 1024),
+    };
+    let outs = run_over(rt, alloc, &batch, parallelism.retain)?;
+    Ok(as_text(alloc, outs.as_slice())?)
 }
 
 /// Runs a case over a new file table, and returns the text of its outputs.

@@ -13,7 +13,7 @@ enum Join {
     /// The names of either set.
     Union,
     /// The names of both sets.
-    Meet,
+    Intersection,
 }
 
 /// Returns the result of an operation on two sets.
@@ -26,7 +26,7 @@ fn joined(
     assert!(rt; sets.knows(one) && sets.knows(two));
     match join {
         Join::Union => sets.union(one, two),
-        Join::Meet => sets.meet(one, two),
+        Join::Intersection => sets.meet(one, two),
     }
 }
 
@@ -85,7 +85,7 @@ const JOINED: &[(&[u8], &[u8], &[u8], &[u8])] = &[
 fn assert_all_joined(rt: &impl Abort, sets: &mut HideSets) -> Result<(), Memory> {
     for &(one, two, union, meet) in JOINED {
         assert_joined(rt, sets, (one, two), Join::Union, union)?;
-        assert_joined(rt, sets, (one, two), Join::Meet, meet)?;
+        assert_joined(rt, sets, (one, two), Join::Intersection, meet)?;
     }
     sets.sets_are_unique();
     Ok(())

@@ -2,7 +2,7 @@
 ghost use Rattle.std.specs.Prelude.{◌≡◌, IfOk, map, Some};
 ghost use Rattle.ppmacro.specs.HideSets.{IsKnown, AllKnown};
 ghost use Rattle.ppmacro.specs.Substituting.{ListsKnown, ArgumentsKnown};
-ghost use Rattle.ppmacro.specs.declared.hidden_token.ArgumentExpansion.TheVariants.{Made};
+ghost use Rattle.ppmacro.specs.declared.hidden_token.ArgumentExpansion.TheVariants.{Owned};
 
 use super::{HASH, has, is_hidden_by, macro_of, push_spelled, set_of, sources_of, table_of};
 use crate::defining::{direct, source_of};
@@ -65,11 +65,11 @@ fn as_they_are<'a>(
     alloc: Global,
     lists: Vec<Vec<Hidden<'a>>>,
 ) -> Result<Vec<ArgumentExpansion<'a>>, AllocError>
-    ensures { IfOk result (λ v. v.items ≡ map (λ l. Made l) lists.entry.items) }
+    ensures { IfOk result (λ v. v.items ≡ map (λ l. Owned l) lists.entry.items) }
 {
     lists
         .into_iter()
-        .map(|list| ArgumentExpansion::Made(list))
+        .map(|list| ArgumentExpansion::Owned(list))
         .collect(alloc)
 }
 
@@ -80,16 +80,16 @@ fn substituted<'x, 'a: 'x>(
     alloc: Global,
     chains: &[Chain<'a>],
     arguments: Arguments<'_, 'x>,
-    head: &MacroName,
+    name: &MacroName,
     sets: &mut HideSets,
 ) -> Result<Replaced<'x>, Memory>
     requires arguments { ArgumentsKnown sets.old arguments.given.now arguments.expanded.now }
-    requires base { IsKnown sets.old head.now.base }
+    requires base { IsKnown sets.old name.now.base }
 {
-    let base = head.base;
-    let Ok(answer) = substitute(alloc, chains, arguments, head, sets) else {
+    let base = name.base;
+    let Ok(answer) = substitute(alloc, chains, arguments, name, sets) else {
         assert!(rt; has(rt, sets, base, b"b") && !has(rt, sets, base, b"f"));
-        return substitute(alloc, chains, arguments, head, sets);
+        return substitute(alloc, chains, arguments, name, sets);
     };
     Ok(answer)
 }
@@ -157,9 +157,8 @@ fn replaced<'x, 'a: 'x>(
     rt: &impl Abort,
     alloc: Global,
     sets: &mut HideSets,
-    (table, named): (&Table<'a>, &Macro<'a>),
+    (table, named, by): (&Table<'a>, &Macro<'a>, By),
     texts: &'x [Source],
-    by: By,
     with: (Set, Set, bool),
 ) -> Result<Replaced<'x>, Memory> {
     match by {
@@ -250,7 +249,15 @@ fn told_over(
     let names: &[u8] = if hides { b"g" } else { b"" };
     let hide = set_of(rt, sets, names)?;
     let base = set_of(rt, sets, b"b")?;
-    let answer = replaced(rt, alloc, sets, of, texts, by, (hide, base, space))?;
+    let (table, named) = of;
+    let answer = replaced(
+        rt,
+        alloc,
+        sets,
+        (table, named, by),
+        texts,
+        (hide, base, space),
+    )?;
     Ok(as_text(rt, alloc, sets, &answer, hides)?)
 }
 

@@ -23,7 +23,7 @@ begins_nothing_longer c = c == 40 || (c == 41 || (c == 44 || (c == 59 || (c == 9
 abbrev pub starts_identifier : ℕ → Bool
 starts_identifier c = is_nondigit c && not (c == 117 || (c == 85 || c == 76))
 
--- The kind and length of the lexeme that begins the text, after these tokens of its line. A run of blanks counts as one. None if a comment is not
+-- The kind and length of the lexeme that begins the text, after these tokens of its line. Consecutive blanks count as one. None if a comment is not
 -- closed.
 abbrev pub FindsLexeme : Profile → List (List ℕ) → List ℕ → Option (LexemeKind × ℕ) → Type 0
 FindsLexeme profile line text None = OpensBlock text × ClosesAt text None

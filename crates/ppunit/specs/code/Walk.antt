@@ -6,7 +6,7 @@ use Rattle.pptext.specs.declared.tokens.Fault.{Fault}
 use Rattle.pptext.specs.declared.sources.Directive.{Directive}
 use Rattle.pptext.specs.Lines.{LogicalLine}
 use Rattle.pptext.specs.Sources.{next_branch}
-use Rattle.pptext.specs.Tree.{Parts, Branches, part_lines, branch_lines, AreParts, AreBranches, Tree, role, branch_after}
+use Rattle.pptext.specs.Tree.{GroupParts, Branches, part_lines, branch_lines, AreGroupParts, AreBranches, Tree, role, branch_after}
 use Rattle.pptext.specs.Classes.{has_condition}
 use Rattle.ppshelf.specs.Files.{Files, Extends}
 use Rattle.ppunit.specs.declared.states.FileContext.{FileContext}
@@ -24,25 +24,25 @@ line_at lines index = slice_index_or lines index no_line
 
 -- The if-sections around a group, the innermost first: the branches after the group, and the parts after the section.
 abbrev pub Outer : Type 0
-Outer = List (Branches × Parts)
+Outer = List (Branches × GroupParts)
 
 -- the lines of parts in these sections, up to the end of the file
-abbrev pub lay : Parts → Outer → List LogicalLine
+abbrev pub lay : GroupParts → Outer → List LogicalLine
 lay ps [] = part_lines ps
 lay ps ((bs, qs) ∷ k) = part_lines ps ++ (branch_lines bs ++ lay qs k)
 
 abbrev pub AreOuter : Outer → Type 0
 AreOuter [] = Unit {0}
-AreOuter ((bs, qs) ∷ k) = ((last : Bool) × AreBranches last bs) × AreParts qs × AreOuter k
+AreOuter ((bs, qs) ∷ k) = ((last : Bool) × AreBranches last bs) × AreGroupParts qs × AreOuter k
 
 -- the lines from this index on are those of parts in these sections
-pub record StandsAt (lines : List LogicalLine) (index : ℕ) (ps : Parts) (k : Outer) : Type 0 where
+pub record StandsAt (lines : List LogicalLine) (index : ℕ) (ps : GroupParts) (k : Outer) : Type 0 where
   pub rest : drop index lines ≡ lay ps k
-  pub parts : AreParts ps
+  pub parts : AreGroupParts ps
   pub outer : AreOuter k
 
 -- phase 4 of the parts and of what is after them in these sections
-abbrev pub Ends : Context → ℕ → ℕ → Reached → Parts → Outer → Reached → Type 0
+abbrev pub Ends : Context → ℕ → ℕ → Reached → GroupParts → Outer → Reached → Type 0
 Ends context depth row m ps [] end = Group context depth row m ps end
 Ends context depth row m ps ((bs, qs) ∷ k) end = (n : Reached) × Group context depth row m ps n × Ends context depth row n qs k end
 
@@ -50,16 +50,16 @@ Ends context depth row m ps ((bs, qs) ∷ k) end = (n : Reached) × Group contex
 -- state, all of them reach from the old one.
 abbrev pub Advances : (Files → Context) → Files → ℕ → ℕ → List LogicalLine → ℕ → State → State → Result ℕ Fault → Type 0
 Advances context files depth row lines index s t (Ok next) =
-    (ps : Parts) (k : Outer)
+    (ps : GroupParts) (k : Outer)
     → StandsAt lines index ps k
-    → (ps' : Parts) × (k' : Outer) × StandsAt lines next ps' k'
+    → (ps' : GroupParts) × (k' : Outer) × StandsAt lines next ps' k'
     × ((more : Files)
     → Extends more files
     → (end : Reached)
     → Ends (context more) depth row (going t) ps' k' end
     → Ends (context more) depth row (going s) ps k end)
 Advances context files depth row lines index s t (Err f) =
-    (ps : Parts) (k : Outer)
+    (ps : GroupParts) (k : Outer)
     → StandsAt lines index ps k
     → (more : Files)
     → Extends more files
@@ -76,7 +76,7 @@ pub record EntersFile (context : Files → Context) (files : Files) (depth : ℕ
   pub fits : depth ≤ deepest
   pub begins : e.file.index ≡ 0
   pub few : length e.file.lines < 2 ^ 64
-  pub parts : Parts
+  pub parts : GroupParts
   pub tree : Tree e.file.lines parts
   pub group : (more : Files)
       → Extends more files
@@ -92,9 +92,9 @@ Leads context files depth whole t (Err f) = (more : Files) → Extends more file
 
 -- From the control line at an index to the line at another: what the line and the rest of the lines reach, one after
 -- the other, all of them reach.
-abbrev pub PassesFrom : ℕ → ℕ → List LogicalLine → ℕ → State → ℕ → Parts → Outer → Type 0
+abbrev pub PassesFrom : ℕ → ℕ → List LogicalLine → ℕ → State → ℕ → GroupParts → Outer → Type 0
 PassesFrom depth row lines index s next ps k =
-    (ps' : Parts) × (k' : Outer) × StandsAt lines next ps' k'
+    (ps' : GroupParts) × (k' : Outer) × StandsAt lines next ps' k'
     × ((context : Context) (m end : Reached)
     → Controls context depth row s (line_at lines index) m
     → Ends context depth row m ps' k' end
@@ -102,7 +102,7 @@ PassesFrom depth row lines index s next ps k =
 
 abbrev pub Passes : ℕ → ℕ → List LogicalLine → ℕ → State → ℕ → Type 0
 Passes depth row lines index s next =
-    (ps : Parts) (k : Outer)
+    (ps : GroupParts) (k : Outer)
     → StandsAt lines index ps k
     → PassesFrom depth row lines index s next ps k
 
@@ -140,7 +140,7 @@ contexts_restored (w ∷ ws) s = contexts_restored ws (in_file_context w.file_co
 -- phase 4 of a file's lines, over these files and any larger set
 abbrev pub Walks : (Files → Context) → Files → ℕ → ℕ → List LogicalLine → State → Reached → Type 0
 Walks context files depth row lines s end =
-    (parts : Parts)
+    (parts : GroupParts)
     → Tree lines parts
     → (more : Files)
     → Extends more files
@@ -148,11 +148,11 @@ Walks context files depth row lines s end =
 
 -- At the index is a line that opens an if-section or a branch with a condition, then the parts of its group, and then
 -- these branches.
-pub record BranchesAt (lines : List LogicalLine) (index : ℕ) (ps : Parts) (bs : Branches) (qs : Parts) (k : Outer) : Type 0 where
+pub record BranchesAt (lines : List LogicalLine) (index : ℕ) (ps : GroupParts) (bs : Branches) (qs : GroupParts) (k : Outer) : Type 0 where
   pub line : LogicalLine
   pub rest : drop index lines ≡ line ∷ lay ps ((bs, qs) ∷ k)
   pub next : (n : ℕ) (following : List LogicalLine) → next_branch n (role line) following ≡ branch_after 0 (n + 1) (map role following)
-  pub parts : AreParts ps
+  pub parts : AreGroupParts ps
   pub outer : AreOuter ((bs, qs) ∷ k)
 
 -- whether processing continues after a branch line or `#endif` of the file at index `row`, or the line's fault, and the
@@ -169,9 +169,9 @@ abbrev pub ContinuesAfter : Search → ℕ → State → LogicalLine → Option 
 ContinuesAfter search row s line remaining_after taken = ContinuesBy search row line.directive s line remaining_after taken
 
 -- the line at which processing continues after a group that isn't taken, and the state then
-abbrev pub FindsBranch : Search → ℕ → List LogicalLine → State → State → Branches → Parts → Outer → Result ℕ Fault → Type 0
+abbrev pub FindsBranch : Search → ℕ → List LogicalLine → State → State → Branches → GroupParts → Outer → Result ℕ Fault → Type 0
 FindsBranch search row lines s t bs qs k (Ok next) =
-    (ps : Parts) × (k' : Outer) × StandsAt lines next ps k'
+    (ps : GroupParts) × (k' : Outer) × StandsAt lines next ps k'
     × ((context : Context)
     → search_of context ≡ search
     → (depth : ℕ) (end : Reached)

@@ -14,12 +14,12 @@ pub returns-in_default-clause-is : goal.returns-in_default-clause-is
 returns-in_default-clause-is c arguments =
     let s = c.args.sets.now in
     let list = c.args.list.now in
-    let space = c.args.head.now.token.space in
-    let names = set.insert (set_at s c.args.base) c.args.head.now.token.text in
+    let space = c.args.name_token.now.token.space in
+    let names = set.insert (set_at s c.args.base) c.args.name_token.now.token.text in
     let none : c.args.body.now ≡ [] = nil_from_length c.args.body.now c.in_default.ensures.cases in
     let spaced : hidings s c.space_next.new.self ≡ space_next space (hidings s list) =
     ap (hidings s) c.space_next.ensures ∙ hidings-spaced s c.space.result list ∙ (λ i. space_next (c.space.ensures i) (hidings s list)) in
-    ap Replaced spaced ∙ (λ i. replaced_by (chains_replacement (map lone_chain (sym none i)) arguments names c.args.head.now.token.used space) (hidings s list))
+    ap Replaced spaced ∙ (λ i. replaced_by (chains_replacement (map lone_chain (sym none i)) arguments names c.args.name_token.now.token.used space) (hidings s list))
 
 pub returns-in_default-clause-known : goal.returns-in_default-clause-known
 returns-in_default-clause-known c = subst (AllKnown c.args.sets.now) (sym c.space_next.ensures) (known-spaced c.args.sets.now c.space.result c.args.list.now c.requires.list)
@@ -29,10 +29,10 @@ returns-clause-is c arguments =
     let s = c.args.sets.now in
     let t = c.with.new.self in
     let list = c.args.list.now in
-    let head = c.args.head.now in
-    let used = head.token.used in
-    let space = head.token.space in
-    let names = set.insert (set_at s c.args.base) head.token.text in
+    let name_token = c.args.name_token.now in
+    let used = name_token.token.used in
+    let space = name_token.token.space in
+    let names = set.insert (set_at s c.args.base) name_token.token.text in
     let first = c.in-Some.first.now in
     let others = c.in-Some.others.now in
     let body : c.args.body.now ≡ first ∷ others = search rules in

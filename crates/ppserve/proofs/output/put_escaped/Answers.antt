@@ -32,5 +32,5 @@ loop-rest-preserved g c =
     record {
       done = done ++ run ++ one;
       whole = rw (← c.loop-rest.invariant.whole, rest, first) (append_assoc (done ++ run) one _ ∙ append_assoc done run _);
-      out = puts_then (puts_then c.loop-rest.invariant.out c.put.ensures) c.put_byte.ensures;
+      out = puts_then (puts_then c.loop-rest.invariant.out c.put.ensures) c.put_escaped_byte.ensures;
     }

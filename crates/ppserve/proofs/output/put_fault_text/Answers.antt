@@ -8,4 +8,4 @@ spaced [] h = absurd (omega arith)
 spaced (b ∷ bs) h = refl
 
 pub returns : goal.returns
-returns g c = puts_as (spaced c.args.words.now (search rules)) (puts_then c.put.ensures c.put_escaped.ensures)
+returns g c = puts_as (spaced c.args.text.now (search rules)) (puts_then c.put.ensures c.put_escaped.ensures)

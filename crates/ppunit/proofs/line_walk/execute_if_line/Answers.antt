@@ -8,8 +8,8 @@ use Rattle.ppunit.proofs.EnteredSection.{enter_taken, enter_skipped, enter_refus
 use Rattle.ppunit.proofs.Preprocessed.{on_settled}
 use Rattle.ppunit.proofs.line_walk.execute_if_line.Goals as goal
 
-pub returns-in_err-decide-clause-entered : goal.returns-in_err-decide-clause-entered
-returns-in_err-decide-clause-entered g c files depth =
+pub returns-in_err-decide-clause-advances : goal.returns-in_err-decide-clause-advances
+returns-in_err-decide-clause-advances g c files depth =
     stopped _ _ _ _ c.from_residual.ensures.1 c.in_err-decide.ensures.decides (λ fault decides.
     subst (λ (z : State). Advances (context_over c.args.context.now) files depth c.args.row c.args.source.now c.args.index c.args.state.now z (Err fault)) (sym c.in_err-decide.ensures.rest)
     (enter_refused (context_over c.args.context.now) (search_in_unit c.args.context.now) files depth c.args.row c.args.source.now c.args.index c.args.state.now c.decide.new.state.remaining c.args.directive fault
@@ -17,8 +17,8 @@ returns-in_err-decide-clause-entered g c files depth =
     (decides_at (search_in_unit c.args.context.now) c.args.row c.args.state.now (line_at c.args.source.now c.args.index) c.args.directive c.tokens_at.result c.decide.new.state.remaining (Err fault)
     c.requires.line c.tokens_at.ensures.tokens decides)))
 
-pub returns-then-branch-clause-entered : goal.returns-then-branch-clause-entered
-returns-then-branch-clause-entered g c files depth =
+pub returns-then-branch-clause-advances : goal.returns-then-branch-clause-advances
+returns-then-branch-clause-advances g c files depth =
     let decides = subst (λ (z : Bool). Decides (search_in_unit c.args.context.now) c.args.row c.args.state.now (line_at c.args.source.now c.args.index) c.decide.new.state.remaining (Ok z))
     c.if-branch.true
     (decides_at (search_in_unit c.args.context.now) c.args.row c.args.state.now (line_at c.args.source.now c.args.index) c.args.directive c.tokens_at.result c.decide.new.state.remaining
@@ -28,8 +28,8 @@ returns-then-branch-clause-entered g c files depth =
     (enter_taken (context_over c.args.context.now) (search_in_unit c.args.context.now) files depth c.args.row c.args.source.now c.args.index c.args.state.now c.decide.new.state.remaining c.args.directive c.requires.index
     c.requires.line c.requires.opens (λ more. refl) decides)
 
-pub returns-clause-entered : goal.returns-clause-entered
-returns-clause-entered g c files depth =
+pub returns-clause-advances : goal.returns-clause-advances
+returns-clause-advances g c files depth =
     let decides = subst (λ (z : Bool). Decides (search_in_unit c.args.context.now) c.args.row c.args.state.now (line_at c.args.source.now c.args.index) c.decide.new.state.remaining (Ok z))
     c.if-branch.false
     (decides_at (search_in_unit c.args.context.now) c.args.row c.args.state.now (line_at c.args.source.now c.args.index) c.args.directive c.tokens_at.result c.decide.new.state.remaining

@@ -5,17 +5,17 @@ use Rattle.ppunit.specs.Directives.{EmitsText}
 use Rattle.ppunit.proofs.TextRuns.{run_advances}
 use Rattle.ppunit.proofs.line_walk.execute_text_lines.Goals as goal
 
-pub returns-in_err-emit_text-clause-run : goal.returns-in_err-emit_text-clause-run
-returns-in_err-emit_text-clause-run c context files depth row =
+pub returns-in_err-emit_text-clause-text_lines : goal.returns-in_err-emit_text-clause-text_lines
+returns-in_err-emit_text-clause-text_lines c context files depth row =
     stopped _ _ _ _ c.from_residual.ensures.1 c.in_err-emit_text.ensures (λ fault gives.
     run_advances context files depth row c.args.source.now c.args.index c.text_end-end.result c.args.state.now c.emit_text.new.state (Some fault)
-    c.requires.index c.requires.text c.text_end-end.ensures.run
+    c.requires.index c.requires.text c.text_end-end.ensures.text_lines
     (subst (λ (z : List Token). EmitsText c.args.state.now z (record { state = c.emit_text.new.state; fault = Some fault })) c.tokens_between.ensures
     gives))
 
-pub returns-clause-run : goal.returns-clause-run
-returns-clause-run c context files depth row =
+pub returns-clause-text_lines : goal.returns-clause-text_lines
+returns-clause-text_lines c context files depth row =
     run_advances context files depth row c.args.source.now c.args.index c.text_end-end.result c.args.state.now c.emit_text.new.state None
-    c.requires.index c.requires.text c.text_end-end.ensures.run
+    c.requires.index c.requires.text c.text_end-end.ensures.text_lines
     (subst (λ (z : List Token). EmitsText c.args.state.now z (record { state = c.emit_text.new.state; fault = None })) c.tokens_between.ensures
     c.in_ok-emit_text.ensures)

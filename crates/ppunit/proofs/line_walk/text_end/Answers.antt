@@ -13,10 +13,10 @@ loop-end-preserved c =
     let text : IsTextLine (line_at c.args.source.now c.loop-end.end) = sym c.line.ensures.directive ∙ none_by c.line.result.now.directive c.if-is_none.ensures in
     run_more c.args.source.now c.args.start c.loop-end.end (omega arith) text c.loop-end.invariant
 
-pub returns-else-is_none-clause-run : goal.returns-else-is_none-clause-run
-returns-else-is_none-clause-run c =
+pub returns-else-is_none-clause-text_lines : goal.returns-else-is_none-clause-text_lines
+returns-else-is_none-clause-text_lines c =
     run_done c.args.source.now c.args.start c.loop-end.end c.loop-end.invariant (λ within is. some_not c.line.result.now.directive c.if-is_none.ensures (c.line.ensures.directive ∙ is))
 
-pub returns-after-loop-end-clause-run : goal.returns-after-loop-end-clause-run
-returns-after-loop-end-clause-run c =
+pub returns-after-loop-end-clause-text_lines : goal.returns-after-loop-end-clause-text_lines
+returns-after-loop-end-clause-text_lines c =
     run_done c.args.source.now c.args.start c.loop-end.end c.loop-end.invariant (λ within is. absurd (omega arith))

@@ -36,9 +36,9 @@ returns-in_default-clause-is c =
 pub returns-then-is_quote-clause-is : goal.returns-then-is_quote-clause-is
 returns-then-is_quote-clause-is c =
     let s = c.args.self.now.sets in
-    let t = hiding s c.in-Some.head in
+    let t = hiding s c.in-Some.token in
     let rest = hidings s c.next.new.self in
-    let quote : is_unmatched_quote c.in-Some.head.token ≡ true = sym c.is_quote.ensures ∙ c.if-is_quote.true in
+    let quote : is_unmatched_quote c.in-Some.token.token ≡ true = sym c.is_quote.ensures ∙ c.if-is_quote.true in
     let whole : Refused (quote_fault t) ≡ step_in_budget c.args.context.now.table.now.macros c.args.context.now.env.now c.args.remaining (hidings s c.args.list.now) =
     sym (ap (in_budget c.args.remaining (t ∷ rest)) (expansion_step-quote c.args.context.now.table.now.macros c.args.context.now.env.now t rest quote) ∙ refused-in_budget c.args.remaining (t ∷ rest) (quote_fault t))
     ∙ ap (λ l. step_in_budget c.args.context.now.table.now.macros c.args.context.now.env.now c.args.remaining (hidings s l)) (sym c.in-Some.ensures) in
@@ -50,27 +50,27 @@ returns-then-is_quote-clause-known c = IfOk-weaker c.refused_quote.result _ _ (�
 pub returns-then-hides-clause-is : goal.returns-then-hides-clause-is
 returns-then-hides-clause-is c =
     let s = c.args.self.now.sets in
-    let t = hiding s c.in-Some.head in
+    let t = hiding s c.in-Some.token in
     let rest = hidings s c.next.new.self in
-    let quote : is_unmatched_quote c.in-Some.head.token ≡ false = sym c.is_quote.ensures ∙ c.if-is_quote.false in
-    let hidden : set.contains (hide_of s c.in-Some.head) c.in-Some.head.token.text ≡ true = sym c.hides.ensures ∙ c.if-hides.true in
+    let quote : is_unmatched_quote c.in-Some.token.token ≡ false = sym c.is_quote.ensures ∙ c.if-is_quote.false in
+    let hidden : set.contains (hide_of s c.in-Some.token) c.in-Some.token.token.text ≡ true = sym c.hides.ensures ∙ c.if-hides.true in
     sym (ap (in_budget c.args.remaining (t ∷ rest)) (expansion_step-hidden c.args.context.now.table.now.macros c.args.context.now.env.now t rest quote hidden) ∙ emits-in_budget c.args.remaining (t ∷ rest) t rest)
     ∙ ap (λ l. step_in_budget c.args.context.now.table.now.macros c.args.context.now.env.now c.args.remaining (hidings s l)) (sym c.in-Some.ensures)
 
 pub returns-in_default-named-clause-is : goal.returns-in_default-named-clause-is
 returns-in_default-named-clause-is c =
     let s = c.args.self.now.sets in
-    let t = hiding s c.in-Some.head in
+    let t = hiding s c.in-Some.token in
     let rest = hidings s c.next.new.self in
-    let quote : is_unmatched_quote c.in-Some.head.token ≡ false = sym c.is_quote.ensures ∙ c.if-is_quote.false in
-    let none : macro_of c.args.context.now.table.now.macros c.in-Some.head.token ≡ None = named_next c.args.context.now.table.now.macros _ _ c.args.list.now c.in-Some.ensures c.requires.named ∙ ap option_copied c.in_default-named.is in
+    let quote : is_unmatched_quote c.in-Some.token.token ≡ false = sym c.is_quote.ensures ∙ c.if-is_quote.false in
+    let none : macro_of c.args.context.now.table.now.macros c.in-Some.token.token ≡ None = named_next c.args.context.now.table.now.macros _ _ c.args.list.now c.in-Some.ensures c.requires.named ∙ ap option_copied c.in_default-named.is in
     sym (ap (in_budget c.args.remaining (t ∷ rest)) (expansion_step-unnamed c.args.context.now.table.now.macros c.args.context.now.env.now t rest quote none) ∙ emits-in_budget c.args.remaining (t ∷ rest) t rest)
     ∙ ap (λ l. step_in_budget c.args.context.now.table.now.macros c.args.context.now.env.now c.args.remaining (hidings s l)) (sym c.in-Some.ensures)
 
 pub returns-then-is_exhausted-clause-is : goal.returns-then-is_exhausted-clause-is
 returns-then-is_exhausted-clause-is c =
     let s = c.args.self.now.sets in
-    let t = hiding s c.in-Some.head in
+    let t = hiding s c.in-Some.token in
     let rest = hidings s c.next.new.self in
     let none : c.args.remaining ≡ Some 0 = nothing_left c.args.remaining (sym c.is_exhausted.ensures ∙ c.if-is_exhausted.true) in
     let quote = sym c.is_quote.ensures ∙ c.if-is_quote.false in
@@ -83,13 +83,13 @@ returns-then-is_exhausted-clause-is c =
 pub returns-then-is_exhausted-clause-known : goal.returns-then-is_exhausted-clause-known
 returns-then-is_exhausted-clause-known c =
     let s = c.args.self.now.sets in
-    let known : AllKnown s (c.in-Some.head ∷ c.next.new.self) = subst (AllKnown s) c.in-Some.ensures c.requires.known in
+    let known : AllKnown s (c.in-Some.token ∷ c.next.new.self) = subst (AllKnown s) c.in-Some.ensures c.requires.known in
     IfOk-weaker c.exhausted_step.result _ _ (λ n all. all s known.each.0 (record { each = known.each.1 })) c.exhausted_step.ensures.known
 
 pub returns-clause-is : goal.returns-clause-is
 returns-clause-is c =
     let s = c.args.self.now.sets in
-    let t = hiding s c.in-Some.head in
+    let t = hiding s c.in-Some.token in
     let rest = hidings s c.next.new.self in
     let some = sym c.is_exhausted.ensures ∙ c.if-is_exhausted.false in
     let quote = sym c.is_quote.ensures ∙ c.if-is_quote.false in

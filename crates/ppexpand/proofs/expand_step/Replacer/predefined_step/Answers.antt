@@ -10,8 +10,8 @@ returns-clause-is c =
     let s = c.args.self.now.sets in
     let t = c.with_own_name.new.self in
     let keeps = c.in_ok-gain.ensures.keeps in
-    let value : hiding t c.in_ok-predefined_value.field-0 ≡ predefined_value c.args.predefined c.args.env.now (hiding s c.args.head.now) (set.insert (hide_of s c.args.head.now) c.args.head.now.token.text) =
-    c.in_ok-predefined_value.ensures.is t ∙ (λ i. predefined_value c.args.predefined c.args.env.now (hiding-keeps c.args.head.now keeps c.requires.head i) (c.in_ok-gain.ensures.set i)) in
+    let value : hiding t c.in_ok-predefined_value.field-0 ≡ predefined_value c.args.predefined c.args.env.now (hiding s c.args.name_token.now) (set.insert (hide_of s c.args.name_token.now) c.args.name_token.now.token.text) =
+    c.in_ok-predefined_value.ensures.is t ∙ (λ i. predefined_value c.args.predefined c.args.env.now (hiding-keeps c.args.name_token.now keeps c.requires.name_token i) (c.in_ok-gain.ensures.set i)) in
     let rest : hidings t c.args.list.now ≡ hidings s c.args.list.now = hidings-keeps c.args.list.now keeps c.requires.list in
     ap (λ hs. Replaced (hidings t hs)) c.in_ok-push.ensures ∙ (λ i. Replaced (value i ∷ rest i))
 

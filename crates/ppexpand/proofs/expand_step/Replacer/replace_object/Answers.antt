@@ -9,7 +9,7 @@ use Rattle.ppexpand.proofs.expand_step.Replacer.replace_object.Goals as goal
 pub returns-clause-is : goal.returns-clause-is
 returns-clause-is c =
     let s = c.args.self.now.sets in
-    let head = c.args.head.now in
+    let name_token = c.args.name_token.now in
     subst (λ chains. IfOk c.replace.result (λ r. replaced_in c.replace.new.self.sets c.replace.new.list r
-    ≡ replaced_by (chains_replacement chains no_arguments (set.insert (set_at s c.args.base) head.token.text) head.token.used head.token.space) (hidings s c.args.list.now)))
+    ≡ replaced_by (chains_replacement chains no_arguments (set.insert (set_at s c.args.base) name_token.token.text) name_token.token.used name_token.token.space) (hidings s c.args.list.now)))
     c.in_ok-chains.ensures c.replace.ensures.is

@@ -9,13 +9,13 @@ use Rattle.ppmacro.specs.Substitution.{argument_at}
 use Rattle.ppmacro.specs.Substituting.{lists_of, option_of}
 use Rattle.ppmacro.specs.declared.hidden_token.ArgumentExpansion.TheVariants.{Unused}
 use Rattle.ppmacro.proofs.KeepLemmas.{hidings-keeps, known-keeps, keeps-all, keeps-after}
-use Rattle.ppexpand.specs.ExpansionStep.{Failed, Replaced, finish_call, wanted, pre_expands}
+use Rattle.ppexpand.specs.ExpansionStep.{Failed, Replaced, finish_invocation, wanted, pre_expands}
 use Rattle.ppexpand.specs.Expansion.{ExpandsArguments}
-use Rattle.ppexpand.specs.code.ProgramValues.{expanded_in, owned_tokens, ExpansionsKnown, ExpandsArgument, deep, CallStepsTo, refuses, finishes}
-use Rattle.ppexpand.proofs.Keeping.{call_of, call_of-keeps, call_known-keeps, given_known-keeps, expanded_known-keeps, expanded_known-push}
+use Rattle.ppexpand.specs.code.ProgramValues.{expanded_in, owned_tokens, ExpansionsKnown, ExpandsArgument, deep, ClosedStepsTo, refuses, finishes}
+use Rattle.ppexpand.proofs.Keeping.{invocation_of, invocation_of-keeps, invocation_known-keeps, given_known-keeps, expanded_known-keeps, expanded_known-push}
 use Rattle.ppexpand.proofs.ArgumentLemmas.{arguments_first, argument_expands, argument_raises, argument-known, follows_unused, follows_used, follows_refused, follows_all, pre_expanded-alone}
 use Rattle.ppexpand.proofs.Skipping.{unhidden-expands, next-known, more-known, follows_skip, skip_falls}
-use Rattle.ppexpand.proofs.Follows.{more_follows, more_falls, end_follows, call_taken, call_raises, begun_raises}
+use Rattle.ppexpand.proofs.Follows.{more_follows, more_falls, end_follows, invocation_taken, invocation_raises, begun_raises}
 use Rattle.ppexpand.proofs.expansion.Expander.+expansion.Goals as goal
 
 -- ---- one step
@@ -28,74 +28,74 @@ advance-returns-in_err-goes-clause-on m c =
     let s = c.begin_step.new.self.replacer.sets in
     stopped _ _ _ _ _ c.from_residual.ensures.1 c.in_err-goes.ensures.on (λ f begun.
     begun_raises c.args.context.now.table.now.macros c.args.context.now.env.now c.args.context.now.level c.args.self.now.remaining (hidings c.args.self.now.replacer.sets c.args.list.now) (hidings c.args.self.now.replacer.sets c.args.emitted.now)
-    c.begin_step.new.call (λ found. call_of s found c.begin_step.new.list) f c.begin_step.new.self.remaining (hidings s c.begin_step.new.list) (hidings s c.begin_step.new.emitted) begun)
+    c.begin_step.new.invocation (λ found. invocation_of s found c.begin_step.new.list) f c.begin_step.new.self.remaining (hidings s c.begin_step.new.list) (hidings s c.begin_step.new.emitted) begun)
 
-pub advance-replace_call-requires : goal.advance-replace_call-requires
-advance-replace_call-requires m c =
-    let known = rw c.in-Some.is at c.in_ok-goes.ensures.call_known in (
+pub advance-replace_invocation-requires : goal.advance-replace_invocation-requires
+advance-replace_invocation-requires m c =
+    let known = rw c.in-Some.is at c.in_ok-goes.ensures.invocation_known in (
       omega arith,
       (c.requires.level, known),
     )
 
-pub advance-returns-in_err-replace_call-clause-on : goal.advance-returns-in_err-replace_call-clause-on
-advance-returns-in_err-replace_call-clause-on m c =
+pub advance-returns-in_err-replace_invocation-clause-on : goal.advance-returns-in_err-replace_invocation-clause-on
+advance-returns-in_err-replace_invocation-clause-on m c =
     let s = c.begin_step.new.self.replacer.sets in
-    let call_step = rw c.in-Some.is at c.in_ok-goes.ensures.on in
-    let call = call_of s c.in-Some.found c.begin_step.new.list in
-    stopped _ _ _ _ _ c.from_residual-in_err-replace_call.ensures.1 c.in_err-replace_call.ensures.is (λ f steps.
-    call_raises c.args.context.now.table.now.macros c.args.context.now.env.now c.args.context.now.level c.args.self.now.remaining (hidings c.args.self.now.replacer.sets c.args.list.now) call call_step.0 _ _ f c.replace_call.new.self.remaining
-    (hidings-keeps _ c.in_err-replace_call.ensures.keeps c.in_ok-goes.ensures.emitted_known ∙ call_step.3)
-    (subst (λ l. CallStepsTo c.args.context.now.table.now.macros c.args.context.now.env.now c.args.context.now.level call l c.replace_call.new.self.remaining (Failed f)) call_step.2 steps))
+    let closed_invocation_step = rw c.in-Some.is at c.in_ok-goes.ensures.on in
+    let invocation = invocation_of s c.in-Some.found c.begin_step.new.list in
+    stopped _ _ _ _ _ c.from_residual-in_err-replace_invocation.ensures.1 c.in_err-replace_invocation.ensures.is (λ f steps.
+    invocation_raises c.args.context.now.table.now.macros c.args.context.now.env.now c.args.context.now.level c.args.self.now.remaining (hidings c.args.self.now.replacer.sets c.args.list.now) invocation closed_invocation_step.0 _ _ f c.replace_invocation.new.self.remaining
+    (hidings-keeps _ c.in_err-replace_invocation.ensures.keeps c.in_ok-goes.ensures.emitted_known ∙ closed_invocation_step.3)
+    (subst (λ l. ClosedStepsTo c.args.context.now.table.now.macros c.args.context.now.env.now c.args.context.now.level invocation l c.replace_invocation.new.self.remaining (Failed f)) closed_invocation_step.2 steps))
 
 pub advance-returns-clause-on : goal.advance-returns-clause-on
 advance-returns-clause-on m c =
     let s = c.begin_step.new.self.replacer.sets in
-    let t = c.replace_call.new.self.replacer.sets in
-    let call_step = rw c.in-Some.is at c.in_ok-goes.ensures.on in
-    let call = call_of s c.in-Some.found c.begin_step.new.list in
-    call_taken c.args.context.now.table.now.macros c.args.context.now.env.now c.args.context.now.level c.args.self.now.remaining (hidings c.args.self.now.replacer.sets c.args.list.now) call call_step.0 t c.replace_call.new.list _ _ c.replace_call.new.self.remaining
-    (hidings-keeps _ c.in_ok-replace_call.ensures.keeps c.in_ok-goes.ensures.emitted_known ∙ call_step.3)
-    (subst (λ l. CallStepsTo c.args.context.now.table.now.macros c.args.context.now.env.now c.args.context.now.level call l c.replace_call.new.self.remaining (Replaced (hidings t c.replace_call.new.list))) call_step.2 c.in_ok-replace_call.ensures.is)
+    let t = c.replace_invocation.new.self.replacer.sets in
+    let closed_invocation_step = rw c.in-Some.is at c.in_ok-goes.ensures.on in
+    let invocation = invocation_of s c.in-Some.found c.begin_step.new.list in
+    invocation_taken c.args.context.now.table.now.macros c.args.context.now.env.now c.args.context.now.level c.args.self.now.remaining (hidings c.args.self.now.replacer.sets c.args.list.now) invocation closed_invocation_step.0 t c.replace_invocation.new.list _ _ c.replace_invocation.new.self.remaining
+    (hidings-keeps _ c.in_ok-replace_invocation.ensures.keeps c.in_ok-goes.ensures.emitted_known ∙ closed_invocation_step.3)
+    (subst (λ l. ClosedStepsTo c.args.context.now.table.now.macros c.args.context.now.env.now c.args.context.now.level invocation l c.replace_invocation.new.self.remaining (Replaced (hidings t c.replace_invocation.new.list))) closed_invocation_step.2 c.in_ok-replace_invocation.ensures.is)
 
 pub advance-returns-clause-emitted_known : goal.advance-returns-clause-emitted_known
-advance-returns-clause-emitted_known m c = known-keeps _ c.in_ok-replace_call.ensures.keeps c.in_ok-goes.ensures.emitted_known
+advance-returns-clause-emitted_known m c = known-keeps _ c.in_ok-replace_invocation.ensures.keeps c.in_ok-goes.ensures.emitted_known
 
 pub advance-returns-clause-list_known : goal.advance-returns-clause-list_known
-advance-returns-clause-list_known m c = λ goes. c.in_ok-replace_call.ensures.known
+advance-returns-clause-list_known m c = λ goes. c.in_ok-replace_invocation.ensures.known
 
 -- ---- an invocation
 
-pub replace_call-returns-in_err-expand_arguments-clause-is : goal.replace_call-returns-in_err-expand_arguments-clause-is
-replace_call-returns-in_err-expand_arguments-clause-is m c =
+pub replace_invocation-returns-in_err-expand_arguments-clause-is : goal.replace_invocation-returns-in_err-expand_arguments-clause-is
+replace_invocation-returns-in_err-expand_arguments-clause-is m c =
     stopped _ _ _ _ _ c.from_residual-in_err-expand_arguments.ensures.1 c.in_err-expand_arguments.ensures.is (λ f raised. refuses (raised c.args.list.now))
 
-pub replace_call-finish_call-requires-clause-call : goal.replace_call-finish_call-requires-clause-call
-replace_call-finish_call-requires-clause-call m c = call_known-keeps c.args.call.now c.in_ok-expand_arguments.ensures.keeps c.requires.call_known
+pub replace_invocation-finish_invocation-requires-clause-invocation : goal.replace_invocation-finish_invocation-requires-clause-invocation
+replace_invocation-finish_invocation-requires-clause-invocation m c = invocation_known-keeps c.args.invocation.now c.in_ok-expand_arguments.ensures.keeps c.requires.invocation_known
 
-pub replace_call-finish_call-requires-clause-expanded : goal.replace_call-finish_call-requires-clause-expanded
-replace_call-finish_call-requires-clause-expanded m c =
+pub replace_invocation-finish_invocation-requires-clause-expanded : goal.replace_invocation-finish_invocation-requires-clause-expanded
+replace_invocation-finish_invocation-requires-clause-expanded m c =
     subst (ExpansionsKnown c.expand_arguments.new.self.replacer.sets) (sym c.as_slice.ensures.value) c.in_ok-expand_arguments.ensures.known
 
-pub replace_call-finish_call-requires-clause-list : goal.replace_call-finish_call-requires-clause-list
-replace_call-finish_call-requires-clause-list m c = known-keeps c.args.list.now c.in_ok-expand_arguments.ensures.keeps c.requires.list_known
+pub replace_invocation-finish_invocation-requires-clause-list : goal.replace_invocation-finish_invocation-requires-clause-list
+replace_invocation-finish_invocation-requires-clause-list m c = known-keeps c.args.list.now c.in_ok-expand_arguments.ensures.keeps c.requires.list_known
 
-pub replace_call-returns-clause-is : goal.replace_call-returns-clause-is
-replace_call-returns-clause-is m c =
+pub replace_invocation-returns-clause-is : goal.replace_invocation-returns-clause-is
+replace_invocation-returns-clause-is m c =
     let list = c.args.list.now in
     let u = c.expand_arguments.new.self.replacer.sets in
     let expanded = c.expand_arguments.new.expanded.items in
-    let call = call_of c.args.self.now.replacer.sets c.args.call.now list in
-    let args : ExpandsArguments c.args.context.now.table.now.macros c.args.context.now.env.now c.args.context.now.level call c.args.self.now.remaining (wanted call) c.expand_arguments.new.self.remaining (Ok (expanded_in u c.args.call.now.arguments.items expanded)) =
+    let invocation = invocation_of c.args.self.now.replacer.sets c.args.invocation.now list in
+    let args : ExpandsArguments c.args.context.now.table.now.macros c.args.context.now.env.now c.args.context.now.level invocation c.args.self.now.remaining (wanted invocation) c.expand_arguments.new.self.remaining (Ok (expanded_in u c.args.invocation.now.arguments.items expanded)) =
     c.in_ok-expand_arguments.ensures.is list in
-    let same = call_of-keeps c.args.call.now list c.in_ok-expand_arguments.ensures.keeps c.requires.call_known c.requires.list_known in
-    unless_failed-weaker c.finish_call.result _ _ _
-    (λ r e. subst (CallStepsTo c.args.context.now.table.now.macros c.args.context.now.env.now c.args.context.now.level call c.args.self.now.remaining c.expand_arguments.new.self.remaining)
-    (sym (e ∙ (λ i. finish_call (same i) (expanded_in u c.args.call.now.arguments.items (c.as_slice.ensures.value i)))))
+    let same = invocation_of-keeps c.args.invocation.now list c.in_ok-expand_arguments.ensures.keeps c.requires.invocation_known c.requires.list_known in
+    unless_failed-weaker c.finish_invocation.result _ _ _
+    (λ r e. subst (ClosedStepsTo c.args.context.now.table.now.macros c.args.context.now.env.now c.args.context.now.level invocation c.args.self.now.remaining c.expand_arguments.new.self.remaining)
+    (sym (e ∙ (λ i. finish_invocation (same i) (expanded_in u c.args.invocation.now.arguments.items (c.as_slice.ensures.value i)))))
     (finishes args))
-    c.finish_call.ensures.is
+    c.finish_invocation.ensures.is
 
-pub replace_call-returns-clause-keeps : goal.replace_call-returns-clause-keeps
-replace_call-returns-clause-keeps m c = keeps-after c.in_ok-expand_arguments.ensures.keeps c.finish_call.ensures.keeps
+pub replace_invocation-returns-clause-keeps : goal.replace_invocation-returns-clause-keeps
+replace_invocation-returns-clause-keeps m c = keeps-after c.in_ok-expand_arguments.ensures.keeps c.finish_invocation.ensures.keeps
 
 -- ---- an argument
 
@@ -112,7 +112,7 @@ expand_argument-returns-then-none_expands-clause-is m c =
     let list = c.args.argument.now in (
       hidings s list,
       refl,
-      argument_expands c.args.context.now.table.now.macros c.args.context.now.env.now c.args.context.now.level c.args.head.now.token c.args.self.now.remaining c.args.self.now.remaining (hidings s list) (hidings s list)
+      argument_expands c.args.context.now.table.now.macros c.args.context.now.env.now c.args.context.now.level c.args.name_token.now.token c.args.self.now.remaining c.args.self.now.remaining (hidings s list) (hidings s list)
           (omega (arith, c.if-context-ge-DEEPEST.false)) (unhidden-expands c.args.context.now.table.now.macros c.args.context.now.env.now (c.args.context.now.level + 1) c.args.self.now.remaining s list (c.none_expands.ensures c.if-none_expands.true)),
     )
 
@@ -129,8 +129,8 @@ expand_argument-returns-in_err-expand_list-clause-is m c =
     let remaining = c.args.self.now.remaining in
     let remaining_after = c.expand_list.new.self.remaining in
     stopped _ _ _ _ _ c.from_residual-in_err-expand_list.ensures.1 c.in_err-expand_list.ensures.outcome (λ f one.
-    subst (λ list. ExpandsArgument c.args.context.now.table.now.macros c.args.context.now.env.now c.args.context.now.level c.args.head.now.token remaining (hidings s list) remaining_after (Err f)) c.in_ok-list.ensures
-    (argument_raises c.args.context.now.table.now.macros c.args.context.now.env.now c.args.context.now.level c.args.head.now.token remaining remaining_after (hidings s c.in_ok-list.list) (hidings t c.expand_list.new.emitted) f (omega (arith, c.if-context-ge-DEEPEST.false)) one))
+    subst (λ list. ExpandsArgument c.args.context.now.table.now.macros c.args.context.now.env.now c.args.context.now.level c.args.name_token.now.token remaining (hidings s list) remaining_after (Err f)) c.in_ok-list.ensures
+    (argument_raises c.args.context.now.table.now.macros c.args.context.now.env.now c.args.context.now.level c.args.name_token.now.token remaining remaining_after (hidings s c.in_ok-list.list) (hidings t c.expand_list.new.emitted) f (omega (arith, c.if-context-ge-DEEPEST.false)) one))
 
 pub expand_argument-returns-clause-is : goal.expand_argument-returns-clause-is
 expand_argument-returns-clause-is m c =
@@ -141,8 +141,8 @@ expand_argument-returns-clause-is m c =
     let emitted = hidings t c.expand_list.new.emitted in (
       emitted,
       ap (λ tokens. Some (hidings t tokens)) c.in_ok-tokens.ensures,
-      subst (λ list. ExpandsArgument c.args.context.now.table.now.macros c.args.context.now.env.now c.args.context.now.level c.args.head.now.token remaining (hidings s list) remaining_after (Ok emitted)) c.in_ok-list.ensures
-          (argument_expands c.args.context.now.table.now.macros c.args.context.now.env.now c.args.context.now.level c.args.head.now.token remaining remaining_after (hidings s c.in_ok-list.list) emitted (omega (arith, c.if-context-ge-DEEPEST.false)) c.in_ok-expand_list.ensures.outcome),
+      subst (λ list. ExpandsArgument c.args.context.now.table.now.macros c.args.context.now.env.now c.args.context.now.level c.args.name_token.now.token remaining (hidings s list) remaining_after (Ok emitted)) c.in_ok-list.ensures
+          (argument_expands c.args.context.now.table.now.macros c.args.context.now.env.now c.args.context.now.level c.args.name_token.now.token remaining remaining_after (hidings s c.in_ok-list.list) emitted (omega (arith, c.if-context-ge-DEEPEST.false)) c.in_ok-expand_list.ensures.outcome),
     )
 
 pub expand_argument-returns-clause-known : goal.expand_argument-returns-clause-known
@@ -154,7 +154,7 @@ expand_arguments-loop-parameter-init m c = record {
   count = ap length c.requires.none;
   known = rw c.requires.none (record { each = tt });
   keeps = keeps-all c.args.self.now.replacer.sets;
-  follows = λ following. rw c.requires.none (arguments_first c.args.context.now.table.now.macros c.args.context.now.env.now c.args.context.now.level (call_of c.args.self.now.replacer.sets c.args.call.now following) c.args.self.now.remaining);
+  follows = λ following. rw c.requires.none (arguments_first c.args.context.now.table.now.macros c.args.context.now.env.now c.args.context.now.level (invocation_of c.args.self.now.replacer.sets c.args.invocation.now following) c.args.self.now.remaining);
 }
 
 pub expand_arguments-loop-parameter-preserved-then-not-is_pre_expanded : goal.expand_arguments-loop-parameter-preserved-then-not-is_pre_expanded
@@ -162,9 +162,9 @@ expand_arguments-loop-parameter-preserved-then-not-is_pre_expanded m c =
     let s = c.args.self.now.replacer.sets in
     let u = c.loop-parameter.self.replacer.sets in
     let i = c.loop-parameter.parameter in
-    let vs = c.args.call.now.arguments.items in
-    let cs = chains_of c.args.call.now.definition.now in
-    let names = parameter_names c.args.call.now.definition.now.kind in
+    let vs = c.args.invocation.now.arguments.items in
+    let cs = chains_of c.args.invocation.now.definition.now in
+    let names = parameter_names c.args.invocation.now.definition.now.kind in
     let done = c.loop-parameter.expanded.items in
     let less : i < length names = subst (λ n. i < n) (ap length c.deref-is_pre_expanded-items.ensures.value ∙ c.in_ok-pre_expanded.ensures.len) c.loop-parameter-test.true in
     let unused : pre_expands i cs ≡ false = pre_expanded-alone c.in_ok-pre_expanded.pre_expanded.items c.deref-is_pre_expanded-items.result.now (length names) i (listed c.args.pattern.now) cs false
@@ -176,8 +176,8 @@ expand_arguments-loop-parameter-preserved-then-not-is_pre_expanded m c =
       count = ap length appended ∙ length-append done (Unused ∷ []) ∙ ap (λ n. n + 1) c.loop-parameter.invariant.count;
       keeps = c.loop-parameter.invariant.keeps;
       follows = λ following.
-          (let call = call_of s c.args.call.now following in
-          follows_unused c.args.context.now.table.now.macros c.args.context.now.env.now c.args.context.now.level c.args.self.now.remaining c.loop-parameter.self.remaining c.loop-parameter.self.remaining s u u vs cs names i done c.put.new.items.items call (wanted call)
+          (let invocation = invocation_of s c.args.invocation.now following in
+          follows_unused c.args.context.now.table.now.macros c.args.context.now.env.now c.args.context.now.level c.args.self.now.remaining c.loop-parameter.self.remaining c.loop-parameter.self.remaining s u u vs cs names i done c.put.new.items.items invocation (wanted invocation)
           less c.loop-parameter.invariant.count unused appended (c.loop-parameter.invariant.follows following));
     }
 
@@ -185,7 +185,7 @@ pub expand_arguments-expand_argument-requires : goal.expand_arguments-expand_arg
 expand_arguments-expand_argument-requires m c =
     let u = c.loop-parameter.self.replacer.sets in
     let i = c.loop-parameter.parameter in
-    let vs = c.args.call.now.arguments.items in
+    let vs = c.args.invocation.now.arguments.items in
     let tokens_are : c.argument_of-tokens.result.now ≡ argument_at (lists_of vs) i = c.argument_of-tokens.ensures ∙ ap (λ gs. argument_at (lists_of gs) i) c.as_slice.ensures.value in
     let known = given_known-keeps vs c.loop-parameter.invariant.keeps c.requires.known.arguments in (
       omega arith,
@@ -197,9 +197,9 @@ expand_arguments-returns-in_err-expansion-clause-is m c =
     let s = c.args.self.now.replacer.sets in
     let u = c.loop-parameter.self.replacer.sets in
     let i = c.loop-parameter.parameter in
-    let vs = c.args.call.now.arguments.items in
-    let cs = chains_of c.args.call.now.definition.now in
-    let names = parameter_names c.args.call.now.definition.now.kind in
+    let vs = c.args.invocation.now.arguments.items in
+    let cs = chains_of c.args.invocation.now.definition.now in
+    let names = parameter_names c.args.invocation.now.definition.now.kind in
     let done = c.loop-parameter.expanded.items in
     let less : i < length names = subst (λ n. i < n) (ap length c.deref-is_pre_expanded-items.ensures.value ∙ c.in_ok-pre_expanded.ensures.len) c.loop-parameter-test.true in
     let is_used : pre_expands i cs ≡ true = pre_expanded-alone c.in_ok-pre_expanded.pre_expanded.items c.deref-is_pre_expanded-items.result.now (length names) i (listed c.args.pattern.now) cs true
@@ -208,10 +208,10 @@ expand_arguments-returns-in_err-expansion-clause-is m c =
     let argument : hidings u c.argument_of-tokens.result.now ≡ hidings s (argument_at (lists_of vs) i) =
     ap (hidings u) tokens_are ∙ hidings-keeps (argument_at (lists_of vs) i) c.loop-parameter.invariant.keeps (argument-known s vs i c.requires.known.arguments) in
     stopped _ _ _ _ _ c.from_residual-in_err-expansion.ensures.1 c.in_err-expansion.ensures.is (λ f raised following.
-    let call = call_of s c.args.call.now following in
-    let one : ExpandsArgument c.args.context.now.table.now.macros c.args.context.now.env.now c.args.context.now.level c.args.call.now.head.token c.loop-parameter.self.remaining (hidings s (argument_at (lists_of vs) i)) c.expand_argument.new.self.remaining (Err f) =
-    subst (λ l. ExpandsArgument c.args.context.now.table.now.macros c.args.context.now.env.now c.args.context.now.level c.args.call.now.head.token c.loop-parameter.self.remaining l c.expand_argument.new.self.remaining (Err f)) argument raised in
-    follows_refused c.args.context.now.table.now.macros c.args.context.now.env.now c.args.context.now.level c.args.self.now.remaining c.loop-parameter.self.remaining c.expand_argument.new.self.remaining s u u vs cs names i done done call (wanted call)
+    let invocation = invocation_of s c.args.invocation.now following in
+    let one : ExpandsArgument c.args.context.now.table.now.macros c.args.context.now.env.now c.args.context.now.level c.args.invocation.now.name_token.token c.loop-parameter.self.remaining (hidings s (argument_at (lists_of vs) i)) c.expand_argument.new.self.remaining (Err f) =
+    subst (λ l. ExpandsArgument c.args.context.now.table.now.macros c.args.context.now.env.now c.args.context.now.level c.args.invocation.now.name_token.token c.loop-parameter.self.remaining l c.expand_argument.new.self.remaining (Err f)) argument raised in
+    follows_refused c.args.context.now.table.now.macros c.args.context.now.env.now c.args.context.now.level c.args.self.now.remaining c.loop-parameter.self.remaining c.expand_argument.new.self.remaining s u u vs cs names i done done invocation (wanted invocation)
     f less is_used one (c.loop-parameter.invariant.follows following))
 
 pub expand_arguments-loop-parameter-preserved : goal.expand_arguments-loop-parameter-preserved
@@ -219,9 +219,9 @@ expand_arguments-loop-parameter-preserved m c =
     let s = c.args.self.now.replacer.sets in
     let u = c.loop-parameter.self.replacer.sets in
     let i = c.loop-parameter.parameter in
-    let vs = c.args.call.now.arguments.items in
-    let cs = chains_of c.args.call.now.definition.now in
-    let names = parameter_names c.args.call.now.definition.now.kind in
+    let vs = c.args.invocation.now.arguments.items in
+    let cs = chains_of c.args.invocation.now.definition.now in
+    let names = parameter_names c.args.invocation.now.definition.now.kind in
     let done = c.loop-parameter.expanded.items in
     let less : i < length names = subst (λ n. i < n) (ap length c.deref-is_pre_expanded-items.ensures.value ∙ c.in_ok-pre_expanded.ensures.len) c.loop-parameter-test.true in
     let is_used : pre_expands i cs ≡ true = pre_expanded-alone c.in_ok-pre_expanded.pre_expanded.items c.deref-is_pre_expanded-items.result.now (length names) i (listed c.args.pattern.now) cs true
@@ -234,8 +234,8 @@ expand_arguments-loop-parameter-preserved m c =
     let made_is = c.in_ok-expansion.ensures.is in
     let e = c.in_ok-expansion.expansion in
     let tokens = made_is.0 in
-    let one : ExpandsArgument c.args.context.now.table.now.macros c.args.context.now.env.now c.args.context.now.level c.args.call.now.head.token c.loop-parameter.self.remaining (hidings s (argument_at (lists_of vs) i)) c.expand_argument.new.self.remaining (Ok tokens) =
-    subst (λ l. ExpandsArgument c.args.context.now.table.now.macros c.args.context.now.env.now c.args.context.now.level c.args.call.now.head.token c.loop-parameter.self.remaining l c.expand_argument.new.self.remaining (Ok tokens)) argument made_is.2 in
+    let one : ExpandsArgument c.args.context.now.table.now.macros c.args.context.now.env.now c.args.context.now.level c.args.invocation.now.name_token.token c.loop-parameter.self.remaining (hidings s (argument_at (lists_of vs) i)) c.expand_argument.new.self.remaining (Ok tokens) =
+    subst (λ l. ExpandsArgument c.args.context.now.table.now.macros c.args.context.now.env.now c.args.context.now.level c.args.invocation.now.name_token.token c.loop-parameter.self.remaining l c.expand_argument.new.self.remaining (Ok tokens)) argument made_is.2 in
     let here_is : option_map (hidings w) (option_of (argument_at (lists_of vs) i) e) ≡ Some tokens =
     subst (λ g. option_map (hidings w) (option_of g e) ≡ Some tokens) tokens_are made_is.1 in
     let tokens_known : AllKnown w (owned_tokens e) = c.in_ok-expansion.ensures.known in
@@ -247,8 +247,8 @@ expand_arguments-loop-parameter-preserved m c =
       count = ap length appended ∙ length-append done (e ∷ []) ∙ ap (λ n. n + 1) c.loop-parameter.invariant.count;
       keeps = keeps-after c.loop-parameter.invariant.keeps keeps;
       follows = λ following.
-          (let call = call_of s c.args.call.now following in
-          follows_used c.args.context.now.table.now.macros c.args.context.now.env.now c.args.context.now.level c.args.self.now.remaining c.loop-parameter.self.remaining c.expand_argument.new.self.remaining s u w vs cs names i done c.put-in-loop-parameter.new.items.items call (wanted call)
+          (let invocation = invocation_of s c.args.invocation.now following in
+          follows_used c.args.context.now.table.now.macros c.args.context.now.env.now c.args.context.now.level c.args.self.now.remaining c.loop-parameter.self.remaining c.expand_argument.new.self.remaining s u w vs cs names i done c.put-in-loop-parameter.new.items.items invocation (wanted invocation)
           e tokens less c.loop-parameter.invariant.count is_used appended keeps given_known c.loop-parameter.invariant.known here_is one (c.loop-parameter.invariant.follows following));
     }
 
@@ -257,15 +257,15 @@ expand_arguments-returns-clause-is m c =
     let s = c.args.self.now.replacer.sets in
     let u = c.loop-parameter.self.replacer.sets in
     let i = c.loop-parameter.parameter in
-    let vs = c.args.call.now.arguments.items in
-    let names = parameter_names c.args.call.now.definition.now.kind in
+    let vs = c.args.invocation.now.arguments.items in
+    let names = parameter_names c.args.invocation.now.definition.now.kind in
     let done = c.loop-parameter.expanded.items in
     let end : length names ≤ i =
     subst (λ n. n ≤ i) (ap length c.deref-is_pre_expanded-items.ensures.value ∙ c.in_ok-pre_expanded.ensures.len) (omega (arith, c.loop-parameter-test.false)) in
     (λ following.
-    let call = call_of s c.args.call.now following in
-    follows_all c.args.context.now.table.now.macros c.args.context.now.env.now c.args.context.now.level c.args.self.now.remaining c.loop-parameter.self.remaining s u vs (chains_of c.args.call.now.definition.now) names
-    i done call (wanted call) end (c.loop-parameter.invariant.follows following))
+    let invocation = invocation_of s c.args.invocation.now following in
+    follows_all c.args.context.now.table.now.macros c.args.context.now.env.now c.args.context.now.level c.args.self.now.remaining c.loop-parameter.self.remaining s u vs (chains_of c.args.invocation.now.definition.now) names
+    i done invocation (wanted invocation) end (c.loop-parameter.invariant.follows following))
 
 -- ---- a list
 

@@ -4,7 +4,7 @@ use Rattle.ppmacro.specs.Chains.{parameter_names, chains_of}
 use Rattle.ppmacro.specs.declared.hidden_token.Hidden.{Hidden}
 use Rattle.ppexpand.specs.ExpansionStep.{wanted, to_expand}
 use Rattle.ppexpand.specs.code.ProgramValues.{given_in, expanded_in, ExpansionsKnown}
-use Rattle.ppexpand.proofs.Keeping.{call_of}
+use Rattle.ppexpand.proofs.Keeping.{invocation_of}
 use Rattle.ppexpand.proofs.Follows.{Follows, ArgumentsFollow, turns_left}
 use Rattle.ppexpand.proofs.expansion.Expander.+expansion.Given as goal
 
@@ -15,8 +15,8 @@ decreases-expand_list l = 5 * (257 - l.context.now.level) + 4
 abbrev pub decreases-advance : goal.decreases-advance
 decreases-advance l = 5 * (257 - l.context.now.level) + 3
 
-abbrev pub decreases-replace_call : goal.decreases-replace_call
-decreases-replace_call l = 5 * (257 - l.context.now.level) + 2
+abbrev pub decreases-replace_invocation : goal.decreases-replace_invocation
+decreases-replace_invocation l = 5 * (257 - l.context.now.level) + 2
 
 abbrev pub decreases-expand_arguments : goal.decreases-expand_arguments
 decreases-expand_arguments l = 5 * (257 - l.context.now.level) + 1
@@ -43,7 +43,7 @@ invariant-expand_arguments-loop-parameter l = record {
   count : length l.expanded.items ≡ l.parameter;
   keeps : KeepsSets l.fn.self.replacer.sets l.self.replacer.sets;
   follows : (following : List Hidden)
-      → ArgumentsFollow l.context.table.now.macros l.context.env.now l.context.level (call_of l.fn.self.replacer.sets l.call following) l.fn.self.remaining (wanted (call_of l.fn.self.replacer.sets l.call following))
-      (expanded_in l.self.replacer.sets l.call.arguments.items l.expanded.items) l.self.remaining
-      (to_expand l.parameter (chains_of l.call.definition.now) (drop l.parameter (parameter_names l.call.definition.now.kind)) (given_in l.fn.self.replacer.sets l.call.arguments.items));
+      → ArgumentsFollow l.context.table.now.macros l.context.env.now l.context.level (invocation_of l.fn.self.replacer.sets l.invocation following) l.fn.self.remaining (wanted (invocation_of l.fn.self.replacer.sets l.invocation following))
+      (expanded_in l.self.replacer.sets l.invocation.arguments.items l.expanded.items) l.self.remaining
+      (to_expand l.parameter (chains_of l.invocation.definition.now) (drop l.parameter (parameter_names l.invocation.definition.now.kind)) (given_in l.fn.self.replacer.sets l.invocation.arguments.items));
 }

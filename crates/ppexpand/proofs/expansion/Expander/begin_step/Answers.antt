@@ -2,10 +2,10 @@ use Rattle.std.proofs.Common.{◌≡◌, ◌∙◌, ◌∷◌, ◌++◌, [], ref
 use Rattle.std.proofs.lemmas.List.{map-append}
 use Rattle.ppmacro.specs.HideSets.{hiding, hidings, AllKnown}
 use Rattle.ppmacro.proofs.KeepLemmas.{hidings-keeps, known-keeps, known-append}
-use Rattle.ppexpand.specs.ExpansionStep.{Done, Refused, Emits, Failed, Replaced, Called}
+use Rattle.ppexpand.specs.ExpansionStep.{Done, Refused, Emits, Failed, Replaced, Invoked}
 use Rattle.ppexpand.specs.Expansion.{step_in_budget, Expands, done, refused, emits, failed, replaced}
 use Rattle.ppexpand.specs.code.ProgramValues.{step_in, ActionKnown, EndsWith}
-use Rattle.ppexpand.proofs.Keeping.{call_of}
+use Rattle.ppexpand.proofs.Keeping.{invocation_of}
 use Rattle.ppexpand.proofs.StepLemmas.{stepped}
 use Rattle.std.proofs.Common.{Some}
 use Rattle.ppexpand.proofs.expansion.Expander.begin_step.Goals as goal
@@ -42,18 +42,18 @@ pub returns-in_ok-push_single-in-Emits-clause-on : goal.returns-in_ok-push_singl
 returns-in_ok-push_single-in-Emits-clause-on c =
     let s = c.next_step.new.self.sets in
     let emitted = c.args.emitted.now in
-    let head = c.in-Emits.head in
-    let t : step_in_budget c.args.context.now.table.now.macros c.args.context.now.env.now c.args.self.now.remaining (hidings c.args.self.now.replacer.sets c.args.list.now) ≡ Emits (hiding s head) (hidings s c.next_step.new.list) =
+    let token = c.in-Emits.token in
+    let t : step_in_budget c.args.context.now.table.now.macros c.args.context.now.env.now c.args.self.now.remaining (hidings c.args.self.now.replacer.sets c.args.list.now) ≡ Emits (hiding s token) (hidings s c.next_step.new.list) =
     sym (ap (step_in s c.next_step.new.list) (sym (stepped c.next.inside c.next.view_is c.in-Emits.is)) ∙ c.in_ok-next.ensures.is) in
-    let shown : hidings s c.push_single.new.self ≡ hidings c.args.self.now.replacer.sets emitted ++ hiding s head ∷ [] =
-    ap (hidings s) c.in_ok-push_single-in-Emits.ensures ∙ map-append (hiding s) emitted (head ∷ []) ∙ ap (λ hs. hs ++ hiding s head ∷ []) (hidings-keeps emitted c.in_ok-next.ensures.keeps c.requires.emitted_known) in
-    λ level. (hiding s head ∷ [], shown, record { expansion_step = λ n out d. emits t d })
+    let shown : hidings s c.push_single.new.self ≡ hidings c.args.self.now.replacer.sets emitted ++ hiding s token ∷ [] =
+    ap (hidings s) c.in_ok-push_single-in-Emits.ensures ∙ map-append (hiding s) emitted (token ∷ []) ∙ ap (λ hs. hs ++ hiding s token ∷ []) (hidings-keeps emitted c.in_ok-next.ensures.keeps c.requires.emitted_known) in
+    λ level. (hiding s token ∷ [], shown, record { expansion_step = λ n out d. emits t d })
 
 pub returns-in_ok-push_single-in-Emits-clause-emitted_known : goal.returns-in_ok-push_single-in-Emits-clause-emitted_known
 returns-in_ok-push_single-in-Emits-clause-emitted_known c =
     let s = c.next_step.new.self.sets in
     let known = subst (ActionKnown s c.next_step.new.list) (stepped c.next.inside c.next.view_is c.in-Emits.is) c.in_ok-next.ensures.known in
-    subst (AllKnown s) (sym c.in_ok-push_single-in-Emits.ensures) (known-append c.args.emitted.now (c.in-Emits.head ∷ []) (known-keeps _ c.in_ok-next.ensures.keeps c.requires.emitted_known) (record { each = (known.0, tt) }))
+    subst (AllKnown s) (sym c.in_ok-push_single-in-Emits.ensures) (known-append c.args.emitted.now (c.in-Emits.token ∷ []) (known-keeps _ c.in_ok-next.ensures.keeps c.requires.emitted_known) (record { each = (known.0, tt) }))
 
 pub returns-in-Replaced-clause-on : goal.returns-in-Replaced-clause-on
 returns-in-Replaced-clause-on c =
@@ -73,13 +73,13 @@ returns-in-Replaced-clause-on c =
 pub returns-in-Replaced-clause-emitted_known : goal.returns-in-Replaced-clause-emitted_known
 returns-in-Replaced-clause-emitted_known c = known-keeps _ c.in_ok-next.ensures.keeps c.requires.emitted_known
 
-pub returns-in-Called-clause-on : goal.returns-in-Called-clause-on
-returns-in-Called-clause-on c =
+pub returns-in-Invoked-clause-on : goal.returns-in-Invoked-clause-on
+returns-in-Invoked-clause-on c =
     let s = c.next_step.new.self.sets in
     let list = c.next_step.new.list in
-    let t : step_in_budget c.args.context.now.table.now.macros c.args.context.now.env.now c.args.self.now.remaining (hidings c.args.self.now.replacer.sets c.args.list.now) ≡ Called (call_of s c.in-Called.found list) =
-    sym (ap (step_in s list) (sym (stepped c.next.inside c.next.view_is c.in-Called.is)) ∙ c.in_ok-next.ensures.is) in
-    (t, refl, c.spend_one-self-in-Called.ensures, hidings-keeps _ c.in_ok-next.ensures.keeps c.requires.emitted_known)
+    let t : step_in_budget c.args.context.now.table.now.macros c.args.context.now.env.now c.args.self.now.remaining (hidings c.args.self.now.replacer.sets c.args.list.now) ≡ Invoked (invocation_of s c.in-Invoked.found list) =
+    sym (ap (step_in s list) (sym (stepped c.next.inside c.next.view_is c.in-Invoked.is)) ∙ c.in_ok-next.ensures.is) in
+    (t, refl, c.spend_one-self-in-Invoked.ensures, hidings-keeps _ c.in_ok-next.ensures.keeps c.requires.emitted_known)
 
-pub returns-in-Called-clause-emitted_known : goal.returns-in-Called-clause-emitted_known
-returns-in-Called-clause-emitted_known c = known-keeps _ c.in_ok-next.ensures.keeps c.requires.emitted_known
+pub returns-in-Invoked-clause-emitted_known : goal.returns-in-Invoked-clause-emitted_known
+returns-in-Invoked-clause-emitted_known c = known-keeps _ c.in_ok-next.ensures.keeps c.requires.emitted_known

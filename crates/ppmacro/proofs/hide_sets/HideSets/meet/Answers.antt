@@ -1,6 +1,6 @@
 use Rattle.std.proofs.Common.{◌≡◌, ◌∙◌, refl, ap}
 use Rattle.ppmacro.specs.code.Members.{hide_sets}
-use Rattle.ppmacro.specs.code.Operations.{Meet}
+use Rattle.ppmacro.specs.code.Operations.{Intersection}
 use Rattle.ppmacro.proofs.KeepLemmas.{pairs-are}
 use Rattle.ppmacro.proofs.Viewed.{both-seen, node-asked, keeps-seen, made-seen, selected-made}
 use Rattle.ppmacro.proofs.Hiding.{known-at}
@@ -14,10 +14,10 @@ pub combine-requires-clause-two : goal.combine-requires-clause-two
 combine-requires-clause-two c = node-asked c.self.inside c.self.view_is c.right.view_is c.requires.right
 
 pub invariant_of-self : goal.invariant_of-self
-invariant_of-self c = selected-made Meet c.self.inside c.self.invariant c.combine.ensures.pool c.combine.ensures.keeps c.combine.ensures.bounded c.combine.ensures.answers
+invariant_of-self c = selected-made Intersection c.self.inside c.self.invariant c.combine.ensures.pool c.combine.ensures.keeps c.combine.ensures.bounded c.combine.ensures.answers
 
 pub invariant_of-self-2 : goal.invariant_of-self-2
-invariant_of-self-2 c = selected-made Meet c.self.inside c.self.invariant c.combine.ensures.pool c.combine.ensures.keeps c.combine.ensures.bounded c.combine.ensures.answers
+invariant_of-self-2 c = selected-made Intersection c.self.inside c.self.invariant c.combine.ensures.pool c.combine.ensures.keeps c.combine.ensures.bounded c.combine.ensures.answers
 
 pub returns-in_err-number-clause-keeps : goal.returns-in_err-number-clause-keeps
 returns-in_err-number-clause-keeps c =
@@ -31,19 +31,19 @@ returns-clause-known c = known-at c.self.inside.names c.combine.new.nodes.keys c
 
 pub returns-clause-set : goal.returns-clause-set
 returns-clause-set c =
-    made-seen Meet c.self.inside c.combine.new.nodes.keys c.self.view_is c.self.invariant.distinct c.left.view_is c.right.view_is c.requires.left
+    made-seen Intersection c.self.inside c.combine.new.nodes.keys c.self.view_is c.self.invariant.distinct c.left.view_is c.right.view_is c.requires.left
     c.requires.right c.in_ok-number.ensures.known c.in_ok-number.ensures.set
 
 pub returns-in_err-number-clause-there : goal.returns-in_err-number-clause-there
 returns-in_err-number-clause-there c = λ n k e.
-    let members = both-seen Meet c.self.inside n c.self.view_is c.self.invariant c.left.view_is c.right.view_is c.requires.left c.requires.right k e in
+    let members = both-seen Intersection c.self.inside n c.self.view_is c.self.invariant c.left.view_is c.right.view_is c.requires.left c.requires.right k e in
     let found = c.in_err-number.ensures.there n (node-asked c.self.inside c.self.view_is refl k) members in
-    let same = (λ i. record { sets = hide_sets c.self.inside.names (found.1 i); unions = c.self.inside.unions; meets = (found.2 i) }) ∙ c.self.view_is in
+    let same = (λ i. record { sets = hide_sets c.self.inside.names (found.1 i); unions = c.self.inside.unions; intersections = (found.2 i) }) ∙ c.self.view_is in
     let told = refused c.from_residual.result (λ m. m ≡ n) _ c.from_residual.ensures.0 same in
     (told.0, ap (λ v. v.sets) same, told.1)
 
 pub returns-clause-there : goal.returns-clause-there
 returns-clause-there c = λ n k e.
-    let members = both-seen Meet c.self.inside n c.self.view_is c.self.invariant c.left.view_is c.right.view_is c.requires.left c.requires.right k e in
+    let members = both-seen Intersection c.self.inside n c.self.view_is c.self.invariant c.left.view_is c.right.view_is c.requires.left c.requires.right k e in
     let found = c.in_ok-number.ensures.there n (node-asked c.self.inside c.self.view_is refl k) members in
     (found.0, (λ i. hide_sets c.self.inside.names (found.1 i)) ∙ ap (λ v. v.sets) c.self.view_is, tt)

@@ -38,7 +38,7 @@ pub returns-in_err-number-clause-there : goal.returns-in_err-number-clause-there
 returns-in_err-number-clause-there c = λ n k e.
     let members = both-seen Union c.self.inside n c.self.view_is c.self.invariant c.left.view_is c.right.view_is c.requires.left c.requires.right k e in
     let found = c.in_err-number.ensures.there n (node-asked c.self.inside c.self.view_is refl k) members in
-    let same = (λ i. record { sets = hide_sets c.self.inside.names (found.1 i); unions = (found.2 i); meets = c.self.inside.meets }) ∙ c.self.view_is in
+    let same = (λ i. record { sets = hide_sets c.self.inside.names (found.1 i); unions = (found.2 i); intersections = c.self.inside.intersections }) ∙ c.self.view_is in
     let told = refused c.from_residual.result (λ m. m ≡ n) _ c.from_residual.ensures.0 same in
     (told.0, ap (λ v. v.sets) same, told.1)
 

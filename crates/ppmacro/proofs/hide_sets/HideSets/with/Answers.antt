@@ -9,23 +9,23 @@ insert-requires-clause-known c = node-known c.self.inside.names c.self.inside.no
 
 pub invariant_of-self-in_err-number : goal.invariant_of-self-in_err-number
 invariant_of-self-in_err-number c = selected-named c.self.inside.names c.in_ok-named.ensures.keeps.0 c.number_for.new.self c.self.inside.nodes.keys
-    c.insert.new.nodes.keys c.self.inside.unions c.self.inside.meets c.in_ok-named.named c.in_ok-named.ensures.keeps.1 c.in_ok-named.ensures.distinct
+    c.insert.new.nodes.keys c.self.inside.unions c.self.inside.intersections c.in_ok-named.named c.in_ok-named.ensures.keeps.1 c.in_ok-named.ensures.distinct
     c.in_ok-named.ensures.found.0 c.self.invariant c.insert.ensures.pool c.insert.ensures.keeps c.insert.ensures.bounded
 
 pub invariant_of-self-2 : goal.invariant_of-self-2
 invariant_of-self-2 c = selected-named c.self.inside.names c.in_ok-named.ensures.keeps.0 c.number_for.new.self c.self.inside.nodes.keys c.insert.new.nodes.keys
-    c.self.inside.unions c.self.inside.meets c.in_ok-named.named c.in_ok-named.ensures.keeps.1 c.in_ok-named.ensures.distinct c.in_ok-named.ensures.found.0
+    c.self.inside.unions c.self.inside.intersections c.in_ok-named.named c.in_ok-named.ensures.keeps.1 c.in_ok-named.ensures.distinct c.in_ok-named.ensures.found.0
     c.self.invariant c.insert.ensures.pool c.insert.ensures.keeps c.insert.ensures.bounded
 
 pub returns-in_err-number-clause-keeps : goal.returns-in_err-number-clause-keeps
 returns-in_err-number-clause-keeps c =
     keeps-named c.self.inside.names c.in_ok-named.ensures.keeps.0 c.number_for.new.self c.self.inside.nodes.keys c.insert.new.nodes.keys c.self.inside.unions
-    c.self.inside.meets c.args.self.now _ c.in_ok-named.ensures.keeps.1 c.self.view_is refl c.self.invariant c.insert.ensures.keeps
+    c.self.inside.intersections c.args.self.now _ c.in_ok-named.ensures.keeps.1 c.self.view_is refl c.self.invariant c.insert.ensures.keeps
 
 pub returns-clause-keeps : goal.returns-clause-keeps
 returns-clause-keeps c =
     keeps-named c.self.inside.names c.in_ok-named.ensures.keeps.0 c.number_for.new.self c.self.inside.nodes.keys c.insert.new.nodes.keys c.self.inside.unions
-    c.self.inside.meets c.args.self.now _ c.in_ok-named.ensures.keeps.1 c.self.view_is refl c.self.invariant c.insert.ensures.keeps
+    c.self.inside.intersections c.args.self.now _ c.in_ok-named.ensures.keeps.1 c.self.view_is refl c.self.invariant c.insert.ensures.keeps
 
 pub returns-clause-known : goal.returns-clause-known
 returns-clause-known c = known-at c.number_for.new.self c.insert.new.nodes.keys c.in_ok-number.number c.in_ok-number.ensures.known
@@ -67,4 +67,4 @@ returns-clause-there c = λ n k e.
     let at = subst (λ ns. get_or ns c.in_ok-named.named [] ≡ c.args.name.now) same c.in_ok-named.ensures.found.1 in
     let members = more-seen c.self.inside n c.in_ok-named.named c.args.name.now c.self.view_is c.self.invariant c.hide.view_is c.requires k lx at e in
     let found = c.in_ok-number.ensures.there n (node-asked c.self.inside c.self.view_is refl k) members in
-    (ap Ok (cc found.0), (λ i. record { sets = hide_sets (same i) (found.1 i); unions = c.self.inside.unions; meets = c.self.inside.meets }) ∙ c.self.view_is)
+    (ap Ok (cc found.0), (λ i. record { sets = hide_sets (same i) (found.1 i); unions = c.self.inside.unions; intersections = c.self.inside.intersections }) ∙ c.self.view_is)

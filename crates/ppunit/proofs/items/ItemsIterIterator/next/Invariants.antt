@@ -1,11 +1,10 @@
-use Rattle.std.proofs.Common.{◌≡◌, ◌++◌, flat_map, length}
-use Rattle.ppunit.specs.Parts.{part_items}
-use Rattle.ppunit.specs.BorrowedItems.{run_items}
+use Rattle.std.proofs.Common.{◌≡◌, ◌++◌, map, length}
+use Rattle.ppunit.specs.declared.units.Item.TheVariants as item
 use Rattle.ppunit.proofs.items.ItemsIterIterator.next.Given as goal
 
--- only runs that were read whole were passed over
-abbrev pub invariant-loop-self : goal.invariant-loop-self
-invariant-loop-self l = run_items l.self-inside.run ++ flat_map part_items l.self-inside.remaining ≡ l.fn.self
+-- only slices that were read whole were passed over
+abbrev pub invariant-loop-token : goal.invariant-loop-token
+invariant-loop-token l = map item.Token l.self-inside.tokens ++ l.self-inside.slices ≡ l.fn.self
 
-abbrev pub decreases-loop-self : goal.decreases-loop-self
-decreases-loop-self l = length l.self-inside.remaining
+abbrev pub decreases-loop-token : goal.decreases-loop-token
+decreases-loop-token l = length l.self-inside.slices

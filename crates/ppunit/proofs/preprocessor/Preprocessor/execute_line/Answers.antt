@@ -38,9 +38,9 @@ returns-in_ok-refuse_unmatched_quote-in-Includes-clause-control g c =
     let is : class_of c.args.line.directive ≡ class.Includes c.in-Includes.next = sym c.class.ensures ∙ c.in-Includes.is in
     let alone = sym c.in_ok-refuse_unmatched_quote-in-Includes.ensures in
     on_settled c.include.result
-    (λ r leads. leads_include (context_over c.args.self.now.context.now) c.include.new.self.pass.now.files c.args.depth c.args.line.row c.in-Includes.next c.directory_before-directory.result
+    (λ r leads. leads_include (context_over c.args.self.now.context.now) c.include.new.self.pass.now.files c.args.depth c.args.line.row c.in-Includes.next c.search_after-directory.result
     (directed c.args.line.directive c.args.line.tokens c.args.line.number) c.args.self.now.state c.include.new.self.state r
-    c.directory_before-directory.ensures (ap (λ (z : Class). Some z) is) alone (leads c.args.line.directive c.args.line.number))
+    c.search_after-directory.ensures (ap (λ (z : Class). Some z) is) alone (leads c.args.line.directive c.args.line.number))
     c.include.ensures.includes
 
 pub returns-in_err-refuse_unmatched_quote-in_default : goal.returns-in_err-refuse_unmatched_quote-in_default

@@ -16,7 +16,7 @@ returns-in_err-include_name-clause-includes g c =
     stopped _ _ _ _ c.from_residual.ensures.1 c.in_err-include_name.ensures.asks (λ fault asks directive number more grows.
     subst (λ (z : State). ExecutesInclude (context_over c.args.self.now.context.now more) c.args.depth c.args.from.row c.args.from.directory c.args.self.now.state
     (directed directive c.args.tokens.now number) (record { state = z; fault = Some fault })) (sym c.in_err-include_name.ensures.rest)
-    (ExecutesInclude.misnamed asks))
+    (ExecutesInclude.operand_fault asks))
 
 pub returns-in_default-clause-includes : goal.returns-in_default-clause-includes
 returns-in_default-clause-includes g c directive number more grows =

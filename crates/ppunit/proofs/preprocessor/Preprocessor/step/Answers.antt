@@ -9,19 +9,19 @@ use Rattle.ppunit.proofs.preprocessor.Preprocessor.step.Goals as goal
 pub returns-in_err-execute_text_lines-clause-step : goal.returns-in_err-execute_text_lines-clause-step
 returns-in_err-execute_text_lines-clause-step g c =
     rw (← c.file.view_is) (stopped _ _ _ _ c.from_residual.ensures.1
-    (c.in_err-execute_text_lines.ensures.run (context_over c.args.self.now.context.now) c.args.self.now.pass.now.files c.args.depth c.file.inside.row)
+    (c.in_err-execute_text_lines.ensures.text_lines (context_over c.args.self.now.context.now) c.args.self.now.pass.now.files c.args.depth c.file.inside.row)
     (λ fault advances. advances))
 
 pub returns-in_default-clause-step : goal.returns-in_default-clause-step
 returns-in_default-clause-step g c =
     rw (← c.file.view_is) (steps_line (context_over c.args.self.now.context.now) c.args.self.now.pass.now.files c.args.depth c.file.inside.row c.file.inside.source.now
     c.file.inside.index c.args.self.now.state c.execute_text_lines.new.state c.in_ok-execute_text_lines.field-0 c.next_line.result c.next_line.ensures
-    (c.in_ok-execute_text_lines.ensures.run (context_over c.args.self.now.context.now) c.args.self.now.pass.now.files c.args.depth c.file.inside.row))
+    (c.in_ok-execute_text_lines.ensures.text_lines (context_over c.args.self.now.context.now) c.args.self.now.pass.now.files c.args.depth c.file.inside.row))
 
 pub returns-in_err-next-clause-step : goal.returns-in_err-next-clause-step
 returns-in_err-next-clause-step g c =
     rw (← c.file.view_is) (stopped _ _ _ _ c.from_residual-in_err-next.ensures.1
-    (c.in_err-next.ensures.entered c.args.self.now.pass.now.files c.args.depth)
+    (c.in_err-next.ensures.advances c.args.self.now.pass.now.files c.args.depth)
     (λ fault advances. advances))
 
 pub returns-then-opens_section-clause-step : goal.returns-then-opens_section-clause-step
@@ -29,7 +29,7 @@ returns-then-opens_section-clause-step g c =
     rw (← c.file.view_is) (steps_line (context_over c.args.self.now.context.now) c.args.self.now.pass.now.files c.args.depth c.file.inside.row c.file.inside.source.now
     c.file.inside.index c.args.self.now.state c.execute_if_line.new.state c.in_ok-next.next c.next_line-then-opens_section.result
     c.next_line-then-opens_section.ensures
-    (c.in_ok-next.ensures.entered c.args.self.now.pass.now.files c.args.depth))
+    (c.in_ok-next.ensures.advances c.args.self.now.pass.now.files c.args.depth))
 
 pub returns-then-ends_group-clause-step : goal.returns-then-ends_group-clause-step
 returns-then-ends_group-clause-step g c =

@@ -62,26 +62,26 @@ loop-file-smaller-in-Some g c =
     let further = rw (c.in-Ok.is, ← c.next.view_is) at c.step.ensures.further in
     let within = subst (λ (z : OpenFile). z.index < length z.lines) c.file.view_is (omega (arith, c.line_count.ensures, c.if-file-line_count.true)) in
     let less = work_next (context_over c.args.self.now.context.now) c.step.new.self.pass.now.files c.loop-file.file.row c.loop-file.file.lines
-    c.loop-file.file.index c.next.inside.line c.loop-file.self.state c.step.new.self.state c.loop-file.file c.next.inside.entered c.loop-file.suspended within
+    c.loop-file.file.index c.next.inside.index c.loop-file.self.state c.step.new.self.state c.loop-file.file c.next.inside.entered c.loop-file.suspended within
     further step in
-    let moved = ap (λ (z : OpenFile). record z { index = c.next.inside.line }) c.file.view_is in
+    let moved = ap (λ (z : OpenFile). record z { index = c.next.inside.index }) c.file.view_is in
     rw (c.in_ok-file-in-Ok.ensures.file, c.in_ok-file-in-Ok.ensures.suspended, moved) (rw c.in-Some.is at less)
 
 pub loop-file-preserved-in-Some : goal.loop-file-preserved-in-Some
 loop-file-preserved-in-Some g c =
     let step = rw (c.in-Ok.is, c.depth.ensures, ← c.next.view_is, c.loop-file.invariant.continues.context) at c.step.ensures.step in
-    let moved = ap (λ (z : OpenFile). record z { index = c.next.inside.line }) c.file.view_is in
+    let moved = ap (λ (z : OpenFile). record z { index = c.next.inside.index }) c.file.view_is in
     record {
       continues = continues_on c.args.self.now c.loop-file.self c.step.new.self c.loop-file.invariant.continues c.step.ensures.continues;
       depth =
           rw c.in_ok-file-in-Ok.ensures.suspended (rw c.in-Some.is at
           (next_depth (context_over c.args.self.now.context.now) c.step.new.self.pass.now.files c.loop-file.file.row c.loop-file.file.lines
-          c.loop-file.file.index c.next.inside.line c.loop-file.self.state c.step.new.self.state c.loop-file.suspended
+          c.loop-file.file.index c.next.inside.index c.loop-file.self.state c.step.new.self.state c.loop-file.suspended
           c.loop-file.file c.next.inside.entered c.loop-file.invariant.depth step));
       walked =
           rw (c.in_ok-file-in-Ok.ensures.file, c.in_ok-file-in-Ok.ensures.suspended, moved) (rw c.in-Some.is at
           (stack_next (context_over c.args.self.now.context.now) c.loop-file.self.pass.now.files c.step.new.self.pass.now.files c.args.first.row c.args.first.lines
-          c.args.self.now.state c.loop-file.self.state c.step.new.self.state c.loop-file.suspended c.loop-file.file c.next.inside.line c.next.inside.entered c.loop-file.invariant.walked
+          c.args.self.now.state c.loop-file.self.state c.step.new.self.state c.loop-file.suspended c.loop-file.file c.next.inside.index c.next.inside.entered c.loop-file.invariant.walked
           c.step.ensures.continues.grows step));
     }
 
@@ -91,26 +91,26 @@ loop-file-smaller-in_default g c =
     let further = rw (c.in-Ok.is, ← c.next.view_is) at c.step.ensures.further in
     let within = subst (λ (z : OpenFile). z.index < length z.lines) c.file.view_is (omega (arith, c.line_count.ensures, c.if-file-line_count.true)) in
     let less = work_next (context_over c.args.self.now.context.now) c.step.new.self.pass.now.files c.loop-file.file.row c.loop-file.file.lines
-    c.loop-file.file.index c.next.inside.line c.loop-file.self.state c.step.new.self.state c.loop-file.file c.next.inside.entered c.loop-file.suspended within
+    c.loop-file.file.index c.next.inside.index c.loop-file.self.state c.step.new.self.state c.loop-file.file c.next.inside.entered c.loop-file.suspended within
     further step in
-    let moved = ap (λ (z : OpenFile). record z { index = c.next.inside.line }) c.file.view_is in
+    let moved = ap (λ (z : OpenFile). record z { index = c.next.inside.index }) c.file.view_is in
     rw moved (rw c.in_default.is at less)
 
 pub loop-file-preserved-in_default : goal.loop-file-preserved-in_default
 loop-file-preserved-in_default g c =
     let step = rw (c.in-Ok.is, c.depth.ensures, ← c.next.view_is, c.loop-file.invariant.continues.context) at c.step.ensures.step in
-    let moved = ap (λ (z : OpenFile). record z { index = c.next.inside.line }) c.file.view_is in
+    let moved = ap (λ (z : OpenFile). record z { index = c.next.inside.index }) c.file.view_is in
     record {
       continues = continues_on c.args.self.now c.loop-file.self c.step.new.self c.loop-file.invariant.continues c.step.ensures.continues;
       depth =
           rw c.in_default.is at
           (next_depth (context_over c.args.self.now.context.now) c.step.new.self.pass.now.files c.loop-file.file.row c.loop-file.file.lines
-          c.loop-file.file.index c.next.inside.line c.loop-file.self.state c.step.new.self.state c.loop-file.suspended
+          c.loop-file.file.index c.next.inside.index c.loop-file.self.state c.step.new.self.state c.loop-file.suspended
           c.loop-file.file c.next.inside.entered c.loop-file.invariant.depth step);
       walked =
           rw moved (rw c.in_default.is at
           (stack_next (context_over c.args.self.now.context.now) c.loop-file.self.pass.now.files c.step.new.self.pass.now.files c.args.first.row c.args.first.lines
-          c.args.self.now.state c.loop-file.self.state c.step.new.self.state c.loop-file.suspended c.loop-file.file c.next.inside.line c.next.inside.entered c.loop-file.invariant.walked
+          c.args.self.now.state c.loop-file.self.state c.step.new.self.state c.loop-file.suspended c.loop-file.file c.next.inside.index c.next.inside.entered c.loop-file.invariant.walked
           c.step.ensures.continues.grows step));
     }
 

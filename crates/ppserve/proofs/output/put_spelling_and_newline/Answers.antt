@@ -1,5 +1,5 @@
 use Rattle.ppserve.proofs.Printing.{puts_then}
-use Rattle.ppserve.proofs.output.put_end.Goals as goal
+use Rattle.ppserve.proofs.output.put_spelling_and_newline.Goals as goal
 
 pub returns : goal.returns
 returns g c = puts_then c.put_escaped.ensures c.put.ensures

@@ -3,17 +3,17 @@ use Rattle.std.proofs.lemmas.Result.{IfOk-weaker}
 use Rattle.std.specs.FinSet as set
 use Rattle.ppmacro.specs.HideSets.{set_at, hide_of, hiding, hidings}
 use Rattle.ppmacro.proofs.KeepLemmas.{known-sets, known-keeps}
-use Rattle.ppexpand.specs.ExpansionStep.{Called, call_step, gain_of}
+use Rattle.ppexpand.specs.ExpansionStep.{Invoked, closed_invocation_step, gain_of}
 use Rattle.ppexpand.specs.code.ProgramValues.{fitting_in, FittingKnown, step_in, ActionKnown}
-use Rattle.ppexpand.proofs.Keeping.{call_made, given_known-keeps}
-use Rattle.ppexpand.proofs.expand_step.call_step.Goals as goal
+use Rattle.ppexpand.proofs.Keeping.{invocation_made, given_known-keeps}
+use Rattle.ppexpand.proofs.expand_step.closed_invocation_step.Goals as goal
 
 pub returns-in_default-clause-is : goal.returns-in_default-clause-is
 returns-in_default-clause-is c =
     let s = c.args.sets.now in
     IfOk-weaker c.failed_at.result _ _
     (λ n is rest known. ap (step_in s rest) is
-    ∙ ap (λ a. call_step (hiding s c.args.head) c.args.definition.now (fitting_in s a) (hiding s c.args.close.now) (hidings s rest)) (sym c.in_default.is))
+    ∙ ap (λ a. closed_invocation_step (hiding s c.args.name_token) c.args.definition.now (fitting_in s a) (hiding s c.args.close.now) (hidings s rest)) (sym c.in_default.is))
     c.failed_at.ensures
 
 pub returns-in_default-clause-known : goal.returns-in_default-clause-known
@@ -22,18 +22,18 @@ returns-in_default-clause-known c = IfOk-weaker c.failed_at.result _ _ (λ n is 
 pub returns-clause-is : goal.returns-clause-is
 returns-clause-is c rest rest_known =
     let s = c.args.sets.now in
-    let head = c.args.head in
+    let name_token = c.args.name_token in
     let keeps = c.in_ok-base.ensures.keeps in
-    let gains : set.insert (set_at c.common_hide_set.new.self c.in_ok-base.base) head.token.text ≡ gain_of (hide_of s head) (hide_of s c.args.close.now) head.token.text = ap (λ b. set.insert b head.token.text) c.in_ok-base.ensures.set in
-    ap Called (call_made (record { head = head; definition = c.args.definition; arguments = c.in-Some.arguments; base = c.in_ok-base.base })
-    rest _ keeps c.requires.head (subst (FittingKnown s) c.in-Some.is c.requires.arguments) rest_known gains)
-    ∙ ap (λ a. call_step (hiding s head) c.args.definition.now (fitting_in s a) (hiding s c.args.close.now) (hidings s rest)) (sym c.in-Some.is)
+    let gains : set.insert (set_at c.common_hide_set.new.self c.in_ok-base.base) name_token.token.text ≡ gain_of (hide_of s name_token) (hide_of s c.args.close.now) name_token.token.text = ap (λ b. set.insert b name_token.token.text) c.in_ok-base.ensures.set in
+    ap Invoked (invocation_made (record { name_token = name_token; definition = c.args.definition; arguments = c.in-Some.arguments; base = c.in_ok-base.base })
+    rest _ keeps c.requires.name_token (subst (FittingKnown s) c.in-Some.is c.requires.arguments) rest_known gains)
+    ∙ ap (λ a. closed_invocation_step (hiding s name_token) c.args.definition.now (fitting_in s a) (hiding s c.args.close.now) (hidings s rest)) (sym c.in-Some.is)
 
 pub returns-clause-known : goal.returns-clause-known
 returns-clause-known c rest rest_known =
     let keeps = c.in_ok-base.ensures.keeps in (
       record {
-        head = known-sets c.args.head keeps c.requires.head;
+        name_token = known-sets c.args.name_token keeps c.requires.name_token;
         arguments = given_known-keeps c.in-Some.arguments.items keeps (subst (FittingKnown c.args.sets.now) c.in-Some.is c.requires.arguments);
         base_known = c.in_ok-base.ensures.known;
       },

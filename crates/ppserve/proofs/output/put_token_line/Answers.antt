@@ -2,8 +2,8 @@ use Rattle.std.proofs.Common.{◌≡◌, codes, ◌++◌, ◌∙◌, ◌∷◌, 
 use Rattle.ppserve.specs.code.LinePrefix.{before_spelling}
 use Rattle.ppserve.specs.Output.{escaped}
 use Rattle.ppserve.proofs.Printing.{puts_as, puts_here, puts_then, puts_joined}
-use Rattle.ppserve.proofs.output.put_line.Goals as goal
-use Rattle.ppserve.proofs.output.put_line.Goals.{in-Some+else-add_short_spelling, in_default}
+use Rattle.ppserve.proofs.output.put_token_line.Goals as goal
+use Rattle.ppserve.proofs.output.put_token_line.Goals.{in-Some+else-add_short_spelling, in_default}
 
 pub returns-then-add_short_spelling : goal.returns-then-add_short_spelling
 returns-then-add_short_spelling g c =
@@ -20,4 +20,4 @@ returns g c =
     ] in
     let buf = same ∙ (c.add_line_prefix.ensures.text ∙ append_assoc _ (codes "tok") before) in
     puts_as (rw c.as_bytes.ensures (sym (append_assoc (codes "tok" ++ before) (escaped c.args.spelling.now) (10 ∷ []))))
-    (puts_then (puts_then c.ensure_capacity.ensures.out (puts_here buf)) c.put_end.ensures)
+    (puts_then (puts_then c.ensure_capacity.ensures.out (puts_here buf)) c.put_spelling_and_newline.ensures)

@@ -1,5 +1,5 @@
 use Rattle.std.proofs.Common.{rules}
-use Rattle.ppexpand.proofs.emitted.TokenRope.parts.Goals as goal
+use Rattle.ppunit.proofs.collections.Items.chunks.Goals as goal
 
 pub returns : goal.returns
 returns c = search rules

@@ -1,5 +1,5 @@
 use Rattle.std.proofs.Common.{rules}
-use Rattle.ppunit.proofs.items.ItemsIterIterator.next.Goals as goal
+use Rattle.ppunit.proofs.items.ItemSlicesIterator.next.Goals as goal
 
 pub loop-self-preserved : goal.loop-self-preserved
 loop-self-preserved c = search rules

@@ -1,5 +1,5 @@
 use Rattle.std.proofs.Common.{rules}
-use Rattle.ppunit.proofs.collections.Items.parts.Goals as goal
+use Rattle.ppexpand.proofs.emitted.TokenRope.split.Goals as goal
 
 pub returns : goal.returns
 returns c = search rules
