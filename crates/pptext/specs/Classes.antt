@@ -48,13 +48,13 @@ opens c = false
 abbrev pub opens_section : Directive → Bool
 opens_section d = opens (class_of d)
 
--- `#elif`, `#elifdef`, `#elifndef`: a branch with a condition
+-- `#elif`, `#elifdef`, `#elifndef`: an elif-group begins
 abbrev pub elifs : Class → Bool
 elifs (class.Elifs q) = true
 elifs c = false
 
-abbrev pub has_condition : Directive → Bool
-has_condition d = elifs (class_of d)
+abbrev pub begins_elif_group : Directive → Bool
+begins_elif_group d = elifs (class_of d)
 
 -- a branch or `#endif`: a group ends before the line
 abbrev pub ends : Class → Bool

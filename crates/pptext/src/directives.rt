@@ -1,7 +1,7 @@
 //! The classes of directives, and their names.
 ghost use Rattle.std.specs.Prelude.{◌≡◌, ◌++◌, codes, ◌||◌};
 ghost use Rattle.std.specs.Str.{bytes_eq};
-ghost use Rattle.pptext.specs.Classes.{class_of, question_of, opens_section, has_condition, ends_group};
+ghost use Rattle.pptext.specs.Classes.{class_of, question_of, opens_section, begins_elif_group, ends_group};
 ghost use Rattle.pptext.specs.Lines.{later_names, gnu_names, named_in, directive_names, directive_named, directive_of};
 ghost use Rattle.pptext.specs.Tree.{role_by, TextLine, ControlLine, Opens, Elses, Closes};
 
@@ -77,10 +77,10 @@ impl Directive {
         matches!(self.class(), Class::Opens(_))
     }
 
-    /// Returns whether the directive is a branch with a condition: `#elif` (6.10.1), `#elifdef`, `#elifndef` (ISO/IEC
+    /// Returns whether the directive begins an elif-group (6.10): `#elif`, and `#elifdef` and `#elifndef` (ISO/IEC
     /// 9899:2024, 6.10.2).
-    pub fn has_condition(self) -> bool
-        ensures { result ≡ has_condition self }
+    pub fn begins_elif_group(self) -> bool
+        ensures { result ≡ begins_elif_group self }
     {
         matches!(self.class(), Class::Elifs(_))
     }

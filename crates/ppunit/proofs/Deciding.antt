@@ -9,7 +9,7 @@ use Rattle.pptext.specs.declared.sources.Profile.{Profile}
 use Rattle.pptext.specs.declared.sources.Directive.{Directive}
 use Rattle.pptext.specs.declared.directives.Class.{Class}
 use Rattle.pptext.specs.declared.directives.Class.TheVariants as class
-use Rattle.pptext.specs.Classes.{class_of, asked_by, elifs, has_condition}
+use Rattle.pptext.specs.Classes.{class_of, asked_by, elifs, begins_elif_group}
 use Rattle.pptext.specs.Lines.{LogicalLine}
 use Rattle.ppunit.specs.States.{Search, State}
 use Rattle.ppunit.specs.Conditions.{DecidesOf, Decides, DecidesUnless, IsConditional}
@@ -32,17 +32,17 @@ decides_at search row s r d tokens remaining_after taken is same decides =
     (subst (λ (ts : List Token). DecidesUnless search row (unmatched_quote ts) (Some d) s ts remaining_after taken) same (decides 0))
 
 -- a line of this directive that has no condition is entered
-enters_by_directive : (search : Search) (row : ℕ) (d : Directive) (s : State) (r : LogicalLine) → has_condition d ≡ false → ContinuesBy search row (Some d) s r s.remaining (Ok true)
+enters_by_directive : (search : Search) (row : ℕ) (d : Directive) (s : State) (r : LogicalLine) → begins_elif_group d ≡ false → ContinuesBy search row (Some d) s r s.remaining (Ok true)
 enters_by_directive search row d s r e = subst (λ (b : Bool). ContinuesIf search row b s r s.remaining (Ok true)) (sym e) (refl, refl)
 
 pub enters_no_directive : (search : Search) (row : ℕ) (s : State) (r : LogicalLine) → r.directive ≡ None → ContinuesAfter search row s r s.remaining (Ok true)
 enters_no_directive search row s r is = subst (λ (z : Option Directive). ContinuesBy search row z s r s.remaining (Ok true)) (sym is) (refl, refl)
 
-pub enters_unasked : (search : Search) (row : ℕ) (s : State) (r : LogicalLine) (d : Directive) → r.directive ≡ Some d → has_condition d ≡ false → ContinuesAfter search row s r s.remaining (Ok true)
+pub enters_unasked : (search : Search) (row : ℕ) (s : State) (r : LogicalLine) (d : Directive) → r.directive ≡ Some d → begins_elif_group d ≡ false → ContinuesAfter search row s r s.remaining (Ok true)
 enters_unasked search row s r d is e = subst (λ (z : Option Directive). ContinuesBy search row z s r s.remaining (Ok true)) (sym is) (enters_by_directive search row d s r e)
 
 enters_by_condition : (search : Search) (row : ℕ) (d : Directive) (s : State) (r : LogicalLine) (remaining_after : Option ℕ) (taken : Result Bool Fault)
-    → has_condition d ≡ true
+    → begins_elif_group d ≡ true
     → Decides search row s r remaining_after taken
     → ContinuesBy search row (Some d) s r remaining_after taken
 enters_by_condition search row d s r remaining_after taken e decides = subst (λ (b : Bool). ContinuesIf search row b s r remaining_after taken) (sym e) decides
@@ -50,7 +50,7 @@ enters_by_condition search row d s r remaining_after taken e decides = subst (λ
 pub enters_asked : (search : Search) (row : ℕ) (s : State) (r : LogicalLine) (d : Directive) (tokens : List Token) (remaining_after : Option ℕ) (taken : Result Bool Fault)
     → r.directive ≡ Some d
     → tokens ≡ r.tokens
-    → has_condition d ≡ true
+    → begins_elif_group d ≡ true
     → ((number : ℕ) → Decides search row s (directed d tokens number) remaining_after taken)
     → ContinuesAfter search row s r remaining_after taken
 enters_asked search row s r d tokens remaining_after taken is same e decides =
@@ -61,7 +61,7 @@ elif_asks : (c : Class) → elifs c ≡ true → IsSome (asked_by c)
 elif_asks (class.Elifs q) e = refl
 elif_asks c e = absurd (cc)
 
-pub conditional : (d : Directive) → has_condition d ≡ true → IsConditional d
+pub conditional : (d : Directive) → begins_elif_group d ≡ true → IsConditional d
 conditional d e = elif_asks (class_of d) e
 
 -- ---- conditions, with the step before them or without it

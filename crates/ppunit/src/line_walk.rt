@@ -67,7 +67,7 @@ fn continues_after<D: Disk>(
     let Some(directive) = line(source, index).directive else {
         return Ok(true);
     };
-    if !directive.has_condition() {
+    if !directive.begins_elif_group() {
         return Ok(true);
     }
     decide(context, state, row, directive, &tokens_at(source, index))

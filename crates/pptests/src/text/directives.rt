@@ -35,7 +35,7 @@ fn tells_what_a_directive_is_for(rt: HostRuntime) {
     }
 }
 
-/// Directives, and whether each opens an if-section, has a condition, ends a group.
+/// Directives, and whether each opens an if-section, begins an elif-group, ends a group.
 const ROLES: &[(Directive, bool, bool, bool)] = &[
     (Directive::If, true, false, false),
     (Directive::Ifdef, true, false, false),
@@ -50,12 +50,9 @@ const ROLES: &[(Directive, bool, bool, bool)] = &[
 
 #[test]
 fn tells_what_a_directive_does_to_groups(rt: HostRuntime) {
-    for &(directive, opens, has_condition, ends) in ROLES {
+    for &(directive, opens, begins, ends) in ROLES {
         assert!(rt; directive.opens_section() == opens, "of {directive:?}");
-        assert!(rt;
-            directive.has_condition() == has_condition,
-            "of {directive:?}"
-        );
+        assert!(rt; directive.begins_elif_group() == begins, "of {directive:?}");
         assert!(rt; directive.ends_group() == ends, "of {directive:?}");
     }
 }

@@ -7,7 +7,7 @@ use Rattle.pptext.specs.declared.sources.Directive.{Directive}
 use Rattle.pptext.specs.Lines.{LogicalLine}
 use Rattle.pptext.specs.Sources.{next_branch}
 use Rattle.pptext.specs.Tree.{GroupParts, Branches, part_lines, branch_lines, AreGroupParts, AreBranches, Tree, role, branch_after}
-use Rattle.pptext.specs.Classes.{has_condition}
+use Rattle.pptext.specs.Classes.{begins_elif_group}
 use Rattle.ppshelf.specs.Files.{Files, Extends}
 use Rattle.ppunit.specs.declared.states.FileContext.{FileContext}
 use Rattle.ppunit.specs.States.{Search, State, in_file_context, Context, search_of, Reached, going, stopped}
@@ -163,7 +163,7 @@ ContinuesIf search row false s line remaining_after taken = DecidesFreely s (Ok 
 
 abbrev pub ContinuesBy : Search → ℕ → Option Directive → State → LogicalLine → Option ℕ → Result Bool Fault → Type 0
 ContinuesBy search row None s line remaining_after taken = ContinuesIf search row false s line remaining_after taken
-ContinuesBy search row (Some d) s line remaining_after taken = ContinuesIf search row (has_condition d) s line remaining_after taken
+ContinuesBy search row (Some d) s line remaining_after taken = ContinuesIf search row (begins_elif_group d) s line remaining_after taken
 
 abbrev pub ContinuesAfter : Search → ℕ → State → LogicalLine → Option ℕ → Result Bool Fault → Type 0
 ContinuesAfter search row s line remaining_after taken = ContinuesBy search row line.directive s line remaining_after taken

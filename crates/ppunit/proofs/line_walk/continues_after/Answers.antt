@@ -10,5 +10,5 @@ returns-clause-continues_after g c =
     on_settled c.decide.result
     (λ taken. enters_asked (search_in_unit c.args.context.now) c.args.row c.args.state.now (line_at c.args.source.now c.args.index) c.in-Some.directive c.tokens_at.result
     c.decide.new.state.remaining taken (sym c.line.ensures.directive ∙ c.in-Some.is) c.tokens_at.ensures.tokens
-    (sym c.has_condition.ensures ∙ c.if-not-has_condition.false))
+    (sym c.begins_elif_group.ensures ∙ c.if-not-begins_elif_group.false))
     c.decide.ensures.decides
