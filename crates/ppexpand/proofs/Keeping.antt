@@ -91,18 +91,18 @@ invocation_of-keeps {s} {t} c following k h rest =
     let name_tokens : hiding t c.name_token ≡ hiding s c.name_token = hiding-keeps c.name_token k h.name_token in
     let lists : given_in t c.arguments.items ≡ given_in s c.arguments.items = given-keeps c.arguments.items k h.arguments in
     let rests : hidings t following ≡ hidings s following = hidings-keeps following k rest in
-    λ i. record { name_token = name_tokens i; macro = c.definition.now; arguments = lists i; gain = set.insert (sets i) c.name_token.token.text; following = rests i }
+    λ i. record { name_token = name_tokens i; macro = c.definition.now; arguments = lists i; names_to_hide = set.insert (sets i) c.name_token.token.text; following = rests i }
 
 -- an invocation that was made while sets were added
-pub invocation_made : {s t : HideSetPool} (c : CodeInvocation) (following : List Hidden) (gain : HideSet)
+pub invocation_made : {s t : HideSetPool} (c : CodeInvocation) (following : List Hidden) (names_to_hide : HideSet)
     → KeepsSets s t
     → HasSets s c.name_token
     → ListsKnown s c.arguments.items
     → AllKnown s following
-    → set.insert (set_at t c.base) c.name_token.token.text ≡ gain
-    → invocation_of t c following ≡ record { name_token = hiding s c.name_token; macro = c.definition.now; arguments = given_in s c.arguments.items; gain = gain; following = hidings s following }
-invocation_made {s} {t} c following gain k name_token lists rest gains =
+    → set.insert (set_at t c.base) c.name_token.token.text ≡ names_to_hide
+    → invocation_of t c following ≡ record { name_token = hiding s c.name_token; macro = c.definition.now; arguments = given_in s c.arguments.items; names_to_hide = names_to_hide; following = hidings s following }
+invocation_made {s} {t} c following names_to_hide k name_token lists rest to_hide =
     let name_tokens : hiding t c.name_token ≡ hiding s c.name_token = hiding-keeps c.name_token k name_token in
     let arguments : given_in t c.arguments.items ≡ given_in s c.arguments.items = given-keeps c.arguments.items k lists in
     let rests : hidings t following ≡ hidings s following = hidings-keeps following k rest in
-    λ i. record { name_token = name_tokens i; macro = c.definition.now; arguments = arguments i; gain = gains i; following = rests i }
+    λ i. record { name_token = name_tokens i; macro = c.definition.now; arguments = arguments i; names_to_hide = to_hide i; following = rests i }

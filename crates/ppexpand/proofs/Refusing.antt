@@ -85,8 +85,8 @@ below_chains args used pending first [] = tt
 below_chains args used pending first (c ∷ cs) =
     below_after (chain_tokens args used c) _ (below_chain args used c) (λ ts. below_after (chains_tokens args used _ false cs) _ (below_chains args used _ false cs) (λ rest. tt))
 
-below_substituted : (d : Macro) (args : Arguments) (gain : HideSet) (used : Place) (space : Bool) → IsBelow (macro_replacement d args gain used space)
-below_substituted d args gain used space = below_after (chains_tokens args used space true (chains_of d)) _ (below_chains args used space true (chains_of d)) (λ m. tt)
+below_substituted : (d : Macro) (args : Arguments) (names_to_hide : HideSet) (used : Place) (space : Bool) → IsBelow (macro_replacement d args names_to_hide used space)
+below_substituted d args names_to_hide used space = below_after (chains_tokens args used space true (chains_of d)) _ (below_chains args used space true (chains_of d)) (λ m. tt)
 
 -- ---- expansion steps: 7, 17, 18 and those
 
@@ -135,7 +135,7 @@ below_turn macros env (t ∷ rest) =
 
 below_finished : (invocation : Invocation) (expanded : List (Option (List Hiding))) → IsTurnBelow (finish_invocation invocation expanded)
 unfolding finish_invocation
-below_finished invocation expanded = below_replaced _ invocation.following (below_substituted invocation.macro (record { given = invocation.arguments; expanded = expanded }) invocation.gain invocation.name_token.token.used invocation.name_token.token.space)
+below_finished invocation expanded = below_replaced _ invocation.following (below_substituted invocation.macro (record { given = invocation.arguments; expanded = expanded }) invocation.names_to_hide invocation.name_token.token.used invocation.name_token.token.space)
 
 -- ---- expansions: 21 and those
 

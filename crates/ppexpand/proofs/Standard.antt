@@ -15,7 +15,7 @@ use Rattle.ppmacro.specs.declared.macros.MacroKind.TheVariants.{Predefined, Obje
 use Rattle.ppexpand.specs.declared.env.Env.{Env}
 use Rattle.ppexpand.specs.declared.expansion.Expanded.{Expanded}
 use Rattle.ppexpand.specs.Arguments.{is_open, Gathered, Closed, UnmatchedQuote, Unclosed, gather, separators, fit_arguments}
-use Rattle.ppexpand.specs.ExpansionStep.{predefined_value, Invocation, ExpansionStep, Done, Refused, Emits, Failed, Replaced, Invoked, followed_by, replaced_by, fault_at_expansion, quote_fault, gain_of, closed_invocation_step, invocation_step, function_step, macro_step, named_step, macro_of}
+use Rattle.ppexpand.specs.ExpansionStep.{predefined_value, Invocation, ExpansionStep, Done, Refused, Emits, Failed, Replaced, Invoked, followed_by, replaced_by, fault_at_expansion, quote_fault, names_to_hide_for, closed_invocation_step, invocation_step, function_step, macro_step, named_step, macro_of}
 use Rattle.ppexpand.specs.ExpansionStep.{expansion_step, wanted, finish_invocation, ExpandedArguments}
 use Rattle.ppexpand.specs.Budget.{spend_one}
 use Rattle.ppexpand.specs.Expansion.{Outcome, step_in_budget, Expands, ExpandsTo, ExpandsArguments, IsExpansion}
@@ -40,7 +40,7 @@ module _ (macros : Macros) (env : Env) where
     no_macro : {t : Hiding} {rest : List Hiding} → is_unmatched_quote t.token ≡ false → macro_of macros t.token ≡ None → Means (t ∷ rest) (Emits t rest)
     hidden : {t : Hiding} {rest : List Hiding} → is_unmatched_quote t.token ≡ false → set.contains t.hide t.token.text ≡ true → Means (t ∷ rest) (Emits t rest)
     predefined : {t : Hiding} {rest : List Hiding} {d : Macro} {b : PredefinedMacro} → NamesMacro macros t d → d.kind ≡ Predefined b → Means (t ∷ rest) (Replaced (predefined_value b env t (set.insert t.hide t.token.text) ∷ rest))
-    object_like : {t : Hiding} {rest : List Hiding} {d : Macro} {m : Replacement} → NamesMacro macros t d → d.kind ≡ ObjectLike → object_result t d ≡ Ok m → Means (t ∷ rest) (Replaced (followed_by rest m))
+    object_like : {t : Hiding} {rest : List Hiding} {d : Macro} {m : Replacement} → NamesMacro macros t d → d.kind ≡ ObjectLike → object_result t d ≡ Ok m → Means (t ∷ rest) (Replaced (followed_by m rest))
     object_refused : {t : Hiding} {rest : List Hiding} {d : Macro} {f : Fault} → NamesMacro macros t d → d.kind ≡ ObjectLike → object_result t d ≡ Err f → Means (t ∷ rest) (Failed f)
     not_invoked : {t : Hiding} {rest : List Hiding} {d : Macro} {names : List Name} {variadic : Variadic}
         → NamesMacro macros t d
@@ -72,7 +72,7 @@ module _ (macros : Macros) (env : Env) where
       → Means (t ∷ paren ∷ inside) (closed_invocation_step t d o close following)
   by_number t paren close inside following d names variadic arguments i g None e = Means.wrong_number i g e
   by_number t paren close inside following d names variadic arguments i g (Some given) e =
-      Means.begins (record { paren = paren; inside = inside; names = names; variadic = variadic; arguments = arguments; close = close; laid_out = refl; opens = i; closed = g; fits = e; gains = refl })
+      Means.begins (record { paren = paren; inside = inside; names = names; variadic = variadic; arguments = arguments; close = close; laid_out = refl; opens = i; closed = g; fits = e; to_hide = refl })
 
   by_gathered : (t paren : Hiding) (inside : List Hiding) (d : Macro) (names : List Name) (variadic : Variadic)
       → Opens macros t paren d names variadic
@@ -135,9 +135,9 @@ module _ (macros : Macros) (env : Env) where
 
   closed_invocation_step-is : (invocation : Invocation) (close : Hiding) (o : Option (List (List Hiding)))
       → o ≡ Some invocation.arguments
-      → invocation.gain ≡ gain_of invocation.name_token.hide close.hide invocation.name_token.token.text
+      → invocation.names_to_hide ≡ names_to_hide_for invocation.name_token.hide close.hide invocation.name_token.token.text
       → closed_invocation_step invocation.name_token invocation.macro o close invocation.following ≡ Invoked invocation
-  closed_invocation_step-is invocation close o e g = ap (λ o. closed_invocation_step invocation.name_token invocation.macro o close invocation.following) e ∙ (λ i. Invoked (record { name_token = invocation.name_token; macro = invocation.macro; arguments = invocation.arguments; gain = (sym g) i; following = invocation.following }))
+  closed_invocation_step-is invocation close o e g = ap (λ o. closed_invocation_step invocation.name_token invocation.macro o close invocation.following) e ∙ (λ i. Invoked (record { name_token = invocation.name_token; macro = invocation.macro; arguments = invocation.arguments; names_to_hide = (sym g) i; following = invocation.following }))
 
   meant : {list : List Hiding} {x : ExpansionStep} → Means list x → expansion_step macros env list ≡ x
   meant Means.nothing_left = expansion_step-nothing macros env
@@ -154,7 +154,7 @@ module _ (macros : Macros) (env : Env) where
       invokes_turn inside i (Closed arguments close following) g ∙ ap (λ o. closed_invocation_step t d o close following) f
   meant (Means.begins {invocation = invocation} b) =
       ap (expansion_step macros env) b.laid_out ∙ invokes_turn b.inside b.opens (Closed b.arguments b.close invocation.following) b.closed
-      ∙ closed_invocation_step-is invocation b.close (fit_arguments b.names b.variadic b.arguments) b.fits b.gains
+      ∙ closed_invocation_step-is invocation b.close (fit_arguments b.names b.variadic b.arguments) b.fits b.to_hide
 
   -- ---- from a step to a rule
 
@@ -190,8 +190,8 @@ module _ (macros : Macros) (env : Env) where
   result_failed invocation expanded f (Ok m) e = absurd (cc)
   result_failed invocation expanded f (Err g) e = let same : g ≡ f = cc in ap Err same
 
-  result_replaced : (following next : List Hiding) (r : Result Replacement Fault) → replaced_by r following ≡ Replaced next → (m : Replacement) × (r ≡ Ok m) × (followed_by following m ≡ next)
-  result_replaced following next (Ok m) e = let same : followed_by following m ≡ next = cc in (m, refl, same)
+  result_replaced : (following next : List Hiding) (r : Result Replacement Fault) → replaced_by r following ≡ Replaced next → (m : Replacement) × (r ≡ Ok m) × (followed_by m following ≡ next)
+  result_replaced following next (Ok m) e = let same : followed_by m following ≡ next = cc in (m, refl, same)
   result_replaced following next (Err f) e = absurd (cc)
 
   at_next : {level : ℕ} {list next tokens : List Hiding} {fault : Option Fault} {invocation : Invocation} {expanded : List (Option (List Hiding))}

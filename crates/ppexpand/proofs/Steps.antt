@@ -21,11 +21,11 @@ use Rattle.ppmacro.specs.Chains.{chains_of}
 use Rattle.ppmacro.specs.Substitution.{Arguments, Replacement, macro_replacement, after_ok, chains_tokens, hsadd}
 use Rattle.ppexpand.specs.Arguments.{Gathered, Closed, UnmatchedQuote, Unclosed, argument_role, gather, separators, fit_arguments, separates, fewer, with_token, with_argument, is_open, Quote, Open, Close, Comma, Inner}
 use Rattle.ppexpand.specs.declared.env.Env.{Env}
-use Rattle.ppexpand.specs.ExpansionStep.{Invocation, ExpansionStep, Done, Refused, Emits, Failed, Replaced, Invoked, expansion_step, finish_invocation, space_next, followed_by, replaced_by, gain_of, quote_fault, closed_invocation_step, invocation_step, function_step, macro_step, named_step}
+use Rattle.ppexpand.specs.ExpansionStep.{Invocation, ExpansionStep, Done, Refused, Emits, Failed, Replaced, Invoked, expansion_step, finish_invocation, space_next, followed_by, replaced_by, names_to_hide_for, quote_fault, closed_invocation_step, invocation_step, function_step, macro_step, named_step}
 use Rattle.ppexpand.specs.Budget.{exhausted_step, in_budget}
 use Rattle.ppexpand.specs.ExpansionStep.{macro_of}
 use Rattle.ppexpand.specs.Expansion.{step_in_budget}
-use Rattle.ppexpand.specs.Termination.{hides, Holds, Gains, IsOutside, Step}
+use Rattle.ppexpand.specs.Termination.{hides, Holds, HidesNames, IsOutside, Step}
 use Rattle.ppexpand.specs.Termination as ending
 
 pub hides-append : (xs ys : List Hiding) → hides (xs ++ ys) ≡ hides xs ++ hides ys
@@ -37,22 +37,22 @@ hides-space_next true [] = refl
 hides-space_next true (x ∷ xs) = refl
 hides-space_next false xs = refl
 
--- what the gain is contained in
-abbrev pub HasGain : HideSet → Hiding → Type 0
-HasGain gain t = Holds gain t.hide
+-- a token whose hide set has the names to hide
+abbrev pub HasNamesToHide : HideSet → Hiding → Type 0
+HasNamesToHide names_to_hide t = Holds names_to_hide t.hide
 
-all_gained : (gain : HideSet) (used : Place) (ts : List Hiding) → AllByRecursion (HasGain gain) (map (hsadd gain used) ts)
-all_gained gain used [] = tt
-all_gained gain used (t ∷ ts) = ((λ q e. set.contains-union nat_list_cmp_total t.hide gain q ∙ ap (λ b. set.contains t.hide q || b) e ∙ or_right _ true refl), all_gained gain used ts)
+all_have_names : (names_to_hide : HideSet) (used : Place) (ts : List Hiding) → AllByRecursion (HasNamesToHide names_to_hide) (map (hsadd names_to_hide used) ts)
+all_have_names names_to_hide used [] = tt
+all_have_names names_to_hide used (t ∷ ts) = ((λ q e. set.contains-union nat_list_cmp_total t.hide names_to_hide q ∙ ap (λ b. set.contains t.hide q || b) e ∙ or_right _ true refl), all_have_names names_to_hide used ts)
 
-gained_after : (r : Result Replacement Fault) (gain : HideSet) (used : Place) (m : Replacement) → after_ok r (λ m. Ok (record m { tokens = map (hsadd gain used) m.tokens })) ≡ Ok m → AllByRecursion (HasGain gain) m.tokens
-gained_after (Ok n) gain used m e =
-    let tokens : map (hsadd gain used) n.tokens ≡ m.tokens = ap (λ m. m.tokens) (let inner : record n { tokens = map (hsadd gain used) n.tokens } ≡ m = cc in inner) in
-    subst (AllByRecursion (HasGain gain)) tokens (all_gained gain used n.tokens)
-gained_after (Err f) gain used m e = absurd (cc)
+names_after : (r : Result Replacement Fault) (names_to_hide : HideSet) (used : Place) (m : Replacement) → after_ok r (λ m. Ok (record m { tokens = map (hsadd names_to_hide used) m.tokens })) ≡ Ok m → AllByRecursion (HasNamesToHide names_to_hide) m.tokens
+names_after (Ok n) names_to_hide used m e =
+    let tokens : map (hsadd names_to_hide used) n.tokens ≡ m.tokens = ap (λ m. m.tokens) (let inner : record n { tokens = map (hsadd names_to_hide used) n.tokens } ≡ m = cc in inner) in
+    subst (AllByRecursion (HasNamesToHide names_to_hide)) tokens (all_have_names names_to_hide used n.tokens)
+names_after (Err f) names_to_hide used m e = absurd (cc)
 
-pub substituted_gain : (d : Macro) (args : Arguments) (gain : HideSet) (used : Place) (space : Bool) (m : Replacement) → macro_replacement d args gain used space ≡ Ok m → AllByRecursion (HasGain gain) m.tokens
-substituted_gain d args gain used space m e = gained_after (chains_tokens args used space true (chains_of d)) gain used m e
+pub substituted_names : (d : Macro) (args : Arguments) (names_to_hide : HideSet) (used : Place) (space : Bool) (m : Replacement) → macro_replacement d args names_to_hide used space ≡ Ok m → AllByRecursion (HasNamesToHide names_to_hide) m.tokens
+substituted_names d args names_to_hide used space m e = names_after (chains_tokens args used space true (chains_of d)) names_to_hide used m e
 
 -- a name with a macro is a key of the table
 pub among_names : (macros : Macros) (k : Name) (d : Macro) → table.get macros k ≡ Some d → table.contains_key macros k ≡ true
@@ -115,7 +115,7 @@ module _ (macros : Macros) (env : Env) where
     pub close : Hiding
     pub is : list ≡ invocation.name_token ∷ (inside ++ close ∷ invocation.following)
     pub outside : IsOutside macros invocation.name_token.token.text invocation.name_token.hide
-    pub gains : invocation.gain ≡ gain_of invocation.name_token.hide close.hide invocation.name_token.token.text
+    pub to_hide : invocation.names_to_hide ≡ names_to_hide_for invocation.name_token.hide close.hide invocation.name_token.token.text
 
   -- what an expansion step says of the list
   abbrev pub StepsTo : List Hiding → ExpansionStep → Type 0
@@ -126,14 +126,14 @@ module _ (macros : Macros) (env : Env) where
   StepsTo list (Replaced next) = HideStep (hides list) (hides next)
   StepsTo list (Invoked invocation) = Found list invocation
 
-  -- each of these sets has all that the gain has, so h and h' both and k
-  gains_sets : (h h' : HideSet) (k : Name) (gain : HideSet)
-      → gain ≡ gain_of h h' k
+  -- each of these sets has all names to hide, so h and h' both and k
+  sets_hide_names : (h h' : HideSet) (k : Name) (names_to_hide : HideSet)
+      → names_to_hide ≡ names_to_hide_for h h' k
       → (ts : List Hiding)
-      → AllByRecursion (HasGain gain) ts
-      → AllByRecursion (Gains h h' k) (hides ts)
-  gains_sets h h' k gain is [] all = tt
-  gains_sets h h' k gain is (t ∷ ts) all =
+      → AllByRecursion (HasNamesToHide names_to_hide) ts
+      → AllByRecursion (HidesNames h h' k) (hides ts)
+  sets_hide_names h h' k names_to_hide is [] all = tt
+  sets_hide_names h h' k names_to_hide is (t ∷ ts) all =
       let both = set.intersection h h' in
       let in_both : (q : Name) → set.contains h q ≡ true → set.contains h' q ≡ true → set.contains both q ≡ true =
       λ q in_h in_h'. set.contains-intersection nat_list_cmp_total h h' q ∙ (λ i. in_h i && in_h' i) in (
@@ -141,31 +141,31 @@ module _ (macros : Macros) (env : Env) where
           common = λ q in_h in_h'. all.0 q (rw is (set.contains-insert nat_list_cmp_total both k q ∙ ap (λ b. same_name q k || b) (in_both q in_h in_h') ∙ or_right _ true refl));
           own = all.0 k (rw is (set.contains-insert nat_list_cmp_total both k k ∙ ap (λ b. b || set.contains both k) ((eq_by_cmp_equiv nat_list_cmp_total).refl k)));
         },
-        gains_sets h h' k gain is ts all.1,
+        sets_hide_names h h' k names_to_hide is ts all.1,
       )
 
-  gains_object : (h : HideSet) (k : Name) (ts : List Hiding)
-      → AllByRecursion (HasGain (set.insert h k)) ts
-      → AllByRecursion (Gains h h k) (hides ts)
-  gains_object h k [] all = tt
-  gains_object h k (t ∷ ts) all = (
+  object_hides_names : (h : HideSet) (k : Name) (ts : List Hiding)
+      → AllByRecursion (HasNamesToHide (set.insert h k)) ts
+      → AllByRecursion (HidesNames h h k) (hides ts)
+  object_hides_names h k [] all = tt
+  object_hides_names h k (t ∷ ts) all = (
     record {
       common = λ q in_h _. all.0 q (set.contains-insert nat_list_cmp_total h k q ∙ ap (λ b. same_name q k || b) in_h ∙ or_right _ true refl);
       own = all.0 k (set.contains-insert nat_list_cmp_total h k k ∙ ap (λ b. b || set.contains h k) ((eq_by_cmp_equiv nat_list_cmp_total).refl k));
     },
-    gains_object h k ts all.1,
+    object_hides_names h k ts all.1,
   )
 
-  hides-followed_by : (following : List Hiding) (m : Replacement) → hides (followed_by following m) ≡ hides m.tokens ++ hides following
-  hides-followed_by following m = hides-append m.tokens (space_next m.pending following) ∙ ap (λ hs. hides m.tokens ++ hs) (hides-space_next m.pending following)
+  hides-followed_by : (m : Replacement) (following : List Hiding) → hides (followed_by m following) ≡ hides m.tokens ++ hides following
+  hides-followed_by m following = hides-append m.tokens (space_next m.pending following) ∙ ap (λ hs. hides m.tokens ++ hs) (hides-space_next m.pending following)
 
   object_steps : (t : Hiding) (rest : List Hiding)
       → IsOutside macros t.token.text t.hide
       → (r : Result Replacement Fault)
-      → ((m : Replacement) → r ≡ Ok m → AllByRecursion (HasGain (set.insert t.hide t.token.text)) m.tokens)
+      → ((m : Replacement) → r ≡ Ok m → AllByRecursion (HasNamesToHide (set.insert t.hide t.token.text)) m.tokens)
       → StepsTo (t ∷ rest) (replaced_by r rest)
-  object_steps t rest out (Ok m) gain = ending.replaced t.token.text out (hides m.tokens) (gains_object t.hide t.token.text m.tokens (gain m refl)) (hides-followed_by rest m)
-  object_steps t rest out (Err f) gain = tt
+  object_steps t rest out (Ok m) names_to_hide = ending.replaced t.token.text out (hides m.tokens) (object_hides_names t.hide t.token.text m.tokens (names_to_hide m refl)) (hides-followed_by m rest)
+  object_steps t rest out (Err f) names_to_hide = tt
 
   closed_invocation_steps : (t p : Hiding) (rest : List Hiding)
       → IsOutside macros t.token.text t.hide
@@ -175,7 +175,7 @@ module _ (macros : Macros) (env : Env) where
   closed_invocation_steps t p rest out d names variadic (Closed as' close following) stands = by_count (fit_arguments names variadic as')
     where
       by_count : (o : Option (List (List Hiding))) → StepsTo (t ∷ (p ∷ rest)) (closed_invocation_step t d o close following)
-      by_count (Some bs) = record { inside = p ∷ stands.0; close = close; is = ap (λ xs. t ∷ (p ∷ xs)) stands.1; outside = out; gains = refl }
+      by_count (Some bs) = record { inside = p ∷ stands.0; close = close; is = ap (λ xs. t ∷ (p ∷ xs)) stands.1; outside = out; to_hide = refl }
       by_count None = tt
   closed_invocation_steps t p rest out d names variadic (UnmatchedQuote q) stands = tt
   closed_invocation_steps t p rest out d names variadic Unclosed stands = tt
@@ -199,7 +199,7 @@ module _ (macros : Macros) (env : Env) where
     },
     tt,
   ) refl
-  macro_steps t rest out d ObjectLike = object_steps t rest out _ (λ m e. substituted_gain d _ _ _ _ m e)
+  macro_steps t rest out d ObjectLike = object_steps t rest out _ (λ m e. substituted_names d _ _ _ _ m e)
   macro_steps t rest out d (FunctionLike names variadic) = function_steps t rest out d names variadic
 
   named_steps : (t : Hiding) (rest : List Hiding) → set.contains t.hide t.token.text ≡ false → (o : Option Macro) → macro_of macros t.token ≡ o → StepsTo (t ∷ rest) (named_step env t rest o)
@@ -241,14 +241,14 @@ module _ (macros : Macros) (env : Env) where
   FinishesTo list (Failed fault) = Unit {0}
   FinishesTo list _ = ⊥
 
-  finishes : (list : List Hiding) (invocation : Invocation) → Found list invocation → (r : Result Replacement Fault) → ((m : Replacement) → r ≡ Ok m → AllByRecursion (HasGain invocation.gain) m.tokens) → FinishesTo list (replaced_by r invocation.following)
-  finishes list invocation found (Ok m) gain =
+  finishes : (list : List Hiding) (invocation : Invocation) → Found list invocation → (r : Result Replacement Fault) → ((m : Replacement) → r ≡ Ok m → AllByRecursion (HasNamesToHide invocation.names_to_hide) m.tokens) → FinishesTo list (replaced_by r invocation.following)
+  finishes list invocation found (Ok m) names_to_hide =
       let lists : hides list ≡ invocation.name_token.hide ∷ (hides found.inside ++ found.close.hide ∷ hides invocation.following) = ap hides found.is ∙ ap (λ hs. invocation.name_token.hide ∷ hs) (hides-append found.inside (found.close ∷ invocation.following)) in
-      subst (λ hs. HideStep hs (hides (followed_by invocation.following m))) (sym lists)
+      subst (λ hs. HideStep hs (hides (followed_by m invocation.following))) (sym lists)
       (ending.invocation_step invocation.name_token.token.text found.outside (hides found.inside) found.close.hide (hides invocation.following) refl (hides m.tokens)
-      (gains_sets invocation.name_token.hide found.close.hide invocation.name_token.token.text invocation.gain found.gains m.tokens (gain m refl)) (hides-followed_by invocation.following m))
-  finishes list invocation found (Err f) gain = tt
+      (sets_hide_names invocation.name_token.hide found.close.hide invocation.name_token.token.text invocation.names_to_hide found.to_hide m.tokens (names_to_hide m refl)) (hides-followed_by m invocation.following))
+  finishes list invocation found (Err f) names_to_hide = tt
 
   pub finished_steps : (list : List Hiding) (invocation : Invocation) (as' : List (Option (List Hiding))) → Found list invocation → FinishesTo list (finish_invocation invocation as')
   unfolding finish_invocation
-  finished_steps list invocation as' found = finishes list invocation found _ (λ m e. substituted_gain invocation.macro _ invocation.gain _ _ m e)
+  finished_steps list invocation as' found = finishes list invocation found _ (λ m e. substituted_names invocation.macro _ invocation.names_to_hide _ _ m e)

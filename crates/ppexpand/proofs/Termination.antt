@@ -11,7 +11,7 @@ use Rattle.std.proofs.lemmas.Map.Lookups.{exact_bytes}
 use Rattle.std.proofs.lemmas.Map.Views.{tells_apart}
 use Rattle.ppmacro.specs.Names.{Name, HideSet, Macros}
 use Rattle.ppmacro.specs.code.Members.{same_name}
-use Rattle.ppexpand.specs.Termination.{Holds, Gains, left_out, IsOutside, Step, emits, replaced, invocation_step, Ends, ends, EndsAfter, PrefixEnds, names_left}
+use Rattle.ppexpand.specs.Termination.{Holds, HidesNames, left_out, IsOutside, Step, emits, replaced, invocation_step, Ends, ends, EndsAfter, PrefixEnds, names_left}
 
 pub all-map : {A : Type 0} (P Q : A → Type 0) → ((x : A) → P x → Q x) → (xs : List A) → AllByRecursion P xs → AllByRecursion Q xs
 all-map P Q f [] h = tt
@@ -124,18 +124,18 @@ module _ (macros : Macros) where
 
   -- a step from a list that isn't empty, by its kind
   by_step : (P : List HideSet → Type 0) {h : HideSet} {rest after : List HideSet} → Step macros (h ∷ rest) after → P rest
-      → ((k : Name) → IsOutside macros k h → (result : List HideSet) → AllByRecursion (Gains h h k) result → P (result ++ rest))
+      → ((k : Name) → IsOutside macros k h → (result : List HideSet) → AllByRecursion (HidesNames h h k) result → P (result ++ rest))
       → ((k : Name)
       → IsOutside macros k h
       → (inside : List HideSet) (close : HideSet) (following : List HideSet)
       → rest ≡ inside ++ close ∷ following
       → (result : List HideSet)
-      → AllByRecursion (Gains h close k) result
+      → AllByRecursion (HidesNames h close k) result
       → P (result ++ following))
       → P after
   by_step P emits p o f = p
-  by_step P (replaced k out result gains e) p o f = rw e (o k out result gains)
-  by_step P (invocation_step k out inside close following e result gains e') p o f = rw e' (f k out inside close following e result gains)
+  by_step P (replaced k out result to_hide e) p o f = rw e (o k out result to_hide)
+  by_step P (invocation_step k out inside close following e result to_hide e') p o f = rw e' (f k out inside close following e result to_hide)
 
   result_step : (n k : ℕ) → ((j : ℕ) → FrontsEnd n j) → FrontsEnd (suc n) k → ((j : ℕ) → j < k → ResultsEnd (suc n) j) → ResultsEnd (suc n) k
   result_step n k lower front_k below S small name out result hsadd prefix short above following ends_behind remaining_after =
@@ -149,11 +149,11 @@ module _ (macros : Macros) where
             let shorter : length rest' < length prefix = rw at_front (following-shorter inside close rest') in
             rw at_rest
             (below (length rest') (omega arith) S small k2 out2' result2
-            (all-map (Gains (set.insert S name) close k2) (Holds (set.insert S k2)) (λ r g. extended S k2 r (λ q s. g.common q (in_insert S name q s) (parts.0 q s)) g.own) result2 reached)
+            (all-map (HidesNames (set.insert S name) close k2) (Holds (set.insert S k2)) (λ r g. extended S k2 r (λ q s. g.common q (in_insert S name q s) (parts.0 q s)) g.own) result2 reached)
             rest' (omega arith) parts.1 following ends_behind remaining_after))
         | in_second p' at_behind ↦
             remaining_after k2 out2' p' close rest at_behind result2
-            (all-map (Gains (set.insert S name) close k2) (Gains S close k2) (λ r g. record { common = λ q s c. g.common q (in_insert S name q s) c; own = g.own }) result2 reached)
+            (all-map (HidesNames (set.insert S name) close k2) (HidesNames S close k2) (λ r g. record { common = λ q s c. g.common q (in_insert S name q s) c; own = g.own }) result2 reached)
       ])
 
   front_step : (n k : ℕ) → ((j : ℕ) → j < k → FrontsEnd (suc n) j × ResultsEnd (suc n) j) → FrontsEnd (suc n) k
@@ -161,11 +161,11 @@ module _ (macros : Macros) where
   front_step n k below S small (h ∷ prefix) short above following ends_behind remaining_after =
       ends (λ next step. by_step (Ends macros) step
       ((below (length prefix) short).0 S small prefix (omega arith) above.1 following ends_behind remaining_after)
-      (λ k2 out2 result gains.
+      (λ k2 out2 result to_hide.
       (below (length prefix) short).1 S small k2 (outside_part S h k2 above.0 out2) result
-      (all-map (Gains h h k2) (Holds (set.insert S k2)) (λ r g. extended S k2 r (λ q s. g.common q (above.0 q s) (above.0 q s)) g.own) result gains)
+      (all-map (HidesNames h h k2) (Holds (set.insert S k2)) (λ r g. extended S k2 r (λ q s. g.common q (above.0 q s) (above.0 q s)) g.own) result to_hide)
       prefix (omega arith) above.1 following ends_behind remaining_after)
-      (λ k2 out2 inside close rest e result gains.
+      (λ k2 out2 inside close rest e result to_hide.
       let out2' : IsOutside macros k2 S = outside_part S h k2 above.0 out2 in
       elim (split prefix following inside close rest e) [
         | in_first rest' at_front at_rest ↦
@@ -173,11 +173,11 @@ module _ (macros : Macros) where
             let shorter : length rest' < length prefix = rw at_front (following-shorter inside close rest') in
             rw at_rest
             ((below (length rest') (omega arith)).1 S small k2 out2' result
-            (all-map (Gains h close k2) (Holds (set.insert S k2)) (λ r g. extended S k2 r (λ q s. g.common q (above.0 q s) (parts.0 q s)) g.own) result gains)
+            (all-map (HidesNames h close k2) (Holds (set.insert S k2)) (λ r g. extended S k2 r (λ q s. g.common q (above.0 q s) (parts.0 q s)) g.own) result to_hide)
             rest' (omega arith) parts.1 following ends_behind remaining_after))
         | in_second p' at_behind ↦
             remaining_after k2 out2' p' close rest at_behind result
-            (all-map (Gains h close k2) (Gains S close k2) (λ r g. record { common = λ q s c. g.common q (above.0 q s) c; own = g.own }) result gains)
+            (all-map (HidesNames h close k2) (HidesNames S close k2) (λ r g. record { common = λ q s c. g.common q (above.0 q s) c; own = g.own }) result to_hide)
       ]))
 
   all_below : (n : ℕ) → ((j : ℕ) → FrontsEnd n j) → (k j : ℕ) → j < k → FrontsEnd (suc n) j × ResultsEnd (suc n) j

@@ -48,7 +48,7 @@ with_argument Unclosed = Unclosed
 abbrev pub separates : ℕ → Option ℕ → Bool
 separates zero None = true
 separates zero (Some zero) = false
-separates zero (Some (suc remaining)) = true
+separates zero (Some (suc commas)) = true
 separates (suc depth) commas = false
 
 abbrev pub fewer : Option ℕ → Option ℕ

@@ -54,9 +54,9 @@ predefined_text StdcVersion env used = codes "201112L"
 
 -- the token that replaces a predefined name; it has the locations and the leading-space flag of the name
 abbrev pub predefined_value : PredefinedMacro → Env → Hiding → HideSet → Hiding
-predefined_value b env t gain = record {
+predefined_value b env t names_to_hide = record {
   token = record { kind = predefined_kind b; text = predefined_text b env t.token.used; space = t.token.space; at = t.token.at; used = t.token.used };
-  hide = gain;
+  hide = names_to_hide;
 }
 
 -- ---- expansion steps
@@ -67,7 +67,7 @@ pub record Invocation : Type 0 where
   pub name_token : Hiding
   pub macro : Macro
   pub arguments : List (List Hiding)
-  pub gain : HideSet
+  pub names_to_hide : HideSet
   pub following : List Hiding
 
 -- what happens to the first token of a list
@@ -91,12 +91,12 @@ space_next true (t ∷ ts) = with_space true t ∷ ts
 space_next true [] = []
 space_next false ts = ts
 
--- a replacement before the rest of the list (6.10.3.4)
-abbrev pub followed_by : List Hiding → Replacement → List Hiding
-followed_by following m = m.tokens ++ space_next m.pending following
+-- a replacement, followed by the rest of the list (6.10.3.4)
+abbrev pub followed_by : Replacement → List Hiding → List Hiding
+followed_by m following = m.tokens ++ space_next m.pending following
 
 abbrev pub replaced_by : Result Replacement Fault → List Hiding → ExpansionStep
-replaced_by (Ok m) following = Replaced (followed_by following m)
+replaced_by (Ok m) following = Replaced (followed_by m following)
 replaced_by (Err f) following = Failed f
 
 -- a fault at the expansion location of a macro's name
@@ -107,12 +107,12 @@ abbrev pub quote_fault : Hiding → Fault
 quote_fault t = fault 7 t.token.at t.token.text
 
 -- the names that an invocation adds to hide sets: those that are in the hide set of the name and in that of the `)`, and the name
-abbrev pub gain_of : HideSet → HideSet → Name → HideSet
-gain_of hide close name = set.insert (set.intersection hide close) name
+abbrev pub names_to_hide_for : HideSet → HideSet → Name → HideSet
+names_to_hide_for hide close name = set.insert (set.intersection hide close) name
 
 abbrev pub closed_invocation_step : Hiding → Macro → Option (List (List Hiding)) → Hiding → List Hiding → ExpansionStep
 closed_invocation_step t d (Some as') close following =
-    Invoked (record { name_token = t; macro = d; arguments = as'; gain = gain_of t.hide close.hide t.token.text; following = following })
+    Invoked (record { name_token = t; macro = d; arguments = as'; names_to_hide = names_to_hide_for t.hide close.hide t.token.text; following = following })
 closed_invocation_step t d None close following = Failed (fault_at_expansion 18 t)
 
 abbrev pub invocation_step : Hiding → Macro → List Name → Variadic → Gathered → ExpansionStep
@@ -178,5 +178,5 @@ with_expanded a (Err f) = Err f
 -- the expansion step of an invocation after its arguments are expanded
 unfoldable pub finish_invocation : Invocation → List (Option (List Hiding)) → ExpansionStep
 finish_invocation invocation expanded = replaced_by
-    (macro_replacement invocation.macro (record { given = invocation.arguments; expanded = expanded }) invocation.gain invocation.name_token.token.used invocation.name_token.token.space)
+    (macro_replacement invocation.macro (record { given = invocation.arguments; expanded = expanded }) invocation.names_to_hide invocation.name_token.token.used invocation.name_token.token.space)
     invocation.following

@@ -14,7 +14,7 @@ use Rattle.ppmacro.specs.declared.macros.Macro.{Macro}
 use Rattle.ppmacro.specs.declared.macros.MacroKind.TheVariants.{Predefined, ObjectLike, FunctionLike}
 use Rattle.ppexpand.specs.declared.env.Env.{Env}
 use Rattle.ppexpand.specs.Arguments.{is_open, Closed, UnmatchedQuote, Unclosed, gather, separators, fit_arguments}
-use Rattle.ppexpand.specs.ExpansionStep.{predefined_value, Invocation, followed_by, fault_at_expansion, quote_fault, gain_of, no_arguments, macro_of, wanted}
+use Rattle.ppexpand.specs.ExpansionStep.{predefined_value, Invocation, followed_by, fault_at_expansion, quote_fault, names_to_hide_for, no_arguments, macro_of, wanted}
 use Rattle.ppexpand.specs.ExpansionStep.{ExpandedArguments, with_expanded}
 
 -- a token names this macro, and its hide set does not have the name (6.10.3, paragraph 9; 6.10.3.4, paragraph 2)
@@ -41,7 +41,7 @@ pub record Invokes (macros : Macros) (list : List Hiding) (invocation : Invocati
   pub opens : Opens macros invocation.name_token paren invocation.macro names variadic
   pub closed : gather 0 (separators names variadic) inside ≡ Closed arguments close invocation.following
   pub fits : fit_arguments names variadic arguments ≡ Some invocation.arguments
-  pub gains : invocation.gain ≡ gain_of invocation.name_token.hide close.hide invocation.name_token.token.text
+  pub to_hide : invocation.names_to_hide ≡ names_to_hide_for invocation.name_token.hide close.hide invocation.name_token.token.text
 
 -- whether `(` is next
 abbrev pub opens_next : List Hiding → Bool
@@ -55,7 +55,7 @@ object_result t d = macro_replacement d no_arguments (set.insert t.hide t.token.
 -- the replacement of an invocation after its arguments are expanded (6.10.3.1), or the fault
 abbrev pub invocation_result : Invocation → List (Option (List Hiding)) → Result Replacement Fault
 invocation_result invocation expanded =
-    macro_replacement invocation.macro (record { given = invocation.arguments; expanded = expanded }) invocation.gain invocation.name_token.token.used invocation.name_token.token.space
+    macro_replacement invocation.macro (record { given = invocation.arguments; expanded = expanded }) invocation.names_to_hide invocation.name_token.token.used invocation.name_token.token.space
 
 mutual
   -- at this level a list expands to these tokens, up to its end or to this fault
@@ -85,7 +85,7 @@ mutual
         → NamesMacro macros t d
         → d.kind ≡ ObjectLike
         → object_result t d ≡ Ok m
-        → StandardExpands macros env level (followed_by rest m) tokens fault
+        → StandardExpands macros env level (followed_by m rest) tokens fault
         → StandardExpands macros env level (t ∷ rest) tokens fault
     object_refused : {level : ℕ} {t : Hiding} {rest : List Hiding} {f : Fault} {d : Macro}
         → NamesMacro macros t d
@@ -126,7 +126,7 @@ mutual
         → Invokes macros list invocation
         → StandardExpandsArguments macros env level invocation (wanted invocation) (Ok expanded)
         → invocation_result invocation expanded ≡ Ok m
-        → StandardExpands macros env level (followed_by invocation.following m) tokens fault
+        → StandardExpands macros env level (followed_by m invocation.following) tokens fault
         → StandardExpands macros env level list tokens fault
 
   -- The arguments of an invocation in a list at this level, each expanded as if it were the rest of the file, one level deeper (6.10.3.1), in order,

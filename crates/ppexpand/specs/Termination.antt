@@ -19,7 +19,7 @@ abbrev pub Holds : HideSet → HideSet → Type 0
 Holds part whole = (name : Name) → set.contains part name ≡ true → set.contains whole name ≡ true
 
 -- a set has all names that two other sets have in common, and this name
-pub record Gains (one two : HideSet) (name : Name) (whole : HideSet) : Type 0 where
+pub record HidesNames (one two : HideSet) (name : Name) (whole : HideSet) : Type 0 where
   pub common : (other : Name) → set.contains one other ≡ true → set.contains two other ≡ true → set.contains whole other ≡ true
   pub own : set.contains whole name ≡ true
 
@@ -42,7 +42,7 @@ module _ (macros : Macros) where
     replaced : {hide : HideSet} {rest next : List HideSet} (name : Name)
         → IsOutside name hide
         → (result : List HideSet)
-        → AllByRecursion (Gains hide hide name) result
+        → AllByRecursion (HidesNames hide hide name) result
         → next ≡ result ++ rest
         → Step (hide ∷ rest) next
     invocation_step : {hide : HideSet} {rest next : List HideSet} (name : Name)
@@ -50,7 +50,7 @@ module _ (macros : Macros) where
         → (inside : List HideSet) (close : HideSet) (following : List HideSet)
         → rest ≡ inside ++ close ∷ following
         → (result : List HideSet)
-        → AllByRecursion (Gains hide close name) result
+        → AllByRecursion (HidesNames hide close name) result
         → next ≡ result ++ following
         → Step (hide ∷ rest) next
 
@@ -65,7 +65,7 @@ module _ (macros : Macros) where
       → (inside : List HideSet) (close : HideSet) (rest : List HideSet)
       → following ≡ inside ++ close ∷ rest
       → (result : List HideSet)
-      → AllByRecursion (Gains hidden close name) result
+      → AllByRecursion (HidesNames hidden close name) result
       → Ends (result ++ rest)
 
   -- a prefix whose sets have these names terminates, if the rest terminates alone and also after the prefix is used up

@@ -64,7 +64,7 @@ fn fewer(commas: Option<usize>) -> Option<usize>
     ensures { result ≡ fewer commas }
 {
     match commas {
-        Some(remaining) => Some(remaining.saturating_sub(1)),
+        Some(commas) => Some(commas.saturating_sub(1)),
         None => None,
     }
 }

@@ -113,30 +113,35 @@ pub(crate) fn macro_at<'t, 'a>(table: &'t Table<'a>, token: &Token) -> Option<&'
 }
 
 /// Returns a token of a replacement list with this leading-space flag, this hide set, and this expansion location.
-fn gained_token<'a>(token: &'a Token, space: bool, gain: Set, used: Place) -> Hidden<'a>
-    ensures is { (sets : HideSetPool) → hiding sets result ≡ hsadd (set_at sets gain) used (with_space space (unhidden token.now)) }
-    ensures known { (sets : HideSetPool) → IsKnown sets gain → HasSets sets result }
+fn replacement_token<'a>(
+    token: &'a Token,
+    space: bool,
+    names_to_hide: Set,
+    used: Place,
+) -> Hidden<'a>
+    ensures is { (sets : HideSetPool) → hiding sets result ≡ hsadd (set_at sets names_to_hide) used (with_space space (unhidden token.now)) }
+    ensures known { (sets : HideSetPool) → IsKnown sets names_to_hide → HasSets sets result }
 {
-    let mut hidden = Hidden::new(token, gain);
+    let mut hidden = Hidden::new(token, names_to_hide);
     hidden.set_space(space);
-    hidden.set_use(used, gain);
+    hidden.set_use(used, names_to_hide);
     hidden
 }
 
 /// Pushes tokens of a replacement list, each with its own leading-space flag.
-fn push_gained<'x, 'a: 'x>(
+fn push_replacement<'x, 'a: 'x>(
     body: &'a [Token],
-    gain: Set,
+    names_to_hide: Set,
     used: Place,
     list: &mut TokenStack<'x>,
 ) -> Result<(), AllocError>
     ensures is { OnOk result ((sets : HideSetPool) → hidings sets list.new
-        ≡ map (λ t. hsadd (set_at sets gain) used (unhidden t)) body.now ++ hidings sets list.old) }
-    ensures known { OnOk result ((sets : HideSetPool) → IsKnown sets gain → AllKnown sets list.old → AllKnown sets list.new) }
+        ≡ map (λ t. hsadd (set_at sets names_to_hide) used (unhidden t)) body.now ++ hidings sets list.old) }
+    ensures known { OnOk result ((sets : HideSetPool) → IsKnown sets names_to_hide → AllKnown sets list.old → AllKnown sets list.new) }
 {
     let mut rest = body;
     while let Some((last, others)) = rest.split_last() {
-        list.push(gained_token(last, last.space, gain, used))?;
+        list.push(replacement_token(last, last.space, names_to_hide, used))?;
         rest = others;
     }
     Ok(())
@@ -163,9 +168,9 @@ fn replace_by<'x, 'a: 'x>(
         list.space_next(name_token.space());
         return Ok(());
     };
-    let gain = sets.with(base, name_token.text())?;
-    push_gained(others, gain, name_token.used(), list)?;
-    list.push(gained_token(first, name_token.space(), gain, name_token.used()))?;
+    let names_to_hide = sets.with(base, name_token.text())?;
+    push_replacement(others, names_to_hide, name_token.used(), list)?;
+    list.push(replacement_token(first, name_token.space(), names_to_hide, name_token.used()))?;
     Ok(())
 }
 
@@ -312,9 +317,9 @@ impl<'x> Replacer<'x> {
         ensures known { IfOk result (λ n. ActionKnown self.new.sets list.new n) }
         ensures keeps { KeepsSets self.old.sets self.new.sets }
     {
-        let gain = self.sets.with_own_name(name_token)?;
+        let names_to_hide = self.sets.with_own_name(name_token)?;
         let alloc = self.pool.alloc();
-        list.push(predefined_value(alloc, predefined, env, name_token, gain)?)?;
+        list.push(predefined_value(alloc, predefined, env, name_token, names_to_hide)?)?;
         Ok(Action {
             kind: ActionKind::Replaced,
         })

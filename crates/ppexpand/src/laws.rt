@@ -13,7 +13,7 @@ ghost use Rattle.ppexpand.specs.Expansion.{Outcome, step_in_budget, Expands, Exp
 ghost use Rattle.ppexpand.specs.Standard.{StandardExpands, IsStandardExpansion};
 ghost use Rattle.ppexpand.specs.Laws.{HasOneOutcome, HasOneExpansion, EndsWithin, plus, IsCapped, OnlyBudgetsRefuse, is_fully_expanded, IsInvocation};
 ghost use Rattle.ppexpand.specs.Laws.{StopsAtQuote, NeverClosed, Leads};
-ghost use Rattle.ppexpand.specs.Termination.{hides, Holds, Gains, names_left, IsOutside, Step, Ends, PrefixEnds};
+ghost use Rattle.ppexpand.specs.Termination.{hides, Holds, HidesNames, names_left, IsOutside, Step, Ends, PrefixEnds};
 
 /// Each list of tokens with hide sets has exactly one outcome, for all macros and at each level of arguments.
 pub fn one_outcome()
@@ -38,7 +38,7 @@ pub fn prefixes_terminate()
     ensures steps { (macros : Macros) (env : Env) (level : ℕ) (remaining remaining_after : Option ℕ) (list next : List Hiding)
         → Leads macros env level remaining list remaining_after next
         → Step macros (hides list) (hides next) }
-    ensures gains { (hidden one two whole : HideSet) (name : Name) → Holds hidden one → Holds hidden two → Gains one two name whole → Holds (set.insert hidden name) whole }
+    ensures names { (hidden one two whole : HideSet) (name : Name) → Holds hidden one → Holds hidden two → HidesNames one two name whole → Holds (set.insert hidden name) whole }
     ensures fewer { (macros : Macros) (hidden : HideSet) (name : Name) → IsOutside macros name hidden → names_left macros (set.insert hidden name) < names_left macros hidden }
     ensures fronts { (macros : Macros) (hidden : HideSet) (prefix : List HideSet) → PrefixEnds macros hidden prefix }
     ensures lists { (macros : Macros) (list : List HideSet) → Ends macros list }

@@ -68,10 +68,10 @@ pub(crate) fn predefined_value<'a>(
     predefined: PredefinedMacro,
     env: &Env,
     name_token: &Hidden,
-    gain: Set,
+    names_to_hide: Set,
 ) -> Result<Hidden<'a>, AllocError>
-    ensures is { IfOk result (λ h. (sets : HideSetPool) → hiding sets h ≡ predefined_value predefined env.now (hiding sets name_token.now) (set_at sets gain)) }
-    ensures gain { IfOk result (λ h. (h.hide ≡ gain) × (h.extra ≡ None)) }
+    ensures is { IfOk result (λ h. (sets : HideSetPool) → hiding sets h ≡ predefined_value predefined env.now (hiding sets name_token.now) (set_at sets names_to_hide)) }
+    ensures names_to_hide { IfOk result (λ h. (h.hide ≡ names_to_hide) × (h.extra ≡ None)) }
 {
     let text = Spelling::new(predefined_text(alloc, predefined, env, name_token.used())?)?;
     let token = Token {
@@ -81,5 +81,5 @@ pub(crate) fn predefined_value<'a>(
         at: name_token.at(),
         used: name_token.used(),
     };
-    Hidden::synthesized(alloc, token, gain)
+    Hidden::synthesized(alloc, token, names_to_hide)
 }

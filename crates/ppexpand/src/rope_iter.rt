@@ -289,8 +289,8 @@ impl<'a> TokenRope<'a> {
     {
         let (prefix, _, _) = self.split();
         let mut tokens = Vec::with_capacity(alloc, prefix.len())?;
-        let mut remaining = self.iter();
-        while let Some(token) = remaining.next() {
+        let mut unread = self.iter();
+        while let Some(token) = unread.next() {
             put(&mut tokens, token.to_token()?)?;
         }
         Ok(tokens)

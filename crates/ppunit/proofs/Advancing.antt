@@ -22,7 +22,7 @@ ends_front context depth row m n ps qs ((bs, rs) ∷ k) end front e = (e.0, fron
 
 pub ends_stop : (context : Context) (depth row : ℕ) (m : Reached) (s : State) (f : Fault) (ps : GroupParts) (k : Outer) → Group context depth row m ps (stopped s f) → Ends context depth row m ps k (stopped s f)
 ends_stop context depth row m s f ps [] g = g
-ends_stop context depth row m s f ps ((bs, qs) ∷ k) g = (stopped s f, g, ends_stop context depth row (stopped s f) s f qs k Group.stays)
+ends_stop context depth row m s f ps ((bs, qs) ∷ k) g = (stopped s f, g, ends_stop context depth row (stopped s f) s f qs k Group.already_stopped)
 
 pub stands_behind : (lines : List LogicalLine) (index : ℕ) (r : LogicalLine) (ps : GroupParts) (k : Outer) → drop index lines ≡ r ∷ lay ps k → AreGroupParts ps → AreOuter k → StandsAt lines (index + 1) ps k
 stands_behind lines index r ps k e are outer = record { rest = rw add-one (at_index lines index r (lay ps k) e).following; parts = are; outer = outer }

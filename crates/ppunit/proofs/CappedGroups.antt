@@ -28,14 +28,14 @@ module _ (context : Context) where
         → (d : Group context depth row r ps end)
         → b < count_group d
         → Stops end.state (λ t f. Group context depth row (holding b r) ps (stopped t f))
-    group_short b is Group.stays less = absurd (omega arith)
-    group_short b is Group.done less = absurd (omega arith)
+    group_short b is Group.already_stopped less = absurd (omega arith)
+    group_short b is Group.no_parts less = absurd (omega arith)
     group_short {end = end} b is (Group.text_lines {s = s} {lines = lines} {m = m} gives rest) less =
         let c = count_expansion gives.expands in
         elim (dec_lt b c) [
           | yes less ↦
               (let x = run_short s (text_tokens lines) m b is gives less in
-              (x.0, x.1, over_then x.0 m.state end.state x.1 x.2 (group_before context rest), Group.text_lines x.3 Group.stays))
+              (x.0, x.1, over_then x.0 m.state end.state x.1 x.2 (group_before context rest), Group.text_lines x.3 Group.already_stopped))
           | no not_less ↦
               (let sum : b ≡ c + (b - c) = omega arith in
               let remaining = run_rest s (text_tokens lines) m b (b - c) is gives sum in
@@ -47,7 +47,7 @@ module _ (context : Context) where
         elim (dec_lt b c) [
           | yes less ↦
               (let x = control_short b is here less in
-              (x.0, x.1, over_then x.0 m.state end.state x.1 x.2 (group_before context rest), Group.control x.3 Group.stays))
+              (x.0, x.1, over_then x.0 m.state end.state x.1 x.2 (group_before context rest), Group.control x.3 Group.already_stopped))
           | no not_less ↦
               (let sum : b ≡ c + (b - c) = omega arith in
               let remaining = control_rest context b (b - c) is here sum in
@@ -70,7 +70,7 @@ module _ (context : Context) where
               elim (dec_lt (b - c) j) [
                 | yes less ↦
                     (let x = group_short (b - c) remaining here less in
-                    (x.0, x.1, over_then x.0 m.state end.state x.1 x.2 two, Group.taken {end = stopped x.0 x.1} (decides_enough (search_of context) row s line remaining_after (Ok true) b is decides (b - c) sum) x.3 Group.stays))
+                    (x.0, x.1, over_then x.0 m.state end.state x.1 x.2 two, Group.taken {end = stopped x.0 x.1} (decides_enough (search_of context) row s line remaining_after (Ok true) b is decides (b - c) sum) x.3 Group.already_stopped))
                 | no not_less2 ↦
                     (let n = b - c - j in
                     let sum2 : b - c ≡ j + n = omega arith in
@@ -95,7 +95,7 @@ module _ (context : Context) where
               elim (dec_lt (b - c) j) [
                 | yes less ↦
                     (let x = branches_short (b - c) remaining here less in
-                    (x.0, x.1, over_then x.0 m.state end.state x.1 x.2 two, Group.skipped {end = stopped x.0 x.1} (decides_enough (search_of context) row s line remaining_after (Ok false) b is decides (b - c) sum) x.3 Group.stays))
+                    (x.0, x.1, over_then x.0 m.state end.state x.1 x.2 two, Group.skipped {end = stopped x.0 x.1} (decides_enough (search_of context) row s line remaining_after (Ok false) b is decides (b - c) sum) x.3 Group.already_stopped))
                 | no not_less2 ↦
                     (let n = b - c - j in
                     let sum2 : b - c ≡ j + n = omega arith in
@@ -113,9 +113,9 @@ module _ (context : Context) where
         → b < count_branched d
         → Stops m.state (λ t f. Branched context depth row (with_remaining s (Some b)) bs (stopped t f))
     branches_short b is Branched.ended less = absurd (omega arith)
-    branches_short b is (Branched.otherwise e here) less =
+    branches_short b is (Branched.else_group e here) less =
         let x = group_short b is here less in
-        (x.0, x.1, x.2, Branched.otherwise e x.3)
+        (x.0, x.1, x.2, Branched.else_group e x.3)
     branches_short {row = row} {m = m} b is (Branched.branch_taken {s = s} {line = line} {remaining_after = remaining_after} e decides here) less =
         let c = count_decides (search_of context) row s line remaining_after (Ok true) decides in
         elim (dec_lt b c) [

@@ -24,7 +24,7 @@ control_on : (context : Files → Context) (files : Files) (depth row : ℕ) (li
 control_on context files depth row lines index s t None r qs k there are outer controls =
     (qs, k, stands_behind lines index r qs k there are outer, λ more grows end rest. ends_front (context more) depth row (going s) (going t) (Control r qs) qs k end (λ o g. Group.control (controls more grows) g) rest)
 control_on context files depth row lines index s t (Some f) r qs k there are outer controls =
-    λ more grows. ends_stop (context more) depth row (going s) t f (Control r qs) k (Group.control (controls more grows) Group.stays)
+    λ more grows. ends_stop (context more) depth row (going s) t f (Control r qs) k (Group.control (controls more grows) Group.already_stopped)
 
 control_by : (context : Files → Context) (files : Files) (depth row : ℕ) (lines : List LogicalLine) (index : ℕ) (s t : State) (f : Option Fault)
     (ps : GroupParts) (k : Outer)

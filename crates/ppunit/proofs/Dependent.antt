@@ -75,8 +75,8 @@ module _ (context : Context) where
 
   mutual
     group_within : {depth row : ℕ} {r : Reached} {ps : GroupParts} {end : Reached} → Group context depth row r ps end → Within r.state.deps → Within end.state.deps
-    group_within Group.stays all = all
-    group_within Group.done all = all
+    group_within Group.already_stopped all = all
+    group_within Group.no_parts all = all
     group_within (Group.text_lines {s = s} {lines = lines} {m = m} gives rest) all = group_within rest (subst Within (sym (run_keeps s (text_tokens lines) m gives)) all)
     group_within (Group.control here rest) all = group_within rest (control_within here all)
     group_within (Group.taken decides here rest) all = group_within rest (group_within here all)
@@ -85,7 +85,7 @@ module _ (context : Context) where
 
     branches_within : {depth row : ℕ} {s : State} {bs : Branches} {m : Reached} → Branched context depth row s bs m → Within s.deps → Within m.state.deps
     branches_within Branched.ended all = all
-    branches_within (Branched.otherwise is here) all = group_within here all
+    branches_within (Branched.else_group is here) all = group_within here all
     branches_within (Branched.branch_taken is decides here) all = group_within here all
     branches_within (Branched.branch_skipped is decides rest) all = branches_within rest all
     branches_within (Branched.branch_condition_fault is decides) all = all

@@ -43,12 +43,12 @@ module _ (context : Context) where
         → (d : Group context depth row r ps end) (n : ℕ)
         → b ≡ count_group d + n
         → Group context depth row (holding b r) ps (holding n end)
-    group_enough {depth} {row} {r} {ps} b is (Group.stays {s = s} {f = f}) n sum =
+    group_enough {depth} {row} {r} {ps} b is (Group.already_stopped {s = s} {f = f}) n sum =
         let same : b ≡ n = omega arith in
-        subst (λ x. Group context depth row (holding b (stopped s f)) ps (holding x (stopped s f))) same Group.stays
-    group_enough {depth} {row} b is (Group.done {s = s}) n sum =
+        subst (λ x. Group context depth row (holding b (stopped s f)) ps (holding x (stopped s f))) same Group.already_stopped
+    group_enough {depth} {row} b is (Group.no_parts {s = s}) n sum =
         let same : b ≡ n = omega arith in
-        subst (λ x. Group context depth row (holding b (going s)) Done (holding x (going s))) same Group.done
+        subst (λ x. Group context depth row (holding b (going s)) Done (holding x (going s))) same Group.no_parts
     group_enough b is (Group.text_lines {s = s} {lines = lines} {m = m} gives rest) n sum =
         let k = count_group rest in
         Group.text_lines (run_enough s (text_tokens lines) m b is gives (k + n) (omega arith)) (group_enough (k + n) (run_rest s (text_tokens lines) m b (k + n) is gives (omega arith)) rest n refl)
@@ -75,7 +75,7 @@ module _ (context : Context) where
     branches_enough {depth} {row} b is (Branched.ended {s = s} {line = line}) n sum =
         let same : b ≡ n = omega arith in
         subst (λ x. Branched context depth row (with_remaining s (Some b)) (End line) (holding x (going s))) same Branched.ended
-    branches_enough b is (Branched.otherwise e here) n sum = Branched.otherwise e (group_enough b is here n sum)
+    branches_enough b is (Branched.else_group e here) n sum = Branched.else_group e (group_enough b is here n sum)
     branches_enough {row = row} b is (Branched.branch_taken {s = s} {line = line} {remaining_after = remaining_after} e decides here) n sum =
         let j = count_group here in
         Branched.branch_taken e (decides_enough (search_of context) row s line remaining_after (Ok true) b is decides (j + n) (omega arith)) (group_enough (j + n) (decides_rest (search_of context) row s line remaining_after (Ok true) b (j + n) is decides (omega arith)) here n refl)

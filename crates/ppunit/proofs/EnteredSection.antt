@@ -77,7 +77,7 @@ skipped_to : (context : Files → Context) (search : Search) (files : Files) (de
 skipped_to context search files depth row lines index s t remaining_after r ps qs bs k (Ok next) by decides finds =
     (finds.0, finds.1, finds.2, λ more grows end rest. let f = finds.3 (context more) (by more) depth end rest in ends_front (context more) depth row (going s) f.0 (Section r ps bs qs) qs k end (λ o g. Group.skipped (decides_around (context more) search row s r remaining_after (Ok false) (by more) decides) f.1 g) f.2)
 skipped_to context search files depth row lines index s t remaining_after r ps qs bs k (Err f) by decides finds =
-    λ more grows. ends_stop (context more) depth row (going s) t f (Section r ps bs qs) k (Group.skipped (decides_around (context more) search row s r remaining_after (Ok false) (by more) decides) (finds (context more) (by more) depth) Group.stays)
+    λ more grows. ends_stop (context more) depth row (going s) t f (Section r ps bs qs) k (Group.skipped (decides_around (context more) search row s r remaining_after (Ok false) (by more) decides) (finds (context more) (by more) depth) Group.already_stopped)
 
 pub enter_skipped : (context : Files → Context) (search : Search) (files : Files) (depth row : ℕ) (lines : List LogicalLine) (index : ℕ) (s t : State)
     (remaining_after : Option ℕ) (d : Directive) (found : Result ℕ Fault)

@@ -101,7 +101,7 @@ enter_branch search row lines next s remaining_after (Branch r ps bs) qs k e ((l
       stands_behind lines next r ps ((bs, qs) ∷ k) there parts ((true, more), following, context),
       λ context by depth end rest.
           let here = subst (λ (z : Option ℕ). Group context depth row (going (with_remaining s z)) ps rest.0) same rest.1 in
-          (rest.0, Branched.otherwise (else_directive r.directive is) here, rest.2),
+          (rest.0, Branched.else_group (else_directive r.directive is) here, rest.2),
     )
 enter_branch search row lines next s remaining_after (Branch r ps bs) qs k e ((last, (before, false, is, parts, more)), following, context) entered =
     let there = e ∙ lay_branch r ps qs bs k in

@@ -22,8 +22,8 @@ module _ (context : Context) (more : Files) (grows : Extends more context.files)
 
   mutual
     pub group_grows : {depth row : ℕ} {r : Reached} {ps : GroupParts} {end : Reached} (d : Group context depth row r ps end) → (e : Group wider depth row r ps end) × (count_group e ≡ count_group d)
-    group_grows Group.stays = (Group.stays, refl)
-    group_grows Group.done = (Group.done, refl)
+    group_grows Group.already_stopped = (Group.already_stopped, refl)
+    group_grows Group.no_parts = (Group.no_parts, refl)
     group_grows (Group.text_lines gives rest) =
         let r = group_grows rest in
         (Group.text_lines gives r.0, ap (λ n. count_expansion gives.expands + n) r.1)
@@ -43,7 +43,7 @@ module _ (context : Context) (more : Files) (grows : Extends more context.files)
 
     branches_grow : {depth row : ℕ} {s : State} {bs : Branches} {m : Reached} (d : Branched context depth row s bs m) → (e : Branched wider depth row s bs m) × (count_branched e ≡ count_branched d)
     branches_grow Branched.ended = (Branched.ended, refl)
-    branches_grow (Branched.otherwise is here) = let h = group_grows here in (Branched.otherwise is h.0, h.1)
+    branches_grow (Branched.else_group is here) = let h = group_grows here in (Branched.else_group is h.0, h.1)
     branches_grow {row = row} (Branched.branch_taken {s = s} {line = line} {remaining_after = remaining_after} is decides here) =
         let h = group_grows here in
         (Branched.branch_taken is decides h.0, ap (λ n. count_decides (search_of context) row s line remaining_after (Ok true) decides + n) h.1)

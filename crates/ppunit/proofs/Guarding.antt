@@ -73,7 +73,7 @@ module _ (context : Context) (depth row : ℕ) (s : State) where
   run_passes rs ps (gives, free) (rest, more) = (Group.text_lines gives rest, both_free free more)
 
   blank_group : (ps : GroupParts) → AreBlank ps → Passes ps
-  blank_group Done blank = (Group.done, refl)
+  blank_group Done blank = (Group.no_parts, refl)
   blank_group (TextLines rs ps) blank = run_passes rs ps (blank_gives s rs blank.0) (blank_group ps blank.1)
   blank_group (Control r ps) blank = absurd blank
   blank_group (Section r ps bs qs) blank = absurd blank

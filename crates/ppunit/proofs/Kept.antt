@@ -77,8 +77,8 @@ run_before s tokens m g = subst (λ x. Before s x.state) (sym g.is) ((map item.T
 module _ (context : Context) where
   mutual
     pub group_before : {depth row : ℕ} {r : Reached} {ps : GroupParts} {end : Reached} → Group context depth row r ps end → Before r.state end.state
-    group_before (Group.stays {s = s}) = same_state s
-    group_before (Group.done {s = s}) = same_state s
+    group_before (Group.already_stopped {s = s}) = same_state s
+    group_before (Group.no_parts {s = s}) = same_state s
     group_before (Group.text_lines {s = s} {lines = lines} {m = m} {end = end} gives rest) = before_then s m.state end.state (run_before s (text_tokens lines) m gives) (group_before rest)
     group_before (Group.control {s = s} {m = m} {end = end} here rest) = before_then s m.state end.state (control_before here) (group_before rest)
     group_before (Group.taken {s = s} {m = m} {end = end} decides here rest) = before_then s m.state end.state (group_before here) (group_before rest)
@@ -87,7 +87,7 @@ module _ (context : Context) where
 
     pub branches_before : {depth row : ℕ} {s : State} {bs : Branches} {m : Reached} → Branched context depth row s bs m → Before s m.state
     branches_before (Branched.ended {s = s}) = same_state s
-    branches_before (Branched.otherwise e here) = group_before here
+    branches_before (Branched.else_group e here) = group_before here
     branches_before (Branched.branch_taken e decides here) = group_before here
     branches_before (Branched.branch_skipped e decides rest) = branches_before rest
     branches_before (Branched.branch_condition_fault {s = s} e decides) = same_state s

@@ -25,10 +25,10 @@ module _ (expansions : OneExpansion) (decisions : OneDecision) (context : Contex
   at_control (Group.control {m = m} here rest) = (m, here, rest)
 
   pub at_done : {depth row : ℕ} {s : State} {end : Reached} → Group context depth row (going s) Done end → going s ≡ end
-  at_done Group.done = refl
+  at_done Group.no_parts = refl
 
   pub at_stop : {depth row : ℕ} {s : State} {f : Fault} {ps : GroupParts} {end : Reached} → Group context depth row (stopped s f) ps end → stopped s f ≡ end
-  at_stop Group.stays = refl
+  at_stop Group.already_stopped = refl
 
   pub data AfterSection (depth row : ℕ) (s : State) (line : LogicalLine) (ps : GroupParts) (bs : Branches) (qs : GroupParts) : Reached → Type 0 where
     is_taken : {remaining_after : Option ℕ} {m end : Reached}
@@ -69,7 +69,7 @@ module _ (expansions : OneExpansion) (decisions : OneDecision) (context : Contex
         → AfterBranch depth row s line ps bs (stopped (with_remaining s remaining_after) f)
 
   pub at_branch : {depth row : ℕ} {s : State} {line : LogicalLine} {ps : GroupParts} {bs : Branches} {m : Reached} → Branched context depth row s (Branch line ps bs) m → AfterBranch depth row s line ps bs m
-  at_branch (Branched.otherwise is here) = is_else is here
+  at_branch (Branched.else_group is here) = is_else is here
   at_branch (Branched.branch_taken is decides here) = is_elif is decides here
   at_branch (Branched.branch_skipped is decides rest) = is_passed is decides rest
   at_branch (Branched.branch_condition_fault is decides) = is_faulty is decides

@@ -19,8 +19,8 @@ module _ (expansions : OneExpansion) (decisions : OneDecision) (readings : OneRe
   module _ (context : Context) (once : AreNames context.names) where
     mutual
       pub group_once : {depth row : ℕ} {r : Reached} {ps : GroupParts} {y : Reached} → Group context depth row r ps y → (z : Reached) → Group context depth row r ps z → y ≡ z
-      group_once Group.stays z d = at_stop expansions decisions context d
-      group_once Group.done z d = at_done expansions decisions context d
+      group_once Group.already_stopped z d = at_stop expansions decisions context d
+      group_once Group.no_parts z d = at_done expansions decisions context d
       group_once {depth} {row} (Group.text_lines {s = s} {lines = rs} {ps = ps} {m = m} gives rest) z d =
           let h : AfterRun expansions decisions context depth row s rs ps z = at_run expansions decisions context d in
           group_once rest z (subst (λ x. Group context depth row x ps z) (run_once expansions decisions s (text_tokens rs) h.0 m h.1 gives) h.2)
@@ -33,7 +33,7 @@ module _ (expansions : OneExpansion) (decisions : OneDecision) (readings : OneRe
 
       branches_once : {depth row : ℕ} {s : State} {bs : Branches} {y : Reached} → Branched context depth row s bs y → (z : Reached) → Branched context depth row s bs z → y ≡ z
       branches_once Branched.ended z d = at_end expansions decisions context d
-      branches_once (Branched.otherwise is here) z d = after_else expansions decisions context is (λ n g. group_once here n g) z (at_branch expansions decisions context d)
+      branches_once (Branched.else_group is here) z d = after_else expansions decisions context is (λ n g. group_once here n g) z (at_branch expansions decisions context d)
       branches_once (Branched.branch_taken is decides here) z d = after_elif expansions decisions context is decides (λ n g. group_once here n g) z (at_branch expansions decisions context d)
       branches_once (Branched.branch_skipped is decides rest) z d = after_passed expansions decisions context is decides (λ n g. branches_once rest n g) z (at_branch expansions decisions context d)
       branches_once (Branched.branch_condition_fault is decides) z d = after_faulty expansions decisions context is decides z (at_branch expansions decisions context d)

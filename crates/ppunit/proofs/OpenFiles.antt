@@ -138,7 +138,7 @@ stops_at context whole more t fault [] rests waits owes = owes
 stops_at context whole more t fault (w ∷ ws) [] waits owes = absurd waits
 stops_at context whole more t fault (w ∷ ws) ((ps, k) ∷ rests) waits owes =
     let u = in_file_context w.file_context t in
-    stops_at context whole more u fault ws rests waits.1 (owes (stopped u fault) (ends_stop (context more) (length ws) w.file.row (stopped u fault) u fault ps k Group.stays))
+    stops_at context whole more u fault ws rests waits.1 (owes (stopped u fault) (ends_stop (context more) (length ws) w.file.row (stopped u fault) u fault ps k Group.already_stopped))
 
 pub stack_stops : (context : Files → Context) (old new : Files) (row : ℕ) (lines : List LogicalLine) (s t u : State) (fault : Fault)
     (ws : List SuspendedFile) (file : OpenFile)

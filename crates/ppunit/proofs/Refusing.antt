@@ -19,8 +19,8 @@ never_spent (Some n) is e = absurd (cc)
 module _ (context : Context) where
   mutual
     group_other : {depth row : ℕ} {r : Reached} {ps : GroupParts} {end : Reached} → r.state.remaining ≡ None → IsOther r.fault → Group context depth row r ps end → IsOther end.fault
-    group_other is h Group.stays = h
-    group_other is h Group.done = tt
+    group_other is h Group.already_stopped = h
+    group_other is h Group.no_parts = tt
     group_other is h (Group.text_lines {s = s} {lines = lines} {m = m} gives rest) = group_other (run_none s (text_tokens lines) m is gives) (run_other s (text_tokens lines) m is gives) rest
     group_other is h (Group.control here rest) = group_other (control_none context is here) (control_other is here) rest
     group_other {row = row} is h (Group.taken {s = s} {line = line} {remaining_after = remaining_after} decides here rest) =
@@ -33,7 +33,7 @@ module _ (context : Context) where
 
     branches_other : {depth row : ℕ} {s : State} {bs : Branches} {m : Reached} → s.remaining ≡ None → Branched context depth row s bs m → IsOther m.fault
     branches_other is Branched.ended = tt
-    branches_other is (Branched.otherwise e here) = group_other is tt here
+    branches_other is (Branched.else_group e here) = group_other is tt here
     branches_other {row = row} is (Branched.branch_taken {s = s} {line = line} {remaining_after = remaining_after} e decides here) = group_other (decides_none (search_of context) row s line remaining_after (Ok true) is decides) tt here
     branches_other {row = row} is (Branched.branch_skipped {s = s} {line = line} {remaining_after = remaining_after} e decides rest) = branches_other (decides_none (search_of context) row s line remaining_after (Ok false) is decides) rest
     branches_other {row = row} is (Branched.branch_condition_fault {s = s} {line = line} {remaining_after = remaining_after} {f = f} e decides) = decides_other (search_of context) row s line remaining_after f is decides

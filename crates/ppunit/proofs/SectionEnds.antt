@@ -109,7 +109,7 @@ end_by : (context : Files → Context) (files : Files) (depth row : ℕ) (lines 
     → AdvancesFrom context files depth row lines s s (Ok next) ps k
 end_by context files depth row lines index next s Done ((bs, qs) ∷ k) differs (ending other) stands over =
     let outer = stands.outer in
-    (qs, k, record { rest = over outer.0.0 bs (lay qs k) stands.rest outer.0.1; parts = outer.1; outer = outer.2 }, λ more grows end rest. (going s, Group.done, rest))
+    (qs, k, record { rest = over outer.0.0 bs (lay qs k) stands.rest outer.0.1; parts = outer.1; outer = outer.2 }, λ more grows end rest. (going s, Group.no_parts, rest))
 end_by context files depth row lines index next s ps k differs (text same) stands over = absurd (differs.not_text same)
 end_by context files depth row lines index next s ps k differs (control same other) stands over = absurd (differs.not_control other)
 end_by context files depth row lines index next s ps k differs (opening same other) stands over = absurd (differs.not_opening other)

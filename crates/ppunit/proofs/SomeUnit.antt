@@ -208,7 +208,7 @@ module _ (expansions : SomeExpansion) (decisions : SomeDecision) where
 
       goes_on_by : (row : ℕ) (ps : GroupParts) → ((s : State) → SomeGroup row (going s) ps) → (s : State) (f : Option Fault) → SomeGroup row (record { state = s; fault = f }) ps
       goes_on_by row ps all s None = all s
-      goes_on_by row ps all s (Some f) = (stopped s f, Group.stays)
+      goes_on_by row ps all s (Some f) = (stopped s f, Group.already_stopped)
 
       goes_on : (row : ℕ) (ps : GroupParts) → ((s : State) → SomeGroup row (going s) ps) → (r : Reached) → SomeGroup row r ps
       goes_on row ps all r = goes_on_by row ps all r.state r.fault
@@ -256,7 +256,7 @@ module _ (expansions : SomeExpansion) (decisions : SomeDecision) where
           → ((t : State) → SomeGroup row (going t) ps)
           → ((t : State) → SomeBranched row t bs)
           → SomeBranched row s (Branch line ps bs)
-      at_branch row s line ps bs true is here more = let m = here s in (m.0, Branched.otherwise (else_directive line.directive is) m.1)
+      at_branch row s line ps bs true is here more = let m = here s in (m.0, Branched.else_group (else_directive line.directive is) m.1)
       at_branch row s line ps bs false is here more =
           let d = some_deciding (search_of context) row s line (elif_conditional line.directive is) in
           at_elif row s line ps bs d.0 d.1 (not_else line.directive is) d.2 here more
@@ -273,7 +273,7 @@ module _ (expansions : SomeExpansion) (decisions : SomeDecision) where
 
       mutual
         some_group : (ps : GroupParts) → AreGroupParts ps → (row : ℕ) (s : State) → SomeGroup row (going s) ps
-        some_group Done good row s = (going s, Group.done)
+        some_group Done good row s = (going s, Group.no_parts)
         some_group (TextLines lines ps) good row s = at_run row s lines ps (λ t. some_group ps good.3 row t)
         some_group (Control line ps) good row s = at_control row s line ps good.0 (λ t. some_group ps good.1 row t)
         some_group (Section line ps bs qs) good row s =

@@ -124,8 +124,8 @@ run_spends s tokens m g = expansion_spends s.macros s.env g.expands ∙ ap (plus
 module _ (context : Context) where
   mutual
     pub group_spends : {depth row : ℕ} {r : Reached} {ps : GroupParts} {end : Reached} (d : Group context depth row r ps end) → r.state.remaining ≡ plus (count_group d) end.state.remaining
-    group_spends (Group.stays {s = s}) = plus-nothing s.remaining
-    group_spends (Group.done {s = s}) = plus-nothing s.remaining
+    group_spends (Group.already_stopped {s = s}) = plus-nothing s.remaining
+    group_spends (Group.no_parts {s = s}) = plus-nothing s.remaining
     group_spends (Group.text_lines {s = s} {lines = lines} {m = m} gives rest) = both _ _ _ (run_spends s (text_tokens lines) m gives) (group_spends rest)
     group_spends (Group.control here rest) = both _ _ _ (control_spends here) (group_spends rest)
     group_spends {row = row} (Group.taken {s = s} {line = line} {remaining_after = remaining_after} decides here rest) =
@@ -136,7 +136,7 @@ module _ (context : Context) where
 
     pub branches_spend : {depth row : ℕ} {s : State} {bs : Branches} {m : Reached} (d : Branched context depth row s bs m) → s.remaining ≡ plus (count_branched d) m.state.remaining
     branches_spend (Branched.ended {s = s}) = plus-nothing s.remaining
-    branches_spend (Branched.otherwise e here) = group_spends here
+    branches_spend (Branched.else_group e here) = group_spends here
     branches_spend {row = row} (Branched.branch_taken {s = s} {line = line} {remaining_after = remaining_after} e decides here) = both _ _ _ (decides_spends (search_of context) row s line remaining_after (Ok true) decides) (group_spends here)
     branches_spend {row = row} (Branched.branch_skipped {s = s} {line = line} {remaining_after = remaining_after} e decides rest) = both _ _ _ (decides_spends (search_of context) row s line remaining_after (Ok false) decides) (branches_spend rest)
     branches_spend {row = row} (Branched.branch_condition_fault {s = s} {line = line} {remaining_after = remaining_after} {f = f} e decides) = decides_spends (search_of context) row s line remaining_after (Err f) decides

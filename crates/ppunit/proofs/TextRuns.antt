@@ -69,7 +69,7 @@ run_on : (context : Files → Context) (files : Files) (depth row : ℕ) (lines 
 run_on context files depth row lines index end s t None rs qs k are outer there gives =
     (qs, k, record { rest = there; parts = are; outer = outer }, λ more grows last rest. ends_front (context more) depth row (going s) (going t) (TextLines rs qs) qs k last (λ o g. Group.text_lines gives g) rest)
 run_on context files depth row lines index end s t (Some f) rs qs k are outer there gives =
-    λ more grows. ends_stop (context more) depth row (going s) t f (TextLines rs qs) k (Group.text_lines gives Group.stays)
+    λ more grows. ends_stop (context more) depth row (going s) t f (TextLines rs qs) k (Group.text_lines gives Group.already_stopped)
 
 pub run_advances : (context : Files → Context) (files : Files) (depth row : ℕ) (lines : List LogicalLine) (index end : ℕ) (s t : State)
     (f : Option Fault)

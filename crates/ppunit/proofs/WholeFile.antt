@@ -51,7 +51,7 @@ file_stop context old new whole depth row lines index t u fault sofar wider step
     sofar.ends more (extends_trans more new old grows wider) (stopped u fault) (step sofar.parts sofar.outer sofar.stands more grows)
 
 nothing_laid : (context : Context) (depth row : ℕ) (t : State) (ps : GroupParts) (k : Outer) → lay ps k ≡ [] → AreGroupParts ps → Ends context depth row (going t) ps k (going t)
-nothing_laid context depth row t Done [] e are = Group.done
+nothing_laid context depth row t Done [] e are = Group.no_parts
 nothing_laid context depth row t Done ((End r, qs) ∷ k) e are = absurd (cc)
 nothing_laid context depth row t Done ((Branch r ps bs, qs) ∷ k) e are = absurd (cc)
 nothing_laid context depth row t (TextLines [] ps) k e are = absurd (are.0 refl)

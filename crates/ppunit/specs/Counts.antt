@@ -69,8 +69,8 @@ count_control_by profile row _ s line m h = 0
 
 abbrev mutual
   pub count_group : {context : Context} {depth row : ℕ} {r : Reached} {ps : GroupParts} {end : Reached} → Group context depth row r ps end → ℕ
-  count_group Group.stays = 0
-  count_group Group.done = 0
+  count_group Group.already_stopped = 0
+  count_group Group.no_parts = 0
   count_group (Group.text_lines gives rest) = count_expansion gives.expands + count_group rest
   count_group (Group.control here rest) = count_control here + count_group rest
   count_group {context} {depth} {row} (Group.taken {s = s} {line = line} {remaining_after = remaining_after} decides here rest) =
@@ -83,7 +83,7 @@ abbrev mutual
       → Branched context depth row s bs m
       → ℕ
   count_branched Branched.ended = 0
-  count_branched (Branched.otherwise is here) = count_group here
+  count_branched (Branched.else_group is here) = count_group here
   count_branched {context} {depth} {row} (Branched.branch_taken {s = s} {line = line} {remaining_after = remaining_after} is decides here) =
       count_decides (search_of context) row s line remaining_after (Ok true) decides + count_group here
   count_branched {context} {depth} {row} (Branched.branch_skipped {s = s} {line = line} {remaining_after = remaining_after} is decides rest) =

@@ -29,8 +29,8 @@ deepest = 200
 mutual
   -- A group in the file at index `row`, at an include depth. After its first fault a unit does nothing more.
   pub data Group (context : Context) : ℕ → ℕ → Reached → GroupParts → Reached → Type 0 where
-    stays : {depth row : ℕ} {s : State} {f : Fault} {ps : GroupParts} → Group context depth row (stopped s f) ps (stopped s f)
-    done : {depth row : ℕ} {s : State} → Group context depth row (going s) Done (going s)
+    already_stopped : {depth row : ℕ} {s : State} {f : Fault} {ps : GroupParts} → Group context depth row (stopped s f) ps (stopped s f)
+    no_parts : {depth row : ℕ} {s : State} → Group context depth row (going s) Done (going s)
     text_lines : {depth row : ℕ} {s : State} {lines : List LogicalLine} {ps : GroupParts} {m end : Reached}
         → EmitsText s (text_tokens lines) m
         → Group context depth row m ps end
@@ -56,7 +56,7 @@ mutual
   -- the branches of an if-section, up to the first that is taken (6.10.1)
   pub data Branched (context : Context) : ℕ → ℕ → State → Branches → Reached → Type 0 where
     ended : {depth row : ℕ} {s : State} {line : LogicalLine} → Branched context depth row s (End line) (going s)
-    otherwise : {depth row : ℕ} {s : State} {line : LogicalLine} {ps : GroupParts} {bs : Branches} {m : Reached}
+    else_group : {depth row : ℕ} {s : State} {line : LogicalLine} {ps : GroupParts} {bs : Branches} {m : Reached}
         → line.directive ≡ Some Else
         → Group context depth row (going s) ps m
         → Branched context depth row s (Branch line ps bs) m

@@ -62,7 +62,7 @@ invocation_in sets name_token macro given base following = record {
   name_token = hiding sets name_token;
   macro = macro;
   arguments = given_in sets given;
-  gain = set.insert (set_at sets base) name_token.token.text;
+  names_to_hide = set.insert (set_at sets base) name_token.token.text;
   following = hidings sets following;
 }
 

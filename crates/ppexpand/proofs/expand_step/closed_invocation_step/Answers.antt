@@ -3,7 +3,7 @@ use Rattle.std.proofs.lemmas.Result.{IfOk-weaker}
 use Rattle.std.specs.FinSet as set
 use Rattle.ppmacro.specs.HideSets.{set_at, hide_of, hiding, hidings}
 use Rattle.ppmacro.proofs.KeepLemmas.{known-sets, known-keeps}
-use Rattle.ppexpand.specs.ExpansionStep.{Invoked, closed_invocation_step, gain_of}
+use Rattle.ppexpand.specs.ExpansionStep.{Invoked, closed_invocation_step, names_to_hide_for}
 use Rattle.ppexpand.specs.code.ProgramValues.{fitting_in, FittingKnown, step_in, ActionKnown}
 use Rattle.ppexpand.proofs.Keeping.{invocation_made, given_known-keeps}
 use Rattle.ppexpand.proofs.expand_step.closed_invocation_step.Goals as goal
@@ -24,9 +24,9 @@ returns-clause-is c rest rest_known =
     let s = c.args.sets.now in
     let name_token = c.args.name_token in
     let keeps = c.in_ok-base.ensures.keeps in
-    let gains : set.insert (set_at c.common_hide_set.new.self c.in_ok-base.base) name_token.token.text ≡ gain_of (hide_of s name_token) (hide_of s c.args.close.now) name_token.token.text = ap (λ b. set.insert b name_token.token.text) c.in_ok-base.ensures.set in
+    let to_hide : set.insert (set_at c.common_hide_set.new.self c.in_ok-base.base) name_token.token.text ≡ names_to_hide_for (hide_of s name_token) (hide_of s c.args.close.now) name_token.token.text = ap (λ b. set.insert b name_token.token.text) c.in_ok-base.ensures.set in
     ap Invoked (invocation_made (record { name_token = name_token; definition = c.args.definition; arguments = c.in-Some.arguments; base = c.in_ok-base.base })
-    rest _ keeps c.requires.name_token (subst (FittingKnown s) c.in-Some.is c.requires.arguments) rest_known gains)
+    rest _ keeps c.requires.name_token (subst (FittingKnown s) c.in-Some.is c.requires.arguments) rest_known to_hide)
     ∙ ap (λ a. closed_invocation_step (hiding s name_token) c.args.definition.now (fitting_in s a) (hiding s c.args.close.now) (hidings s rest)) (sym c.in-Some.is)
 
 pub returns-clause-known : goal.returns-clause-known

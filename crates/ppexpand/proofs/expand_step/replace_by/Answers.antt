@@ -36,12 +36,12 @@ returns-clause-is c arguments =
     let first = c.in-Some.first.now in
     let others = c.in-Some.others.now in
     let body : c.args.body.now ≡ first ∷ others = search rules in
-    let gain : set_at t c.in_ok-gain.gain ≡ names = c.in_ok-gain.ensures.set ∙ (λ i. set.insert (set_at s c.args.base) (c.text.ensures i)) in
-    let kept : hidings t list ≡ hidings s list = hidings-keeps list c.in_ok-gain.ensures.keeps c.requires.list in
-    let following : hidings t c.push_gained.new.list ≡ map (λ x. hsadd names used (unhidden x)) others ++ hidings s list =
-    c.in_ok-push_gained.ensures.is t ∙ (λ i. map (λ x. hsadd (gain i) (c.used.ensures i) (unhidden x)) others ++ kept i) in
-    let here : hiding t c.gained_token.result ≡ hsadd names used (with_space space (unhidden first)) =
-    c.gained_token.ensures.is t ∙ (λ i. hsadd (gain i) (c.used-2.ensures i) (with_space (c.space-2.ensures i) (unhidden first))) in
+    let names_to_hide : set_at t c.in_ok-names_to_hide.names_to_hide ≡ names = c.in_ok-names_to_hide.ensures.set ∙ (λ i. set.insert (set_at s c.args.base) (c.text.ensures i)) in
+    let kept : hidings t list ≡ hidings s list = hidings-keeps list c.in_ok-names_to_hide.ensures.keeps c.requires.list in
+    let following : hidings t c.push_replacement.new.list ≡ map (λ x. hsadd names used (unhidden x)) others ++ hidings s list =
+    c.in_ok-push_replacement.ensures.is t ∙ (λ i. map (λ x. hsadd (names_to_hide i) (c.used.ensures i) (unhidden x)) others ++ kept i) in
+    let here : hiding t c.replacement_token.result ≡ hsadd names used (with_space space (unhidden first)) =
+    c.replacement_token.ensures.is t ∙ (λ i. hsadd (names_to_hide i) (c.used-2.ensures i) (with_space (c.space-2.ensures i) (unhidden first))) in
     let all : hidings t c.push.new.self ≡ hsadd names used (with_space space (unhidden first)) ∷ (map (λ x. hsadd names used (unhidden x)) others ++ hidings s list) =
     ap (hidings t) c.in_ok-push.ensures ∙ (λ i. here i ∷ following i) in
     ap Replaced all
@@ -50,6 +50,6 @@ returns-clause-is c arguments =
 pub returns-clause-known : goal.returns-clause-known
 returns-clause-known c =
     let t = c.with.new.self in
-    let gain = c.in_ok-gain.ensures.known in
-    let rest = c.in_ok-push_gained.ensures.known t gain (known-keeps c.args.list.now c.in_ok-gain.ensures.keeps c.requires.list) in
-    subst (AllKnown t) (sym c.in_ok-push.ensures) (record { each = (c.gained_token.ensures.known t gain, rest.each) })
+    let names_to_hide = c.in_ok-names_to_hide.ensures.known in
+    let rest = c.in_ok-push_replacement.ensures.known t names_to_hide (known-keeps c.args.list.now c.in_ok-names_to_hide.ensures.keeps c.requires.list) in
+    subst (AllKnown t) (sym c.in_ok-push.ensures) (record { each = (c.replacement_token.ensures.known t names_to_hide, rest.each) })

@@ -1,12 +1,12 @@
-use Rattle.ppexpand.proofs.Prefixes.{leads_step, gained_more}
+use Rattle.ppexpand.proofs.Prefixes.{leads_step, one_more_name}
 use Rattle.ppexpand.proofs.Termination as fronts
 use Rattle.ppexpand.proofs.laws.prefixes_terminate.Goals as goal
 
 pub returns-clause-steps : goal.returns-clause-steps
 returns-clause-steps c = λ macros env level remaining remaining_after list next step. leads_step macros env level step
 
-pub returns-clause-gains : goal.returns-clause-gains
-returns-clause-gains c = gained_more
+pub returns-clause-names : goal.returns-clause-to_hide
+returns-clause-names c = one_more_name
 
 pub returns-clause-fewer : goal.returns-clause-fewer
 returns-clause-fewer c = fronts.fewer_left
