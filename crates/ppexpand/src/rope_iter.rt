@@ -1,5 +1,5 @@
 //! Iterates over an expanded list: over slices of its tokens, or over its tokens one by one.
-ghost use Rattle.std.specs.Prelude.{◌≡◌, ◌<◌, [], true, false, length, flat_map, IfOk};
+ghost use Rattle.std.specs.Prelude.{◌≡◌, ◌<◌, ◌≤◌, [], true, false, length, take, drop, IfOk};
 ghost use Rattle.std.specs.Iterator.{YieldsFirstBy, item_count};
 ghost use Rattle.ppmacro.specs.Substituting.{tokens_of};
 ghost use Rattle.ppexpand.specs.Slices.{YieldsSlice, slice_tokens, ref_token};
@@ -100,14 +100,42 @@ impl<'r, 'a> TokenSlice<'r, 'a> {
         SliceIter { rest: self }
     }
 
+    /// Returns the number of tokens.
+    pub fn len(self) -> usize
+        ensures { result ≡ length (slice_tokens self.entry) }
+    {
+        match self {
+            TokenSlice::InFile(tokens) => tokens.len(),
+            TokenSlice::Hidden(tokens) => tokens.len(),
+        }
+    }
+
     /// Returns whether there are no tokens.
-    fn is_empty(&self) -> bool
-        ensures yes { result ≡ true → slice_tokens self.now ≡ [] }
-        ensures no { result ≡ false → 0 < length (slice_tokens self.now) }
+    pub fn is_empty(self) -> bool
+        ensures yes { result ≡ true → slice_tokens self.entry ≡ [] }
+        ensures no { result ≡ false → 0 < length (slice_tokens self.entry) }
     {
         match self {
             TokenSlice::InFile(tokens) => tokens.is_empty(),
             TokenSlice::Hidden(tokens) => tokens.is_empty(),
+        }
+    }
+
+    /// Returns the first `count` tokens, and the others.
+    pub fn split_at(self, count: usize) -> (TokenSlice<'r, 'a>, TokenSlice<'r, 'a>)
+        requires { count ≤ length (slice_tokens self) }
+        ensures first { slice_tokens result.0 ≡ take count (slice_tokens self.entry) }
+        ensures others { slice_tokens result.1 ≡ drop count (slice_tokens self.entry) }
+    {
+        match self {
+            TokenSlice::InFile(tokens) => {
+                let (first, others) = tokens.split_at(count);
+                (TokenSlice::InFile(first), TokenSlice::InFile(others))
+            }
+            TokenSlice::Hidden(tokens) => {
+                let (first, others) = tokens.split_at(count);
+                (TokenSlice::Hidden(first), TokenSlice::Hidden(others))
+            }
         }
     }
 }
@@ -200,6 +228,21 @@ impl<'r, 'a> Model for RopeSlices<'r, 'a> {
     ghost Value = { List Token };
 
     ghost view = { λ s. s.prefix.now ++ s.pieces ++ tokens_of s.singles.now };
+}
+
+impl<'r, 'a> RopeSlices<'r, 'a> {
+    /// Returns another iterator over the remaining slices.
+    pub fn duplicate(&self) -> RopeSlices<'r, 'a>
+        ensures { result ≡ self.now }
+    {
+        RopeSlices {
+            prefix: self.prefix,
+            pieces: RemainingPieces {
+                pieces: self.pieces.pieces,
+            },
+            singles: self.singles,
+        }
+    }
 }
 
 impl<'r, 'a> Iterator for RopeSlices<'r, 'a> {

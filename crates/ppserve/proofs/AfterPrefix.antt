@@ -7,8 +7,8 @@ use Rattle.ppserve.specs.Output.{escaped, escaped_byte}
 use Rattle.std.proofs.lemmas.Fmt.{decimal_digit, decimal_step, length-decimal-le}
 
 -- the first n of ys
-pub take_behind : (xs ys zs : List ℕ) (a n : ℕ) → a ≤ length xs → n ≤ length ys → take (a + n) (take a xs ++ (ys ++ zs)) ≡ take a xs ++ take n ys
-take_behind xs ys zs a n h k =
+pub take_after : (xs ys zs : List ℕ) (a n : ℕ) → a ≤ length xs → n ≤ length ys → take (a + n) (take a xs ++ (ys ++ zs)) ≡ take a xs ++ take n ys
+take_after xs ys zs a n h k =
     let e = take-append-add (take a xs) (ys ++ zs) n in
     rw (length-take-le a xs h, take-append-le n ys zs k) at e
 
@@ -61,9 +61,9 @@ length_word n h = length-decimal-le 10 n (omega arith) (omega arith) (omega arit
 pub places_joined : (p x a y b t : List ℕ) → (((((p ++ (32 ∷ x)) ++ a) ++ (32 ∷ y)) ++ b) ++ t) ≡ p ++ (((((32 ∷ []) ++ (x ++ a)) ++ (32 ∷ [])) ++ (y ++ b)) ++ t)
 places_joined p x a y b t =
     let s = (32 ∷ x) ++ a in
-    let behind = append_assoc s (32 ∷ y) b ∙ sym (append_assoc s (32 ∷ []) (y ++ b)) in
+    let later = append_assoc s (32 ∷ y) b ∙ sym (append_assoc s (32 ∷ []) (y ++ b)) in
     rw (append_assoc p (32 ∷ x) a, append_assoc p s (32 ∷ y), append_assoc p (s ++ (32 ∷ y)) b, append_assoc p ((s ++ (32 ∷ y)) ++ b) t)
-    (ap (λ z. p ++ (z ++ t)) behind)
+    (ap (λ z. p ++ (z ++ t)) later)
 
 -- four bytes, one after the other
 pub four_joined : (x : List ℕ) (a b c d : ℕ) → (((x ++ (a ∷ [])) ++ (b ∷ [])) ++ (c ∷ [])) ++ (d ∷ []) ≡ x ++ (a ∷ (b ∷ (c ∷ (d ∷ []))))

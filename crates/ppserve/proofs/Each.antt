@@ -9,5 +9,5 @@ use Rattle.ppserve.specs.Drafting.{each_item}
 abbrev pub read_from : {A : Type 0} → (Data → Option A) → List Value → Option (List A)
 read_from read vs = each_item read (items_view vs)
 
-abbrev pub behind : {A : Type 0} → List A → Option (List A) → Option (List A)
-behind prefix o = option_map (λ more. prefix ++ more) o
+abbrev pub after_prefix : {A : Type 0} → List A → Option (List A) → Option (List A)
+after_prefix prefix o = option_map (λ more. prefix ++ more) o

@@ -5,13 +5,11 @@ use Rattle.std.proofs.lemmas.Bool.{cases_lt, false≢true}
 use Rattle.std.proofs.lemmas.List.Elements.{All-weaker}
 use Rattle.std.proofs.lemmas.List.{ext_get_or, get_or_past, get_or-map, get_or-replicate, length-map}
 use Rattle.std.proofs.lemmas.Option.{none-some}
-use Rattle.std.proofs.lemmas.Slice.Zip.{AllZip-long}
 use Rattle.ppshelf.specs.Content.{Content, readable}
 use Rattle.ppshelf.specs.Files.{most_rows, Files, ShelfView, file_at, Extends, Agree, IsFull, Filled, bytes_at}
-use Rattle.ppunit.specs.declared.units.Setting.{Setting}
 use Rattle.ppunit.specs.declared.units.Unit.{Unit as UnitOfList}
 use Rattle.ppunit.specs.declared.units.UnitOut.{UnitOut}
-use Rattle.ppunit.specs.Unit.{IsUnit, IsUnitOf}
+use Rattle.ppunit.specs.Unit.{IsUnitOf}
 use Rattle.ppunit.proofs.Tested.{unit_of}
 use Rattle.pppool.specs.declared.retention.Retain.{Retain}
 use Rattle.pppool.specs.Retained.{AreRetained, retained}
@@ -48,11 +46,6 @@ gives_all retain list shelf units outs named is same gives =
     let Q : Files → Type 0 = λ fs. AreRetained retain list.names fs list.setting units outs in
     let R : List UnitOfList → Type 0 = λ us. AreRetained retain list.names (files_of list.contents) list.setting us outs in
     subst R same (subst Q is (subst P named gives))
-
--- one outcome a unit
-pub one_each : (retain : Retain) (names : List (List ℕ)) (files : Files) (setting : Setting) (units : List UnitOfList) (outs : List UnitOut) → AreRetained retain names files setting units outs → length outs ≡ length units
-one_each retain names files setting units outs gives =
-    ap length gives.same ∙ (length-map gives.wholes (retained retain) ∙ AllZip-long (λ unit out. IsUnit names files setting unit out) units gives.wholes gives.values)
 
 -- a shelf that was empty holds the contents that were moved to it
 pub filled_files : (contents : List (List ℕ)) (old new : ShelfView) → old.filled ≡ replicate (length old.names) None → length contents ≡ length old.names → new.names ≡ old.names → length new.filled ≡ length old.names

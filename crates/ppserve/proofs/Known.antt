@@ -1,7 +1,7 @@
 -- Known bytes over several reads and writes.
 use Rattle.std.proofs.Math.Seq.{take-add}
 use Rattle.std.proofs.lemmas.List.{take_all}
-use Rattle.std.proofs.Common.{◌≡◌, ℕ, ◌+◌, ◌-◌, ◌≤◌, length, length-drop, arith, List, ◌++◌, take, drop, refl, sym, subst, append_assoc, Option, Some, None}
+use Rattle.std.proofs.Common.{◌≡◌, ℕ, ◌+◌, ◌-◌, ◌≤◌, length, length-drop, arith, List, [], ◌++◌, take, drop, refl, sym, subst, append_assoc, Option, Some, None}
 use Rattle.std.specs.Io.KnownBytes.{Appends, Consumes}
 
 pub appends_then : (a b c : Option (List ℕ)) (xs ys : List ℕ) → Appends a b xs → Appends b c ys → Appends a c (xs ++ ys)
@@ -29,3 +29,7 @@ wrote_more bytes done n a b c h k p q =
 
 pub appends_as : (a b : Option (List ℕ)) (xs ys : List ℕ) → xs ≡ ys → Appends a b xs → Appends a b ys
 appends_as a b xs ys e h = let P : List ℕ → Type 0 = λ zs. Appends a b zs in subst P e h
+
+-- what a writer that had nothing has at the end
+pub written_alone : (a b : Option (List ℕ)) (bytes text : List ℕ) → a ≡ Some [] → b ≡ Some bytes → Appends a b text → bytes ≡ text
+written_alone a b bytes text none some went = rw (none, some) at went

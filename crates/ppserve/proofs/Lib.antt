@@ -6,6 +6,8 @@ pub mod Objects
 pub mod Drafted
 -- Reading the items of an array, one after another.
 pub mod Each
+-- The lines of entries.
+pub mod Entries
 -- What is printed of what is kept of units' answers is what is printed of the answers.
 pub mod Shown
 -- What the units of a list give, over files that are known.
@@ -24,12 +26,12 @@ pub mod OneOutput
 pub mod Known
 -- The names of files, one after another.
 pub mod Names
--- One more pair of two numbered lists.
-pub mod Numbered
 -- Texts that are printed one after another.
 pub mod Printing
 -- Bytes that came from a reader whose bytes are known.
 pub mod Received
+-- Pages that are filled and written.
+pub mod Pages
 -- Text after the first bytes of a list.
 pub mod AfterPrefix
 -- From the mask of eight lanes to the bytes that stand for themselves.

@@ -6,10 +6,8 @@ use Rattle.std.proofs.lemmas.List.{take_all, take_more, flat_map_more}
 use lib.Seq.{take-append_seam}
 use Rattle.std.proofs.KnownBytes.{Appends-nil, Appends-trans}
 use Rattle.std.specs.Io.KnownBytes.{Appends}
-use Rattle.ppserve.specs.Output.{numbered}
 use Rattle.ppserve.specs.code.Printing.{Puts}
 use Rattle.ppserve.proofs.Known.{appends_as}
-use Rattle.ppserve.proofs.Numbered.{numbered-switch_to}
 
 -- bytes that find room on the page
 pub puts_here : {V : Type 0} {written : V → Option (List ℕ)} {has_failed : V → Bool} {w : V} {p q text : List ℕ} → q ≡ p ++ text → Puts written has_failed w w p q text
@@ -58,6 +56,26 @@ puts_then {written = written} {has_failed = has_failed} {w = w} {v = v} {u = u} 
           stays = λ f. (rw ((a.stays f).0, none) refl, (b.stays e).1);
         }
 
+-- after a failed write nothing is written
+pub puts_failed : {V : Type 0} {written : V → Option (List ℕ)} {has_failed : V → Bool} {w : V} {p text : List ℕ} → has_failed w ≡ true → Puts written has_failed w w p p text
+puts_failed {written = written} {w = w} {p = p} {text = text} failed = record {
+  prefix = [];
+  rest = p ++ text;
+  parts = refl;
+  went = Appends-nil (written w);
+  waits = λ f. absurd (false≢true (sym f ∙ failed));
+  stays = λ _. (refl, failed);
+}
+
+-- a text that was put into an empty buffer, which was then written
+pub puts_flushed : {V : Type 0} {written : V → Option (List ℕ)} {has_failed : V → Bool} {w v u x : V} {p q r s text : List ℕ}
+    → p ≡ [] → Puts written has_failed w v p q text → u ≡ v → r ≡ q → Puts written has_failed u x r s [] → s ≡ []
+    → Puts written has_failed w x [] [] text
+puts_flushed {written = written} {has_failed = has_failed} {w = w} {x = x} {p = p} {s = s} {text = text} none_before a same_writer same_buffer b none_after =
+    let flushed = rw (same_writer, same_buffer) at b in
+    let both : Puts written has_failed w x p s text = puts_as (append-nil text) (puts_then a flushed) in
+    rw (none_before, none_after) at both
+
 -- one more list of a list's lists
 pub more_of : {A B : Type 0} (f : A → List B) (xs : List A) (x : A) → flat_map f (xs ++ x ∷ []) ≡ flat_map f xs ++ f x
 more_of f xs x = sym (flat_map_more f [] xs x)
@@ -94,15 +112,6 @@ printed_front {written = written} {w = w} {v = v} {p = p} {q = q} {text = text} 
     let whole : text ≡ a.prefix ++ a.rest = ap (λ bs. bs ++ text) (sym none) ∙ a.parts in
     let prefix : a.prefix ≡ take (length a.prefix) text = sym (ap (take (length a.prefix)) whole ∙ take-append_seam a.prefix a.rest) in
     (length a.prefix, appends_as _ _ _ _ prefix a.went)
-
--- one more unit of those that are printed
-pub puts_numbered : {V A B : Type 0} {written : V → Option (List ℕ)} {has_failed : V → Bool} {w v u : V} {p q r : List ℕ}
-    → (f : ℕ → A → B → List ℕ) (xs : List A) (ys : List B) (i : ℕ) (x : A) (y : B)
-    → i < length xs → i < length ys → x ≡ get_or xs i x → y ≡ get_or ys i y
-    → Puts written has_failed w v p q (numbered f 0 (take i xs) (take i ys)) → Puts written has_failed v u q r (f i x y)
-    → Puts written has_failed w u p r (numbered f 0 (take (i + 1) xs) (take (i + 1) ys))
-puts_numbered f xs ys i x y h k ex ey a b =
-    puts_as (numbered-switch_to f xs ys i x y [] _ _ h k ex ey refl refl) (puts_then a b)
 
 -- over a page that is empty
 pub puts_onto : {V : Type 0} {written : V → Option (List ℕ)} {has_failed : V → Bool} {w v : V} {p text : List ℕ}

@@ -32,9 +32,9 @@ counted [] n m f = elim f [ ]
 counted (b ∷ bs) n m (here e) = omega arith
 counted (b ∷ bs) n m (there f) = let e = counted bs (suc n) m f in omega arith
 
-behind : (bs : List Bool) (n m : ℕ) → Fails (true ∷ bs) n m → Fails bs (suc n) m
-behind bs n m (here e) = absurd (cc)
-behind bs n m (there f) = f
+in_later : (bs : List Bool) (n m : ℕ) → Fails (true ∷ bs) n m → Fails bs (suc n) m
+in_later bs n m (here e) = absurd (cc)
+in_later bs n m (there f) = f
 
 first_refused : (bs : List Bool) (n : ℕ) (list : CompilationList) (m : ℕ) → first bs n (accepted list) ≡ refused m → IsLeast (Fails bs n) m
 first_refused [] n list m e = absurd (cc)
@@ -43,14 +43,14 @@ first_refused (false ∷ bs) n list m e =
     subst (IsLeast (Fails (false ∷ bs) n)) same (record { is_so = here refl; least = counted (false ∷ bs) n })
 first_refused (true ∷ bs) n list m e =
     let rest = first_refused bs (suc n) list m e in
-    record { is_so = there rest.is_so; least = λ k f. rest.least k (behind bs n k f) }
+    record { is_so = there rest.is_so; least = λ k f. rest.least k (in_later bs n k f) }
 
 first_taken : (bs : List Bool) (n : ℕ) (list taken : CompilationList) → first bs n (accepted list) ≡ accepted taken → (taken ≡ list) × ((m : ℕ) → ¬ Fails bs n m)
 first_taken [] n list taken e = (cc, λ m f. elim f [ ])
 first_taken (false ∷ bs) n list taken e = absurd (cc)
 first_taken (true ∷ bs) n list taken e =
     let rest = first_taken bs (suc n) list taken e in
-    (rest.0, λ m f. rest.1 m (behind bs n m f))
+    (rest.0, λ m f. rest.1 m (in_later bs n m f))
 
 -- ---- the tests of a draft
 

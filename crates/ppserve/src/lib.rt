@@ -4,10 +4,12 @@
 mod exit_status;
 mod formatting;
 mod laws;
+mod line_cursor;
 mod line_prefix;
 mod list;
 mod out_buffer;
 mod output;
+mod rounds;
 mod run_list;
 mod serving;
 mod streams;

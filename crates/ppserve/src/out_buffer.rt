@@ -1,4 +1,4 @@
-//! A 64 KiB output buffer.
+//! A 1 MiB output buffer.
 ghost use Rattle.std.specs.Prelude.{◌≡◌, ◌+◌, ◌≤◌, ◌++◌, ◌∷◌, [], codes, length, take, true, false, IfOk};
 ghost use Rattle.ppserve.specs.code.LinePrefix.{before_spelling};
 ghost use Rattle.ppserve.specs.Output.{escaped};
@@ -10,39 +10,64 @@ use crate::streams::Sink;
 use std::alloc::{AllocError, Global};
 use std::marker::Model;
 
-const SIZE: usize = 65_536;
+/// The capacity of a buffer, in bytes.
+pub(crate) const SIZE: usize = 1_048_576;
+
+/// The limit of a buffer that stays in a processor's cache.
+const SMALL: usize = 65_536;
 
 /// The capacity for a short spelling.
 const SHORT: usize = 14;
 
-/// A buffer of 64 KiB with the bytes that aren't written yet. It is allocated once, so that later calls can't run out
+/// The longest line of a token with a short spelling.
+const LONGEST: usize = MOST_PREFIX + SHORT + 1;
+
+/// A buffer of 1 MiB with the bytes that aren't written yet. It is allocated once, so that later calls can't run out
 /// of memory.
 #[derive(Drop)]
 pub(crate) struct OutBuffer {
     bytes: Vec<u8>,
     used: usize,
+    /// The line of a token is added only if at most this many bytes aren't written yet.
+    limit: usize,
     line: LastPrefixes,
 }
 
 impl Model for OutBuffer {
-    ghost use Rattle.std.specs.Prelude.{◌≡◌, ◌≤◌, ℕ, List, take, vec_len};
+    ghost use Rattle.std.specs.Prelude.{◌≡◌, ◌+◌, ◌≤◌, ℕ, List, take, vec_len};
 
     ghost Value = { List ℕ };
 
     ghost view = { λ p. take p.used p.bytes.items };
 
-    ghost invariant = { λ p. (vec_len p.bytes ≡ 65_536) × (p.used ≤ 65_536) };
+    ghost invariant = { λ p. (vec_len p.bytes ≡ 1_048_576) × (p.used ≤ 1_048_576) × (p.limit + 88 ≤ 1_048_576) };
 }
 
 impl OutBuffer {
-    /// Allocates an empty buffer.
+    /// Allocates an empty buffer, which is written when it has about 64 KiB: then it stays in a processor's cache.
     pub(crate) fn new(alloc: Global) -> Result<OutBuffer, AllocError>
+        ensures { IfOk result (λ buf. buf ≡ []) }
+    {
+        OutBuffer::with_limit(alloc, SMALL)
+    }
+
+    /// Allocates an empty buffer, which is written when it is nearly full.
+    pub(crate) fn whole(alloc: Global) -> Result<OutBuffer, AllocError>
+        ensures { IfOk result (λ buf. buf ≡ []) }
+    {
+        OutBuffer::with_limit(alloc, SIZE - LONGEST)
+    }
+
+    /// Allocates an empty buffer, which is written when it has more than `limit` bytes.
+    fn with_limit(alloc: Global, limit: usize) -> Result<OutBuffer, AllocError>
+        requires { limit + 88 ≤ 1_048_576 }
         ensures { IfOk result (λ buf. buf ≡ []) }
     {
         let bytes = vec![in alloc; 0u8; SIZE]?;
         Ok(OutBuffer {
             bytes,
             used: 0,
+            limit,
             line: LastPrefixes::new(),
         })
     }
@@ -67,9 +92,9 @@ impl OutBuffer {
     #[inline(always)]
     pub(crate) fn ensure_capacity<W: Sink>(&mut self, writer: &mut W)
         ensures out { Puts W.written W.has_failed writer.old writer.new self.old self.new [] }
-        ensures capacity { length self.new + 88 ≤ 65_536 }
+        ensures capacity { length self.new + 88 ≤ 1_048_576 }
     {
-        if SIZE - self.used < MOST_PREFIX + SHORT + 1 {
+        if self.used > self.limit {
             self.flush(writer);
         }
     }
@@ -77,7 +102,7 @@ impl OutBuffer {
     /// Appends what is before the spelling of a token.
     #[inline(always)]
     pub(crate) fn add_line_prefix(&mut self, fields: LineFields)
-        requires { length self.old + 73 ≤ 65_536 }
+        requires { length self.old + 73 ≤ 1_048_576 }
         ensures text { self.new ≡ self.old ++ codes "tok" ++ before_spelling fields.at fields.used fields.kind fields.space }
         ensures within { length self.new ≤ length self.old + 73 }
     {
@@ -90,7 +115,7 @@ impl OutBuffer {
     /// depends on the spelling's length, which is hard to predict.
     #[inline(always)]
     pub(crate) fn add_short_spelling(&mut self, inline: &[u8; 14], len: usize) -> bool
-        requires capacity { length self.old + 15 ≤ 65_536 }
+        requires capacity { length self.old + 15 ≤ 1_048_576 }
         requires len { len ≤ 14 }
         ensures added { result ≡ true → self.new ≡ self.old ++ escaped (take len inline.now) ++ (10 ∷ []) }
         ensures refused { result ≡ false → self.new ≡ self.old }
@@ -106,12 +131,19 @@ impl OutBuffer {
 
     /// Appends bytes that fit.
     fn add(&mut self, bytes: &[u8])
-        requires { length self.old + length bytes.now ≤ 65_536 }
+        requires { length self.old + length bytes.now ≤ 1_048_576 }
         ensures { self.new ≡ self.old ++ bytes.now }
     {
         let end = self.used + bytes.len();
         self.bytes.as_mut_slice()[self.used..end].copy_from_slice(bytes);
         self.used = end;
+    }
+
+    /// Empties the buffer.
+    pub(crate) fn clear(&mut self)
+        ensures { self.new ≡ [] }
+    {
+        self.used = 0;
     }
 
     /// Writes the buffer and empties it.

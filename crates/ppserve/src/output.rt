@@ -3,16 +3,17 @@ ghost use Rattle.std.specs.Prelude.{◌≡◌, ℕ, ◌++◌, ◌∷◌, [], ◌
 ghost use Rattle.std.specs.Prelude.{OnOk, OnErr, IfOk, Some, codes, decimal, false, true, length, take, flat_map};
 ghost use Rattle.std.specs.Io.KnownBytes.{Appends};
 ghost use Rattle.ppserve.specs.Output.{escaped, escaped_byte, prints_as_is, hex_digit, place_text, item_lines, pragma_token_line};
-ghost use Rattle.ppserve.specs.Output.{dep_line, fault_text, last_line, shown_items, unit_lines, numbered, output_text};
+ghost use Rattle.ppserve.specs.Output.{dep_line, fault_text, last_line, output_text};
+ghost use Rattle.ppserve.specs.code.Entries.{entry_lines, first_line, last_lines, of_lines, remaining_entries, shown_text};
 ghost use Rattle.ppserve.specs.code.Printing.{Puts};
 ghost use Rattle.ppserve.specs.declared.output.Mode.TheVariants.{Dump, Deps};
 ghost use Rattle.ppmacro.specs.Substituting.{tokens_of};
 ghost use Rattle.ppexpand.specs.Slices.{slice_tokens};
 ghost use Rattle.ppshelf.specs.Names.{name_in};
-ghost use Rattle.ppunit.specs.BorrowedItems.{slice_items};
 ghost use Rattle.ppunit.specs.declared.units.Item.TheVariants as item;
 ghost use Rattle.ppserve.specs.code.LinePrefix.{before_spelling, token_line};
 
+use crate::line_cursor::{LineCursor, Lines};
 use crate::line_prefix::LineFields;
 use crate::list::List;
 use crate::out_buffer::OutBuffer;
@@ -21,7 +22,7 @@ use itoa::Buffer;
 use ppexpand::TokenSlice;
 use ppmacro::Hidden;
 use pptext::{Fault, Memory, Place, Spelling, Token};
-use ppunit::{ItemSlice, Items, OwnedTexts, Unit, UnitOut};
+use ppunit::{OwnedTexts, Unit, UnitOut};
 use std::alloc::Global;
 
 /// What is printed of each unit.
@@ -51,15 +52,28 @@ pub fn deps(alloc: Global, list: &List, outs: &[UnitOut]) -> Result<Vec<u8>, Mem
     printed(alloc, Mode::Deps, list, outs)
 }
 
+/// What is printed: the output of units, in a mode.
+#[derive(Clone, Copy)]
+pub(crate) struct Shown<'a> {
+    pub mode: Mode,
+    pub names: &'a OwnedTexts,
+    pub units: &'a [Unit],
+    pub outs: &'a [UnitOut<'a>],
+}
+
 /// Returns the output in a mode.
 fn printed(alloc: Global, mode: Mode, list: &List, outs: &[UnitOut]) -> Result<Vec<u8>, Memory>
-    requires { length outs.now ≡ length list.now.units }
     ensures { IfOk result (λ text. text.items ≡ output_text mode list.now outs.now) }
 {
     let mut buf = OutBuffer::new(alloc)?;
     let mut text = VecSink::new(alloc);
-    let units = list.units.as_slice();
-    let Ok(()) = print(&mut buf, &mut text, mode, &list.names, units, outs) else {
+    let shown = Shown {
+        mode,
+        names: &list.names,
+        units: list.units.as_slice(),
+        outs,
+    };
+    let Ok(()) = print(&mut buf, &mut text, shown) else {
         return Err(Memory);
     };
     Ok(text.into_bytes())
@@ -70,20 +84,15 @@ fn printed(alloc: Global, mode: Mode, list: &List, outs: &[UnitOut]) -> Result<V
 pub(crate) fn print<W: Sink>(
     buf: &mut OutBuffer,
     writer: &mut W,
-    mode: Mode,
-    names: &OwnedTexts,
-    units: &[Unit],
-    outs: &[UnitOut],
+    shown: Shown,
 ) -> Result<(), Failed>
     requires buf { buf.old ≡ [] }
     requires writer { W.has_failed writer.old ≡ false }
-    requires counts { length outs.now ≡ length units.now }
-    ensures ok { OnOk result (Appends (W.written writer.old) (W.written writer.new) (numbered (unit_lines mode names.now) 0 units.now outs.now)) }
+    ensures ok { OnOk result (Appends (W.written writer.old) (W.written writer.new) (shown_text shown.entry)) }
     ensures failed { OnErr result (W.has_failed writer.new ≡ true) }
-    ensures prefix { OnErr result ((n : ℕ) × Appends (W.written writer.old) (W.written writer.new)
-        (take n (numbered (unit_lines mode names.now) 0 units.now outs.now))) }
+    ensures prefix { OnErr result ((n : ℕ) × Appends (W.written writer.old) (W.written writer.new) (take n (shown_text shown.entry))) }
 {
-    put_units(buf, writer, Shown { mode, names }, units, outs);
+    put_all(buf, writer, shown);
     buf.flush(writer);
     if writer.failed() {
         return Err(Failed);
@@ -91,83 +100,78 @@ pub(crate) fn print<W: Sink>(
     Ok(())
 }
 
-/// What the lines of all units depend on: the mode, and the names of the files.
-#[derive(Clone, Copy)]
-struct Shown<'n> {
-    mode: Mode,
-    names: &'n OwnedTexts,
-}
-
-/// Prints units in order.
-fn put_units<W: Sink>(
-    buf: &mut OutBuffer,
-    writer: &mut W,
-    shown: Shown,
-    units: &[Unit],
-    outs: &[UnitOut],
-)
-    requires { length outs.now ≡ length units.now }
-    ensures { Puts W.written W.has_failed writer.old writer.new buf.old buf.new
-        (numbered (unit_lines shown.entry.mode shown.entry.names.now) 0 units.now outs.now) }
+/// Prints all lines. After a failed write nothing more is formatted or written.
+fn put_all<W: Sink>(buf: &mut OutBuffer, writer: &mut W, shown: Shown)
+    ensures { Puts W.written W.has_failed writer.old writer.new buf.old buf.new (shown_text shown.entry) }
 {
-    for (index, out) in outs.iter().enumerate() {
-        put_unit(buf, writer, shown, index, &units[index], out);
+    let mut cursor = LineCursor::new(shown);
+    while let Some(lines) = cursor.next(usize::MAX) {
+        if writer.failed() {
+            return;
+        }
+        put_lines(buf, writer, shown.names, lines);
     }
 }
 
-/// Prints a unit. After a failed write nothing more is formatted or written.
-fn put_unit<W: Sink>(
+/// Prints the next entries, at most `count`. After a failed write nothing more is formatted or written.
+pub(crate) fn put_next<W: Sink>(
     buf: &mut OutBuffer,
     writer: &mut W,
-    shown: Shown,
+    names: &OwnedTexts,
+    cursor: &mut LineCursor,
+    count: usize,
+)
+    ensures { Puts W.written W.has_failed writer.old writer.new buf.old buf.new
+        (flat_map (entry_lines names.now) (take count (remaining_entries cursor.old))) }
+{
+    let mut left = count;
+    while left > 0 {
+        let Some(lines) = cursor.next(left) else {
+            return;
+        };
+        if writer.failed() {
+            return;
+        }
+        put_lines(buf, writer, names, lines);
+        left -= lines.count();
+    }
+}
+
+/// Prints consecutive lines.
+fn put_lines<W: Sink>(buf: &mut OutBuffer, writer: &mut W, names: &OwnedTexts, lines: Lines)
+    ensures { Puts W.written W.has_failed writer.old writer.new buf.old buf.new (flat_map (entry_lines names.now) (of_lines lines.entry)) }
+{
+    match lines {
+        Lines::First(index, unit) => put_first(buf, writer, names, index, unit),
+        Lines::Tokens(tokens) => put_tokens(buf, writer, tokens),
+        Lines::Pragma(at, tokens) => put_pragma(buf, writer, at, tokens),
+        Lines::Last(out) => put_last(buf, writer, names, out),
+    }
+}
+
+/// Prints the first line of a unit.
+fn put_first<W: Sink>(
+    buf: &mut OutBuffer,
+    writer: &mut W,
+    names: &OwnedTexts,
     index: usize,
     unit: &Unit,
-    out: &UnitOut,
 )
-    ensures { Puts W.written W.has_failed writer.old writer.new buf.old buf.new
-        (unit_lines shown.entry.mode shown.entry.names.now index unit.now out.now) }
+    ensures { Puts W.written W.has_failed writer.old writer.new buf.old buf.new (first_line names.now index unit.now) }
 {
-    if writer.failed() {
-        return;
-    }
     buf.put(writer, b"unit ");
     put_decimal(buf, writer, index as u64);
     buf.put(writer, b" ");
-    put_name(buf, writer, shown.names, unit.file);
+    put_name(buf, writer, names, unit.file);
     buf.put(writer, b"\n");
-    put_shown(buf, writer, shown.mode, &out.items);
-    put_deps(buf, writer, shown.names, out.deps.as_slice());
-    put_last(buf, writer, &out.fault);
 }
 
-/// Prints the items of a unit, if the mode has them.
-fn put_shown<W: Sink>(buf: &mut OutBuffer, writer: &mut W, mode: Mode, items: &Items)
-    ensures { Puts W.written W.has_failed writer.old writer.new buf.old buf.new (shown_items mode items.now) }
+/// Prints the last lines of a unit: its dependencies, and its fault or `ok`.
+fn put_last<W: Sink>(buf: &mut OutBuffer, writer: &mut W, names: &OwnedTexts, out: &UnitOut)
+    ensures { Puts W.written W.has_failed writer.old writer.new buf.old buf.new (last_lines names.now out.now) }
 {
-    match mode {
-        Mode::Dump => put_items(buf, writer, items),
-        Mode::Deps => {}
-    }
-}
-
-/// Prints items in order.
-fn put_items<W: Sink>(buf: &mut OutBuffer, writer: &mut W, items: &Items)
-    ensures { Puts W.written W.has_failed writer.old writer.new buf.old buf.new (flat_map item_lines items.now) }
-{
-    let mut slices = items.slices();
-    while let Some(slice) = slices.next() {
-        put_slice(buf, writer, slice);
-    }
-}
-
-/// Prints tokens or a pragma.
-fn put_slice<W: Sink>(buf: &mut OutBuffer, writer: &mut W, slice: ItemSlice)
-    ensures { Puts W.written W.has_failed writer.old writer.new buf.old buf.new (flat_map item_lines (slice_items slice.entry)) }
-{
-    match slice {
-        ItemSlice::Tokens(tokens) => put_tokens(buf, writer, tokens),
-        ItemSlice::Pragma(at, tokens) => put_pragma(buf, writer, at, tokens),
-    }
+    put_deps(buf, writer, names, out.deps.as_slice());
+    put_end(buf, writer, &out.fault);
 }
 
 /// Prints the line of a pragma and the lines of its tokens.
@@ -316,7 +320,7 @@ fn put_name<W: Sink>(buf: &mut OutBuffer, writer: &mut W, names: &OwnedTexts, ro
 }
 
 /// Prints the last line of a unit: its fault or `ok`.
-fn put_last<W: Sink>(buf: &mut OutBuffer, writer: &mut W, fault: &Option<Fault>)
+fn put_end<W: Sink>(buf: &mut OutBuffer, writer: &mut W, fault: &Option<Fault>)
     ensures { Puts W.written W.has_failed writer.old writer.new buf.old buf.new (last_line fault.now) }
 {
     match fault {

@@ -1,20 +1,23 @@
 //! Runs cppunits: reads the bytes of a list and writes the bytes of its output.
-ghost use Rattle.std.specs.Prelude.{◌≡◌, ◌⊎◌, ◌≤◌, ◌≢◌, ℕ, List as ListOf, Option, IfOk, IfErr, IsErrOf, length, true, false};
+ghost use Rattle.std.specs.Prelude.{◌≡◌, ◌⊎◌, ◌≤◌, ◌≢◌, ℕ, List as ListOf, Option, OnOk, IfOk, IfErr, IsErrOf, length, take, true, false};
+ghost use Rattle.std.specs.Io.KnownBytes.{Appends};
 ghost use Rattle.ppserve.specs.Contents.{AreInList, ArePermitted};
 ghost use Rattle.ppserve.specs.Listing.{IsRunnable};
 ghost use Rattle.ppserve.specs.declared.serving.RunFault.TheVariants.{List as ListRefused, Memory as OutOfMemory};
 ghost use Rattle.ppserve.specs.declared.serving.RunFault.TheVariants.{Read as ReadFailed, Write as WriteFailed};
+ghost use Rattle.ppserve.specs.code.Entries.{shown_text};
 ghost use Rattle.ppserve.specs.Serving.{any_fault, Received, ReadsList, WritesAll, WritesPrefix, Serves, ServesPrefix, Refuses};
 
 use crate::list::{List, ListFault, MOST_INPUT, read_list};
 use crate::out_buffer::OutBuffer;
-use crate::output::{Mode, print};
+use crate::output::{Mode, Shown, print};
+use crate::rounds::{new_pages, print_in_rounds};
 use crate::run_list::{OpenGate, RunOptions, empty_shelf, filled_shelf, over_contents, over_disk};
 use crate::streams::{Feed, Sink};
 use pppool::Batch;
 use ppshelf::{Contents, Disk};
 use pptext::{Hashing, Memory};
-use ppunit::{OwnedTexts, Unit, UnitOut};
+use ppunit::UnitOut;
 use std::alloc::{AllocError, Global};
 use std::mem;
 use std::thread::Threads;
@@ -134,14 +137,13 @@ fn run_with_contents<T: Threads + Sync, W: Sink>(
     )?;
     let units = list.units.as_slice();
     let outs = over_contents(threads, alloc, &shelf, &list.setting, units, options)?;
-    let answer = write_output(
-        alloc,
-        writer,
-        options.mode,
-        &list.names,
+    let shown = Shown {
+        mode: options.mode,
+        names: &list.names,
         units,
-        outs.as_slice(),
-    );
+        outs: outs.as_slice(),
+    };
+    let answer = write_output(threads, alloc, writer, options.workers, shown);
     options.at_end.let_go(outs);
     options.at_end.let_go(shelf);
     answer
@@ -214,14 +216,13 @@ fn run_with_disk<T: Threads + Sync, W: Sink, D: Disk + Send + Sync>(
         },
         options.mode,
     )?;
-    let answer = write_output(
-        alloc,
-        writer,
-        options.mode,
-        &list.names,
+    let shown = Shown {
+        mode: options.mode,
+        names: &list.names,
         units,
-        outs.as_slice(),
-    );
+        outs: outs.as_slice(),
+    };
+    let answer = write_output(threads, alloc, writer, options.workers, shown);
     options.at_end.let_go(outs);
     options.at_end.let_go(shelf);
     answer
@@ -265,27 +266,84 @@ fn read_all<R: Feed>(alloc: Global, reader: &mut R) -> Result<Vec<u8>, RunFault>
 }
 
 /// Writes the output of units. Returns whether a unit has a fault.
-fn write_output<W: Sink>(
+fn write_output<T: Threads + Sync, W: Sink>(
+    threads: &T,
     alloc: Global,
     writer: &mut W,
-    mode: Mode,
-    names: &OwnedTexts,
-    units: &[Unit],
-    outs: &[UnitOut],
+    workers: usize,
+    shown: Shown,
 ) -> Result<bool, RunFault>
     requires writer { W.has_failed writer.old ≡ false }
-    requires counts { length outs.now ≡ length units.now }
-    ensures ok { IfOk result (λ any. WritesAll mode names.now units.now outs.now (W.written writer.old) (W.written writer.new) any) }
+    requires workers { 1 ≤ workers }
+    ensures ok { IfOk result (λ any. WritesAll shown.entry.mode shown.entry.names.now shown.entry.units.now shown.entry.outs.now (W.written writer.old) (W.written writer.new) any) }
     ensures kinds { IfErr result (λ fault. (fault ≡ OutOfMemory) ⊎ (fault ≡ WriteFailed)) }
     ensures write { IsErrOf result WriteFailed → W.has_failed writer.new ≡ true }
-    ensures prefix { IsErrOf result WriteFailed → WritesPrefix mode names.now units.now outs.now (W.written writer.old) (W.written writer.new) }
+    ensures prefix { IsErrOf result WriteFailed → WritesPrefix shown.entry.mode shown.entry.names.now shown.entry.units.now shown.entry.outs.now (W.written writer.old) (W.written writer.new) }
+    ensures untouched { IfErr result (λ fault. fault ≢ WriteFailed → writer.new ≡ writer.old) }
+{
+    print_output(threads, alloc, writer, workers, shown)?;
+    Ok(any_fault(shown.outs))
+}
+
+/// Prints the output of units. Dependencies are few lines, which one thread prints.
+fn print_output<T: Threads + Sync, W: Sink>(
+    threads: &T,
+    alloc: Global,
+    writer: &mut W,
+    workers: usize,
+    shown: Shown,
+) -> Result<(), RunFault>
+    requires writer { W.has_failed writer.old ≡ false }
+    requires workers { 1 ≤ workers }
+    ensures ok { OnOk result (Appends (W.written writer.old) (W.written writer.new) (shown_text shown.entry)) }
+    ensures kinds { IfErr result (λ fault. (fault ≡ OutOfMemory) ⊎ (fault ≡ WriteFailed)) }
+    ensures write { IsErrOf result WriteFailed → W.has_failed writer.new ≡ true }
+    ensures prefix { IsErrOf result WriteFailed → (n : ℕ) × Appends (W.written writer.old) (W.written writer.new) (take n (shown_text shown.entry)) }
+    ensures untouched { IfErr result (λ fault. fault ≢ WriteFailed → writer.new ≡ writer.old) }
+{
+    if workers == 1 || shown.mode == Mode::Deps {
+        return print_alone(alloc, writer, shown);
+    }
+    print_by_workers(threads, alloc, writer, workers, shown)
+}
+
+/// Prints the output of units by one thread.
+fn print_alone<W: Sink>(alloc: Global, writer: &mut W, shown: Shown) -> Result<(), RunFault>
+    requires writer { W.has_failed writer.old ≡ false }
+    ensures ok { OnOk result (Appends (W.written writer.old) (W.written writer.new) (shown_text shown.entry)) }
+    ensures kinds { IfErr result (λ fault. (fault ≡ OutOfMemory) ⊎ (fault ≡ WriteFailed)) }
+    ensures write { IsErrOf result WriteFailed → W.has_failed writer.new ≡ true }
+    ensures prefix { IsErrOf result WriteFailed → (n : ℕ) × Appends (W.written writer.old) (W.written writer.new) (take n (shown_text shown.entry)) }
     ensures untouched { IfErr result (λ fault. fault ≢ WriteFailed → writer.new ≡ writer.old) }
 {
     let mut buf = OutBuffer::new(alloc)?;
-    let Ok(()) = print(&mut buf, writer, mode, names, units, outs) else {
+    let Ok(()) = print(&mut buf, writer, shown) else {
         return Err(RunFault::Write);
     };
-    Ok(any_fault(outs))
+    Ok(())
+}
+
+/// Prints the output of units by workers.
+fn print_by_workers<T: Threads + Sync, W: Sink>(
+    threads: &T,
+    alloc: Global,
+    writer: &mut W,
+    workers: usize,
+    shown: Shown,
+) -> Result<(), RunFault>
+    requires writer { W.has_failed writer.old ≡ false }
+    requires workers { 1 ≤ workers }
+    ensures ok { OnOk result (Appends (W.written writer.old) (W.written writer.new) (shown_text shown.entry)) }
+    ensures kinds { IfErr result (λ fault. (fault ≡ OutOfMemory) ⊎ (fault ≡ WriteFailed)) }
+    ensures write { IsErrOf result WriteFailed → W.has_failed writer.new ≡ true }
+    ensures prefix { IsErrOf result WriteFailed → (n : ℕ) × Appends (W.written writer.old) (W.written writer.new) (take n (shown_text shown.entry)) }
+    ensures untouched { IfErr result (λ fault. fault ≢ WriteFailed → writer.new ≡ writer.old) }
+{
+    let mut pages = new_pages(alloc, shown, workers)?;
+    let Ok(()) = print_in_rounds(threads, pages.as_mut_slice(), writer, shown) else {
+        return Err(RunFault::Write);
+    };
+    Ok(())
 }
 
 /// Returns whether a unit has a fault.

@@ -195,17 +195,17 @@ fn given<'a>(
 }
 
 /// Asserts the results of units, one after another with one pass.
-fn assert_given<'a>(
+fn assert_given(
     rt: &impl Abort,
     alloc: Global,
-    shelf: &'a Shelf<MemoryDisk>,
-    disk: &'a MemoryDisk,
-    setting: &'a Setting,
-    units: &'a [Unit],
+    shelf: &Shelf<MemoryDisk>,
+    disk: &MemoryDisk,
+    setting: &Setting,
     cases: &[Case],
 ) -> Result<(), Fail> {
+    let units = units_of(alloc, Profile::C11, cases)?;
     let mut pass = shelf.pass()?;
-    for (unit, (_file, _defines, wanted)) in units.iter().zip(cases) {
+    for (unit, (_file, _defines, wanted)) in units.as_slice().iter().zip(cases) {
         let found = given(alloc, shelf, &mut pass, disk, setting, unit)?;
         assert_shown(rt, found.as_slice(), wanted);
     }
@@ -232,6 +232,5 @@ fn assert_units(rt: &impl Abort, alloc: Global, files: Files, cases: &[Case]) ->
     let shelf = shelf_of(alloc, Profile::C11, files)?;
     let disk = disk_of(alloc, files)?;
     let setting = setting_of(alloc, Profile::C11, "Feb  9 2024", "08:05:03")?;
-    let units = units_of(alloc, Profile::C11, cases)?;
-    assert_given(rt, alloc, &shelf, &disk, &setting, units.as_slice(), cases)
+    assert_given(rt, alloc, &shelf, &disk, &setting, cases)
 }

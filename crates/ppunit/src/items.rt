@@ -85,6 +85,24 @@ impl<'r, 'a> Model for ItemSlices<'r, 'a> {
     ghost view = { λ i. rope_items i.rope ++ flat_map chunk_items i.remaining };
 }
 
+impl<'r, 'a> ItemSlices<'r, 'a> {
+    /// Returns another iterator over the remaining slices.
+    pub fn duplicate(&self) -> ItemSlices<'r, 'a>
+        ensures { result ≡ self.now }
+    {
+        let rope = match &self.rope {
+            Some(rope) => Some(rope.duplicate()),
+            None => None,
+        };
+        ItemSlices {
+            rope,
+            remaining: RemainingChunks {
+                chunks: self.remaining.chunks,
+            },
+        }
+    }
+}
+
 impl<'r, 'a> Iterator for ItemSlices<'r, 'a> {
     type Item = ItemSlice<'r, 'a>;
 

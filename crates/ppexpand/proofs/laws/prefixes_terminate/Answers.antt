@@ -5,7 +5,7 @@ use Rattle.ppexpand.proofs.laws.prefixes_terminate.Goals as goal
 pub returns-clause-steps : goal.returns-clause-steps
 returns-clause-steps c = λ macros env level remaining remaining_after list next step. leads_step macros env level step
 
-pub returns-clause-names : goal.returns-clause-to_hide
+pub returns-clause-names : goal.returns-clause-names
 returns-clause-names c = one_more_name
 
 pub returns-clause-fewer : goal.returns-clause-fewer

@@ -4,4 +4,4 @@ use Rattle.ppserve.proofs.output.print.Goals as goal
 
 pub returns-then-failed-clause-prefix : goal.returns-then-failed-clause-prefix
 returns-then-failed-clause-prefix g c =
-    printed_front c.requires.buf (puts_as (append-nil _) (puts_then c.put_units.ensures c.flush.ensures.out))
+    printed_front c.requires.buf (puts_as (append-nil _) (puts_then c.put_all.ensures c.flush.ensures.out))

@@ -1,8 +1,8 @@
-use Rattle.std.proofs.Common.{◌∙◌, refl, ap, sym, length}
+use Rattle.std.proofs.Common.{◌∙◌, refl, ap}
 use Rattle.ppserve.specs.Contents.{files_of}
 use Rattle.ppserve.specs.code.NeededRetention.{needed_retention}
 use Rattle.pppool.proofs.Placing.{if_ok_then}
-use Rattle.ppserve.proofs.Giving.{prefix_served, came_of, can_run, few_units, gives_all, one_each, served}
+use Rattle.ppserve.proofs.Giving.{prefix_served, came_of, can_run, few_units, gives_all, served}
 use Rattle.ppserve.proofs.serving.run_with_contents.Goals as goal
 
 pub over_contents-requires-clause-count : goal.over_contents-requires-clause-count
@@ -10,15 +10,6 @@ over_contents-requires-clause-count g c κs within = few_units c.args.list.now c
 
 pub over_contents-requires-clause-units : goal.over_contents-requires-clause-units
 over_contents-requires-clause-units g c κs within = can_run c.args.list.now c.in_ok-shelf.shelf.names c.as_slice-units.result.now c.requires.runnable c.in_ok-shelf.ensures.names c.as_slice-units.ensures
-
-pub write_output-answer-requires-clause-counts : goal.write_output-answer-requires-clause-counts
-write_output-answer-requires-clause-counts g c =
-    let list = c.args.list.now in
-    let outs = c.in_ok-outs.outs.items in
-    let files = c.in_ok-shelf.ensures.files ∙ ap files_of c.replace-contents.ensures.value in
-    let gives = gives_all (needed_retention c.args.options.mode) list c.in_ok-shelf.shelf c.as_slice-units.result.now outs
-    c.in_ok-shelf.ensures.names files c.as_slice-units.ensures c.in_ok-outs.ensures in
-    ap length c.as_slice.ensures.value ∙ (one_each (needed_retention c.args.options.mode) list.names (files_of list.contents) list.setting list.units outs gives ∙ sym (ap length c.as_slice-units.ensures))
 
 pub returns-clause-ok : goal.returns-clause-ok
 returns-clause-ok g c =

@@ -1,0 +1,33 @@
+-- Pages that are filled and written.
+use Rattle.std.proofs.Common.{◌≡◌, ℕ, zero, suc, ◌+◌, ◌<◌, List, [], ◌∷◌, ◌++◌, length, get_or, take, drop, flat_map, refl, sym, ap, ◌∙◌, arith}
+use Rattle.std.proofs.lemmas.Grind.{flat_map-append}
+use Rattle.std.proofs.lemmas.List.{take_more, drop_more}
+use Rattle.ppserve.specs.declared.rounds.Page.{Page}
+use Rattle.ppserve.specs.code.Entries.{Entry}
+use Rattle.ppserve.specs.code.Rounds.{page_entries}
+use Rattle.ppserve.proofs.Printing.{more_of}
+
+-- pages whose entries are each what they were
+pub same_entries : (xs ys : List Page) → length ys ≡ length xs → ((i : ℕ) (d : Page) → i < length xs → page_entries (get_or ys i d) ≡ page_entries (get_or xs i d)) → flat_map page_entries ys ≡ flat_map page_entries xs
+same_entries [] [] e each = refl
+same_entries [] (y ∷ ys) e each = absurd (omega (arith, e))
+same_entries (x ∷ xs) [] e each = absurd (omega (arith, e))
+same_entries (x ∷ xs) (y ∷ ys) e each =
+    let later = same_entries xs ys (omega (arith, e)) (λ i d below. each (suc i) d (omega (arith, below))) in
+    rw (each 0 x (omega arith), later) refl
+
+-- lists that are equal from an index on, at the index and after it
+pub same_from : {A : Type 0} (i : ℕ) (xs ys : List A) (d : A) → i < length xs → drop i xs ≡ drop i ys
+    → (i < length ys) × (get_or xs i d ≡ get_or ys i d) × (drop (suc i) xs ≡ drop (suc i) ys)
+same_from i [] ys d below same = absurd (omega (arith, below))
+same_from zero (x ∷ xs) [] d below same = absurd (cc same)
+same_from (suc i) (x ∷ xs) [] d below same = absurd (cc (sym (drop_more xs i x (omega (arith, below))) ∙ same))
+same_from zero (x ∷ xs) (y ∷ ys) d below same = let first : x ≡ y = cc same in let rest : xs ≡ ys = cc same in (omega arith, first, rest)
+same_from (suc i) (x ∷ xs) (y ∷ ys) d below same = let later = same_from i xs ys d (omega (arith, below)) same in (omega (arith, later.0), later.1, later.2)
+
+-- the lines of one more page
+pub one_more_page : (lines : Entry → List ℕ) (pages : List Page) (i : ℕ) (d page : Page) → i < length pages → page ≡ get_or pages i d
+    → flat_map lines (flat_map page_entries (take i pages)) ++ flat_map lines (page_entries page) ≡ flat_map lines (flat_map page_entries (take (i + 1) pages))
+one_more_page lines pages i d page below is =
+    let more : take (i + 1) pages ≡ take i pages ++ page ∷ [] = take_more pages i d below ∙ ap (λ p. take i pages ++ p ∷ []) (sym is) in
+    sym (flat_map-append lines _ _) ∙ ap (flat_map lines) (sym (ap (flat_map page_entries) more ∙ more_of page_entries (take i pages) page))

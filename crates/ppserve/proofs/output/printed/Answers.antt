@@ -1,0 +1,10 @@
+use Rattle.std.proofs.Common.{◌∙◌}
+use Rattle.ppserve.proofs.Entries.{lines_of_all}
+use Rattle.ppserve.proofs.Known.{written_alone}
+use Rattle.ppserve.proofs.output.printed.Goals as goal
+
+pub returns : goal.returns
+returns c =
+    let all = lines_of_all c.args.mode c.args.list.now.names 0 c.as_slice.result.now c.args.outs.now in
+    let text = written_alone _ _ _ _ c.new-text.ensures.written c.into_bytes.ensures c.in-Ok.ensures.ok ∙ all in
+    rw c.as_slice.ensures at text

@@ -1,0 +1,5 @@
+use Rattle.ppserve.proofs.Printing.{puts_then}
+use Rattle.ppserve.proofs.output.put_first.Goals as goal
+
+pub returns : goal.returns
+returns g c = puts_then (puts_then (puts_then (puts_then c.put.ensures c.put_decimal.ensures) c.put-2.ensures) c.put_name.ensures) c.put-3.ensures

@@ -1,0 +1,163 @@
+//! Walks over the output by entries: the first line of a unit, the lines of an item, the last lines of a unit.
+ghost use Rattle.std.specs.Prelude.{◌≡◌, ◌<◌, [], Some, length, drop, true, false};
+ghost use Rattle.ppexpand.specs.Slices.{slice_tokens};
+ghost use Rattle.ppserve.specs.code.Entries.{all_entries, of_lines, of_slices, remaining_entries, YieldsLines, YieldsItems};
+
+use crate::output::{Mode, Shown};
+use ppexpand::TokenSlice;
+use pptext::{Place, Token};
+use ppunit::{ItemSlice, ItemSlices, Unit, UnitOut};
+
+/// Consecutive lines of the output.
+#[derive(Clone, Copy)]
+pub(crate) enum Lines<'a> {
+    /// The first line of the unit at this index.
+    First(usize, &'a Unit),
+    /// The lines of tokens.
+    Tokens(TokenSlice<'a, 'a>),
+    /// The lines of a pragma at this location.
+    Pragma(Place, &'a [Token]),
+    /// The last lines of a unit: its dependencies, and its fault or `ok`.
+    Last(&'a UnitOut<'a>),
+}
+
+impl<'a> Lines<'a> {
+    /// Returns the number of entries: one for each token, otherwise 1.
+    pub(crate) fn count(self) -> usize
+        ensures { result ≡ length (of_lines self.entry) }
+    {
+        match self {
+            Lines::Tokens(tokens) => tokens.len(),
+            _ => 1,
+        }
+    }
+}
+
+/// A position in the output.
+#[derive(Drop)]
+pub(crate) struct LineCursor<'a> {
+    shown: Shown<'a>,
+    /// The tokens whose lines come next.
+    tokens: TokenSlice<'a, 'a>,
+    /// The items whose lines come then.
+    items: Option<ItemSlices<'a, 'a>>,
+    /// The unit whose last lines come then.
+    last: Option<&'a UnitOut<'a>>,
+    /// The index of the unit whose lines come then.
+    next: usize,
+}
+
+impl<'a> LineCursor<'a> {
+    /// Returns the beginning of the output.
+    pub(crate) fn new(shown: Shown<'a>) -> LineCursor<'a>
+        ensures { remaining_entries result ≡ all_entries shown.entry }
+    {
+        LineCursor {
+            shown,
+            tokens: TokenSlice::InFile(Default::default()),
+            items: None,
+            last: None,
+            next: 0,
+        }
+    }
+
+    /// Returns another cursor at the same position.
+    pub(crate) fn duplicate(&self) -> LineCursor<'a>
+        ensures { remaining_entries result ≡ remaining_entries self.now }
+    {
+        let items = match &self.items {
+            Some(items) => Some(items.duplicate()),
+            None => None,
+        };
+        LineCursor {
+            shown: self.shown,
+            tokens: self.tokens,
+            items,
+            last: self.last,
+            next: self.next,
+        }
+    }
+
+    /// Returns whether the cursor is at the end.
+    pub(crate) fn is_at_end(&self) -> bool
+        ensures yes { result ≡ true → remaining_entries self.now ≡ [] }
+        ensures no { result ≡ false → 0 < length (remaining_entries self.now) }
+    {
+        self.duplicate().next(1).is_none()
+    }
+
+    /// Moves over `count` entries, or to the end.
+    pub(crate) fn skip(&mut self, count: usize)
+        ensures { remaining_entries self.new ≡ drop count (remaining_entries self.old) }
+    {
+        let mut left = count;
+        while left > 0 {
+            let Some(lines) = self.next(left) else {
+                return;
+            };
+            left -= lines.count();
+        }
+    }
+
+    /// Removes the next lines, those of at most `most` entries. Returns `None` at the end.
+    pub(crate) fn next(&mut self, most: usize) -> Option<Lines<'a>>
+        requires { 0 < most }
+        ensures { YieldsLines most self.old result self.new }
+    {
+        if !self.tokens.is_empty() {
+            return Some(self.next_tokens(most));
+        }
+        match self.next_items() {
+            Some(ItemSlice::Tokens(tokens)) => {
+                self.tokens = tokens;
+                Some(self.next_tokens(most))
+            }
+            Some(ItemSlice::Pragma(at, tokens)) => Some(Lines::Pragma(at, tokens)),
+            None => self.next_of_unit(),
+        }
+    }
+
+    /// Removes the lines of the next tokens, at most `most`.
+    fn next_tokens(&mut self, most: usize) -> Lines<'a>
+        requires most { 0 < most }
+        requires tokens { 0 < length (slice_tokens self.old.tokens) }
+        ensures { YieldsLines most self.old (Some result) self.new }
+    {
+        let count = most.min(self.tokens.len());
+        let (first, others) = self.tokens.split_at(count);
+        self.tokens = others;
+        Lines::Tokens(first)
+    }
+
+    /// Removes the next items of the unit.
+    fn next_items(&mut self) -> Option<ItemSlice<'a, 'a>>
+        ensures { YieldsItems self.old result self.new }
+    {
+        match &mut self.items {
+            Some(items) => items.next(),
+            None => None,
+        }
+    }
+
+    /// Removes the last lines of a unit, or else the first line of the next unit.
+    fn next_of_unit(&mut self) -> Option<Lines<'a>>
+        requires tokens { slice_tokens self.old.tokens ≡ [] }
+        requires items { of_slices self.old.items ≡ [] }
+        ensures { YieldsLines 1 self.old result self.new }
+    {
+        if let Some(out) = self.last {
+            self.last = None;
+            return Some(Lines::Last(out));
+        }
+        let index = self.next;
+        let unit = self.shown.units.get(index)?;
+        let out = self.shown.outs.get(index)?;
+        self.items = match self.shown.mode {
+            Mode::Dump => Some(out.items.slices()),
+            Mode::Deps => None,
+        };
+        self.last = Some(out);
+        self.next = index + 1;
+        Some(Lines::First(index, unit))
+    }
+}

@@ -1,0 +1,220 @@
+//! Prints in rounds: workers fill a buffer each, then one thread writes the buffers in order.
+ghost use Rattle.std.specs.Prelude.{◌≡◌, ◌<◌, ◌++◌, [], All, IfOk, OnOk, OnErr, length, take, flat_map, true, false, ℕ};
+ghost use Rattle.std.specs.Io.KnownBytes.{Appends};
+ghost use Rattle.ppserve.specs.code.Entries.{entry_lines, remaining_entries, shown_text};
+ghost use Rattle.ppserve.specs.code.Printing.{Puts};
+ghost use Rattle.ppserve.specs.code.Rounds.{page_entries, IsEmpty, IsFilled};
+
+use crate::line_cursor::LineCursor;
+use crate::out_buffer::{OutBuffer, SIZE};
+use crate::output::{Shown, put_next};
+use crate::streams::{Failed, Sink};
+use ppunit::OwnedTexts;
+use std::alloc::{AllocError, Global};
+use std::thread::{Threads, for_each_mut};
+
+/// The number of entries that a worker formats in a round: as many as nearly fill its buffer, since the line of a token
+/// has about 35 bytes.
+const MOST_ENTRIES: usize = SIZE / 40;
+
+/// The least number of entries that a worker formats in a round.
+const FEWEST_ENTRIES: usize = 256;
+
+/// A sink that refuses all bytes. What is put into a buffer over it is in the buffer, unless the sink has failed.
+#[derive(Drop)]
+struct Closed {
+    failed: bool,
+}
+
+impl Sink for Closed {
+    ghost use Rattle.std.specs.Prelude.{Some, []};
+
+    ghost written = { λ _. Some [] };
+
+    ghost has_failed = { λ s. s.failed };
+
+    fn write(&mut self, bytes: &[u8]) -> Result<usize, Failed> {
+        if bytes.is_empty() {
+            return Ok(0);
+        }
+        self.failed = true;
+        Err(Failed)
+    }
+
+    fn failed(&self) -> bool {
+        self.failed
+    }
+}
+
+/// A worker's part of a round: a buffer, and the entries whose lines it is filled with.
+#[derive(Drop)]
+pub(crate) struct Page<'a> {
+    buf: OutBuffer,
+    sink: Closed,
+    start: LineCursor<'a>,
+    count: usize,
+}
+
+impl<'a> Page<'a> {
+    /// Allocates an empty page.
+    fn new(alloc: Global, shown: Shown<'a>) -> Result<Page<'a>, AllocError>
+        ensures { IfOk result (λ page. IsEmpty page) }
+    {
+        Ok(Page {
+            buf: OutBuffer::whole(alloc)?,
+            sink: Closed { failed: false },
+            start: LineCursor::new(shown),
+            count: 0,
+        })
+    }
+
+    /// Assigns the next `count` entries to the page, and moves the cursor over them.
+    fn assign(&mut self, cursor: &mut LineCursor<'a>, count: usize)
+        ensures entries { remaining_entries cursor.old ≡ page_entries self.new ++ remaining_entries cursor.new }
+        ensures fewer { 0 < count → 0 < length (remaining_entries cursor.old) → length (remaining_entries cursor.new) < length (remaining_entries cursor.old) }
+        ensures empty { IsEmpty self.old → IsEmpty self.new }
+    {
+        self.start = cursor.duplicate();
+        self.count = count;
+        cursor.skip(count);
+    }
+
+    /// Puts the lines of the page's entries into its buffer, as far as they fit.
+    fn fill(&mut self, names: &OwnedTexts)
+        requires { IsEmpty self.old }
+        ensures entries { page_entries self.new ≡ page_entries self.old }
+        ensures filled { IsFilled names.now self.new }
+    {
+        let mut cursor = self.start.duplicate();
+        put_next(
+            &mut self.buf,
+            &mut self.sink,
+            names,
+            &mut cursor,
+            self.count,
+        );
+    }
+
+    /// Writes the lines of the page's entries, and empties it. If they didn't fit, they are formatted once more. Returns
+    /// whether they fit.
+    fn write_out<W: Sink>(&mut self, writer: &mut W, names: &OwnedTexts) -> bool
+        requires { IsFilled names.now self.old }
+        ensures out { Puts W.written W.has_failed writer.old writer.new [] [] (flat_map (entry_lines names.now) (page_entries self.old)) }
+        ensures empty { IsEmpty self.new }
+    {
+        let fits = !self.sink.failed;
+        if !fits {
+            self.buf.clear();
+            self.sink.failed = false;
+            let mut cursor = self.start.duplicate();
+            put_next(&mut self.buf, writer, names, &mut cursor, self.count);
+        }
+        self.buf.flush(writer);
+        fits
+    }
+}
+
+/// Allocates a page for each worker.
+pub(crate) fn new_pages<'a>(
+    alloc: Global,
+    shown: Shown<'a>,
+    workers: usize,
+) -> Result<Vec<Page<'a>>, AllocError>
+    ensures count { IfOk result (λ pages. length pages.items ≡ workers) }
+    ensures empty { IfOk result (λ pages. All IsEmpty pages.items) }
+{
+    let mut pages = Vec::with_capacity(alloc, workers)?;
+    for _ in 0..workers {
+        pages.push(Page::new(alloc, shown)?)?;
+    }
+    Ok(pages)
+}
+
+/// Assigns the next entries to pages, `count` to each.
+fn assign_all<'a>(pages: &mut [Page<'a>], cursor: &mut LineCursor<'a>, count: usize)
+    requires pages { 0 < length pages.old }
+    requires count { 0 < count }
+    ensures entries { remaining_entries cursor.old ≡ flat_map page_entries pages.new ++ remaining_entries cursor.new }
+    ensures fewer { 0 < length (remaining_entries cursor.old) → length (remaining_entries cursor.new) < length (remaining_entries cursor.old) }
+    ensures empty { All IsEmpty pages.old → All IsEmpty pages.new }
+{
+    for page in pages.iter_mut() {
+        page.assign(cursor, count);
+    }
+}
+
+/// Writes pages in order. Returns whether all lines fit.
+fn write_all<W: Sink>(pages: &mut [Page], writer: &mut W, names: &OwnedTexts) -> bool
+    requires { All (IsFilled names.now) pages.old }
+    ensures out { Puts W.written W.has_failed writer.old writer.new [] [] (flat_map (entry_lines names.now) (flat_map page_entries pages.old)) }
+    ensures empty { All IsEmpty pages.new }
+{
+    let mut all_fit = true;
+    for page in pages.iter_mut() {
+        if !page.write_out(writer, names) {
+            all_fit = false;
+        }
+    }
+    all_fit
+}
+
+/// Fills pages with the lines of their entries, as far as they fit, by a thread each.
+fn fill_all<T: Threads + Sync>(threads: &T, pages: &mut [Page], names: &OwnedTexts)
+    requires pages { 0 < length pages.old }
+    requires empty { All IsEmpty pages.old }
+    ensures entries { flat_map page_entries pages.new ≡ flat_map page_entries pages.old }
+    ensures filled { All (IsFilled names.now) pages.new }
+{
+    let fill = |_index: usize, page: &mut Page|
+        requires { IsEmpty page.now }
+        ensures { (page_entries page.exit.now ≡ page_entries page.entry.now) × IsFilled names.entry.now page.exit.now }
+    { page.fill(names) };
+    let count = pages.len();
+    for_each_mut(threads, pages, count, &fill);
+}
+
+/// Prints all lines through empty pages. After a failed write nothing more is formatted or written.
+fn put_in_rounds<'a, T: Threads + Sync, W: Sink>(
+    threads: &T,
+    pages: &mut [Page<'a>],
+    writer: &mut W,
+    shown: Shown<'a>,
+)
+    requires pages { 0 < length pages.old }
+    requires empty { All IsEmpty pages.old }
+    ensures { Puts W.written W.has_failed writer.old writer.new [] [] (shown_text shown.entry) }
+{
+    let mut cursor = LineCursor::new(shown);
+    let mut count = MOST_ENTRIES;
+    while !cursor.is_at_end() {
+        if writer.failed() {
+            return;
+        }
+        assign_all(pages, &mut cursor, count);
+        fill_all(threads, pages, shown.names);
+        if !write_all(pages, writer, shown.names) {
+            count = (count / 2).max(FEWEST_ENTRIES);
+        }
+    }
+}
+
+/// Prints the output of units through empty pages, one for each worker, without allocating. Fails only if a write
+/// fails; then a prefix of the output has been written.
+pub(crate) fn print_in_rounds<'a, T: Threads + Sync, W: Sink>(
+    threads: &T,
+    pages: &mut [Page<'a>],
+    writer: &mut W,
+    shown: Shown<'a>,
+) -> Result<(), Failed>
+    requires pages { 0 < length pages.old }
+    requires empty { All IsEmpty pages.old }
+    ensures ok { OnOk result (Appends (W.written writer.old) (W.written writer.new) (shown_text shown.entry)) }
+    ensures failed { OnErr result (W.has_failed writer.new ≡ true) }
+    ensures prefix { OnErr result ((n : ℕ) × Appends (W.written writer.old) (W.written writer.new) (take n (shown_text shown.entry))) }
+{
+    put_in_rounds(threads, pages, writer, shown);
+    if writer.failed() {
+        return Err(Failed);
+    }
+    Ok(())
+}
