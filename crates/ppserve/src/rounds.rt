@@ -1,5 +1,5 @@
 //! Prints in rounds: workers fill a buffer each, then one thread writes the buffers in order.
-ghost use Rattle.std.specs.Prelude.{◌≡◌, ◌<◌, ◌++◌, [], All, IfOk, OnOk, OnErr, length, take, flat_map, true, false, ℕ};
+ghost use Rattle.std.specs.Prelude.{◌≡◌, ◌<◌, ◌++◌, [], All, IfOk, OnOk, OnErr, length, min, take, flat_map, true, false, ℕ};
 ghost use Rattle.std.specs.Io.KnownBytes.{Appends};
 ghost use Rattle.ppserve.specs.code.Entries.{entry_lines, remaining_entries, shown_text};
 ghost use Rattle.ppserve.specs.code.Printing.{Puts};
@@ -19,6 +19,9 @@ const MOST_ENTRIES: usize = SIZE / 40;
 
 /// The least number of entries that a worker formats in a round.
 const FEWEST_ENTRIES: usize = 256;
+
+/// The largest number of pages. More gain nothing, because one thread writes them.
+const MOST_PAGES: usize = 16;
 
 /// A sink that refuses all bytes. What is put into a buffer over it is in the buffer, unless the sink has failed.
 #[derive(Drop)]
@@ -114,17 +117,18 @@ impl<'a> Page<'a> {
     }
 }
 
-/// Allocates a page for each worker.
+/// Allocates a page for each worker, at most 16.
 pub(crate) fn new_pages<'a>(
     alloc: Global,
     shown: Shown<'a>,
     workers: usize,
 ) -> Result<Vec<Page<'a>>, AllocError>
-    ensures count { IfOk result (λ pages. length pages.items ≡ workers) }
+    ensures count { IfOk result (λ pages. length pages.items ≡ min workers 16) }
     ensures empty { IfOk result (λ pages. All IsEmpty pages.items) }
 {
-    let mut pages = Vec::with_capacity(alloc, workers)?;
-    for _ in 0..workers {
+    let count = workers.min(MOST_PAGES);
+    let mut pages = Vec::with_capacity(alloc, count)?;
+    for _ in 0..count {
         pages.push(Page::new(alloc, shown)?)?;
     }
     Ok(pages)
@@ -198,7 +202,7 @@ fn put_in_rounds<'a, T: Threads + Sync, W: Sink>(
     }
 }
 
-/// Prints the output of units through empty pages, one for each worker, without allocating. Fails only if a write
+/// Prints the output of units through empty pages by as many workers, without allocating. Fails only if a write
 /// fails; then a prefix of the output has been written.
 pub(crate) fn print_in_rounds<'a, T: Threads + Sync, W: Sink>(
     threads: &T,

@@ -27,15 +27,22 @@ fn push_hidden(text: &mut Vec<u8>, tokens: &[Hidden]) -> Result<(), AllocError> 
     Ok(())
 }
 
-/// Appends the spellings of tokens to a text, slice by slice: after `.` if the token is one of a file, after `!` if it has
-/// hide sets.
+/// Appends the spellings of a slice's tokens to a text: after `.` if they are tokens of a file, after `!` if they have hide
+/// sets.
+fn push_slice(text: &mut Vec<u8>, slice: TokenSlice) -> Result<(), AllocError> {
+    match slice {
+        TokenSlice::InFile(tokens) => push_in_file(text, tokens),
+        TokenSlice::Hidden(tokens) => push_hidden(text, tokens),
+    }
+}
+
+/// Appends the spellings of tokens to a text, slice by slice, by a duplicate of the iterator. Each slice is split in two.
 fn push_slices(text: &mut Vec<u8>, rope: &TokenRope) -> Result<(), AllocError> {
-    let mut slices = rope.slices();
+    let mut slices = rope.slices().duplicate();
     while let Some(slice) = slices.next() {
-        match slice {
-            TokenSlice::InFile(tokens) => push_in_file(text, tokens)?,
-            TokenSlice::Hidden(tokens) => push_hidden(text, tokens)?,
-        }
+        let (first, others) = slice.split_at(slice.len() / 2);
+        push_slice(text, first)?;
+        push_slice(text, others)?;
     }
     Ok(())
 }
