@@ -41,26 +41,25 @@ const NAME: &str =
 const NAME_OUTPUT: &str = "unit 0 a.c\ntok 0:1:1 0:1:1 i+ ~\ndep 0 a.c\nok\n";
 
 /// The number of bytes that are written through a writer with a limit for each call, if one call fails: of the example,
-/// of more than two buffers, and of a spelling that is longer than a buffer, which is written by itself, between what
-/// is before it and what is after it.
+/// of a page, of long names that overflow a page, and of a name that is longer than a page, which is written by itself,
+/// between what is before it and what is after it.
 const SENT: &[(&str, &str, usize, (usize, usize), usize)] = &[
     (EXAMPLE, EXAMPLE_OUTPUT, 0, (5, 3), 10),
     (NAMES, NAMES_OUTPUT, 40_000, (20_000, 1), 0),
     (NAMES, NAMES_OUTPUT, 40_000, (20_000, 2), 20_000),
-    (NAMES, NAMES_OUTPUT, 40_000, (20_000, 3), 40_000),
-    (NAMES, NAMES_OUTPUT, 40_000, (20_000, 4), 40_050),
-    (NAMES, NAMES_OUTPUT, 40_000, (20_000, 5), 60_050),
-    (NAMES, NAMES_OUTPUT, 40_000, (20_000, 6), 80_050),
-    (NAMES, NAMES_OUTPUT, 40_000, (20_000, 7), 80_094),
-    (NAMES, NAMES_OUTPUT, 40_000, (20_000, 8), 100_094),
-    (NAMES, NAMES_OUTPUT, 40_000, (20_000, 9), 120_094),
+    (NAMES, NAMES_OUTPUT, 40_000, (20_000, 9), 160_000),
     (NAMES, NAMES_OUTPUT, 40_000, (20_000, 100), 160_128),
     (NAMES, NAMES_OUTPUT, 40_000, (1_000_000, 100), 160_128),
     (NAMES, NAMES_OUTPUT, 40_000, (7, 100_000), 160_128),
-    (NAME, NAME_OUTPUT, 65_537, (1_000_000, 1), 0),
-    (NAME, NAME_OUTPUT, 65_537, (1_000_000, 2), 30),
-    (NAME, NAME_OUTPUT, 65_537, (1_000_000, 3), 65_567),
-    (NAME, NAME_OUTPUT, 65_537, (1_000_000, 4), 65_581),
+    (NAMES, NAMES_OUTPUT, 600_000, (1_000_000, 1), 0),
+    (NAMES, NAMES_OUTPUT, 600_000, (1_000_000, 2), 600_050),
+    (NAMES, NAMES_OUTPUT, 600_000, (1_000_000, 3), 1_200_094),
+    (NAMES, NAMES_OUTPUT, 600_000, (1_000_000, 4), 1_800_114),
+    (NAMES, NAMES_OUTPUT, 600_000, (1_000_000, 5), 2_400_128),
+    (NAME, NAME_OUTPUT, 1_048_577, (2_000_000, 1), 0),
+    (NAME, NAME_OUTPUT, 1_048_577, (2_000_000, 2), 30),
+    (NAME, NAME_OUTPUT, 1_048_577, (2_000_000, 3), 1_048_607),
+    (NAME, NAME_OUTPUT, 1_048_577, (2_000_000, 4), 1_048_621),
 ];
 
 #[test]
