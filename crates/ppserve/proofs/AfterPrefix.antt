@@ -12,16 +12,16 @@ take_after xs ys zs a n h k =
     let e = take-append-add (take a xs) (ys ++ zs) n in
     rw (length-take-le a xs h, take-append-le n ys zs k) at e
 
--- what stands before the place that a text is put at stays
+-- what is before the index at which a text is put stays
 pub front_kept : (old new text : List ℕ) (at end result : ℕ) → at ≤ end → end ≤ length old → end ≤ result → take result new ≡ take end old ++ text → take at new ≡ take at old
 front_kept old new text at end result before within less is =
     sym (take-take at result new (omega (arith, before, less))) ∙ ap (take at) is ∙ take-append-le at (take end old) text (omega (arith, length-take-le end old within, before)) ∙ take-take at end old before
 
--- the front of what a slice over a vector's elements was left as
+-- the prefix of what a slice over a vector's elements was left as
 pub front_left : (r l : ℕ) (new old : List ℕ) → r ≤ length new → r ≤ l → take r (take l (new ++ drop (length new) old)) ≡ take r new
 front_left r l new old within less = take-take r l (new ++ drop (length new) old) less ∙ take-append-le r new (drop (length new) old) within
 
--- bytes that stand for themselves
+-- bytes that are printed as they are
 pub plain_take : (bytes : List ℕ) (n : ℕ) → n ≤ length bytes → PrintsAsIsBetween bytes 0 n → escaped (take n bytes) ≡ take n bytes
 plain_take bytes zero within plain = refl
 plain_take [] (suc n) within plain = absurd (omega (arith, within))

@@ -38,7 +38,7 @@ is_number (string s) n e = absurd (none-some n e)
 is_number (array ds) n e = absurd (none-some n e)
 is_number (object ms) n e = absurd (none-some n e)
 
--- what reads a value gives what stands so with it, and that alone
+-- what reads a value gives exactly what the value has
 abbrev Reads : {A : Type 0} → (Data → Option A) → (Data → A → Type 0) → Type 0
 Reads {A} read Is = (d : Data) (x : A) → (read d ≡ Some x) ↔ Is d x
 

@@ -13,7 +13,7 @@ behind_front prefix x (Some xs) = ap Some (append_assoc prefix (x ∷ []) xs)
 rest_of : (a b : ℕ) (more : List ℕ) → take (length (a ∷ b ∷ more) - 2) (drop 2 (a ∷ b ∷ more)) ≡ more
 rest_of a b more = let e : length (a ∷ b ∷ more) - 2 ≡ length more = omega arith in rw e (take-all more)
 
--- a loop's turn: one more pair is read after the bytes in front
+-- an iteration: one more pair is read after the bytes before
 pub hex_bytes-more : (prefix pushed rest : List ℕ) (x : ℕ) (whole : Option (List ℕ)) → 2 ≤ length rest → hex_byte (get_or rest 0 0) (get_or rest 1 0) ≡ Some x
     → pushed ≡ prefix ++ x ∷ [] → option_map (λ more. prefix ++ more) (hex_bytes rest) ≡ whole
     → option_map (λ more. pushed ++ more) (hex_bytes (take (length rest - 2) (drop 2 rest))) ≡ whole

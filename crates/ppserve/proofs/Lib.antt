@@ -1,4 +1,4 @@
--- The lemmas of this crate, by file; the proofs of its functions stand in a directory for each file of the sources.
+-- The lemmas of this crate, by file; the proofs of its functions are in a directory for each file of the sources.
 
 -- The members of an object.
 pub mod Objects
@@ -6,9 +6,9 @@ pub mod Objects
 pub mod Drafted
 -- Reading the items of an array, one after another.
 pub mod Each
--- The lines of entries.
-pub mod Entries
--- What is printed of what is kept of units' answers is what is printed of the answers.
+-- The lines of records.
+pub mod Records
+-- What is printed of what is retained of units' outputs is what is printed of the outputs.
 pub mod Shown
 -- What the units of a list give, over files that are known.
 pub mod Giving
@@ -34,5 +34,5 @@ pub mod Received
 pub mod Pages
 -- Text after the first bytes of a list.
 pub mod AfterPrefix
--- From the mask of eight lanes to the bytes that stand for themselves.
+-- From the mask of eight lanes to the bytes that are printed as they are.
 pub mod Lanes

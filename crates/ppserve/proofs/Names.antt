@@ -6,7 +6,7 @@ use Rattle.ppshelf.proofs.Naming.{Indexed}
 use Rattle.ppserve.specs.Listing.{names_of}
 use Rattle.ppserve.specs.Drafts.{DraftFile}
 
--- the file whose turn it is, with its name, after those whose names the index holds
+-- the next file, with its name, after those whose names the index has
 pub record Turn (files : List DraftFile) (row : ℕ) (index : List (List ℕ)) (name : List ℕ) : Type 0 where
   pub within : row < length (names_of files)
   pub name_is : name_in (names_of files) row ≡ name

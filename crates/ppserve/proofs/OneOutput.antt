@@ -47,7 +47,7 @@ has_second (x ∷ xs) [] agree row c e = absurd (none-some c e)
 has_second (x ∷ xs) (y ∷ ys) agree zero c e = second_known x y c e (λ d is. agree 0 d c is e)
 has_second (x ∷ xs) (y ∷ ys) agree (suc row) c e = has_second xs ys (λ at a b p q. agree (suc at) a b p q) row c e
 
--- ---- answers
+-- ---- results
 
 same_over : HasOneValue → (names : List (List ℕ)) (files : Files) (setting : Setting) (units : List UnitOfList) (a b : List UnitOut) → AreNames names
     → AreUnits names files setting units a
@@ -76,7 +76,7 @@ true_or : (b : Bool) → ¬ (b ≡ false) → b ≡ true
 true_or true other = refl
 true_or false other = absurd (other refl)
 
--- the names of a list that is taken stand once each
+-- each name of an accepted list occurs once
 named : (inline : Bool) (bytes : List ℕ) (list : CompilationList) → outcome_of inline bytes ≡ accepted list → AreNames list.names
 named inline bytes list is =
     let taken = (takes_the_rest inline bytes list).0 is in

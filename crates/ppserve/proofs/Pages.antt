@@ -3,17 +3,17 @@ use Rattle.std.proofs.Common.{◌≡◌, ℕ, zero, suc, ◌+◌, ◌<◌, List,
 use Rattle.std.proofs.lemmas.Grind.{flat_map-append}
 use Rattle.std.proofs.lemmas.List.{take_more, drop_more}
 use Rattle.ppserve.specs.declared.rounds.Page.{Page}
-use Rattle.ppserve.specs.code.Entries.{Entry}
-use Rattle.ppserve.specs.code.Rounds.{page_entries}
+use Rattle.ppserve.specs.code.Records.{Record}
+use Rattle.ppserve.specs.code.Rounds.{page_records}
 use Rattle.ppserve.proofs.Printing.{more_of}
 
--- pages whose entries are each what they were
-pub same_entries : (xs ys : List Page) → length ys ≡ length xs → ((i : ℕ) (d : Page) → i < length xs → page_entries (get_or ys i d) ≡ page_entries (get_or xs i d)) → flat_map page_entries ys ≡ flat_map page_entries xs
-same_entries [] [] e each = refl
-same_entries [] (y ∷ ys) e each = absurd (omega (arith, e))
-same_entries (x ∷ xs) [] e each = absurd (omega (arith, e))
-same_entries (x ∷ xs) (y ∷ ys) e each =
-    let later = same_entries xs ys (omega (arith, e)) (λ i d below. each (suc i) d (omega (arith, below))) in
+-- pages whose records are each what they were
+pub same_records : (xs ys : List Page) → length ys ≡ length xs → ((i : ℕ) (d : Page) → i < length xs → page_records (get_or ys i d) ≡ page_records (get_or xs i d)) → flat_map page_records ys ≡ flat_map page_records xs
+same_records [] [] e each = refl
+same_records [] (y ∷ ys) e each = absurd (omega (arith, e))
+same_records (x ∷ xs) [] e each = absurd (omega (arith, e))
+same_records (x ∷ xs) (y ∷ ys) e each =
+    let later = same_records xs ys (omega (arith, e)) (λ i d below. each (suc i) d (omega (arith, below))) in
     rw (each 0 x (omega arith), later) refl
 
 -- lists that are equal from an index on, at the index and after it
@@ -26,8 +26,8 @@ same_from zero (x ∷ xs) (y ∷ ys) d below same = let first : x ≡ y = cc sam
 same_from (suc i) (x ∷ xs) (y ∷ ys) d below same = let later = same_from i xs ys d (omega (arith, below)) same in (omega (arith, later.0), later.1, later.2)
 
 -- the lines of one more page
-pub one_more_page : (lines : Entry → List ℕ) (pages : List Page) (i : ℕ) (d page : Page) → i < length pages → page ≡ get_or pages i d
-    → flat_map lines (flat_map page_entries (take i pages)) ++ flat_map lines (page_entries page) ≡ flat_map lines (flat_map page_entries (take (i + 1) pages))
+pub one_more_page : (lines : Record → List ℕ) (pages : List Page) (i : ℕ) (d page : Page) → i < length pages → page ≡ get_or pages i d
+    → flat_map lines (flat_map page_records (take i pages)) ++ flat_map lines (page_records page) ≡ flat_map lines (flat_map page_records (take (i + 1) pages))
 one_more_page lines pages i d page below is =
     let more : take (i + 1) pages ≡ take i pages ++ page ∷ [] = take_more pages i d below ∙ ap (λ p. take i pages ++ p ∷ []) (sym is) in
-    sym (flat_map-append lines _ _) ∙ ap (flat_map lines) (sym (ap (flat_map page_entries) more ∙ more_of page_entries (take i pages) page))
+    sym (flat_map-append lines _ _) ∙ ap (flat_map lines) (sym (ap (flat_map page_records) more ∙ more_of page_records (take i pages) page))

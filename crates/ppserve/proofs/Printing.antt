@@ -9,7 +9,7 @@ use Rattle.std.specs.Io.KnownBytes.{Appends}
 use Rattle.ppserve.specs.code.Printing.{Puts}
 use Rattle.ppserve.proofs.Known.{appends_as}
 
--- bytes that find room on the page
+-- bytes that fit into the buffer
 pub puts_here : {V : Type 0} {written : V → Option (List ℕ)} {has_failed : V → Bool} {w : V} {p q text : List ℕ} → q ≡ p ++ text → Puts written has_failed w w p q text
 puts_here {written = written} {w = w} {p = p} {q = q} {text = text} e = record {
   prefix = [];
@@ -80,7 +80,7 @@ puts_flushed {written = written} {has_failed = has_failed} {w = w} {x = x} {p = 
 pub more_of : {A B : Type 0} (f : A → List B) (xs : List A) (x : A) → flat_map f (xs ++ x ∷ []) ≡ flat_map f xs ++ f x
 more_of f xs x = sym (flat_map_more f [] xs x)
 
--- a loop's turn, after what it has printed before
+-- an iteration of a loop, after what it has printed before
 pub puts_turn : {V A : Type 0} {written : V → Option (List ℕ)} {has_failed : V → Bool} {w v u : V} {p q r t : List ℕ}
     → (whole : List A → List ℕ) (xs : List A) (i : ℕ) (d x : A) → i < length xs → x ≡ get_or xs i d
     → ((before : List A) → whole (before ++ x ∷ []) ≡ whole before ++ t)
@@ -90,7 +90,7 @@ puts_turn {t = t} whole xs i d x h is more a b =
     let prefix : take (i + 1) xs ≡ take i xs ++ x ∷ [] = take_more xs i d h ∙ ap (λ y. take i xs ++ y ∷ []) (sym is) in
     puts_as (sym (ap whole prefix ∙ more (take i xs))) (puts_then a b)
 
--- a loop's end, after its last turn
+-- the end of a loop, after its last iteration
 pub puts_all : {V A : Type 0} {written : V → Option (List ℕ)} {has_failed : V → Bool} {w v : V} {p q : List ℕ}
     → (whole : List A → List ℕ) (xs : List A) (i : ℕ) → length xs ≤ i
     → Puts written has_failed w v p q (whole (take i xs))
@@ -105,7 +105,7 @@ printed_all {written = written} {w = w} {v = v} {p = p} {q = q} {text = text} no
     let all : a.prefix ≡ text = sym (whole ∙ ap (λ bs. a.prefix ++ bs) (a.waits e ∙ empty) ∙ append-nil a.prefix) in
     appends_as _ _ _ _ all a.went
 
--- a front of the text went out
+-- a prefix of the text was written
 pub printed_front : {V : Type 0} {written : V → Option (List ℕ)} {has_failed : V → Bool} {w v : V} {p q text : List ℕ}
     → p ≡ [] → Puts written has_failed w v p q text → (n : ℕ) × Appends (written w) (written v) (take n text)
 printed_front {written = written} {w = w} {v = v} {p = p} {q = q} {text = text} none a =
@@ -113,7 +113,7 @@ printed_front {written = written} {w = w} {v = v} {p = p} {q = q} {text = text} 
     let prefix : a.prefix ≡ take (length a.prefix) text = sym (ap (take (length a.prefix)) whole ∙ take-append_seam a.prefix a.rest) in
     (length a.prefix, appends_as _ _ _ _ prefix a.went)
 
--- over a page that is empty
+-- through an empty buffer
 pub puts_onto : {V : Type 0} {written : V → Option (List ℕ)} {has_failed : V → Bool} {w v : V} {p text : List ℕ}
     → p ≡ [] → Puts written has_failed w v [] [] text → Puts written has_failed w v p p text
 puts_onto {written = written} {has_failed = has_failed} {w = w} {v = v} {text = text} e h = let P : List ℕ → Type 0 = λ p. Puts written has_failed w v p p text in subst P (sym e) h
@@ -130,7 +130,7 @@ puts_broken {bytes = bytes} n was now went = record {
   stays = λ f. absurd (false≢true (sym was ∙ f));
 }
 
--- a line of four parts that finds room on the page
+-- a line of four parts that fits into the buffer
 pub puts_joined : {V : Type 0} {written : V → Option (List ℕ)} {has_failed : V → Bool} {w : V} {q : List ℕ} (p word prefix spelling end : List ℕ)
     → q ≡ p ++ word ++ prefix ++ spelling ++ end → Puts written has_failed w w p q (word ++ prefix ++ spelling ++ end)
 puts_joined p word prefix spelling end e =

@@ -1,4 +1,4 @@
--- What is printed of what is kept of units' answers is what is printed of the answers.
+-- What is printed of what is retained of units' outputs is what is printed of the outputs.
 use Rattle.std.proofs.Common.{Bool, ℕ, suc, ◌≡◌, List, [], ◌∷◌, ◌++◌, map, refl, ap, ◌∙◌}
 use Rattle.std.specs.Prelude.{◌||◌}
 use Rattle.std.specs.Option.{is_some}

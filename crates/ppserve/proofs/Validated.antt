@@ -73,7 +73,7 @@ below_by : (t : List ℕ) (names : List (List ℕ)) (o : Option ℕ) → row_amo
 below_by t names None e h = absurd (false≢true h)
 below_by t names (Some i) e h = (position-Some (bytes_eq t) names i [] e).0
 
--- a file that is known stands below the number of names
+-- a known file has an index below the number of names
 place_below : (t : List ℕ) (names : List (List ℕ)) → is_some (row_among t names) ≡ true → unwrap_or (row_among t names) 0 < length names
 place_below t names h = below_by t names (row_among t names) refl h
 

@@ -1,6 +1,6 @@
 -- Vocabulary of the code: only contracts inside this crate and views cite these files. No theorem rests on them.
-pub mod Entries
 pub mod LinePrefix
 pub mod NeededRetention
 pub mod Printing
+pub mod Records
 pub mod Rounds

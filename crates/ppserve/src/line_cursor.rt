@@ -1,9 +1,10 @@
-//! Walks over the output by entries: the first line of a unit, the lines of an item, the last lines of a unit.
+//! Walks over the output. A *record* of the output is the first line of a unit, the lines of an item, or the last lines
+//! of a unit.
 ghost use Rattle.std.specs.Prelude.{◌≡◌, ◌<◌, [], Some, length, drop, true, false};
 ghost use Rattle.ppexpand.specs.Slices.{slice_tokens};
-ghost use Rattle.ppserve.specs.code.Entries.{all_entries, of_lines, of_slices, remaining_entries, YieldsLines, YieldsItems};
+ghost use Rattle.ppserve.specs.code.Records.{all_records, records_of_lines, records_of_slices, remaining_records, YieldsLines, YieldsItems};
 
-use crate::output::{Mode, Shown};
+use crate::output::{Mode, Output};
 use ppexpand::TokenSlice;
 use pptext::{Place, Token};
 use ppunit::{ItemSlice, ItemSlices, Unit, UnitOut};
@@ -22,9 +23,9 @@ pub(crate) enum Lines<'a> {
 }
 
 impl<'a> Lines<'a> {
-    /// Returns the number of entries: one for each token, otherwise 1.
+    /// Returns the number of records: one for each token, otherwise 1.
     pub(crate) fn count(self) -> usize
-        ensures { result ≡ length (of_lines self.entry) }
+        ensures { result ≡ length (records_of_lines self.entry) }
     {
         match self {
             Lines::Tokens(tokens) => tokens.len(),
@@ -36,59 +37,59 @@ impl<'a> Lines<'a> {
 /// A position in the output.
 #[derive(Drop)]
 pub(crate) struct LineCursor<'a> {
-    shown: Shown<'a>,
-    /// The tokens whose lines come next.
+    output: Output<'a>,
+    /// The tokens that are printed next.
     tokens: TokenSlice<'a, 'a>,
-    /// The items whose lines come then.
+    /// The items that are printed after `tokens`.
     items: Option<ItemSlices<'a, 'a>>,
-    /// The unit whose last lines come then.
+    /// The unit whose last lines follow `items`.
     last: Option<&'a UnitOut<'a>>,
-    /// The index of the unit whose lines come then.
-    next: usize,
+    /// The index of the next unit.
+    next_unit: usize,
 }
 
 impl<'a> LineCursor<'a> {
     /// Returns the beginning of the output.
-    pub(crate) fn new(shown: Shown<'a>) -> LineCursor<'a>
-        ensures { remaining_entries result ≡ all_entries shown.entry }
+    pub(crate) fn new(output: Output<'a>) -> LineCursor<'a>
+        ensures { remaining_records result ≡ all_records output.entry }
     {
         LineCursor {
-            shown,
+            output,
             tokens: TokenSlice::InFile(Default::default()),
             items: None,
             last: None,
-            next: 0,
+            next_unit: 0,
         }
     }
 
     /// Returns another cursor at the same position.
     pub(crate) fn duplicate(&self) -> LineCursor<'a>
-        ensures { remaining_entries result ≡ remaining_entries self.now }
+        ensures { remaining_records result ≡ remaining_records self.now }
     {
         let items = match &self.items {
             Some(items) => Some(items.duplicate()),
             None => None,
         };
         LineCursor {
-            shown: self.shown,
+            output: self.output,
             tokens: self.tokens,
             items,
             last: self.last,
-            next: self.next,
+            next_unit: self.next_unit,
         }
     }
 
     /// Returns whether the cursor is at the end.
     pub(crate) fn is_at_end(&self) -> bool
-        ensures yes { result ≡ true → remaining_entries self.now ≡ [] }
-        ensures no { result ≡ false → 0 < length (remaining_entries self.now) }
+        ensures yes { result ≡ true → remaining_records self.now ≡ [] }
+        ensures no { result ≡ false → 0 < length (remaining_records self.now) }
     {
         self.duplicate().next(1).is_none()
     }
 
-    /// Moves over `count` entries, or to the end.
+    /// Moves over `count` records, or to the end.
     pub(crate) fn skip(&mut self, count: usize)
-        ensures { remaining_entries self.new ≡ drop count (remaining_entries self.old) }
+        ensures { remaining_records self.new ≡ drop count (remaining_records self.old) }
     {
         let mut left = count;
         while left > 0 {
@@ -99,7 +100,7 @@ impl<'a> LineCursor<'a> {
         }
     }
 
-    /// Removes the next lines, those of at most `most` entries. Returns `None` at the end.
+    /// Returns the next lines, of at most `most` records, and moves past them. Returns `None` at the end.
     pub(crate) fn next(&mut self, most: usize) -> Option<Lines<'a>>
         requires { 0 < most }
         ensures { YieldsLines most self.old result self.new }
@@ -117,7 +118,7 @@ impl<'a> LineCursor<'a> {
         }
     }
 
-    /// Removes the lines of the next tokens, at most `most`.
+    /// Returns the lines of the next tokens, at most `most`, and moves past them.
     fn next_tokens(&mut self, most: usize) -> Lines<'a>
         requires most { 0 < most }
         requires tokens { 0 < length (slice_tokens self.old.tokens) }
@@ -129,7 +130,7 @@ impl<'a> LineCursor<'a> {
         Lines::Tokens(first)
     }
 
-    /// Removes the next items of the unit.
+    /// Returns the next items of the unit, and moves past them.
     fn next_items(&mut self) -> Option<ItemSlice<'a, 'a>>
         ensures { YieldsItems self.old result self.new }
     {
@@ -139,25 +140,25 @@ impl<'a> LineCursor<'a> {
         }
     }
 
-    /// Removes the last lines of a unit, or else the first line of the next unit.
+    /// Returns the last lines of the unit, or else the first line of the next one, and moves past them.
     fn next_of_unit(&mut self) -> Option<Lines<'a>>
         requires tokens { slice_tokens self.old.tokens ≡ [] }
-        requires items { of_slices self.old.items ≡ [] }
+        requires items { records_of_slices self.old.items ≡ [] }
         ensures { YieldsLines 1 self.old result self.new }
     {
         if let Some(out) = self.last {
             self.last = None;
             return Some(Lines::Last(out));
         }
-        let index = self.next;
-        let unit = self.shown.units.get(index)?;
-        let out = self.shown.outs.get(index)?;
-        self.items = match self.shown.mode {
+        let index = self.next_unit;
+        let unit = self.output.units.get(index)?;
+        let out = self.output.outs.get(index)?;
+        self.items = match self.output.mode {
             Mode::Dump => Some(out.items.slices()),
             Mode::Deps => None,
         };
         self.last = Some(out);
-        self.next = index + 1;
+        self.next_unit = index + 1;
         Some(Lines::First(index, unit))
     }
 }

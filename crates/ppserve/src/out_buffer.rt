@@ -10,10 +10,10 @@ use crate::streams::Sink;
 use std::alloc::{AllocError, Global};
 use std::marker::Model;
 
-/// The capacity of a buffer, in bytes.
+/// The size of a buffer, in bytes.
 pub(crate) const SIZE: usize = 1_048_576;
 
-/// The limit of a buffer that stays in a processor's cache.
+/// The limit that keeps a buffer in a processor's cache.
 const SMALL: usize = 65_536;
 
 /// The capacity for a short spelling.
@@ -27,8 +27,8 @@ const LONGEST: usize = MOST_PREFIX + SHORT + 1;
 #[derive(Drop)]
 pub(crate) struct OutBuffer {
     bytes: Vec<u8>,
-    used: usize,
-    /// The line of a token is added only if at most this many bytes aren't written yet.
+    filled: usize,
+    /// The buffer is flushed before the line of a token if it has more bytes than this.
     limit: usize,
     line: LastPrefixes,
 }
@@ -38,27 +38,27 @@ impl Model for OutBuffer {
 
     ghost Value = { List ℕ };
 
-    ghost view = { λ p. take p.used p.bytes.items };
+    ghost view = { λ p. take p.filled p.bytes.items };
 
-    ghost invariant = { λ p. (vec_len p.bytes ≡ 1_048_576) × (p.used ≤ 1_048_576) × (p.limit + 88 ≤ 1_048_576) };
+    ghost invariant = { λ p. (vec_len p.bytes ≡ 1_048_576) × (p.filled ≤ 1_048_576) × (p.limit + 88 ≤ 1_048_576) };
 }
 
 impl OutBuffer {
-    /// Allocates an empty buffer, which is written when it has about 64 KiB: then it stays in a processor's cache.
+    /// Allocates an empty buffer, which is flushed when it has about 64 KiB: then it stays in a processor's cache.
     pub(crate) fn new(alloc: Global) -> Result<OutBuffer, AllocError>
         ensures { IfOk result (λ buf. buf ≡ []) }
     {
         OutBuffer::with_limit(alloc, SMALL)
     }
 
-    /// Allocates an empty buffer, which is written when it is nearly full.
-    pub(crate) fn whole(alloc: Global) -> Result<OutBuffer, AllocError>
+    /// Allocates an empty buffer, which is flushed when it is nearly full.
+    pub(crate) fn with_full_size(alloc: Global) -> Result<OutBuffer, AllocError>
         ensures { IfOk result (λ buf. buf ≡ []) }
     {
         OutBuffer::with_limit(alloc, SIZE - LONGEST)
     }
 
-    /// Allocates an empty buffer, which is written when it has more than `limit` bytes.
+    /// Allocates an empty buffer, which is flushed when it has more than `limit` bytes.
     fn with_limit(alloc: Global, limit: usize) -> Result<OutBuffer, AllocError>
         requires { limit + 88 ≤ 1_048_576 }
         ensures { IfOk result (λ buf. buf ≡ []) }
@@ -66,18 +66,18 @@ impl OutBuffer {
         let bytes = vec![in alloc; 0u8; SIZE]?;
         Ok(OutBuffer {
             bytes,
-            used: 0,
+            filled: 0,
             limit,
             line: LastPrefixes::new(),
         })
     }
 
-    /// Appends bytes. If they don't fit, the buffer is written first; bytes that are longer than the buffer are written
+    /// Appends bytes. If they don't fit, the buffer is flushed first; bytes that are longer than the buffer are written
     /// directly.
     pub(crate) fn put<W: Sink>(&mut self, writer: &mut W, bytes: &[u8])
         ensures { Puts W.written W.has_failed writer.old writer.new self.old self.new bytes.now }
     {
-        if bytes.len() <= SIZE - self.used {
+        if bytes.len() <= SIZE - self.filled {
             return self.add(bytes);
         }
         self.flush(writer);
@@ -87,14 +87,13 @@ impl OutBuffer {
         write_out(writer, bytes);
     }
 
-    /// Writes the buffer unless it has capacity for what is before a token's spelling, a short spelling and the line's
-    /// end.
+    /// Flushes the buffer unless it has capacity for the line of a token with a short spelling.
     #[inline(always)]
     pub(crate) fn ensure_capacity<W: Sink>(&mut self, writer: &mut W)
         ensures out { Puts W.written W.has_failed writer.old writer.new self.old self.new [] }
         ensures capacity { length self.new + 88 ≤ 1_048_576 }
     {
-        if self.used > self.limit {
+        if self.filled > self.limit {
             self.flush(writer);
         }
     }
@@ -107,7 +106,7 @@ impl OutBuffer {
         ensures within { length self.new ≤ length self.old + 73 }
     {
         let bytes = self.bytes.as_mut_slice();
-        self.used = self.line.put(bytes, self.used, fields);
+        self.filled = self.line.put(bytes, self.filled, fields);
     }
 
     /// Appends the spelling in the first `len` bytes of `inline` and the end of its line. Returns false, without
@@ -124,8 +123,8 @@ impl OutBuffer {
             return false;
         }
         let bytes = self.bytes.as_mut_slice();
-        let end = put_prefix(bytes, self.used, inline, len);
-        self.used = put_byte(bytes, end, b'\n');
+        let end = put_prefix(bytes, self.filled, inline, len);
+        self.filled = put_byte(bytes, end, b'\n');
         true
     }
 
@@ -134,16 +133,16 @@ impl OutBuffer {
         requires { length self.old + length bytes.now ≤ 1_048_576 }
         ensures { self.new ≡ self.old ++ bytes.now }
     {
-        let end = self.used + bytes.len();
-        self.bytes.as_mut_slice()[self.used..end].copy_from_slice(bytes);
-        self.used = end;
+        let end = self.filled + bytes.len();
+        self.bytes.as_mut_slice()[self.filled..end].copy_from_slice(bytes);
+        self.filled = end;
     }
 
     /// Empties the buffer.
     pub(crate) fn clear(&mut self)
         ensures { self.new ≡ [] }
     {
-        self.used = 0;
+        self.filled = 0;
     }
 
     /// Writes the buffer and empties it.
@@ -152,8 +151,8 @@ impl OutBuffer {
         ensures out { Puts W.written W.has_failed writer.old writer.new self.old self.new [] }
         ensures empty { self.new ≡ [] }
     {
-        write_out(writer, &self.bytes.as_slice()[..self.used]);
-        self.used = 0;
+        write_out(writer, &self.bytes.as_slice()[..self.filled]);
+        self.filled = 0;
     }
 }
 

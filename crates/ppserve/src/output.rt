@@ -1,10 +1,10 @@
-//! Prints the output of a list's units.
+//! Prints the output of a list's units. Functions `put_..` append to a buffer, which is flushed whenever it is full.
 ghost use Rattle.std.specs.Prelude.{◌≡◌, ℕ, ◌++◌, ◌∷◌, [], ◌<◌, ◌≤◌};
 ghost use Rattle.std.specs.Prelude.{OnOk, OnErr, IfOk, Some, codes, decimal, false, true, length, take, flat_map};
 ghost use Rattle.std.specs.Io.KnownBytes.{Appends};
 ghost use Rattle.ppserve.specs.Output.{escaped, escaped_byte, prints_as_is, hex_digit, place_text, item_lines, pragma_token_line};
 ghost use Rattle.ppserve.specs.Output.{dep_line, fault_text, last_line, output_text};
-ghost use Rattle.ppserve.specs.code.Entries.{entry_lines, first_line, last_lines, of_lines, remaining_entries, shown_text};
+ghost use Rattle.ppserve.specs.code.Records.{record_lines, first_line, last_lines, records_of_lines, remaining_records, output_bytes};
 ghost use Rattle.ppserve.specs.code.Printing.{Puts};
 ghost use Rattle.ppserve.specs.declared.output.Mode.TheVariants.{Dump, Deps};
 ghost use Rattle.ppmacro.specs.Substituting.{tokens_of};
@@ -40,7 +40,7 @@ pub fn dump(alloc: Global, list: &List, outs: &[UnitOut]) -> Result<Vec<u8>, Mem
     requires { length outs.now ≡ length list.now.units }
     ensures { IfOk result (λ text. text.items ≡ output_text Dump list.now outs.now) }
 {
-    printed(alloc, Mode::Dump, list, outs)
+    print_to_vec(alloc, Mode::Dump, list, outs)
 }
 
 /// Returns the output without items: for each unit a line with its name, one for each dependency, and one with its
@@ -49,12 +49,12 @@ pub fn deps(alloc: Global, list: &List, outs: &[UnitOut]) -> Result<Vec<u8>, Mem
     requires { length outs.now ≡ length list.now.units }
     ensures { IfOk result (λ text. text.items ≡ output_text Deps list.now outs.now) }
 {
-    printed(alloc, Mode::Deps, list, outs)
+    print_to_vec(alloc, Mode::Deps, list, outs)
 }
 
-/// What is printed: the output of units, in a mode.
+/// The output of units, in a mode.
 #[derive(Clone, Copy)]
-pub(crate) struct Shown<'a> {
+pub(crate) struct Output<'a> {
     pub mode: Mode,
     pub names: &'a OwnedTexts,
     pub units: &'a [Unit],
@@ -62,18 +62,18 @@ pub(crate) struct Shown<'a> {
 }
 
 /// Returns the output in a mode.
-fn printed(alloc: Global, mode: Mode, list: &List, outs: &[UnitOut]) -> Result<Vec<u8>, Memory>
+fn print_to_vec(alloc: Global, mode: Mode, list: &List, outs: &[UnitOut]) -> Result<Vec<u8>, Memory>
     ensures { IfOk result (λ text. text.items ≡ output_text mode list.now outs.now) }
 {
     let mut buf = OutBuffer::new(alloc)?;
     let mut text = VecSink::new(alloc);
-    let shown = Shown {
+    let output = Output {
         mode,
         names: &list.names,
         units: list.units.as_slice(),
         outs,
     };
-    let Ok(()) = print(&mut buf, &mut text, shown) else {
+    let Ok(()) = print(&mut buf, &mut text, output) else {
         return Err(Memory);
     };
     Ok(text.into_bytes())
@@ -84,15 +84,15 @@ fn printed(alloc: Global, mode: Mode, list: &List, outs: &[UnitOut]) -> Result<V
 pub(crate) fn print<W: Sink>(
     buf: &mut OutBuffer,
     writer: &mut W,
-    shown: Shown,
+    output: Output,
 ) -> Result<(), Failed>
     requires buf { buf.old ≡ [] }
     requires writer { W.has_failed writer.old ≡ false }
-    ensures ok { OnOk result (Appends (W.written writer.old) (W.written writer.new) (shown_text shown.entry)) }
+    ensures ok { OnOk result (Appends (W.written writer.old) (W.written writer.new) (output_bytes output.entry)) }
     ensures failed { OnErr result (W.has_failed writer.new ≡ true) }
-    ensures prefix { OnErr result ((n : ℕ) × Appends (W.written writer.old) (W.written writer.new) (take n (shown_text shown.entry))) }
+    ensures prefix { OnErr result ((n : ℕ) × Appends (W.written writer.old) (W.written writer.new) (take n (output_bytes output.entry))) }
 {
-    put_all(buf, writer, shown);
+    put_all(buf, writer, output);
     buf.flush(writer);
     if writer.failed() {
         return Err(Failed);
@@ -101,19 +101,19 @@ pub(crate) fn print<W: Sink>(
 }
 
 /// Prints all lines. After a failed write nothing more is formatted or written.
-fn put_all<W: Sink>(buf: &mut OutBuffer, writer: &mut W, shown: Shown)
-    ensures { Puts W.written W.has_failed writer.old writer.new buf.old buf.new (shown_text shown.entry) }
+fn put_all<W: Sink>(buf: &mut OutBuffer, writer: &mut W, output: Output)
+    ensures { Puts W.written W.has_failed writer.old writer.new buf.old buf.new (output_bytes output.entry) }
 {
-    let mut cursor = LineCursor::new(shown);
+    let mut cursor = LineCursor::new(output);
     while let Some(lines) = cursor.next(usize::MAX) {
         if writer.failed() {
             return;
         }
-        put_lines(buf, writer, shown.names, lines);
+        put_lines(buf, writer, output.names, lines);
     }
 }
 
-/// Prints the next entries, at most `count`. After a failed write nothing more is formatted or written.
+/// Prints the next records, at most `count`. After a failed write nothing more is formatted or written.
 pub(crate) fn put_next<W: Sink>(
     buf: &mut OutBuffer,
     writer: &mut W,
@@ -122,7 +122,7 @@ pub(crate) fn put_next<W: Sink>(
     count: usize,
 )
     ensures { Puts W.written W.has_failed writer.old writer.new buf.old buf.new
-        (flat_map (entry_lines names.now) (take count (remaining_entries cursor.old))) }
+        (flat_map (record_lines names.now) (take count (remaining_records cursor.old))) }
 {
     let mut left = count;
     while left > 0 {
@@ -139,7 +139,7 @@ pub(crate) fn put_next<W: Sink>(
 
 /// Prints consecutive lines.
 fn put_lines<W: Sink>(buf: &mut OutBuffer, writer: &mut W, names: &OwnedTexts, lines: Lines)
-    ensures { Puts W.written W.has_failed writer.old writer.new buf.old buf.new (flat_map (entry_lines names.now) (of_lines lines.entry)) }
+    ensures { Puts W.written W.has_failed writer.old writer.new buf.old buf.new (flat_map (record_lines names.now) (records_of_lines lines.entry)) }
 {
     match lines {
         Lines::First(index, unit) => put_first(buf, writer, names, index, unit),

@@ -1,35 +1,36 @@
 //! Prints in rounds: workers fill a buffer each, then one thread writes the buffers in order.
 ghost use Rattle.std.specs.Prelude.{◌≡◌, ◌<◌, ◌++◌, [], All, IfOk, OnOk, OnErr, length, min, take, flat_map, true, false, ℕ};
 ghost use Rattle.std.specs.Io.KnownBytes.{Appends};
-ghost use Rattle.ppserve.specs.code.Entries.{entry_lines, remaining_entries, shown_text};
+ghost use Rattle.ppserve.specs.code.Records.{record_lines, remaining_records, output_bytes};
 ghost use Rattle.ppserve.specs.code.Printing.{Puts};
-ghost use Rattle.ppserve.specs.code.Rounds.{page_entries, IsEmpty, IsFilled};
+ghost use Rattle.ppserve.specs.code.Rounds.{page_records, IsEmpty, IsFilled};
 
 use crate::line_cursor::LineCursor;
 use crate::out_buffer::{OutBuffer, SIZE};
-use crate::output::{Shown, put_next};
+use crate::output::{Output, put_next};
 use crate::streams::{Failed, Sink};
 use ppunit::OwnedTexts;
 use std::alloc::{AllocError, Global};
 use std::thread::{Threads, for_each_mut};
 
-/// The number of entries that a worker formats in a round: as many as nearly fill its buffer, since the line of a token
+/// The number of records that a worker formats in a round: as many as nearly fill its buffer, since the line of a token
 /// has about 35 bytes.
-const MOST_ENTRIES: usize = SIZE / 40;
+const MOST_RECORDS: usize = SIZE / 40;
 
-/// The least number of entries that a worker formats in a round.
-const FEWEST_ENTRIES: usize = 256;
+/// The least number of records that a worker formats in a round.
+const FEWEST_RECORDS: usize = 256;
 
 /// The largest number of pages. More gain nothing, because one thread writes them.
 const MOST_PAGES: usize = 16;
 
-/// A sink that refuses all bytes. What is put into a buffer over it is in the buffer, unless the sink has failed.
+/// A sink that refuses all bytes. A buffer in front of it keeps all that is put into it; if the buffer overflows, the
+/// sink has failed.
 #[derive(Drop)]
-struct Closed {
+struct RefusingSink {
     failed: bool,
 }
 
-impl Sink for Closed {
+impl Sink for RefusingSink {
     ghost use Rattle.std.specs.Prelude.{Some, []};
 
     ghost written = { λ _. Some [] };
@@ -49,32 +50,32 @@ impl Sink for Closed {
     }
 }
 
-/// A worker's part of a round: a buffer, and the entries whose lines it is filled with.
+/// What one worker formats in a round: a buffer, and the records whose lines go into it.
 #[derive(Drop)]
 pub(crate) struct Page<'a> {
     buf: OutBuffer,
-    sink: Closed,
+    sink: RefusingSink,
     start: LineCursor<'a>,
     count: usize,
 }
 
 impl<'a> Page<'a> {
     /// Allocates an empty page.
-    fn new(alloc: Global, shown: Shown<'a>) -> Result<Page<'a>, AllocError>
+    fn new(alloc: Global, output: Output<'a>) -> Result<Page<'a>, AllocError>
         ensures { IfOk result (λ page. IsEmpty page) }
     {
         Ok(Page {
-            buf: OutBuffer::whole(alloc)?,
-            sink: Closed { failed: false },
-            start: LineCursor::new(shown),
+            buf: OutBuffer::with_full_size(alloc)?,
+            sink: RefusingSink { failed: false },
+            start: LineCursor::new(output),
             count: 0,
         })
     }
 
-    /// Assigns the next `count` entries to the page, and moves the cursor over them.
+    /// Assigns the next `count` records to the page, and moves the cursor over them.
     fn assign(&mut self, cursor: &mut LineCursor<'a>, count: usize)
-        ensures entries { remaining_entries cursor.old ≡ page_entries self.new ++ remaining_entries cursor.new }
-        ensures fewer { 0 < count → 0 < length (remaining_entries cursor.old) → length (remaining_entries cursor.new) < length (remaining_entries cursor.old) }
+        ensures records { remaining_records cursor.old ≡ page_records self.new ++ remaining_records cursor.new }
+        ensures fewer { 0 < count → 0 < length (remaining_records cursor.old) → length (remaining_records cursor.new) < length (remaining_records cursor.old) }
         ensures empty { IsEmpty self.old → IsEmpty self.new }
     {
         self.start = cursor.duplicate();
@@ -82,10 +83,10 @@ impl<'a> Page<'a> {
         cursor.skip(count);
     }
 
-    /// Puts the lines of the page's entries into its buffer, as far as they fit.
+    /// Puts the lines of the page's records into its buffer, as far as they fit.
     fn fill(&mut self, names: &OwnedTexts)
         requires { IsEmpty self.old }
-        ensures entries { page_entries self.new ≡ page_entries self.old }
+        ensures records { page_records self.new ≡ page_records self.old }
         ensures filled { IsFilled names.now self.new }
     {
         let mut cursor = self.start.duplicate();
@@ -98,11 +99,11 @@ impl<'a> Page<'a> {
         );
     }
 
-    /// Writes the lines of the page's entries, and empties it. If they didn't fit, they are formatted once more. Returns
+    /// Writes the lines of the page's records, and empties it. If they didn't fit, they are formatted once more. Returns
     /// whether they fit.
     fn write_out<W: Sink>(&mut self, writer: &mut W, names: &OwnedTexts) -> bool
         requires { IsFilled names.now self.old }
-        ensures out { Puts W.written W.has_failed writer.old writer.new [] [] (flat_map (entry_lines names.now) (page_entries self.old)) }
+        ensures out { Puts W.written W.has_failed writer.old writer.new [] [] (flat_map (record_lines names.now) (page_records self.old)) }
         ensures empty { IsEmpty self.new }
     {
         let fits = !self.sink.failed;
@@ -120,7 +121,7 @@ impl<'a> Page<'a> {
 /// Allocates a page for each worker, at most 16.
 pub(crate) fn new_pages<'a>(
     alloc: Global,
-    shown: Shown<'a>,
+    output: Output<'a>,
     workers: usize,
 ) -> Result<Vec<Page<'a>>, AllocError>
     ensures count { IfOk result (λ pages. length pages.items ≡ min workers 16) }
@@ -129,17 +130,17 @@ pub(crate) fn new_pages<'a>(
     let count = workers.min(MOST_PAGES);
     let mut pages = Vec::with_capacity(alloc, count)?;
     for _ in 0..count {
-        pages.push(Page::new(alloc, shown)?)?;
+        pages.push(Page::new(alloc, output)?)?;
     }
     Ok(pages)
 }
 
-/// Assigns the next entries to pages, `count` to each.
+/// Assigns the next records to pages, `count` to each.
 fn assign_all<'a>(pages: &mut [Page<'a>], cursor: &mut LineCursor<'a>, count: usize)
     requires pages { 0 < length pages.old }
     requires count { 0 < count }
-    ensures entries { remaining_entries cursor.old ≡ flat_map page_entries pages.new ++ remaining_entries cursor.new }
-    ensures fewer { 0 < length (remaining_entries cursor.old) → length (remaining_entries cursor.new) < length (remaining_entries cursor.old) }
+    ensures records { remaining_records cursor.old ≡ flat_map page_records pages.new ++ remaining_records cursor.new }
+    ensures fewer { 0 < length (remaining_records cursor.old) → length (remaining_records cursor.new) < length (remaining_records cursor.old) }
     ensures empty { All IsEmpty pages.old → All IsEmpty pages.new }
 {
     for page in pages.iter_mut() {
@@ -150,7 +151,7 @@ fn assign_all<'a>(pages: &mut [Page<'a>], cursor: &mut LineCursor<'a>, count: us
 /// Writes pages in order. Returns whether all lines fit.
 fn write_all<W: Sink>(pages: &mut [Page], writer: &mut W, names: &OwnedTexts) -> bool
     requires { All (IsFilled names.now) pages.old }
-    ensures out { Puts W.written W.has_failed writer.old writer.new [] [] (flat_map (entry_lines names.now) (flat_map page_entries pages.old)) }
+    ensures out { Puts W.written W.has_failed writer.old writer.new [] [] (flat_map (record_lines names.now) (flat_map page_records pages.old)) }
     ensures empty { All IsEmpty pages.new }
 {
     let mut all_fit = true;
@@ -162,61 +163,61 @@ fn write_all<W: Sink>(pages: &mut [Page], writer: &mut W, names: &OwnedTexts) ->
     all_fit
 }
 
-/// Fills pages with the lines of their entries, as far as they fit, by a thread each.
+/// Fills pages with the lines of their records, as far as they fit, with one thread per page.
 fn fill_all<T: Threads + Sync>(threads: &T, pages: &mut [Page], names: &OwnedTexts)
     requires pages { 0 < length pages.old }
     requires empty { All IsEmpty pages.old }
-    ensures entries { flat_map page_entries pages.new ≡ flat_map page_entries pages.old }
+    ensures records { flat_map page_records pages.new ≡ flat_map page_records pages.old }
     ensures filled { All (IsFilled names.now) pages.new }
 {
     let fill = |_index: usize, page: &mut Page|
         requires { IsEmpty page.now }
-        ensures { (page_entries page.exit.now ≡ page_entries page.entry.now) × IsFilled names.entry.now page.exit.now }
+        ensures { (page_records page.exit.now ≡ page_records page.entry.now) × IsFilled names.entry.now page.exit.now }
     { page.fill(names) };
     let count = pages.len();
     for_each_mut(threads, pages, count, &fill);
 }
 
-/// Prints all lines through empty pages. After a failed write nothing more is formatted or written.
+/// Prints all lines in rounds, through empty pages. After a failed write nothing more is formatted or written.
 fn put_in_rounds<'a, T: Threads + Sync, W: Sink>(
     threads: &T,
     pages: &mut [Page<'a>],
     writer: &mut W,
-    shown: Shown<'a>,
+    output: Output<'a>,
 )
     requires pages { 0 < length pages.old }
     requires empty { All IsEmpty pages.old }
-    ensures { Puts W.written W.has_failed writer.old writer.new [] [] (shown_text shown.entry) }
+    ensures { Puts W.written W.has_failed writer.old writer.new [] [] (output_bytes output.entry) }
 {
-    let mut cursor = LineCursor::new(shown);
-    let mut count = MOST_ENTRIES;
+    let mut cursor = LineCursor::new(output);
+    let mut count = MOST_RECORDS;
     while !cursor.is_at_end() {
         if writer.failed() {
             return;
         }
         assign_all(pages, &mut cursor, count);
-        fill_all(threads, pages, shown.names);
-        if !write_all(pages, writer, shown.names) {
-            count = (count / 2).max(FEWEST_ENTRIES);
+        fill_all(threads, pages, output.names);
+        if !write_all(pages, writer, output.names) {
+            count = (count / 2).max(FEWEST_RECORDS);
         }
     }
 }
 
-/// Prints the output of units through empty pages by as many workers, without allocating. Fails only if a write
+/// Prints the output of units through empty pages, with one worker per page, without allocating. Fails only if a write
 /// fails; then a prefix of the output has been written.
 pub(crate) fn print_in_rounds<'a, T: Threads + Sync, W: Sink>(
     threads: &T,
     pages: &mut [Page<'a>],
     writer: &mut W,
-    shown: Shown<'a>,
+    output: Output<'a>,
 ) -> Result<(), Failed>
     requires pages { 0 < length pages.old }
     requires empty { All IsEmpty pages.old }
-    ensures ok { OnOk result (Appends (W.written writer.old) (W.written writer.new) (shown_text shown.entry)) }
+    ensures ok { OnOk result (Appends (W.written writer.old) (W.written writer.new) (output_bytes output.entry)) }
     ensures failed { OnErr result (W.has_failed writer.new ≡ true) }
-    ensures prefix { OnErr result ((n : ℕ) × Appends (W.written writer.old) (W.written writer.new) (take n (shown_text shown.entry))) }
+    ensures prefix { OnErr result ((n : ℕ) × Appends (W.written writer.old) (W.written writer.new) (take n (output_bytes output.entry))) }
 {
-    put_in_rounds(threads, pages, writer, shown);
+    put_in_rounds(threads, pages, writer, output);
     if writer.failed() {
         return Err(Failed);
     }

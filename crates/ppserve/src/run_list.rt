@@ -154,7 +154,7 @@ pub(crate) fn filled_shelf(
 
 /// Preprocesses the units over a file table whose contents are all known, and returns what is needed of their outputs,
 /// in list order. A run proves them over the files that units opened; over all files they are the same.
-pub(crate) fn over_contents<'a, R: Threads + Sync>(
+pub(crate) fn run_over_contents<'a, R: Threads + Sync>(
     threads: &R,
     alloc: Global,
     shelf: &'a Shelf<MemoryDisk>,
@@ -195,7 +195,7 @@ pub(crate) fn over_contents<'a, R: Threads + Sync>(
 
 /// Preprocesses the units of a batch over one set of files, each with a content that the disk may return for its name.
 /// Returns what is needed of their outputs, in list order.
-pub(crate) fn over_disk<'a, R: Threads + Sync, D: Disk + Send + Sync>(
+pub(crate) fn run_over_disk<'a, R: Threads + Sync, D: Disk + Send + Sync>(
     threads: &R,
     alloc: Global,
     batch: &Batch<'a, '_, D, OpenGate>,

@@ -5,14 +5,16 @@ ghost use Rattle.ppserve.specs.Contents.{AreInList, ArePermitted};
 ghost use Rattle.ppserve.specs.Listing.{IsRunnable};
 ghost use Rattle.ppserve.specs.declared.serving.RunFault.TheVariants.{List as ListRefused, Memory as OutOfMemory};
 ghost use Rattle.ppserve.specs.declared.serving.RunFault.TheVariants.{Read as ReadFailed, Write as WriteFailed};
-ghost use Rattle.ppserve.specs.code.Entries.{shown_text};
+ghost use Rattle.ppserve.specs.code.Records.{output_bytes};
 ghost use Rattle.ppserve.specs.Serving.{any_fault, Received, ReadsList, WritesAll, WritesPrefix, Serves, ServesPrefix, Refuses};
 
 use crate::list::{List, ListFault, MOST_INPUT, read_list};
 use crate::out_buffer::OutBuffer;
-use crate::output::{Mode, Shown, print};
+use crate::output::{Mode, Output, print};
 use crate::rounds::{new_pages, print_in_rounds};
-use crate::run_list::{OpenGate, RunOptions, empty_shelf, filled_shelf, over_contents, over_disk};
+use crate::run_list::{
+    OpenGate, RunOptions, empty_shelf, filled_shelf, run_over_contents, run_over_disk,
+};
 use crate::streams::{Feed, Sink};
 use pppool::Batch;
 use ppshelf::{Contents, Disk};
@@ -136,14 +138,14 @@ fn run_with_contents<T: Threads + Sync, W: Sink>(
         options.hashing,
     )?;
     let units = list.units.as_slice();
-    let outs = over_contents(threads, alloc, &shelf, &list.setting, units, options)?;
-    let shown = Shown {
+    let outs = run_over_contents(threads, alloc, &shelf, &list.setting, units, options)?;
+    let output = Output {
         mode: options.mode,
         names: &list.names,
         units,
         outs: outs.as_slice(),
     };
-    let answer = write_output(threads, alloc, writer, options.workers, shown);
+    let answer = write_output(threads, alloc, writer, options.workers, output);
     options.at_end.let_go(outs);
     options.at_end.let_go(shelf);
     answer
@@ -202,7 +204,7 @@ fn run_with_disk<T: Threads + Sync, W: Sink, D: Disk + Send + Sync>(
     let shelf = empty_shelf(alloc, &list.names, list.setting.profile, options.hashing)?;
     let units = list.units.as_slice();
     let block = options.block_size(units.len());
-    let outs = over_disk(
+    let outs = run_over_disk(
         threads,
         alloc,
         &Batch {
@@ -216,13 +218,13 @@ fn run_with_disk<T: Threads + Sync, W: Sink, D: Disk + Send + Sync>(
         },
         options.mode,
     )?;
-    let shown = Shown {
+    let output = Output {
         mode: options.mode,
         names: &list.names,
         units,
         outs: outs.as_slice(),
     };
-    let answer = write_output(threads, alloc, writer, options.workers, shown);
+    let answer = write_output(threads, alloc, writer, options.workers, output);
     options.at_end.let_go(outs);
     options.at_end.let_go(shelf);
     answer
@@ -271,18 +273,18 @@ fn write_output<T: Threads + Sync, W: Sink>(
     alloc: Global,
     writer: &mut W,
     workers: usize,
-    shown: Shown,
+    output: Output,
 ) -> Result<bool, RunFault>
     requires writer { W.has_failed writer.old ≡ false }
     requires workers { 1 ≤ workers }
-    ensures ok { IfOk result (λ any. WritesAll shown.entry.mode shown.entry.names.now shown.entry.units.now shown.entry.outs.now (W.written writer.old) (W.written writer.new) any) }
+    ensures ok { IfOk result (λ any. WritesAll output.entry.mode output.entry.names.now output.entry.units.now output.entry.outs.now (W.written writer.old) (W.written writer.new) any) }
     ensures kinds { IfErr result (λ fault. (fault ≡ OutOfMemory) ⊎ (fault ≡ WriteFailed)) }
     ensures write { IsErrOf result WriteFailed → W.has_failed writer.new ≡ true }
-    ensures prefix { IsErrOf result WriteFailed → WritesPrefix shown.entry.mode shown.entry.names.now shown.entry.units.now shown.entry.outs.now (W.written writer.old) (W.written writer.new) }
+    ensures prefix { IsErrOf result WriteFailed → WritesPrefix output.entry.mode output.entry.names.now output.entry.units.now output.entry.outs.now (W.written writer.old) (W.written writer.new) }
     ensures untouched { IfErr result (λ fault. fault ≢ WriteFailed → writer.new ≡ writer.old) }
 {
-    print_output(threads, alloc, writer, workers, shown)?;
-    Ok(any_fault(shown.outs))
+    print_output(threads, alloc, writer, workers, output)?;
+    Ok(any_fault(output.outs))
 }
 
 /// Prints the output of units. Dependencies are few lines, which one thread prints.
@@ -291,33 +293,33 @@ fn print_output<T: Threads + Sync, W: Sink>(
     alloc: Global,
     writer: &mut W,
     workers: usize,
-    shown: Shown,
+    output: Output,
 ) -> Result<(), RunFault>
     requires writer { W.has_failed writer.old ≡ false }
     requires workers { 1 ≤ workers }
-    ensures ok { OnOk result (Appends (W.written writer.old) (W.written writer.new) (shown_text shown.entry)) }
+    ensures ok { OnOk result (Appends (W.written writer.old) (W.written writer.new) (output_bytes output.entry)) }
     ensures kinds { IfErr result (λ fault. (fault ≡ OutOfMemory) ⊎ (fault ≡ WriteFailed)) }
     ensures write { IsErrOf result WriteFailed → W.has_failed writer.new ≡ true }
-    ensures prefix { IsErrOf result WriteFailed → (n : ℕ) × Appends (W.written writer.old) (W.written writer.new) (take n (shown_text shown.entry)) }
+    ensures prefix { IsErrOf result WriteFailed → (n : ℕ) × Appends (W.written writer.old) (W.written writer.new) (take n (output_bytes output.entry)) }
     ensures untouched { IfErr result (λ fault. fault ≢ WriteFailed → writer.new ≡ writer.old) }
 {
-    if workers == 1 || shown.mode == Mode::Deps {
-        return print_alone(alloc, writer, shown);
+    if workers == 1 || output.mode == Mode::Deps {
+        return print_alone(alloc, writer, output);
     }
-    print_by_workers(threads, alloc, writer, workers, shown)
+    print_by_workers(threads, alloc, writer, workers, output)
 }
 
 /// Prints the output of units by one thread.
-fn print_alone<W: Sink>(alloc: Global, writer: &mut W, shown: Shown) -> Result<(), RunFault>
+fn print_alone<W: Sink>(alloc: Global, writer: &mut W, output: Output) -> Result<(), RunFault>
     requires writer { W.has_failed writer.old ≡ false }
-    ensures ok { OnOk result (Appends (W.written writer.old) (W.written writer.new) (shown_text shown.entry)) }
+    ensures ok { OnOk result (Appends (W.written writer.old) (W.written writer.new) (output_bytes output.entry)) }
     ensures kinds { IfErr result (λ fault. (fault ≡ OutOfMemory) ⊎ (fault ≡ WriteFailed)) }
     ensures write { IsErrOf result WriteFailed → W.has_failed writer.new ≡ true }
-    ensures prefix { IsErrOf result WriteFailed → (n : ℕ) × Appends (W.written writer.old) (W.written writer.new) (take n (shown_text shown.entry)) }
+    ensures prefix { IsErrOf result WriteFailed → (n : ℕ) × Appends (W.written writer.old) (W.written writer.new) (take n (output_bytes output.entry)) }
     ensures untouched { IfErr result (λ fault. fault ≢ WriteFailed → writer.new ≡ writer.old) }
 {
     let mut buf = OutBuffer::new(alloc)?;
-    let Ok(()) = print(&mut buf, writer, shown) else {
+    let Ok(()) = print(&mut buf, writer, output) else {
         return Err(RunFault::Write);
     };
     Ok(())
@@ -329,18 +331,18 @@ fn print_by_workers<T: Threads + Sync, W: Sink>(
     alloc: Global,
     writer: &mut W,
     workers: usize,
-    shown: Shown,
+    output: Output,
 ) -> Result<(), RunFault>
     requires writer { W.has_failed writer.old ≡ false }
     requires workers { 1 ≤ workers }
-    ensures ok { OnOk result (Appends (W.written writer.old) (W.written writer.new) (shown_text shown.entry)) }
+    ensures ok { OnOk result (Appends (W.written writer.old) (W.written writer.new) (output_bytes output.entry)) }
     ensures kinds { IfErr result (λ fault. (fault ≡ OutOfMemory) ⊎ (fault ≡ WriteFailed)) }
     ensures write { IsErrOf result WriteFailed → W.has_failed writer.new ≡ true }
-    ensures prefix { IsErrOf result WriteFailed → (n : ℕ) × Appends (W.written writer.old) (W.written writer.new) (take n (shown_text shown.entry)) }
+    ensures prefix { IsErrOf result WriteFailed → (n : ℕ) × Appends (W.written writer.old) (W.written writer.new) (take n (output_bytes output.entry)) }
     ensures untouched { IfErr result (λ fault. fault ≢ WriteFailed → writer.new ≡ writer.old) }
 {
-    let mut pages = new_pages(alloc, shown, workers)?;
-    let Ok(()) = print_in_rounds(threads, pages.as_mut_slice(), writer, shown) else {
+    let mut pages = new_pages(alloc, output, workers)?;
+    let Ok(()) = print_in_rounds(threads, pages.as_mut_slice(), writer, output) else {
         return Err(RunFault::Write);
     };
     Ok(())

@@ -1,7 +1,7 @@
 use Rattle.std.proofs.Common.{[], ◌++◌, sym, ◌∙◌}
 use Rattle.std.proofs.lemmas.Grind.{flat_map-append}
-use Rattle.ppserve.specs.code.Entries.{entry_lines, of_lines}
-use Rattle.ppserve.proofs.Entries.{lines_whole, one_more}
+use Rattle.ppserve.specs.code.Records.{record_lines, records_of_lines}
+use Rattle.ppserve.proofs.Records.{lines_whole, one_more}
 use Rattle.ppserve.proofs.Printing.{puts_as, puts_none, puts_then, puts_failed}
 use Rattle.ppserve.proofs.output.put_all.Goals as goal
 
@@ -10,12 +10,12 @@ loop-lines-init g c = record { done = []; whole = c.new-cursor.ensures; out = pu
 
 pub returns-then-failed : goal.returns-then-failed
 returns-then-failed g c =
-    puts_as (lines_whole (entry_lines c.args.shown.names.now) _ _ _ c.loop-lines.invariant.whole)
+    puts_as (lines_whole (record_lines c.args.output.names.now) _ _ _ c.loop-lines.invariant.whole)
     (puts_then c.loop-lines.invariant.out (puts_failed (sym c.failed.ensures ∙ c.if-failed.true)))
 
 pub loop-lines-preserved : goal.loop-lines-preserved
 loop-lines-preserved g c = record {
-  done = c.loop-lines.invariant.done ++ of_lines c.in-Some.lines;
+  done = c.loop-lines.invariant.done ++ records_of_lines c.in-Some.lines;
   whole = one_more _ _ _ _ _ c.loop-lines.invariant.whole c.in-Some.ensures.2;
-  out = puts_as (sym (flat_map-append (entry_lines c.args.shown.names.now) _ _)) (puts_then c.loop-lines.invariant.out c.put_lines.ensures);
+  out = puts_as (sym (flat_map-append (record_lines c.args.output.names.now) _ _)) (puts_then c.loop-lines.invariant.out c.put_lines.ensures);
 }

@@ -1,5 +1,5 @@
 use Rattle.std.proofs.Common.{sym, append-nil}
-use Rattle.ppserve.proofs.Entries.{lines_of_tokens}
+use Rattle.ppserve.proofs.Records.{lines_of_tokens}
 use Rattle.ppserve.proofs.Printing.{puts_as}
 use Rattle.ppserve.proofs.output.put_lines.Goals as goal
 

@@ -1,7 +1,7 @@
 use Rattle.std.proofs.Common.{rules, ◌≡◌, ◌+◌, ◌<◌, suc, length, drop, sym, subst, ◌∙◌, arith}
 use Rattle.std.proofs.lemmas.List.{drop-set-lt}
 use Rattle.std.proofs.lemmas.List.Elements.{AllWithin-more_set}
-use Rattle.ppserve.specs.code.Entries.{entry_lines}
+use Rattle.ppserve.specs.code.Records.{record_lines}
 use Rattle.ppserve.specs.code.Rounds.{IsEmpty, IsFilled}
 use Rattle.ppserve.proofs.Pages.{same_from, one_more_page}
 use Rattle.ppserve.proofs.Printing.{puts_as, puts_then}
@@ -23,7 +23,7 @@ loop-page-preserved g c =
     let same = same_from i now c.args.pages.now c.page-item.result below c.loop-page.invariant.rest in
     let more : i + 1 ≡ suc i = omega arith in
     record {
-      out = puts_as (one_more_page (entry_lines c.args.names.now) c.args.pages.now i c.page-item.result _ same.0 same.1) (puts_then c.loop-page.invariant.out c.write_out.ensures.out);
+      out = puts_as (one_more_page (record_lines c.args.names.now) c.args.pages.now i c.page-item.result _ same.0 same.1) (puts_then c.loop-page.invariant.out c.write_out.ensures.out);
       rest = drop-set-lt (i + 1) now i left (omega arith) ∙ ((λ j. drop (more j) now) ∙ (same.2 ∙ (λ j. drop (sym more j) c.args.pages.now)));
       empty = AllWithin-more_set now i left below IsEmpty c.loop-page.invariant.empty c.write_out.ensures.empty;
     }

@@ -1,13 +1,13 @@
 use Rattle.std.proofs.Common.{◌≡◌, [], flat_map, take, drop}
 use Rattle.std.specs.List.{AllWithin}
-use Rattle.ppserve.specs.code.Entries.{entry_lines}
+use Rattle.ppserve.specs.code.Records.{record_lines}
 use Rattle.ppserve.specs.code.Printing.{Puts}
-use Rattle.ppserve.specs.code.Rounds.{page_entries, IsEmpty}
+use Rattle.ppserve.specs.code.Rounds.{page_records, IsEmpty}
 use Rattle.ppserve.proofs.rounds.write_all.Given as goal
 
 abbrev pub invariant-loop-page : goal.invariant-loop-page
 invariant-loop-page g l = record {
-  out : Puts g.W.Sink.written g.W.Sink.has_failed l.initial.writer l.writer [] [] (flat_map (entry_lines l.names) (flat_map page_entries (take l.page-index l.fn.pages)));
+  out : Puts g.W.Sink.written g.W.Sink.has_failed l.initial.writer l.writer [] [] (flat_map (record_lines l.names) (flat_map page_records (take l.page-index l.fn.pages)));
   rest : drop l.page-index l.pages ≡ drop l.page-index l.fn.pages;
   empty : AllWithin IsEmpty l.pages 0 l.page-index;
 }

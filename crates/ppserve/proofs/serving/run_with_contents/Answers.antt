@@ -5,11 +5,11 @@ use Rattle.pppool.proofs.Placing.{if_ok_then}
 use Rattle.ppserve.proofs.Giving.{prefix_served, came_of, can_run, few_units, gives_all, served}
 use Rattle.ppserve.proofs.serving.run_with_contents.Goals as goal
 
-pub over_contents-requires-clause-count : goal.over_contents-requires-clause-count
-over_contents-requires-clause-count g c κs within = few_units c.args.list.now c.as_slice-units.result.now c.requires.runnable c.as_slice-units.ensures
+pub run_over_contents-requires-clause-count : goal.run_over_contents-requires-clause-count
+run_over_contents-requires-clause-count g c κs within = few_units c.args.list.now c.as_slice-units.result.now c.requires.runnable c.as_slice-units.ensures
 
-pub over_contents-requires-clause-units : goal.over_contents-requires-clause-units
-over_contents-requires-clause-units g c κs within = can_run c.args.list.now c.in_ok-shelf.shelf.names c.as_slice-units.result.now c.requires.runnable c.in_ok-shelf.ensures.names c.as_slice-units.ensures
+pub run_over_contents-requires-clause-units : goal.run_over_contents-requires-clause-units
+run_over_contents-requires-clause-units g c κs within = can_run c.args.list.now c.in_ok-shelf.shelf.names c.as_slice-units.result.now c.requires.runnable c.in_ok-shelf.ensures.names c.as_slice-units.ensures
 
 pub returns-clause-ok : goal.returns-clause-ok
 returns-clause-ok g c =

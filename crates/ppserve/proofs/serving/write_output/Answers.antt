@@ -1,5 +1,5 @@
 use Rattle.std.proofs.Common.{rules, take, ap}
-use Rattle.ppserve.proofs.Entries.{lines_of_shown}
+use Rattle.ppserve.proofs.Records.{lines_of_output}
 use Rattle.ppserve.proofs.Known.{appends_as}
 use Rattle.ppserve.proofs.serving.write_output.Goals as goal
 
@@ -7,7 +7,7 @@ pub returns-in_err-print_output-clause-prefix : goal.returns-in_err-print_output
 returns-in_err-print_output-clause-prefix g c =
     λ failed.
     let prefix = c.in_err-print_output.ensures.prefix (search rules) in
-    record { count = prefix.0; went = appends_as _ _ _ _ (ap (take prefix.0) (lines_of_shown c.args.shown)) prefix.1 }
+    record { count = prefix.0; went = appends_as _ _ _ _ (ap (take prefix.0) (lines_of_output c.args.output)) prefix.1 }
 
 pub returns-clause-ok : goal.returns-clause-ok
-returns-clause-ok g c = record { went = appends_as _ _ _ _ (lines_of_shown c.args.shown) c.in_ok-print_output.ensures.ok; fault = c.any_fault.ensures }
+returns-clause-ok g c = record { went = appends_as _ _ _ _ (lines_of_output c.args.output) c.in_ok-print_output.ensures.ok; fault = c.any_fault.ensures }

@@ -1,5 +1,5 @@
 use Rattle.std.proofs.Common.{take, flat_map, refl, ap}
-use Rattle.ppserve.specs.code.Entries.{entry_lines}
+use Rattle.ppserve.specs.code.Records.{record_lines}
 use Rattle.ppserve.proofs.Printing.{puts_as, puts_here, puts_flushed}
 use Rattle.ppserve.proofs.rounds.Page.write_out.Goals as goal
 use Rattle.ppserve.proofs.rounds.Page.write_out.Goals.{then-not-fits, else-not-fits}
@@ -8,7 +8,7 @@ pub returns-clause-out : goal.returns-clause-out
 returns-clause-out g c = elim c.if-not-fits.branch [
   | then-not-fits w ↦
       puts_flushed w.clear.ensures
-      (puts_as (ap (λ entries. flat_map (entry_lines c.args.names.now) (take c.args.self.now.count entries)) w.duplicate-cursor.ensures) w.put_next.ensures)
+      (puts_as (ap (λ records. flat_map (record_lines c.args.names.now) (take c.args.self.now.count records)) w.duplicate-cursor.ensures) w.put_next.ensures)
       w.writer-is (ap (λ page. page.buf) w.self-is) c.flush.ensures.out c.flush.ensures.empty
   | else-not-fits w ↦
       puts_flushed refl (puts_here (c.requires w.if-not-fits.false)) w.writer-is (ap (λ page. page.buf) w.self-is) c.flush.ensures.out c.flush.ensures.empty

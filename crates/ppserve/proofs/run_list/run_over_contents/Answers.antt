@@ -3,7 +3,7 @@ use Rattle.ppshelf.specs.Files.{ShelfView}
 use Rattle.pppool.specs.declared.retention.Retain.{Retain}
 use Rattle.pppool.specs.Retained.{retained}
 use Rattle.ppserve.proofs.Giving.{knows_files}
-use Rattle.ppserve.proofs.run_list.over_contents.Goals as goal
+use Rattle.ppserve.proofs.run_list.run_over_contents.Goals as goal
 
 pub returns : goal.returns
 returns g c =

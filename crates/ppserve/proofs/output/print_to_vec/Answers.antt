@@ -1,7 +1,7 @@
 use Rattle.std.proofs.Common.{◌∙◌}
-use Rattle.ppserve.proofs.Entries.{lines_of_all}
+use Rattle.ppserve.proofs.Records.{lines_of_all}
 use Rattle.ppserve.proofs.Known.{written_alone}
-use Rattle.ppserve.proofs.output.printed.Goals as goal
+use Rattle.ppserve.proofs.output.print_to_vec.Goals as goal
 
 pub returns : goal.returns
 returns c =

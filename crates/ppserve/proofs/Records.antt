@@ -1,4 +1,4 @@
--- The lines of entries.
+-- The lines of records.
 use Rattle.std.proofs.Common.{◌≡◌, ℕ, zero, suc, ◌-◌, ◌≤◌, List, [], ◌∷◌, ◌++◌, map, length, take, drop, flat_map, refl, sym, ap, ◌∙◌, append_assoc, append-nil, arith}
 use Rattle.std.proofs.lemmas.Grind.{flat_map-append}
 use Rattle.std.proofs.lemmas.List.{take-append-drop, map-append}
@@ -11,20 +11,20 @@ use Rattle.ppunit.specs.declared.units.Unit.{Unit as UnitOfList}
 use Rattle.ppserve.specs.Output.{item_lines, shown_items, dep_line, last_line, unit_lines, numbered}
 use Rattle.ppserve.specs.declared.output.Mode.{Mode}
 use Rattle.ppserve.specs.declared.output.Mode.TheVariants.{Dump, Deps}
-use Rattle.ppserve.specs.declared.output.Shown.{Shown}
+use Rattle.ppserve.specs.declared.output.Output.{Output}
 use Rattle.ppserve.specs.declared.line_cursor.LineCursor.{LineCursor}
-use Rattle.ppserve.specs.code.Entries.{Entry, OfItem, Last, first_line, entry_lines, of_items, of_token, of_slices, of_last, remaining_entries, entries_from, shown_text}
+use Rattle.ppserve.specs.code.Records.{Record, OfItem, Last, first_line, record_lines, records_of_items, record_of_token, records_of_slices, records_of_last, remaining_records, records_from, output_bytes}
 use Rattle.ppserve.specs.code.LinePrefix.{token_line}
 
-pub lines_of_items : (names : List (List ℕ)) (items : List Item) → flat_map (entry_lines names) (map OfItem items) ≡ flat_map item_lines items
+pub lines_of_items : (names : List (List ℕ)) (items : List Item) → flat_map (record_lines names) (map OfItem items) ≡ flat_map item_lines items
 lines_of_items names [] = refl
 lines_of_items names (i ∷ is) = ap (λ l. item_lines i ++ l) (lines_of_items names is)
 
-lines_of_mode : (mode : Mode) (names : List (List ℕ)) (items : List Item) → flat_map (entry_lines names) (of_items mode items) ≡ shown_items mode items
+lines_of_mode : (mode : Mode) (names : List (List ℕ)) (items : List Item) → flat_map (record_lines names) (records_of_items mode items) ≡ shown_items mode items
 lines_of_mode Dump names items = lines_of_items names items
 lines_of_mode Deps names items = refl
 
-pub lines_of_tokens : (names : List (List ℕ)) (ts : List Token) → flat_map (entry_lines names) (map of_token ts) ≡ flat_map token_line ts
+pub lines_of_tokens : (names : List (List ℕ)) (ts : List Token) → flat_map (record_lines names) (map record_of_token ts) ≡ flat_map token_line ts
 lines_of_tokens names [] = refl
 lines_of_tokens names (t ∷ ts) = ap (λ l. token_line t ++ l) (lines_of_tokens names ts)
 
@@ -32,48 +32,48 @@ joined : (first items deps last rest : List ℕ) → first ++ (items ++ ((deps +
 joined first items deps last rest =
     rw (append_assoc (first ++ items) deps last, append_assoc (first ++ items) (deps ++ last) rest, append_assoc first items ((deps ++ last) ++ rest)) refl
 
--- all entries have the lines of the output
+-- all records have the lines of the output
 pub lines_of_all : (mode : Mode) (names : List (List ℕ)) (n : ℕ) (units : List UnitOfList) (outs : List UnitOut)
-    → flat_map (entry_lines names) (entries_from mode n units outs) ≡ numbered (unit_lines mode names) n units outs
+    → flat_map (record_lines names) (records_from mode n units outs) ≡ numbered (unit_lines mode names) n units outs
 lines_of_all mode names n [] outs = refl
 lines_of_all mode names n (unit ∷ units) [] = refl
 lines_of_all mode names n (unit ∷ units) (out ∷ outs) =
     let later = lines_of_all mode names (suc n) units outs in
-    let items = flat_map-append (entry_lines names) (of_items mode out.items) (Last out ∷ entries_from mode (suc n) units outs) in
+    let items = flat_map-append (record_lines names) (records_of_items mode out.items) (Last out ∷ records_from mode (suc n) units outs) in
     rw (items, lines_of_mode mode names out.items, later)
     (joined (first_line names n unit) (shown_items mode out.items) (flat_map (dep_line names) out.deps) (last_line out.fault) (numbered (unit_lines mode names) (suc n) units outs))
 
-pub lines_of_shown : (shown : Shown) → shown_text shown ≡ numbered (unit_lines shown.mode shown.names.now) 0 shown.units.now shown.outs.now
-lines_of_shown shown = lines_of_all shown.mode shown.names.now 0 shown.units.now shown.outs.now
+pub lines_of_output : (output : Output) → output_bytes output ≡ numbered (unit_lines output.mode output.names.now) 0 output.units.now output.outs.now
+lines_of_output output = lines_of_all output.mode output.names.now 0 output.units.now output.outs.now
 
--- tokens are entries one by one
-pub split_tokens : (n : ℕ) (ts : List Token) (later : List Entry) → map of_token ts ++ later ≡ map of_token (take n ts) ++ (map of_token (drop n ts) ++ later)
+-- tokens are records one by one
+pub split_tokens : (n : ℕ) (ts : List Token) (later : List Record) → map record_of_token ts ++ later ≡ map record_of_token (take n ts) ++ (map record_of_token (drop n ts) ++ later)
 split_tokens n ts later =
-    let both : map of_token ts ≡ map of_token (take n ts) ++ map of_token (drop n ts) = ap (map of_token) (sym (take-append-drop n ts)) ∙ map-append of_token (take n ts) (drop n ts) in
-    ap (λ l. l ++ later) both ∙ append_assoc (map of_token (take n ts)) (map of_token (drop n ts)) later
+    let both : map record_of_token ts ≡ map record_of_token (take n ts) ++ map record_of_token (drop n ts) = ap (map record_of_token) (sym (take-append-drop n ts)) ∙ map-append record_of_token (take n ts) (drop n ts) in
+    ap (λ l. l ++ later) both ∙ append_assoc (map record_of_token (take n ts)) (map record_of_token (drop n ts)) later
 
-pub items_of_tokens : (ts : List Token) → map OfItem (map item.Token ts) ≡ map of_token ts
+pub items_of_tokens : (ts : List Token) → map OfItem (map item.Token ts) ≡ map record_of_token ts
 items_of_tokens [] = refl
-items_of_tokens (t ∷ ts) = ap (λ es. of_token t ∷ es) (items_of_tokens ts)
+items_of_tokens (t ∷ ts) = ap (λ es. record_of_token t ∷ es) (items_of_tokens ts)
 
 -- a position whose next items became its next tokens
 pub refilled : (old new : LineCursor)
     → slice_tokens old.tokens ≡ []
-    → of_slices old.items ≡ map OfItem (map item.Token (slice_tokens new.tokens)) ++ of_slices new.items
-    → new.shown ≡ old.shown → new.last ≡ old.last → new.next ≡ old.next
-    → remaining_entries old ≡ remaining_entries new
-refilled old new none items shown last next =
-    let later = of_last old.last ++ entries_from old.shown.mode old.next (drop old.next old.shown.units.now) (drop old.next old.shown.outs.now) in
+    → records_of_slices old.items ≡ map OfItem (map item.Token (slice_tokens new.tokens)) ++ records_of_slices new.items
+    → new.output ≡ old.output → new.last ≡ old.last → new.next_unit ≡ old.next_unit
+    → remaining_records old ≡ remaining_records new
+refilled old new none items output last next =
+    let later = records_of_last old.last ++ records_from old.output.mode old.next_unit (drop old.next_unit old.output.units.now) (drop old.next_unit old.output.outs.now) in
     let tokens = slice_tokens new.tokens in
-    rw (none, items, shown, last, next, items_of_tokens tokens) (append_assoc (map of_token tokens) (of_slices new.items) later)
+    rw (none, items, output, last, next, items_of_tokens tokens) (append_assoc (map record_of_token tokens) (records_of_slices new.items) later)
 
--- ---- one step of a loop over entries
+-- ---- one step of a loop over records
 
 -- the lines of what was printed and of what remains
 pub lines_whole : {A : Type 0} (f : A → List ℕ) (done rest whole : List A) → done ++ rest ≡ whole → flat_map f done ++ flat_map f rest ≡ flat_map f whole
 lines_whole f done rest whole is = sym (flat_map-append f done rest) ∙ ap (flat_map f) is
 
--- entries that were printed after others, and what remains
+-- records that were printed after others, and what remains
 pub one_more : {A : Type 0} (done lines rest new whole : List A) → done ++ rest ≡ whole → rest ≡ lines ++ new → (done ++ lines) ++ new ≡ whole
 one_more done lines rest new whole before is = append_assoc done lines new ∙ (ap (λ l. done ++ l) (sym is) ∙ before)
 
