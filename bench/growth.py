@@ -45,12 +45,12 @@ from dataclasses import dataclass
 from measure import MEGABYTE, PROGRAM, apart
 from shapes import SHAPES
 
-MOST_GROWTH = 2.3
+MAX_GROWTH = 2.3
 LEAST_SECONDS, LEAST_MEMORY = 0.05, 32 * MEGABYTE
 BYTES_A_THING = 80
-MOST_SECONDS, MOST_MEMORY = 30, 8_000 * MEGABYTE
-# a run of LONG_SECONDS is made once; a shape that fails is measured in at most MOST_ROUNDS rounds
-LONG_SECONDS, MOST_ROUNDS = 4, 9
+MAX_SECONDS, MAX_MEMORY = 30, 8_000 * MEGABYTE
+# a run of LONG_SECONDS is made once; a shape that fails is measured in at most MAX_ROUNDS rounds
+LONG_SECONDS, MAX_ROUNDS = 4, 9
 GCC = ["gcc", "-E", "-std=c11", "-pedantic-errors", "-x", "c", "-"]
 HEADING = ("shape", "size", "seconds", "factor", "MB", "factor", "gcc: seconds", "factor", "MB", "factor")
 NOTHING = ("-", "", "", "")
@@ -83,8 +83,8 @@ class Factor:
 
 
 def bounded():
-    resource.setrlimit(resource.RLIMIT_CPU, (MOST_SECONDS, MOST_SECONDS + 1))
-    resource.setrlimit(resource.RLIMIT_AS, (MOST_MEMORY, MOST_MEMORY))
+    resource.setrlimit(resource.RLIMIT_CPU, (MAX_SECONDS, MAX_SECONDS + 1))
+    resource.setrlimit(resource.RLIMIT_AS, (MAX_MEMORY, MAX_MEMORY))
 
 
 def run(command, path):
@@ -135,7 +135,7 @@ def one_round(command, paths, runs):
 def measured(command, paths, runs, falls_short):
     """Returns the least costs of the sizes over all rounds, up to a size that is stopped; the rounds end when no check fails."""
     costs = one_round(command, paths, runs)
-    for _ in range(MOST_ROUNDS - 1):
+    for _ in range(MAX_ROUNDS - 1):
         if costs[-1].signal or not falls_short(costs):
             break
         costs = [cost.least(other) for cost, other in zip(costs, one_round(command, paths, runs))]
@@ -155,9 +155,9 @@ def shortfalls(shape, sizes, costs):
         elif cost.statuses != {shape.status}:
             yield "status %s in place of %d at %d" % (" and ".join(map(str, sorted(cost.statuses))), shape.status, size)
     for size, (time, memory) in zip(sizes[1:], factors(costs)):
-        if time.times > MOST_GROWTH:
+        if time.times > MAX_GROWTH:
             yield "%.2f times the time at %d, twice the size before" % (time.times, size)
-        if memory.times > MOST_GROWTH:
+        if memory.times > MAX_GROWTH:
             yield "%.2f times the memory at %d, twice the size before" % (memory.times, size)
     if shape.things and len(costs) == len(sizes):
         each = costs[-1].memory / shape.things(sizes[-1])

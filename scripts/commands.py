@@ -6,7 +6,7 @@ import shlex
 
 from common import Refused, opened, read_json, say
 
-MOST_NAME = 1024
+MAX_NAME = 1024
 PREDEFINED = {"__FILE__", "__LINE__", "__DATE__", "__TIME__", "__STDC__", "__STDC_HOSTED__", "__STDC_VERSION__"}
 NEVER = PREDEFINED | {"defined", "__VA_ARGS__"}
 
@@ -286,7 +286,7 @@ def is_name(name):
     """Returns whether a list may have this name, which is relative and normalized."""
     if not is_text(name) or re.search("[\x00-\x1f\x7f]", name):
         return False
-    return name != "." and 1 <= len(name.encode()) <= MOST_NAME
+    return name != "." and 1 <= len(name.encode()) <= MAX_NAME
 
 
 class Said:

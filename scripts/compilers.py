@@ -20,7 +20,7 @@ from commands import at, defined_name, is_text, unique
 
 NAME = re.compile(r"(?:\w[\w.]*-){0,5}(?:cc|gcc|clang)(?:-\d[\d.]*)?")
 PLACES = ("/usr/", "/opt/")
-SECONDS, MOST_ANSWER, AT_ONCE = 10, 16777216, 4
+SECONDS, MAX_ANSWER, AT_ONCE = 10, 16777216, 4
 OPERATORS = ("has_attribute", "has_builtin", "has_c_attribute", "has_cpp_attribute", "has_feature", "has_extension")
 # names that a list may not define; the profile gnu allows `__STDC_VERSION__`
 KEPT = {"__FILE__", "__LINE__", "__DATE__", "__TIME__", "__STDC__", "defined", "__VA_ARGS__", "__VA_OPT__"}
@@ -231,12 +231,12 @@ def answered(words, text, output, limit):
 def gathered(stream, end, limit):
     """Returns what a program prints until it ends."""
     data = []
-    while sum(map(len, data)) <= MOST_ANSWER:
+    while sum(map(len, data)) <= MAX_ANSWER:
         limit.wait(stream, end)
         data.append(os.read(stream.fileno(), 65536))
         if not data[-1]:
             return b"".join(data).decode("utf-8", "replace")
-    raise NoAnswer("it prints more than %d bytes" % MOST_ANSWER, True)
+    raise NoAnswer("it prints more than %d bytes" % MAX_ANSWER, True)
 
 
 def folders_of(printed):

@@ -36,7 +36,7 @@ AT_NAMES = range(17, 22)
 AT_OTHERS = {1: (b"/",), 2: (b"\\", b"??/"), 7: (b"'", b'"')}
 HASHES = (b"#", b"%:", b"??=", b"%\\")
 PLACE, ERROR, NOTE, CARET, PLAIN = "\33[1m", "\33[1;31m", "\33[1;36m", "\33[1;32m", "\33[0m"
-MOST_LETTERS, BEFORE_CARET, MOST_FILE = 200, 100, 16777216
+MAX_LETTERS, BEFORE_CARET, MAX_FILE = 200, 100, 16777216
 
 
 class Sources:
@@ -77,7 +77,7 @@ class Sources:
                 return file["text"].encode("utf-8", "surrogatepass")
             root = self.made if file["name"].startswith(GENERATED + "/") else self.root
             path = os.path.join(os.fsencode(root), as_bytes(file["name"]))
-            if not os.path.isfile(path) or os.path.getsize(path) > MOST_FILE:
+            if not os.path.isfile(path) or os.path.getsize(path) > MAX_FILE:
                 return None
             with open(path, "rb") as source:
                 return source.read()
@@ -247,10 +247,10 @@ def excerpt(line, column):
     """Returns a line as it is printed, and the text before the caret in the next line; shortens a long line."""
     begin = len(line[:column - 1].decode("utf-8", "surrogateescape"))
     letters = line.decode("utf-8", "surrogateescape")
-    if len(letters) <= MOST_LETTERS:
+    if len(letters) <= MAX_LETTERS:
         return "".join(map(letter, letters)), "".join(map(blank, letters[:begin]))
     first = max(0, begin - BEFORE_CARET)
-    last = first + MOST_LETTERS
+    last = first + MAX_LETTERS
     left, right = "..." if first else "", "..." if last < len(letters) else ""
     text = left + "".join(map(letter, letters[first:last])) + right
     return text, " " * len(left) + "".join(map(blank, letters[first:begin]))

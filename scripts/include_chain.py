@@ -18,7 +18,7 @@ NAME = re.compile(rb"[\w$\x80-\xff]+")
 GUARD = re.compile(rb"!\s*defined\s*(?:\(\s*)?([\w$]+)\s*\)?\s*$")
 OPENINGS, BRANCHES = (b"if", b"ifdef", b"ifndef"), (b"elif", b"else", b"elifdef", b"elifndef")
 # the most ways that are followed, and the most steps in all
-MOST, MOST_STEPS = 200, 1000000
+MAX_WAYS, MAX_STEPS = 200, 1000000
 ALL = float("inf")
 # faults of a file of which nothing is processed
 READING = (1, 2, 3, 4, 5)
@@ -186,7 +186,7 @@ class Ways:
     def step(self, count=1):
         """Counts steps, and gives up after too many, so that no list takes long."""
         self.steps += count
-        if self.steps > MOST_STEPS:
+        if self.steps > MAX_STEPS:
             raise Unclear
 
     def lines_of(self, row, source, sure):
@@ -299,7 +299,7 @@ class Ways:
                 fresh = set(self.opening(stack, row)) - found
                 found |= fresh
                 waiting += fresh
-            if len(found) > MOST:
+            if len(found) > MAX_WAYS:
                 raise Unclear
         return found
 
@@ -310,7 +310,7 @@ class Ways:
             before = self.opened_again(stacks, row)
             stacks = {new for stack in before for new in self.opening(stack, row)}
             self.opened.add(row)
-            if not stacks or len(stacks) > MOST:
+            if not stacks or len(stacks) > MAX_WAYS:
                 raise Unclear
         return stacks
 

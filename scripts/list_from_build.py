@@ -25,7 +25,7 @@ A compiler's own directories and macros are no part of a build's commands: give 
 are relative to the root: --root, or the deepest directory that contains all files and directories.
 
 Standard error has a line for all that can't be expressed; its last line counts them."""
-MOST_BUDGET = 4294967295
+MAX_BUDGET = 4294967295
 
 
 def write_targets(path, pairs):
@@ -37,8 +37,8 @@ def write_targets(path, pairs):
 
 def budget(word):
     number = int(word) if word.isdecimal() else -1
-    if not 0 <= number <= MOST_BUDGET:
-        raise argparse.ArgumentTypeError("a number from 0 to %d is expected" % MOST_BUDGET)
+    if not 0 <= number <= MAX_BUDGET:
+        raise argparse.ArgumentTypeError("a number from 0 to %d is expected" % MAX_BUDGET)
     return number
 
 

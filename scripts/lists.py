@@ -6,7 +6,7 @@ from commands import defined_name, is_name, unique
 from common import GENERATED, Refused, compact, written
 from files import Files, Looked
 
-MOST_NAMES, MOST_INPUT, MOST_FILE = 65535, 268435456, 16777216
+MAX_NAMES, MAX_INPUT, MAX_FILE = 65535, 268435456, 16777216
 MONTHS = "Jan Feb Mar Apr May Jun Jul Aug Sep Oct Nov Dec".split()
 
 
@@ -45,8 +45,8 @@ class Builder:
         pairs = [(command, unit) for command in all_commands if (unit := self.unit(command, names)) is not None]
         files = [self.row(path, name) for path, name in names.items()] + list(self.made.values())
         rows = [row for row in files if row is not None]
-        if len(rows) > MOST_NAMES or len(pairs) > MOST_NAMES:
-            raise Refused("%d names and %d units: a list has at most %d of each" % (len(rows), len(pairs), MOST_NAMES))
+        if len(rows) > MAX_NAMES or len(pairs) > MAX_NAMES:
+            raise Refused("%d names and %d units: a list has at most %d of each" % (len(rows), len(pairs), MAX_NAMES))
         listed = {row["name"] for row in rows}
         pairs = [(command, unit) for command, unit in pairs if unit["file"] in listed]
         return rows, pairs
@@ -198,9 +198,9 @@ class Builder:
         if not self.asked.inline:
             return {"name": name}
         with open(path, "rb") as file:
-            data = file.read(MOST_FILE + 1)
-        if len(data) > MOST_FILE:
-            self.said.add("%s: more than %d bytes" % (path, MOST_FILE))
+            data = file.read(MAX_FILE + 1)
+        if len(data) > MAX_FILE:
+            self.said.add("%s: more than %d bytes" % (path, MAX_FILE))
             return None
         try:
             return {"name": name, "text": data.decode()}
@@ -233,6 +233,6 @@ def list_of(asked, rows, pairs):
 def bytes_of(listed):
     """Returns the list's bytes; refuses a list that is larger than cppunits reads."""
     data = compact(listed)
-    if len(data) > MOST_INPUT:
-        raise Refused("the list has %d bytes, more than %d" % (len(data), MOST_INPUT))
+    if len(data) > MAX_INPUT:
+        raise Refused("the list has %d bytes, more than %d" % (len(data), MAX_INPUT))
     return data

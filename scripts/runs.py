@@ -9,7 +9,7 @@ from commands import unique
 from common import GENERATED, Refused, plain, units
 from lists import bytes_of, list_of
 
-MOST_ROUNDS, PIECE, MOMENT = 64, 4194304, 0.1
+MAX_ROUNDS, PIECE, MOMENT = 64, 4194304, 0.1
 NO_FILE = "31"
 STATUSES = {2: "it refuses its command line", 3: "it refuses the list", 4: "it is out of memory", 5: "it can't read or write"}
 
@@ -94,7 +94,7 @@ def settled(builder, all_commands, program, asked=lambda: None, progress=lambda 
 
     gather()
     waiting = [command for command in all_commands if command in builder.computing]
-    for number in range(1, MOST_ROUNDS + 1):
+    for number in range(1, MAX_ROUNDS + 1):
         if not waiting:
             return
         progress("round %d: %d units with names that macros make" % (number, len(waiting)))
@@ -103,7 +103,7 @@ def settled(builder, all_commands, program, asked=lambda: None, progress=lambda 
         gather()
         if len(builder.paths) == before:
             return
-    builder.said.add("%d units ask for ever more names that macros make: no more than %d rounds are gone" % (len(waiting), MOST_ROUNDS))
+    builder.said.add("%d units ask for ever more names that macros make: no more than %d rounds are gone" % (len(waiting), MAX_ROUNDS))
 
 
 def ran(builder, some_commands, program):

@@ -18,7 +18,7 @@ Example:  shards.py cut 4 --into shards list.json
 
 Use --list to compare the units of the outputs with those of the whole list, so that no part is missing.
 LIST may be `-`, standard input."""
-MOST = 65535
+MAX_SHARDS = 65535
 
 
 def cut(asked):
@@ -81,8 +81,8 @@ def put(file, unit, number):
 
 def number_of_parts(word):
     count = int(word) if word.isdecimal() else 0
-    if not 1 <= count <= MOST:
-        raise argparse.ArgumentTypeError("a number from 1 to %d is wanted" % MOST)
+    if not 1 <= count <= MAX_SHARDS:
+        raise argparse.ArgumentTypeError("a number from 1 to %d is expected" % MAX_SHARDS)
     return count
 
 

@@ -21,9 +21,9 @@ import unittest
 from counted import LIST, Folder, cppunits, main, missed, program, write
 from refusals import refusing_files, runs
 
-MOST_SECONDS = 10
+MAX_SECONDS = 10
 # enough seconds for a slow other end, on a machine that is busy
-MOST_SECONDS_OF_SLOW_ENDS = 120
+MAX_SECONDS_OF_SLOW_ENDS = 120
 # a text whose tokens take more bytes than a pipe holds
 TEXT = "word " * 20_000
 LONG = json.dumps(dict(LIST, files=[{"name": "a.c", "text": TEXT}], units=[{"file": "a.c"}])).encode()
@@ -38,7 +38,7 @@ OTHERS = errno.EACCES, errno.EIO, errno.EISDIR, errno.ELOOP, errno.ENAMETOOLONG,
 def shell(redirected, data=LONG, words="dump"):
     """Returns the status and standard error of a run whose streams a shell redirects."""
     command = '"$0" %s %s' % (words, redirected)
-    done = subprocess.run(["sh", "-c", command, program()], input=data, capture_output=True, timeout=MOST_SECONDS)
+    done = subprocess.run(["sh", "-c", command, program()], input=data, capture_output=True, timeout=MAX_SECONDS)
     return done.returncode, done.stderr
 
 
@@ -56,7 +56,7 @@ def give(descriptor, data, size, pause=0.0):
 class Streams(unittest.TestCase):
     @classmethod
     def setUpClass(cls):
-        cls.answer = cppunits("dump", input=LONG, timeout=MOST_SECONDS).stdout
+        cls.answer = cppunits("dump", input=LONG, timeout=MAX_SECONDS).stdout
 
     def started(self, **streams):
         streams = {"stdin": subprocess.PIPE, "stdout": subprocess.PIPE, "stderr": subprocess.PIPE, **streams}
@@ -68,7 +68,7 @@ class Streams(unittest.TestCase):
         self.addCleanup(child.kill)
         return child
 
-    def outcome(self, child, seconds=MOST_SECONDS):
+    def outcome(self, child, seconds=MAX_SECONDS):
         output, words = child.communicate(timeout=seconds)
         return child.returncode, output, words
 
@@ -103,7 +103,7 @@ class Inputs(Streams):
             os.close(takes)
             giver = threading.Thread(target=give, args=(gives, LONG, size, pause))
             giver.start()
-            self.is_whole_or(None, self.outcome(child, MOST_SECONDS_OF_SLOW_ENDS))
+            self.is_whole_or(None, self.outcome(child, MAX_SECONDS_OF_SLOW_ENDS))
             giver.join()
 
     def test_no_data_yet(self):
@@ -142,7 +142,7 @@ class Outputs(Streams):
         first = os.read(child.stdout.fileno(), 1)
         child.stdout.close()
         words = child.stderr.read()
-        self.assertEqual((child.wait(MOST_SECONDS), words, first), (*WRITE_FAILED, b"u"))
+        self.assertEqual((child.wait(MAX_SECONDS), words, first), (*WRITE_FAILED, b"u"))
 
     def test_no_room_yet(self):
         """Writes to a pipe that returns at once if it has no room: the program waits, or the write fails."""
@@ -156,7 +156,7 @@ class Outputs(Streams):
         with os.fdopen(takes, "rb") as stream:
             output = stream.read()
         words = child.stderr.read()
-        self.is_whole_or(WRITE_FAILED, (child.wait(MOST_SECONDS), output, words))
+        self.is_whole_or(WRITE_FAILED, (child.wait(MAX_SECONDS), output, words))
 
     def test_slow(self):
         child = self.started()
@@ -169,7 +169,7 @@ class Outputs(Streams):
             time.sleep(0.02)
         giver.join()
         words = child.stderr.read()
-        self.is_whole_or(None, (child.wait(MOST_SECONDS), b"".join(pieces), words))
+        self.is_whole_or(None, (child.wait(MAX_SECONDS), b"".join(pieces), words))
 
 
     def test_help_and_version(self):
@@ -184,7 +184,7 @@ class Outputs(Streams):
         takes, gives = os.pipe()
         os.close(takes)
         with os.fdopen(gives, "wb") as output:
-            done = subprocess.run([program(), "--help"], stdout=output, stderr=subprocess.PIPE, timeout=MOST_SECONDS)
+            done = subprocess.run([program(), "--help"], stdout=output, stderr=subprocess.PIPE, timeout=MAX_SECONDS)
         self.assertEqual((done.returncode, done.stderr), WRITE_FAILED)
 
 
@@ -214,9 +214,9 @@ class Files(unittest.TestCase):
     def is_unreadable(self, name, root=None):
         data = json.dumps(dict(LIST, files=[{"name": name}], units=[{"file": name}])).encode()
         try:
-            done = cppunits("--root", root or self.top, "dump", input=data, timeout=MOST_SECONDS)
+            done = cppunits("--root", root or self.top, "dump", input=data, timeout=MAX_SECONDS)
         except subprocess.TimeoutExpired:
-            self.fail("%s: no answer within %d seconds" % (name, MOST_SECONDS))
+            self.fail("%s: no answer within %d seconds" % (name, MAX_SECONDS))
         wanted = "unit 0 %s\ndep 0 %s\nfault 6 0:1:1 %s\n" % (name, name, name)
         self.assertEqual((done.returncode, done.stdout, done.stderr), (1, wanted.encode(), b""), name)
 
@@ -267,7 +267,7 @@ class Shortages(Folder):
         return [program(), "--workers", str(workers), "--block", "1", "--root", self.top, "dump"]
 
     def outcome(self, units, workers=1, **more):
-        done = subprocess.run(self.command(workers), input=self.list_of(units), capture_output=True, timeout=MOST_SECONDS, **more)
+        done = subprocess.run(self.command(workers), input=self.list_of(units), capture_output=True, timeout=MAX_SECONDS, **more)
         return done.returncode, done.stdout, done.stderr
 
     def limited(self, descriptors, workers):
@@ -299,7 +299,7 @@ class Shortages(Folder):
             child.stdin.write(b" " * 2_000_000)
             child.stdin.flush()
             resource.prlimit(child.pid, resource.RLIMIT_NOFILE, (3, 3))
-            output, words = child.communicate(self.list_of(self.units), MOST_SECONDS)
+            output, words = child.communicate(self.list_of(self.units), MAX_SECONDS)
             self.assertEqual((child.returncode, output, words), OUT_OF_MEMORY, workers)
 
     def refused_in_turn(self, error, workers, units):

@@ -22,7 +22,7 @@ from colliding import kit_long_names, kit_macro_names, long_names, macro_names  
 from shapes import defined, hidden, invoked, list_of_text, listed_files  # noqa: E402
 
 COUNT = 32_000
-MOST_TIMES, LEAST_SECONDS, MOST_SECONDS = 10, 0.1, 60
+MAX_TIMES, LEAST_SECONDS, MAX_SECONDS = 10, 0.1, 60
 NO_KEY = "int getentropy(void *bytes, unsigned long count) { (void)bytes; (void)count; return -1; }\n"
 READ_FAILED = (5, b"", b"cppunits: read failed\n")
 
@@ -48,7 +48,7 @@ def seconds(asked):
     """Returns the processor seconds of a run that must find no fault."""
     before = resource.getrusage(resource.RUSAGE_CHILDREN)
     done = subprocess.run([program(), "--workers", "1", "dump"], input=json.dumps(asked).encode(), stdout=subprocess.DEVNULL,
-                          timeout=MOST_SECONDS)
+                          timeout=MAX_SECONDS)
     after = resource.getrusage(resource.RUSAGE_CHILDREN)
     if done.returncode:
         raise AssertionError("status %d" % done.returncode)
@@ -60,7 +60,7 @@ class Floods(unittest.TestCase):
         for maker in makers:
             made = maker(COUNT)
             plain = max(seconds(list_of(ordinary(len(made[0])))), LEAST_SECONDS)
-            self.assertLess(seconds(list_of(made)), MOST_TIMES * plain, maker.__name__)
+            self.assertLess(seconds(list_of(made)), MAX_TIMES * plain, maker.__name__)
 
     def test_macros(self):
         self.cost_no_more(macros, macro_names, kit_macro_names)
@@ -82,7 +82,7 @@ class NoKey(unittest.TestCase):
             library = os.path.join(folder, "no_key.so")
             subprocess.run(["gcc", "-shared", "-fPIC", "-x", "c", "-", "-o", library], input=NO_KEY.encode(), check=True)
             done = subprocess.run([program(), "dump"], input=json.dumps(macros(["a"])).encode(), capture_output=True,
-                                  env=dict(os.environ, LD_PRELOAD=library), timeout=MOST_SECONDS)
+                                  env=dict(os.environ, LD_PRELOAD=library), timeout=MAX_SECONDS)
         self.assertEqual((done.returncode, done.stdout, done.stderr), READ_FAILED)
 
 

@@ -5,7 +5,7 @@ import subprocess
 import tempfile
 
 HERE = os.path.dirname(os.path.abspath(__file__))
-MOST_RUNS = 20_000
+MAX_RUNS = 20_000
 # whether all requests after a refused one are refused, too, and how that is printed
 KINDS = {False: "each alone", True: "each with all after it"}
 
@@ -52,7 +52,7 @@ def run(command, library, call, data=None, on=False, error=None):
 
 def runs(command, library, data=None, on=False, error=None):
     """Yields the runs with the 1st, 2nd, 3rd .. request refused, each with its number, up to the first that meets no refusal."""
-    for call in range(1, MOST_RUNS):
+    for call in range(1, MAX_RUNS):
         done, met = run(command, library, call, data, on, error)
         yield call, done, met
         if not met:

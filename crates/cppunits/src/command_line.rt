@@ -32,10 +32,10 @@ pub enum Request {
 }
 
 /// The largest number of workers.
-const MOST_WORKERS: usize = 64;
+const MAX_WORKERS: usize = 64;
 
 /// The largest number of units that a worker claims at a time.
-const MOST_BLOCK: usize = 1024;
+const MAX_BLOCK: usize = 1024;
 
 /// The exit status of a usage error.
 const USAGE: u8 = 2;
@@ -119,8 +119,8 @@ fn read_options(alloc: Global, matches: &ArgMatches<'_>) -> Result<Options, Allo
     };
     Ok(Options {
         mode,
-        workers: number(matches, "workers", MOST_WORKERS),
-        block: number(matches, "block", MOST_BLOCK),
+        workers: number(matches, "workers", MAX_WORKERS),
+        block: number(matches, "block", MAX_BLOCK),
         root,
     })
 }
@@ -155,7 +155,7 @@ fn workers_option<'a>(alloc: Global) -> Arg<'a> {
         .value_name("N")
         .help("Preprocess N units in parallel, 1 to 64")
         .default_value("4")
-        .value_parser(clap::value_parser!(usize).range(1..=MOST_WORKERS as i64))
+        .value_parser(clap::value_parser!(usize).range(1..=MAX_WORKERS as i64))
 }
 
 /// Builds the option `--block`.
@@ -165,7 +165,7 @@ fn block_option<'a>(alloc: Global) -> Arg<'a> {
         .value_name("K")
         .help("Give a worker at most K units at a time, 1 to 1024")
         .default_value("8")
-        .value_parser(clap::value_parser!(usize).range(1..=MOST_BLOCK as i64))
+        .value_parser(clap::value_parser!(usize).range(1..=MAX_BLOCK as i64))
 }
 
 /// Builds the option `--root`.

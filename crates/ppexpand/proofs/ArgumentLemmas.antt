@@ -1,4 +1,4 @@
--- How the arguments of an invocation are expanded one after the other.
+-- Lemmas for the loop that expands the arguments of an invocation in order.
 use Rattle.std.proofs.Common.{◌≡◌, ℕ, zero, suc, ◌+◌, ◌<◌, ◌≤◌, Bool, true, false, ◌||◌, List, [], ◌∷◌, ◌++◌, map, drop, Option, Some, None, Ok, Err, Vec}
 use Rattle.std.proofs.Common.{Global, refl, sym, ap, ◌∙◌, subst, get_or, length, add-one, arith, if◌then◌else◌}
 use Rattle.pptext.specs.declared.tokens.Token.{Token}
@@ -19,17 +19,17 @@ use Rattle.ppexpand.specs.declared.env.Env.{Env}
 use Rattle.ppmacro.specs.Patterns.{entry_chain}
 use Rattle.ppmacro.specs.declared.patterns.Entry.{Entry}
 use Rattle.std.specs.List.{list_any}
-use Rattle.ppexpand.specs.ExpansionStep.{Invocation, is_lone_parameter, pre_expands, to_expand, wanted}
+use Rattle.ppexpand.specs.ExpansionStep.{Invocation, is_lone_parameter, pre_expands, to_expand, arguments_to_expand}
 use Rattle.ppexpand.specs.Expansion.{Expands, ExpandsTo, ExpandsArguments}
 use Rattle.ppexpand.specs.code.ProgramValues.{given_in, expanded_in, ExpansionsKnown, ExpandsArgument, expands, raises}
-use Rattle.ppexpand.proofs.Follows.{ArgumentsFollow, arguments_start, arguments_unused, arguments_used, arguments_refused, arguments_end}
-use Rattle.ppexpand.proofs.Keeping.{expanded-keeps, expanded_in-push, arguments_known}
+use Rattle.ppexpand.proofs.LoopInvariants.{ArgumentsFollow, arguments_start, arguments_unused, arguments_used, arguments_refused, arguments_end}
+use Rattle.ppexpand.proofs.GrowingHideSets.{expanded-keeps, expanded_in-push, arguments_known}
 
-pub arguments_first : (macros : Macros) (env : Env) (level : ℕ) (invocation : Invocation) (remaining : Option ℕ) → ArgumentsFollow macros env level invocation remaining (wanted invocation) [] remaining (to_expand 0 (chains_of invocation.macro) (parameter_names invocation.macro.kind) invocation.arguments)
-unfolding wanted
-arguments_first macros env level invocation remaining = arguments_start macros env level invocation remaining (wanted invocation)
+pub arguments_first : (macros : Macros) (env : Env) (level : ℕ) (invocation : Invocation) (remaining : Option ℕ) → ArgumentsFollow macros env level invocation remaining (arguments_to_expand invocation) [] remaining (to_expand 0 (chains_of invocation.macro) (parameter_names invocation.macro.kind) invocation.arguments)
+unfolding arguments_to_expand
+arguments_first macros env level invocation remaining = arguments_start macros env level invocation remaining (arguments_to_expand invocation)
 
--- an argument's expansion, or its fault, from the outcome of its list
+-- the expansion of an argument, or its fault, by the outcome of its list one level deeper
 module _ (macros : Macros) (env : Env) (level : ℕ) (name_token : Token) (remaining remaining_after : Option ℕ) (list tokens : List Hiding) where
   at_level : (o : Option Fault) (one : ExpandsTo macros env (level + 1) remaining list (record { tokens = tokens; fault = o; remaining = remaining_after }))
       → Expands macros env (suc level) remaining one.0 list (record { tokens = tokens; fault = o; remaining = remaining_after })
@@ -51,11 +51,11 @@ argument-in s (v ∷ vs) (suc i) = argument-in s vs i
 pub argument-known : (s : HideSetPool) (vs : List (Vec Hidden Global)) (i : ℕ) → ListsKnown s vs → AllKnown s (argument_at (lists_of vs) i)
 argument-known s vs i known = (arguments_known vs [] known (record { each = tt })).given_known i
 
--- what is to be expanded of the parameter i, whether it is pre-expanded or not
+-- the argument of parameter i if it is pre-expanded, and otherwise `None`
 abbrev expands_here : Bool → ℕ → List (List Hiding) → Option (List Hiding)
 expands_here alone i given = if alone then Some (argument_at given i) else None
 
--- what is left to expand, where this parameter is next
+-- `to_expand` from parameter i on is the entry of parameter i, followed by the entries of the later ones
 rest-next : (cs : List Chain) (names : List Name) (given : List (List Hiding)) (i j : ℕ) → j < length names
     → to_expand i cs (drop j names) given ≡ expands_here (pre_expands i cs) i given ∷ to_expand (suc i) cs (drop (suc j) names) given
 rest-next cs [] given i j h = absurd (omega arith)
@@ -74,7 +74,7 @@ rest-end cs [] given i (suc j) h = refl
 rest-end cs (n ∷ names) given i zero h = absurd (omega arith)
 rest-end cs (n ∷ names) given i (suc j) h = rest-end cs names given i j (omega arith)
 
--- the argument of the next parameter, which is appended to the expansions of the others, and the rest of the budget after it
+-- One loop iteration: the entry of parameter i is appended to `done`, or its argument raises a fault.
 module _ (macros : Macros) (env : Env) (level : ℕ) (first remaining between : Option ℕ) (s u w : HideSetPool) (vs : List (Vec Hidden Global)) (cs : List Chain) (names : List Name) (i : ℕ)
     (done items : List ArgumentExpansion) (invocation : Invocation) (all : List (Option (List Hiding))) where
   abbrev Here : Type 0
@@ -132,7 +132,7 @@ pub follows_all : (macros : Macros) (env : Env) (level : ℕ) (first remaining :
 follows_all macros env level first remaining s u vs cs names i done invocation all end here = arguments_end macros env level invocation first all (expanded_in u vs done) remaining
     (subst (ArgumentsFollow macros env level invocation first all (expanded_in u vs done) remaining) (rest-end cs names (given_in s vs) i i end) here)
 
--- the entry of a parameter says whether it is pre-expanded
+-- `pre_expands` of a parameter equals its entry in the list of flags
 pub pre_expanded-alone : (pre_expanded shown : List Bool) (count i : ℕ) (cs ds : List Chain) (space : Bool)
     → shown ≡ pre_expanded
     → cs ≡ ds
@@ -142,7 +142,7 @@ pub pre_expanded-alone : (pre_expanded shown : List Bool) (count i : ℕ) (cs ds
     → pre_expands i ds ≡ space
 pre_expanded-alone pre_expanded shown count i cs ds space same chains marks less is = ap (pre_expands i) (sym chains) ∙ sym (marks i less) ∙ ap (λ xs. get_or xs i false) (sym same) ∙ is
 
--- a parameter is among the chains of entries if it is one of them
+-- A parameter is pre-expanded if and only if some entry of the list is that parameter alone.
 pub pre_expanded-by-entries : (i : ℕ) (es : List Entry) → pre_expands i (map entry_chain es) ≡ list_any (λ e. is_lone_parameter i (entry_chain e).operands) es
 pre_expanded-by-entries i [] = refl
 pre_expanded-by-entries i (e ∷ es) = ap (λ b. is_lone_parameter i (entry_chain e).operands || b) (pre_expanded-by-entries i es)

@@ -16,9 +16,9 @@ use Rattle.ppmacro.specs.declared.macros.MacroKind.{MacroKind}
 use Rattle.ppmacro.specs.declared.macros.MacroKind.TheVariants.{Predefined, ObjectLike, FunctionLike}
 use Rattle.ppexpand.specs.declared.env.Env.{Env}
 use Rattle.ppexpand.specs.Arguments.{is_open, Gathered, Closed, UnmatchedQuote, Unclosed, gather, separators, fit_arguments}
-use Rattle.ppexpand.specs.ExpansionStep.{ExpansionStep, Done, Refused, Emits, Failed, Replaced, Invoked, expansion_step, macro_of, quote_fault, named_step, macro_step, function_step, invocation_step, closed_invocation_step, replaced_by}
+use Rattle.ppexpand.specs.ExpansionStep.{ExpansionStep, Done, TokenFault, Emits, ReplacementFault, Replaced, Invoked, expansion_step, macro_of, quote_fault, named_step, macro_step, function_step, invocation_step, closed_invocation_step, replaced_by}
 use Rattle.ppexpand.specs.Budget.{exhausted_step, in_budget}
-use Rattle.ppexpand.specs.Expansion.{Outcome, Expands, done, refused, emits, failed, replaced, argument_refused, invocation_failed, invocation_replaced}
+use Rattle.ppexpand.specs.Expansion.{Outcome, Expands, done, token_fault, emits, replacement_fault, replaced, argument_fault, invocation_fault, invocation_replaced}
 use Rattle.ppexpand.specs.Laws.{is_fully_expanded, is_always_replaced}
 
 module _ (macros : Macros) (env : Env) where
@@ -27,7 +27,7 @@ module _ (macros : Macros) (env : Env) where
   Settles (Emits t rest) = is_fully_expanded macros t ≡ true
   Settles _ = Unit {0}
 
-  -- a name that is not always replaced
+  -- A token is fully expanded if it is no unmatched quote and names no object-like or predefined macro.
   by_name : (t : Hiding) → is_unmatched_quote t.token ≡ false → is_always_replaced (macro_of macros t.token) ≡ false → is_fully_expanded macros t ≡ true
   by_name t unquoted spared = rw (unquoted, spared) (or_right (set.contains t.hide t.token.text) true refl)
 
@@ -65,7 +65,7 @@ module _ (macros : Macros) (env : Env) where
   unfolding expansion_step
   turn_settles [] = tt
   turn_settles (t ∷ rest) =
-      elim (is_unmatched_quote t.token) as (λ b. is_unmatched_quote t.token ≡ b → Settles (if b then Refused (quote_fault t) else (if set.contains t.hide t.token.text then Emits t rest else named_step env t rest (macro_of macros t.token)))) [
+      elim (is_unmatched_quote t.token) as (λ b. is_unmatched_quote t.token ≡ b → Settles (if b then TokenFault (quote_fault t) else (if set.contains t.hide t.token.text then Emits t rest else named_step env t rest (macro_of macros t.token)))) [
         | true ↦ λ _. tt
         | false ↦ λ unquoted. elim (set.contains t.hide t.token.text) as (λ b. set.contains t.hide t.token.text ≡ b → Settles (if b then Emits t rest else named_step env t rest (macro_of macros t.token))) [
           | true ↦ λ hidden. rw (unquoted, hidden) refl
@@ -81,20 +81,20 @@ module _ (macros : Macros) (env : Env) where
   within_settles None list t h = h
   within_settles (Some (suc n)) list t h = h
   within_settles (Some zero) list Done h = h
-  within_settles (Some zero) list (Refused f) h = h
+  within_settles (Some zero) list (TokenFault f) h = h
   within_settles (Some zero) list (Emits t rest) h = h
-  within_settles (Some zero) list (Failed f) h = over_settles list
+  within_settles (Some zero) list (ReplacementFault f) h = over_settles list
   within_settles (Some zero) list (Replaced next) h = over_settles list
   within_settles (Some zero) list (Invoked invocation) h = over_settles list
 
   pub all_settled : {level n : ℕ} {remaining : Option ℕ} {list : List Hiding} {out : Outcome} → Expands macros env level remaining n list out → AllPass (is_fully_expanded macros) out.tokens
   all_settled (done e) = All-nil (λ x. is_fully_expanded macros x ≡ true)
-  all_settled (refused e) = All-nil (λ x. is_fully_expanded macros x ≡ true)
+  all_settled (token_fault e) = All-nil (λ x. is_fully_expanded macros x ≡ true)
   all_settled (emits {remaining = remaining} {list = list} {t = t} {rest = rest} {out = out} e d) =
       let hide_set_of : Settles (Emits t rest) = subst (λ x. Settles x) e (within_settles remaining list (expansion_step macros env list) (turn_settles list)) in
       All-cons (λ x. is_fully_expanded macros x ≡ true) t out.tokens hide_set_of (all_settled d)
-  all_settled (failed e) = All-nil (λ x. is_fully_expanded macros x ≡ true)
+  all_settled (replacement_fault e) = All-nil (λ x. is_fully_expanded macros x ≡ true)
   all_settled (replaced e d) = all_settled d
-  all_settled (argument_refused e a) = All-nil (λ x. is_fully_expanded macros x ≡ true)
-  all_settled (invocation_failed e a f) = All-nil (λ x. is_fully_expanded macros x ≡ true)
+  all_settled (argument_fault e a) = All-nil (λ x. is_fully_expanded macros x ≡ true)
+  all_settled (invocation_fault e a f) = All-nil (λ x. is_fully_expanded macros x ≡ true)
   all_settled (invocation_replaced e a f d) = all_settled d

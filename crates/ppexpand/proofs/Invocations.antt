@@ -1,11 +1,11 @@
--- The arguments of an invocation are found exactly where they are laid out.
+-- The arguments of an invocation are found if and only if the list has the syntax of an invocation.
 use Rattle.std.proofs.Common.{◌≡◌, ◌↔◌, ℕ, zero, suc, ◌<◌, Bool, true, false, not, List, [], ◌∷◌, ◌++◌, length, Option, refl, sym, ap, ◌∙◌, subst, true≢false, arith, append_assoc, length-append}
 use Rattle.std.proofs.lemmas.Bool.{not-true}
 use Rattle.ppmacro.specs.Hiding.{Hiding}
 use Rattle.ppexpand.specs.Arguments.{argument_role, Gathered, Closed, UnmatchedQuote, Unclosed, with_token, with_argument, separates, fewer, gather, ArgumentRole, Quote, Open, Close, Comma, Inner}
 use Rattle.ppexpand.specs.Laws.{Nested, nothing, inner, comma, pair, Separated, last, more, IsInvocation}
 
--- ---- one token
+-- ---- the search, by the role of the first token
 
 pub at_quote : (d : ℕ) (c : Option ℕ) (t : Hiding) (ts : List Hiding) → argument_role t.token ≡ Quote → gather d c (t ∷ ts) ≡ UnmatchedQuote t
 at_quote d c t ts e = rw (gather, e) refl
@@ -28,7 +28,7 @@ at_separator d c t ts e s = rw (gather, e, s) refl
 pub at_comma : (d : ℕ) (c : Option ℕ) (t : Hiding) (ts : List Hiding) → argument_role t.token ≡ Comma → separates d c ≡ false → gather d c (t ∷ ts) ≡ with_token t (gather d c ts)
 at_comma d c t ts e s = rw (gather, e, s) refl
 
--- ---- what is laid out is found
+-- ---- if the list has the syntax of an invocation, its arguments are found
 
 abbrev with_tokens : List Hiding → Gathered → Gathered
 with_tokens [] g = g
@@ -42,7 +42,7 @@ with_tokens-closed : (xs : List Hiding) (as' : List (List Hiding)) (close : Hidi
 with_tokens-closed [] as' close following = refl
 with_tokens-closed (x ∷ xs) as' close following = ap (with_token x) (with_tokens-closed xs as' close following)
 
--- no token of these ends or cuts an argument
+-- Nested tokens are added to the current argument: none ends it, and none separates arguments.
 passed_over : {b : Bool} {xs : List Hiding} → Nested b xs → (d : ℕ) (c : Option ℕ) → (b ≡ true → separates d c ≡ false) → (ys : List Hiding) → gather d c (xs ++ ys) ≡ with_tokens xs (gather d c ys)
 passed_over nothing d c uncut ys = refl
 passed_over (inner {t = t} {ts = ts} e n) d c uncut ys = at_inner d c t (ts ++ ys) e ∙ ap (with_token t) (passed_over n d c uncut ys)
@@ -66,7 +66,7 @@ found {c = c} (more {as' = as'} a t rest cut n e s) close following is_close =
     ∙ ap (with_tokens a) (at_separator 0 c t (rest ++ close ∷ following) e cut ∙ ap with_argument (found s close following is_close))
     ∙ with_tokens-closed a as' close following
 
--- ---- what is found is laid out
+-- ---- if arguments are found, the list has the syntax of an invocation
 
 abbrev pub IsClosed : Gathered → Type 0
 IsClosed (Closed as' close following) = Unit {0}
@@ -82,7 +82,7 @@ closed-argument (Closed as' close following) h = tt
 closed-argument (UnmatchedQuote q) h = h
 closed-argument Unclosed h = h
 
--- the `)` that matches the innermost `(`, and the search after it
+-- the list begins with nested tokens and a `)`, and the search after them finds a matching `)`
 record Matched (d : ℕ) (c : Option ℕ) (list : List Hiding) : Type 0 where
   inside : List Hiding
   mate : Hiding
@@ -95,17 +95,17 @@ record Matched (d : ℕ) (c : Option ℕ) (list : List Hiding) : Type 0 where
 pub shorter : (list inside : List Hiding) (t : Hiding) (rest : List Hiding) → list ≡ inside ++ t ∷ rest → length rest < length list
 shorter list inside t rest e = rw e (omega (arith, length-append inside (t ∷ rest)))
 
--- two parts, one after the other
+-- combines a split of a list with a split of its rest
 in_parts : (list a rest b following : List Hiding) (m n : Hiding) → list ≡ a ++ m ∷ rest → rest ≡ b ++ n ∷ following → list ≡ (a ++ m ∷ b) ++ n ∷ following
 in_parts list a rest b following m n first second =
     let in_budget : a ++ m ∷ rest ≡ a ++ m ∷ (b ++ n ∷ following) = ap (λ xs. a ++ m ∷ xs) second in
     first ∙ in_budget ∙ sym (append_assoc a (m ∷ b) (n ∷ following))
 
--- a token before what is matched
+-- `Matched` for a list with one more token at the start
 before : {d : ℕ} {c : Option ℕ} {ts : List Hiding} (t : Hiding) → ((xs : List Hiding) → Nested true xs → Nested true (t ∷ xs)) → Matched d c ts → Matched d c (t ∷ ts)
 before t wraps m = record { inside = t ∷ m.inside; mate = m.mate; rest = m.rest; laid_out = ap (λ xs. t ∷ xs) m.laid_out; nested = wraps m.inside m.nested; mates = m.mates; on = m.on }
 
--- parentheses in a pair before what is matched
+-- `Matched` for a list that begins with a pair of parentheses
 wrapped : {d : ℕ} {c : Option ℕ} (t : Hiding) (ts : List Hiding) → argument_role t.token ≡ Open → (m : Matched (suc d) c ts) → Matched d c m.rest → Matched d c (t ∷ ts)
 wrapped t ts e m n = record {
   inside = t ∷ (m.inside ++ m.mate ∷ n.inside);
@@ -117,7 +117,7 @@ wrapped t ts e m n = record {
   on = n.on;
 }
 
--- the search in lists that are shorter than n
+-- If the search one level deeper succeeds in a list shorter than n, the list is `Matched`.
 abbrev Matches : ℕ → Type 0
 Matches n = (d : ℕ) (c : Option ℕ) (list : List Hiding) → length list < n → IsClosed (gather (suc d) c list) → Matched d c list
 
@@ -136,7 +136,7 @@ matched zero d c list short closed = absurd (omega arith)
 matched (suc n) d c [] short closed = absurd closed
 matched (suc n) d c (t ∷ ts) short closed = matched_by d c t ts (λ d' c' list short'. matched n d' c' list (omega arith)) closed (argument_role t.token) refl
 
--- tokens before the first argument belong to it
+-- Tokens before the first argument become part of it.
 in_first : {c : Option ℕ} {inside : List Hiding} {as' : List (List Hiding)} (prefix : List Hiding)
     → ((xs : List Hiding) → Nested (not (separates 0 c)) xs → Nested (not (separates 0 c)) (prefix ++ xs))
     → (separates 0 c ≡ true → (xs : List Hiding) → Nested false xs → Nested false (prefix ++ xs))
@@ -164,7 +164,7 @@ laid_behind {c = c} prefix alone before m =
       is = record { inside = prefix ++ m.is.inside; laid_out = ap (λ xs. prefix ++ xs) m.is.laid_out ∙ sym (append_assoc prefix m.is.inside (m.close ∷ m.following)); closes = m.is.closes; separated = first.1 };
     }
 
--- the layout of lists that are shorter than n
+-- If arguments are found in a list shorter than n, the list has the layout of an invocation.
 abbrev LaidOutBelow : ℕ → Type 0
 LaidOutBelow n = (c : Option ℕ) (list : List Hiding) → length list < n → IsClosed (gather 0 c list) → LaidOut c list
 

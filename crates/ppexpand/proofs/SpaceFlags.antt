@@ -18,11 +18,11 @@ top xs i x h k = ap reverse (set_split xs i x h) ∙ ap (λ ys. reverse (take i 
 whole : (xs : List Hidden) (i : ℕ) (d : Hidden) → i < length xs → length xs ≤ suc i → reverse xs ≡ get_or xs i d ∷ reverse (take i xs)
 whole xs i d h k = ap reverse (split_at xs i d h) ∙ ap (λ ys. reverse (take i xs ++ get_or xs i d ∷ ys)) (drop_of_length-le xs k) ∙ reverse-append (take i xs) (get_or xs i d ∷ [])
 
--- the flag of the last token goes to the first of the reversed list
+-- Setting the flag of the last token sets the flag of the first token of the reversed list.
 pub spaced-top : (xs : List Hidden) (i : ℕ) (x d : Hidden) (rest : List Hidden) → i < length xs → length xs ≤ suc i → x ≡ with_space (get_or xs i d) → reverse (set xs i x) ++ rest ≡ spaced true (reverse xs ++ rest)
 spaced-top xs i x d rest h k e = ap (λ ys. ys ++ rest) (top xs i x h k) ∙ ap (λ y. y ∷ (reverse (take i xs) ++ rest)) e ∙ ap (λ ys. spaced true (ys ++ rest)) (sym (whole xs i d h k))
 
--- the flag is set in the same way in a list with hide sets
+-- `spaced` on tokens of the code is `space_next` on their values.
 pub hidings-spaced : (sets : HideSetPool) (b : Bool) (hs : List Hidden) → hidings sets (spaced b hs) ≡ space_next b (hidings sets hs)
 hidings-spaced sets true (h ∷ hs) = refl
 hidings-spaced sets true [] = refl

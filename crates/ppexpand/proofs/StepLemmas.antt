@@ -10,10 +10,10 @@ use Rattle.ppexpand.specs.declared.expand_step.ActionKind.{ActionKind}
 use Rattle.ppexpand.specs.declared.expand_step.Action.TheInside.{Inside}
 use Rattle.ppexpand.specs.declared.expand_step.Action.TheView.{view}
 use Rattle.ppexpand.specs.code.Action.{Action}
-use Rattle.ppexpand.specs.ExpansionStep.{Done, Refused, Emits, quote_fault, named_step, ExpansionStep, macro_of, expansion_step}
+use Rattle.ppexpand.specs.ExpansionStep.{Done, TokenFault, Emits, quote_fault, named_step, ExpansionStep, macro_of, expansion_step}
 use Rattle.ppexpand.specs.Budget.{in_budget, is_exhausted}
 
-pub expansion_step-quote : (macros : Macros) (env : Env) (t : Hiding) (rest : List Hiding) → is_unmatched_quote t.token ≡ true → expansion_step macros env (t ∷ rest) ≡ Refused (quote_fault t)
+pub expansion_step-quote : (macros : Macros) (env : Env) (t : Hiding) (rest : List Hiding) → is_unmatched_quote t.token ≡ true → expansion_step macros env (t ∷ rest) ≡ TokenFault (quote_fault t)
 unfolding expansion_step
 expansion_step-quote macros env t rest h = rw h refl
 
@@ -35,17 +35,17 @@ expansion_step-unnamed macros env t rest quote none = elim (set.contains t.hide 
   | false ↦ λ k. expansion_step-named macros env t rest quote k ∙ ap (named_step env t rest) none
 ] refl
 
--- ---- a step that costs nothing is the same with any budget
+-- ---- a budget does not change a step that costs nothing
 
 pub done-in_budget : (remaining : Option ℕ) (list : List Hiding) → in_budget remaining list Done ≡ Done
 done-in_budget None list = refl
 done-in_budget (Some zero) list = refl
 done-in_budget (Some (suc n)) list = refl
 
-pub refused-in_budget : (remaining : Option ℕ) (list : List Hiding) (f : Fault) → in_budget remaining list (Refused f) ≡ Refused f
-refused-in_budget None list f = refl
-refused-in_budget (Some zero) list f = refl
-refused-in_budget (Some (suc n)) list f = refl
+pub token_fault-in_budget : (remaining : Option ℕ) (list : List Hiding) (f : Fault) → in_budget remaining list (TokenFault f) ≡ TokenFault f
+token_fault-in_budget None list f = refl
+token_fault-in_budget (Some zero) list f = refl
+token_fault-in_budget (Some (suc n)) list f = refl
 
 pub emits-in_budget : (remaining : Option ℕ) (list : List Hiding) (t : Hiding) (rest : List Hiding) → in_budget remaining list (Emits t rest) ≡ Emits t rest
 emits-in_budget None list t rest = refl
@@ -62,7 +62,7 @@ nothing_left None h = absurd (true≢false (sym h))
 nothing_left (Some zero) h = refl
 nothing_left (Some (suc n)) h = absurd (true≢false (sym h))
 
--- ---- what is to be done for the next token
+-- ---- the action for the next token
 
 pub stepped : (n : Inside) {v : Action} {s : ActionKind} → view n ≡ v → n.kind ≡ s → v ≡ view (record { kind = s })
 stepped n shows is = sym shows ∙ ap (λ s. view (record { kind = s })) is

@@ -1,5 +1,5 @@
--- Replacement with hide sets terminates, as a fact about lists of hide sets alone: prefixes terminate, by the names that they may still replace and
--- by their length.
+-- Replacement with hide sets terminates: a proof about lists of hide sets alone, by induction on prefixes.
+-- The induction is on the number of names that a prefix may still replace, then on its length.
 use Rattle.std.proofs.Common.{◌≡◌, ℕ, zero, suc, ◌<◌, ◌≤◌, true, false, ◌||◌, List, [], ◌∷◌, ◌++◌, if◌then◌else◌}
 use Rattle.std.proofs.Common.{length, refl, sym, ap, ◌∙◌, subst, true≢false, append-nil, length-append, arith}
 use Rattle.std.specs.FinSet as set
@@ -17,7 +17,7 @@ pub all-map : {A : Type 0} (P Q : A → Type 0) → ((x : A) → P x → Q x) �
 all-map P Q f [] h = tt
 all-map P Q f (x ∷ xs) h = (f x h.0, all-map P Q f xs h.1)
 
--- the part of a list after a position
+-- the part of a list after an element: `AllByRecursion` still holds, and the part is shorter
 all-following : {A : Type 0} (P : A → Type 0) (p : List A) (x : A) (q : List A) → AllByRecursion P (p ++ x ∷ q) → P x × AllByRecursion P q
 all-following P [] x q h = h
 all-following P (y ∷ p) x q h = all-following P p x q h.1
@@ -25,7 +25,7 @@ all-following P (y ∷ p) x q h = all-following P p x q h.1
 following-shorter : {A : Type 0} (p : List A) (x : A) (q : List A) → length q < length (p ++ x ∷ q)
 following-shorter p x q = omega (arith, length-append p (x ∷ q))
 
--- where `p ++ x ∷ q` is `a ++ b`, x is in a or in b
+-- if `p ++ x ∷ q` is `a ++ b`, x is in a or in b
 data Split {A : Type 0} (a b p : List A) (x : A) (q : List A) : Type 0 where
   in_first : (rest : List A) → a ≡ p ++ x ∷ rest → q ≡ rest ++ b → Split a b p x q
   in_second : (p' : List A) → b ≡ p' ++ x ∷ q → Split a b p x q
@@ -40,7 +40,7 @@ split (y ∷ a) b (z ∷ p) x q e =
       | in_second p' h ↦ in_second p' h
     ]
 
--- ---- a set with one name more
+-- ---- a set with one more name
 
 in_insert : (S : HideSet) (k q : Name) → set.contains S q ≡ true → set.contains (set.insert S k) q ≡ true
 in_insert S k q e = set.contains-insert nat_list_cmp_total S k q ∙ ap (λ b. same_name q k || b) e ∙ or_right _ true refl
@@ -48,7 +48,7 @@ in_insert S k q e = set.contains-insert nat_list_cmp_total S k q ∙ ap (λ b. s
 at_insert : (S : HideSet) (k : Name) → set.contains (set.insert S k) k ≡ true
 at_insert S k = set.contains-insert nat_list_cmp_total S k k ∙ ap (λ b. b || set.contains S k) ((eq_by_cmp_equiv nat_list_cmp_total).refl k)
 
--- what has the names of a set, and one more
+-- A set that has k and all names of S has all names of S with k added.
 pub extended : (S : HideSet) (k : Name) (r : HideSet) → Holds S r → set.contains r k ≡ true → Holds (set.insert S k) r
 extended S k r old new q h =
     elim (same_name q k) as (λ a. same_name q k ≡ a → (a || set.contains S q) ≡ true → set.contains r q ≡ true) [
@@ -101,11 +101,11 @@ module _ (macros : Macros) where
   outside_part : (S h : HideSet) (k : Name) → Holds S h → IsOutside macros k h → IsOutside macros k S
   outside_part S h k above out = record { macro = out.macro; outside = not_above S h k above out.outside }
 
-  -- a prefix whose sets have all names of S, if fewer than n names are not in S
+  -- A prefix of length at most k terminates if its sets have all names of S and S lacks fewer than n names.
   abbrev FrontsEnd : ℕ → ℕ → Type 0
   FrontsEnd n k = (S : HideSet) → names_left macros S < n → (prefix : List HideSet) → length prefix ≤ k → PrefixEnds macros S prefix
 
-  -- the same prefix after a result whose sets have one name more
+  -- such a prefix also terminates after a replacement whose sets have one more name
   abbrev ResultsEnd : ℕ → ℕ → Type 0
   ResultsEnd n k =
       (S : HideSet)
@@ -122,7 +122,7 @@ module _ (macros : Macros) where
       → EndsAfter macros S following
       → Ends macros (result ++ (prefix ++ following))
 
-  -- a step from a list that isn't empty, by its kind
+  -- case analysis of a step from a nonempty list
   by_step : (P : List HideSet → Type 0) {h : HideSet} {rest after : List HideSet} → Step macros (h ∷ rest) after → P rest
       → ((k : Name) → IsOutside macros k h → (result : List HideSet) → AllByRecursion (HidesNames h h k) result → P (result ++ rest))
       → ((k : Name)
@@ -196,7 +196,7 @@ module _ (macros : Macros) where
   nothing_ends : Ends macros []
   nothing_ends = ends (λ remaining_after step. elim step [ ])
 
-  -- the whole list is a prefix before the empty list: replacement terminates
+  -- Replacement terminates for every list: the list is a prefix before the empty list.
   pub all_end : (list : List HideSet) → Ends macros list
   all_end list = subst (Ends macros) (append-nil list) (prefixes_terminate set.empty list (none list) [] nothing_ends (λ k out inside close rest e. absurd (not_nil inside close rest e)))
     where

@@ -7,11 +7,11 @@ use Rattle.ppmacro.specs.Hiding.{Hiding}
 use Rattle.ppmacro.specs.Substitution.{unhidden}
 use Rattle.ppexpand.specs.declared.env.Env.{Env}
 use Rattle.ppexpand.specs.declared.expansion.Expanded.{Expanded}
-use Rattle.ppexpand.specs.ExpansionStep.{Invocation, ExpansionStep, Done, Refused, Emits, Failed, Replaced, Invoked, expansion_step, wanted, finish_invocation, fault_at_expansion}
+use Rattle.ppexpand.specs.ExpansionStep.{Invocation, ExpansionStep, Done, TokenFault, Emits, ReplacementFault, Replaced, Invoked, expansion_step, arguments_to_expand, finish_invocation, fault_at_expansion}
 use Rattle.ppexpand.specs.ExpansionStep.{ExpandedArguments, with_expanded}
 use Rattle.ppexpand.specs.Budget.{in_budget, spend_one}
 
--- the emitted tokens, the fault that ended the list, if any, and the rest of the budget
+-- the emitted tokens, the fault that ended the list, if any, and the remaining budget
 pub record Outcome : Type 0 where
   pub tokens : List Hiding
   pub fault : Option Fault
@@ -26,49 +26,50 @@ abbrev pub with_emitted : Hiding → Outcome → Outcome
 with_emitted t out = record { tokens = t ∷ out.tokens; fault = out.fault; remaining = out.remaining }
 
 module _ (macros : Macros) (env : Env) where
-  -- the expansion step of a list, within what is left of a budget
+  -- the expansion step of a list within the remaining budget
   abbrev pub step_in_budget : Option ℕ → List Hiding → ExpansionStep
   step_in_budget remaining list = in_budget remaining list (expansion_step macros env list)
 
   mutual
-    -- a list has this outcome: at this level, with this much left of a budget, in this number of steps; each replacement costs one
+    -- at this level, with this remaining budget, a list has this outcome after this number of steps; each replacement takes
+    -- one from the budget
     pub data Expands : ℕ → Option ℕ → ℕ → List Hiding → Outcome → Type 0 where
       done : {level : ℕ} {remaining : Option ℕ} {list : List Hiding}
           → step_in_budget remaining list ≡ Done
           → Expands level remaining 0 list (ended remaining None)
-      refused : {level : ℕ} {remaining : Option ℕ} {list : List Hiding} {f : Fault}
-          → step_in_budget remaining list ≡ Refused f
+      token_fault : {level : ℕ} {remaining : Option ℕ} {list : List Hiding} {f : Fault}
+          → step_in_budget remaining list ≡ TokenFault f
           → Expands level remaining 0 list (ended remaining (Some f))
       emits : {level steps : ℕ} {remaining : Option ℕ} {list : List Hiding} {t : Hiding} {rest : List Hiding} {out : Outcome}
           → step_in_budget remaining list ≡ Emits t rest
           → Expands level remaining steps rest out
           → Expands level remaining (suc steps) list (with_emitted t out)
-      failed : {level : ℕ} {remaining : Option ℕ} {list : List Hiding} {f : Fault}
-          → step_in_budget remaining list ≡ Failed f
+      replacement_fault : {level : ℕ} {remaining : Option ℕ} {list : List Hiding} {f : Fault}
+          → step_in_budget remaining list ≡ ReplacementFault f
           → Expands level remaining 0 list (ended (spend_one remaining) (Some f))
       replaced : {level steps : ℕ} {remaining : Option ℕ} {list next : List Hiding} {out : Outcome}
           → step_in_budget remaining list ≡ Replaced next
           → Expands level (spend_one remaining) steps next out
           → Expands level remaining (suc steps) list out
-      argument_refused : {level : ℕ} {remaining remaining_after : Option ℕ} {list : List Hiding} {invocation : Invocation} {f : Fault}
+      argument_fault : {level : ℕ} {remaining remaining_after : Option ℕ} {list : List Hiding} {invocation : Invocation} {f : Fault}
           → step_in_budget remaining list ≡ Invoked invocation
-          → ExpandsArguments level invocation (spend_one remaining) (wanted invocation) remaining_after (Err f)
+          → ExpandsArguments level invocation (spend_one remaining) (arguments_to_expand invocation) remaining_after (Err f)
           → Expands level remaining 0 list (ended remaining_after (Some f))
-      invocation_failed : {level : ℕ} {remaining remaining_after : Option ℕ} {list : List Hiding} {invocation : Invocation} {expanded : List (Option (List Hiding))} {f : Fault}
+      invocation_fault : {level : ℕ} {remaining remaining_after : Option ℕ} {list : List Hiding} {invocation : Invocation} {expanded : List (Option (List Hiding))} {f : Fault}
           → step_in_budget remaining list ≡ Invoked invocation
-          → ExpandsArguments level invocation (spend_one remaining) (wanted invocation) remaining_after (Ok expanded)
-          → finish_invocation invocation expanded ≡ Failed f
+          → ExpandsArguments level invocation (spend_one remaining) (arguments_to_expand invocation) remaining_after (Ok expanded)
+          → finish_invocation invocation expanded ≡ ReplacementFault f
           → Expands level remaining 0 list (ended remaining_after (Some f))
       invocation_replaced : {level steps : ℕ} {remaining remaining_after : Option ℕ} {list next : List Hiding} {invocation : Invocation}
           {expanded : List (Option (List Hiding))} {out : Outcome}
           → step_in_budget remaining list ≡ Invoked invocation
-          → ExpandsArguments level invocation (spend_one remaining) (wanted invocation) remaining_after (Ok expanded)
+          → ExpandsArguments level invocation (spend_one remaining) (arguments_to_expand invocation) remaining_after (Ok expanded)
           → finish_invocation invocation expanded ≡ Replaced next
           → Expands level remaining_after steps next out
           → Expands level remaining (suc steps) list out
 
-    -- the arguments of an invocation in a list at this level, each expanded as a list of its own one level deeper (6.10.3.1), in
-    -- order, up to the first fault, from one budget; level 256 is the deepest
+    -- The arguments of an invocation in a list at this level. Each is expanded as a list of its own, one level deeper
+    -- (6.10.3.1), in order, up to the first fault, within one budget. The largest level is 256.
     pub data ExpandsArguments : ℕ → Invocation → Option ℕ → List (Option (List Hiding)) → Option ℕ → ExpandedArguments → Type 0 where
       none : {level : ℕ} {invocation : Invocation} {remaining : Option ℕ}
           → ExpandsArguments level invocation remaining [] remaining (Ok [])
@@ -84,7 +85,7 @@ module _ (macros : Macros) (env : Env) where
           → Expands (suc level) remaining steps list (record { tokens = tokens; fault = None; remaining = between })
           → ExpandsArguments level invocation between rest remaining_after out
           → ExpandsArguments level invocation remaining (Some list ∷ rest) remaining_after (with_expanded (Some tokens) out)
-      pre_expansion_refused : {level steps : ℕ} {invocation : Invocation} {remaining remaining_after : Option ℕ} {list tokens : List Hiding}
+      pre_expansion_fault : {level steps : ℕ} {invocation : Invocation} {remaining remaining_after : Option ℕ} {list tokens : List Hiding}
           {rest : List (Option (List Hiding))} {f : Fault}
           → level < 256
           → Expands (suc level) remaining steps list (record { tokens = tokens; fault = Some f; remaining = remaining_after })
@@ -94,12 +95,12 @@ module _ (macros : Macros) (env : Env) where
     -- the number of replacements in an expansion
     pub count : {level steps : ℕ} {remaining : Option ℕ} {list : List Hiding} {out : Outcome} → Expands level remaining steps list out → ℕ
     count (done e) = 0
-    count (refused e) = 0
+    count (token_fault e) = 0
     count (emits e more) = count more
-    count (failed e) = 1
+    count (replacement_fault e) = 1
     count (replaced e more) = suc (count more)
-    count (argument_refused e arguments) = suc (count_arguments arguments)
-    count (invocation_failed e arguments f) = suc (count_arguments arguments)
+    count (argument_fault e arguments) = suc (count_arguments arguments)
+    count (invocation_fault e arguments f) = suc (count_arguments arguments)
     count (invocation_replaced e arguments f more) = suc (count_arguments arguments + count more)
 
     pub count_arguments : {level : ℕ} {invocation : Invocation} {remaining remaining_after : Option ℕ} {as' : List (Option (List Hiding))} {out : ExpandedArguments}
@@ -109,13 +110,13 @@ module _ (macros : Macros) (env : Env) where
     count_arguments (unused more) = count_arguments more
     count_arguments (too_deep h) = 0
     count_arguments (pre_expanded h one more) = count one + count_arguments more
-    count_arguments (pre_expansion_refused h one) = count one
+    count_arguments (pre_expansion_fault h one) = count one
 
--- a list has this outcome, at this level and with this much left of a budget
+-- a list has this outcome, at this level and with this remaining budget
 abbrev pub ExpandsTo : Macros → Env → ℕ → Option ℕ → List Hiding → Outcome → Type 0
 ExpandsTo macros env level remaining list out = (steps : ℕ) × Expands macros env level remaining steps list out
 
--- the expansion of a list of tokens within a budget: at level 0, with empty hide sets at first
+-- The expansion of a list of tokens within a budget. The list is at level 0, and its tokens have empty hide sets.
 pub record IsExpansion (macros : Macros) (env : Env) (remaining : Option ℕ) (tokens : List Token) (e : Expanded) : Type 0 where
   pub outcome : Outcome
   pub expands : ExpandsTo macros env 0 remaining (map unhidden tokens) outcome

@@ -61,8 +61,9 @@ predefined_value b env t names_to_hide = record {
 
 -- ---- expansion steps
 
--- an invocation of a function-like macro: the macro name token, the macro, one argument for each parameter (none for a variable argument that is
--- absent), the names that are added to the hide sets of the replacement, and the tokens after the matching `)`
+-- an invocation of a function-like macro: the macro name token, the macro, one argument for each parameter (none for an
+-- absent variable argument), the names that are added to the hide sets of the replacement, and the tokens after the
+-- matching `)`
 pub record Invocation : Type 0 where
   pub name_token : Hiding
   pub macro : Macro
@@ -70,19 +71,19 @@ pub record Invocation : Type 0 where
   pub names_to_hide : HideSet
   pub following : List Hiding
 
--- what happens to the first token of a list
+-- what one step does with the first token of a list
 pub data ExpansionStep : Type 0 where
-  -- there is none
+  -- the list is empty
   Done : ExpansionStep
-  -- it raises a fault, and nothing is replaced
-  Refused : Fault → ExpansionStep
-  -- it is emitted unchanged; these tokens remain
+  -- a fault before any replacement: the token is an unmatched quote, or the budget is exhausted
+  TokenFault : Fault → ExpansionStep
+  -- the token is emitted unchanged; these tokens remain
   Emits : Hiding → List Hiding → ExpansionStep
-  -- it is a macro's name whose replacement fails
-  Failed : Fault → ExpansionStep
-  -- it is a macro's name that was replaced; this is the list now
+  -- the token is a macro's name, and its replacement has a fault
+  ReplacementFault : Fault → ExpansionStep
+  -- the token is a macro's name that was replaced; this is the new list
   Replaced : List Hiding → ExpansionStep
-  -- it is the macro name token of an invocation, whose arguments are still to be expanded
+  -- the token is the macro name token of an invocation whose arguments are still to be expanded
   Invoked : Invocation → ExpansionStep
 
 -- the next token gets the leading-space flag if a space is pending
@@ -97,7 +98,7 @@ followed_by m following = m.tokens ++ space_next m.pending following
 
 abbrev pub replaced_by : Result Replacement Fault → List Hiding → ExpansionStep
 replaced_by (Ok m) following = Replaced (followed_by m following)
-replaced_by (Err f) following = Failed f
+replaced_by (Err f) following = ReplacementFault f
 
 -- a fault at the expansion location of a macro's name
 abbrev pub fault_at_expansion : ℕ → Hiding → Fault
@@ -106,19 +107,20 @@ fault_at_expansion n t = fault n t.token.used t.token.text
 abbrev pub quote_fault : Hiding → Fault
 quote_fault t = fault 7 t.token.at t.token.text
 
--- the names that an invocation adds to hide sets: those that are in the hide set of the name and in that of the `)`, and the name
+-- the names that an invocation adds to hide sets: the intersection of the hide sets of the macro name and of the `)`,
+-- plus the macro name
 abbrev pub names_to_hide_for : HideSet → HideSet → Name → HideSet
 names_to_hide_for hide close name = set.insert (set.intersection hide close) name
 
 abbrev pub closed_invocation_step : Hiding → Macro → Option (List (List Hiding)) → Hiding → List Hiding → ExpansionStep
 closed_invocation_step t d (Some as') close following =
     Invoked (record { name_token = t; macro = d; arguments = as'; names_to_hide = names_to_hide_for t.hide close.hide t.token.text; following = following })
-closed_invocation_step t d None close following = Failed (fault_at_expansion 18 t)
+closed_invocation_step t d None close following = ReplacementFault (fault_at_expansion 18 t)
 
 abbrev pub invocation_step : Hiding → Macro → List Name → Variadic → Gathered → ExpansionStep
 invocation_step t d names variadic (Closed as' close following) = closed_invocation_step t d (fit_arguments names variadic as') close following
-invocation_step t d names variadic (UnmatchedQuote q) = Failed (quote_fault q)
-invocation_step t d names variadic Unclosed = Failed (fault_at_expansion 17 t)
+invocation_step t d names variadic (UnmatchedQuote q) = ReplacementFault (quote_fault q)
+invocation_step t d names variadic Unclosed = ReplacementFault (fault_at_expansion 17 t)
 
 -- a function-like macro's name is invoked if `(` is next, and otherwise emitted (6.10.3, paragraph 10)
 abbrev pub function_step : Hiding → Macro → List Name → Variadic → List Hiding → ExpansionStep
@@ -145,7 +147,7 @@ macro_of macros t = if is_identifier t then table.get macros t.text else None
 unfoldable pub expansion_step : Macros → Env → List Hiding → ExpansionStep
 expansion_step macros env [] = Done
 expansion_step macros env (t ∷ rest) =
-    if is_unmatched_quote t.token then Refused (quote_fault t) else (
+    if is_unmatched_quote t.token then TokenFault (quote_fault t) else (
     if set.contains t.hide t.token.text then Emits t rest else named_step env t rest (macro_of macros t.token))
 
 -- ---- the arguments that are expanded (6.10.3.1)
@@ -163,8 +165,8 @@ abbrev pub to_expand : ℕ → List Chain → List Name → List (List Hiding) �
 to_expand i cs [] given = []
 to_expand i cs (n ∷ names) given = (if pre_expands i cs then Some (argument_at given i) else None) ∷ to_expand (suc i) cs names given
 
-unfoldable pub wanted : Invocation → List (Option (List Hiding))
-wanted invocation = to_expand 0 (chains_of invocation.macro) (parameter_names invocation.macro.kind) invocation.arguments
+unfoldable pub arguments_to_expand : Invocation → List (Option (List Hiding))
+arguments_to_expand invocation = to_expand 0 (chains_of invocation.macro) (parameter_names invocation.macro.kind) invocation.arguments
 
 -- the expansions, with one entry for each parameter, or the first fault
 abbrev pub ExpandedArguments : Type 0

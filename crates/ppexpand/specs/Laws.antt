@@ -11,7 +11,7 @@ use Rattle.ppmacro.specs.declared.macros.Macro.{Macro}
 use Rattle.ppexpand.specs.declared.env.Env.{Env}
 use Rattle.ppexpand.specs.declared.expansion.Expanded.{Expanded}
 use Rattle.ppexpand.specs.Arguments.{argument_role, separates, fewer, Quote, Open, Close, Comma, Inner}
-use Rattle.ppexpand.specs.ExpansionStep.{Invocation, Emits, Replaced, Invoked, macro_of, wanted, finish_invocation}
+use Rattle.ppexpand.specs.ExpansionStep.{Invocation, Emits, Replaced, Invoked, macro_of, arguments_to_expand, finish_invocation}
 use Rattle.ppexpand.specs.Budget.{spend_one}
 use Rattle.ppexpand.specs.Expansion.{Outcome, step_in_budget, ExpandsTo, ExpandsArguments, IsExpansion}
 
@@ -39,7 +39,7 @@ pub data Leads (macros : Macros) (env : Env) (level : ℕ) : Option ℕ → List
       → Leads macros env level remaining list (spend_one remaining) next
   by_invoking : {remaining remaining_after : Option ℕ} {list next : List Hiding} {invocation : Invocation} {expanded : List (Option (List Hiding))}
       → step_in_budget macros env remaining list ≡ Invoked invocation
-      → ExpandsArguments macros env level invocation (spend_one remaining) (wanted invocation) remaining_after (Ok expanded)
+      → ExpandsArguments macros env level invocation (spend_one remaining) (arguments_to_expand invocation) remaining_after (Ok expanded)
       → finish_invocation invocation expanded ≡ Replaced next
       → Leads macros env level remaining list remaining_after next
 

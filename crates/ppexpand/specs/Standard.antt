@@ -1,5 +1,5 @@
--- Expansion by the rules of the standard, which has no budget (6.10.3, 6.10.3.1, 6.10.3.4, 6.10.8.1). There is one rule for each way to go on, and
--- one for each fault.
+-- Expansion by the rules of the standard, which has no budget (6.10.3, 6.10.3.1, 6.10.3.4, 6.10.8.1). There is one rule for each way to continue,
+-- and one for each fault.
 use Rattle.std.specs.Prelude.{◌≡◌, ℕ, suc, ◌<◌, ◌≤◌, Bool, true, false, List, [], ◌∷◌, map, Option, Some, None, Result, Ok, Err}
 use Rattle.std.specs.FinSet as set
 use Rattle.pptext.specs.declared.tokens.Token.{Token}
@@ -14,7 +14,7 @@ use Rattle.ppmacro.specs.declared.macros.Macro.{Macro}
 use Rattle.ppmacro.specs.declared.macros.MacroKind.TheVariants.{Predefined, ObjectLike, FunctionLike}
 use Rattle.ppexpand.specs.declared.env.Env.{Env}
 use Rattle.ppexpand.specs.Arguments.{is_open, Closed, UnmatchedQuote, Unclosed, gather, separators, fit_arguments}
-use Rattle.ppexpand.specs.ExpansionStep.{predefined_value, Invocation, followed_by, fault_at_expansion, quote_fault, names_to_hide_for, no_arguments, macro_of, wanted}
+use Rattle.ppexpand.specs.ExpansionStep.{predefined_value, Invocation, followed_by, fault_at_expansion, quote_fault, names_to_hide_for, no_arguments, macro_of, arguments_to_expand}
 use Rattle.ppexpand.specs.ExpansionStep.{ExpandedArguments, with_expanded}
 
 -- a token names this macro, and its hide set does not have the name (6.10.3, paragraph 9; 6.10.3.4, paragraph 2)
@@ -113,18 +113,18 @@ mutual
         → gather 0 (separators names variadic) inside ≡ Closed arguments close following
         → fit_arguments names variadic arguments ≡ None
         → StandardExpands macros env level (t ∷ paren ∷ inside) [] (Some (fault_at_expansion 18 t))
-    argument_refused : {level : ℕ} {list : List Hiding} {invocation : Invocation} {f : Fault}
+    argument_fault : {level : ℕ} {list : List Hiding} {invocation : Invocation} {f : Fault}
         → Invokes macros list invocation
-        → StandardExpandsArguments macros env level invocation (wanted invocation) (Err f)
+        → StandardExpandsArguments macros env level invocation (arguments_to_expand invocation) (Err f)
         → StandardExpands macros env level list [] (Some f)
     invocation_refused : {level : ℕ} {list : List Hiding} {invocation : Invocation} {expanded : List (Option (List Hiding))} {f : Fault}
         → Invokes macros list invocation
-        → StandardExpandsArguments macros env level invocation (wanted invocation) (Ok expanded)
+        → StandardExpandsArguments macros env level invocation (arguments_to_expand invocation) (Ok expanded)
         → invocation_result invocation expanded ≡ Err f
         → StandardExpands macros env level list [] (Some f)
     invocation : {level : ℕ} {list tokens : List Hiding} {fault : Option Fault} {invocation : Invocation} {expanded : List (Option (List Hiding))} {m : Replacement}
         → Invokes macros list invocation
-        → StandardExpandsArguments macros env level invocation (wanted invocation) (Ok expanded)
+        → StandardExpandsArguments macros env level invocation (arguments_to_expand invocation) (Ok expanded)
         → invocation_result invocation expanded ≡ Ok m
         → StandardExpands macros env level (followed_by m invocation.following) tokens fault
         → StandardExpands macros env level list tokens fault
@@ -144,7 +144,7 @@ mutual
         → StandardExpands macros env (suc level) list tokens None
         → StandardExpandsArguments macros env level invocation rest out
         → StandardExpandsArguments macros env level invocation (Some list ∷ rest) (with_expanded (Some tokens) out)
-    pre_expansion_refused : {level : ℕ} {invocation : Invocation} {list tokens : List Hiding} {rest : List (Option (List Hiding))} {f : Fault}
+    pre_expansion_fault : {level : ℕ} {invocation : Invocation} {list tokens : List Hiding} {rest : List (Option (List Hiding))} {f : Fault}
         → level < 256
         → StandardExpands macros env (suc level) list tokens (Some f)
         → StandardExpandsArguments macros env level invocation (Some list ∷ rest) (Err f)

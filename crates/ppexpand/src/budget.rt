@@ -2,7 +2,7 @@
 ghost use Rattle.std.specs.Prelude.{◌≡◌};
 ghost use Rattle.ppexpand.specs.Budget.{is_exhausted, spend_one};
 
-/// Returns whether there is a budget and nothing is left of it. Does not allocate.
+/// Returns whether there is a budget and nothing remains of it. Does not allocate.
 pub fn is_exhausted(remaining: Option<u64>) -> bool
     ensures { result ≡ is_exhausted remaining }
 {

@@ -13,7 +13,7 @@ use std::alloc::{AllocError, Global};
 use std::marker::Model;
 
 /// The largest number of tokens of a span that are copied. A longer span becomes a piece, and the tokens after it need a new vector.
-const MOST_COPIED: usize = 12;
+const MAX_COPIED: usize = 12;
 
 /// A piece of the emitted tokens: a span of a file, or tokens that were emitted one by one.
 #[derive(Drop)]
@@ -103,7 +103,7 @@ impl<'a> Emitted<'a> {
     pub(crate) fn extend(&mut self, span: TokenSpan<'a>) -> Result<(), AllocError>
         ensures { OnOk result (self.new ≡ self.old ++ span.entry) }
     {
-        if span.len() <= MOST_COPIED {
+        if span.len() <= MAX_COPIED {
             return push_span(&mut self.singles, span);
         }
         end_piece(&mut self.pieces, &mut self.singles)?;

@@ -59,9 +59,9 @@ pub(crate) enum ActionKind<'t, 'x, 'a> {
     /// There is no token.
     Done,
     /// The token raises a fault, and no name is replaced. Nothing is spent of the budget.
-    Refused(Fault),
+    TokenFault(Fault),
     /// The token is a macro's name whose replacement fails. It costs one of the budget.
-    Failed(Fault),
+    ReplacementFault(Fault),
     /// The token is emitted unchanged.
     Emits(Hidden<'x>),
     /// The token was replaced in the list.
@@ -78,14 +78,14 @@ pub(crate) struct Action<'t, 'x, 'a> {
 
 impl<'t, 'x, 'a> Model for Action<'t, 'x, 'a> {
     ghost use Rattle.ppexpand.specs.code.Action as next;
-    ghost use Rattle.ppexpand.specs.declared.expand_step.ActionKind.TheVariants.{Done, Refused, Failed, Emits, Replaced, Invoked};
+    ghost use Rattle.ppexpand.specs.declared.expand_step.ActionKind.TheVariants.{Done, TokenFault, ReplacementFault, Emits, Replaced, Invoked};
 
     ghost Value = { next.Action };
 
     ghost view = { λ n. elim n.kind [
       | Done ↦ next.Done
-      | Refused f ↦ next.Refused f
-      | Failed f ↦ next.Failed f
+      | TokenFault f ↦ next.TokenFault f
+      | ReplacementFault f ↦ next.ReplacementFault f
       | Emits h ↦ next.Emits h
       | Replaced ↦ next.Replaced
       | Invoked c ↦ next.Invoked c.name_token c.definition.now c.arguments.items c.base
@@ -176,10 +176,10 @@ fn replace_by<'x, 'a: 'x>(
 
 /// Returns the action for a macro's name whose replacement fails with this fault, at the expansion location of the name.
 fn failed_at<'t, 'x, 'a>(number: u8, name_token: &Hidden) -> Result<Action<'t, 'x, 'a>, Memory>
-    ensures { IfOk result (λ n. n ≡ next.Failed (fault_at number name_token.now.token.used name_token.now.token.text)) }
+    ensures { IfOk result (λ n. n ≡ next.ReplacementFault (fault_at number name_token.now.token.used name_token.now.token.text)) }
 {
     Ok(Action {
-        kind: ActionKind::Failed(fault_at_expansion(number, name_token)?),
+        kind: ActionKind::ReplacementFault(fault_at_expansion(number, name_token)?),
     })
 }
 
@@ -216,14 +216,14 @@ fn closed_invocation_step<'t, 'x, 'a: 'x>(
 
 /// Returns the action for an invocation that contains an unmatched quote.
 fn failed_quote<'t, 'x, 'a>(quote: &Hidden) -> Result<Action<'t, 'x, 'a>, Memory>
-    ensures { IfOk result (λ n. n ≡ next.Failed (fault_at 7 quote.now.token.at quote.now.token.text)) }
+    ensures { IfOk result (λ n. n ≡ next.ReplacementFault (fault_at 7 quote.now.token.at quote.now.token.text)) }
 {
     Ok(Action {
-        kind: ActionKind::Failed(unmatched_quote(quote)?),
+        kind: ActionKind::ReplacementFault(unmatched_quote(quote)?),
     })
 }
 
-/// Returns the action for a macro's name if nothing is left of the budget: a name that is to be replaced is refused.
+/// Returns the action for a macro's name if nothing remains of the budget: a name that is to be replaced is refused.
 fn exhausted_step<'t, 'x, 'a: 'x>(
     name_token: Hidden<'x>,
     definition: &Macro<'a>,
@@ -249,16 +249,16 @@ fn exhausted_step<'t, 'x, 'a: 'x>(
         }
     }
     Ok(Action {
-        kind: ActionKind::Refused(over_budget(&name_token)),
+        kind: ActionKind::TokenFault(over_budget(&name_token)),
     })
 }
 
 /// Returns the action for an unmatched quote.
 fn refused_quote<'t, 'x, 'a>(quote: &Hidden) -> Result<Action<'t, 'x, 'a>, Memory>
-    ensures { IfOk result (λ n. n ≡ next.Refused (fault_at 7 quote.now.token.at quote.now.token.text)) }
+    ensures { IfOk result (λ n. n ≡ next.TokenFault (fault_at 7 quote.now.token.at quote.now.token.text)) }
 {
     Ok(Action {
-        kind: ActionKind::Refused(unmatched_quote(quote)?),
+        kind: ActionKind::TokenFault(unmatched_quote(quote)?),
     })
 }
 
@@ -380,7 +380,7 @@ impl<'x> Replacer<'x> {
                 kind: ActionKind::Replaced,
             }),
             Err(fault) => Ok(Action {
-                kind: ActionKind::Failed(fault),
+                kind: ActionKind::ReplacementFault(fault),
             }),
         }
     }

@@ -16,7 +16,7 @@ ghost use Rattle.ppexpand.specs.code.Lists.{NeverExpand, never_expands, next_mac
 ghost use Rattle.std.specs.List.{AllByRecursion};
 ghost use Rattle.ppexpand.specs.code.Skipping.{HasSkipped};
 ghost use Rattle.ppexpand.specs.code.ProgramValues.{expanded_in, ExpansionsKnown, invocation_in, InvocationKnown, replaced_in, owned_tokens, HasExpanded};
-ghost use Rattle.ppexpand.specs.code.ProgramValues.{ExpandsWanted, ClosedStepsTo, HasTaken, HasInvoked};
+ghost use Rattle.ppexpand.specs.code.ProgramValues.{ExpandsInvocationArguments, ClosedStepsTo, HasTaken, HasInvoked};
 
 use crate::budget::spend_one;
 use crate::context::Context;
@@ -34,7 +34,7 @@ use ppmacro::{ArgumentExpansion, Hidden, HideSets, Macro, Pattern, Table};
 use pptext::{Fault, Memory, Token};
 use std::alloc::{AllocError, Global};
 
-/// The deepest level of a token list. A list given to `expand` is at level 0, an argument one level deeper than its invocation.
+/// The largest level of a token list. A list given to `expand` is at level 0, an argument one level deeper than its invocation.
 ///
 /// Each level takes stack. So the functions on the way to the next level return small values and write results to their caller's variables,
 /// and the functions that do not lead there are not inlined into them.
@@ -141,7 +141,7 @@ struct Expander<'x> {
 
 impl<'x> Expander<'x> {
     /// Begins an expansion step of a list. `named` is the macro that the next token names, if any. Returns whether the expansion of the
-    /// list goes on. `Stop::Fault` means that it ends with the fault in `self`.
+    /// list continues. `Stop::Fault` means that it ends with the fault in `self`.
     ///
     /// Appends emitted tokens to `emitted` and removes what is done from `list`. An invocation of a function-like macro is only put in
     /// `invocation`: its arguments are still to be expanded. Otherwise `invocation` becomes `None`.
@@ -175,7 +175,7 @@ impl<'x> Expander<'x> {
         let kind = next.kind;
         match kind {
             ActionKind::Done => Ok(false),
-            ActionKind::Refused(fault) => {
+            ActionKind::TokenFault(fault) => {
                 self.fault = Some(fault);
                 Err(Stop::Fault)
             }
@@ -183,7 +183,7 @@ impl<'x> Expander<'x> {
                 emitted.push_single(token)?;
                 Ok(true)
             }
-            ActionKind::Failed(fault) => {
+            ActionKind::ReplacementFault(fault) => {
                 self.remaining = spend_one(self.remaining);
                 self.fault = Some(fault);
                 Err(Stop::Fault)
@@ -254,7 +254,7 @@ impl<'x> Expander<'x> {
         requires known { InvocationKnown self.old.replacer.sets invocation.now.name_token invocation.now.arguments.items invocation.now.base }
         requires chains { listed pattern.now ≡ chains_of invocation.now.definition.now }
         requires none { expanded.old.items ≡ [] }
-        ensures is { UnlessFailed result self.new.fault (λ r. (following : List Hidden) → ExpandsWanted context.now.table.now.macros context.now.env.now context.now.level
+        ensures is { UnlessFailed result self.new.fault (λ r. (following : List Hidden) → ExpandsInvocationArguments context.now.table.now.macros context.now.env.now context.now.level
             (invocation_in self.old.replacer.sets invocation.now.name_token invocation.now.definition.now invocation.now.arguments.items invocation.now.base following) self.old.remaining self.new.remaining
             (result_and r (Ok (expanded_in self.new.replacer.sets invocation.now.arguments.items expanded.new.items)))) }
         ensures known { OnOk result (ExpansionsKnown self.new.replacer.sets expanded.new.items) }
@@ -313,7 +313,7 @@ impl<'x> Expander<'x> {
     }
 
     /// Makes one expansion step of a list, including the arguments of an invocation. `named` is the macro that the next token names, if
-    /// any. Returns whether the expansion of the list goes on. `Stop::Fault` means that it ends with the fault in `self`.
+    /// any. Returns whether the expansion of the list continues. `Stop::Fault` means that it ends with the fault in `self`.
     ///
     /// Appends emitted tokens to `emitted` and removes what is done from `list`. `invocation` is storage for one, so that it lies in the
     /// caller's frame.
@@ -455,7 +455,7 @@ fn expand_rest<'x, 'a: 'x>(
 /// counts as one, and each invocation of a function-like macro, before its arguments are expanded. One more replacement is fault 35 at the
 /// expansion location of the name.
 ///
-/// The tokens emitted before a fault stay. Fault 7, an unmatched quote, has its spelling location. The other faults have the expansion
+/// The tokens emitted before a fault are kept. Fault 7, an unmatched quote, has its spelling location. The other faults have the expansion
 /// location of the macro name:
 ///
 /// - 17: an invocation without its `)`;

@@ -40,7 +40,7 @@ pub fn prefixes_terminate()
         → Step macros (hides list) (hides next) }
     ensures names { (hidden one two whole : HideSet) (name : Name) → Holds hidden one → Holds hidden two → HidesNames one two name whole → Holds (set.insert hidden name) whole }
     ensures fewer { (macros : Macros) (hidden : HideSet) (name : Name) → IsOutside macros name hidden → names_left macros (set.insert hidden name) < names_left macros hidden }
-    ensures fronts { (macros : Macros) (hidden : HideSet) (prefix : List HideSet) → PrefixEnds macros hidden prefix }
+    ensures prefixes { (macros : Macros) (hidden : HideSet) (prefix : List HideSet) → PrefixEnds macros hidden prefix }
     ensures lists { (macros : Macros) (list : List HideSet) → Ends macros list }
 {}
 
@@ -84,7 +84,7 @@ pub fn budget_is_spent()
         → remaining ≡ plus (count macros env d) out.remaining }
 {}
 
-/// An expansion within a budget equals the one without if that costs no more. Otherwise it ends in fault 35, nothing is left of the budget,
+/// An expansion within a budget equals the one without if that costs no more. Otherwise it ends in fault 35, nothing remains of the budget,
 /// and the emitted tokens are a prefix.
 pub fn budget_caps()
     ensures { (macros : Macros) (env : Env) (level steps : ℕ) (list : List Hiding) (whole : Outcome)

@@ -5,7 +5,8 @@ ghost use Rattle.ppexpand.specs.declared.stop.Stop.TheVariants.{Memory as OutOfM
 use pptext::Memory;
 use std::alloc::AllocError;
 
-/// The reason why a step has no value. It is small, since each level of arguments takes stack: the fault lies beside the result.
+/// The reason why a step has no value. It is small, since each level of arguments takes stack: the fault is in `Expander`,
+/// not in the result.
 #[derive(Drop)]
 pub(crate) enum Stop {
     /// A fault was raised.

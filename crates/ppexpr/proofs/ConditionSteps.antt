@@ -1,4 +1,4 @@
--- The steps of a condition.
+-- The steps that evaluate a condition.
 use Rattle.std.proofs.Common.{◌≡◌, List, [], Option, Some, None, Err, MatchOption}
 use Rattle.pptext.specs.declared.tokens.Place.{Place}
 use Rattle.pptext.specs.declared.tokens.Fault.{Fault}
@@ -9,7 +9,7 @@ use Rattle.ppexpr.specs.Grammar.{IsExpression}
 use Rattle.ppexpr.specs.Reading.{Denotes}
 use Rattle.ppexpr.specs.Conditions.{Condition, taken, EvaluatesShallow, no_expression, has_value}
 
--- the result of the parser
+-- the parser's result: `None` if the symbols are no expression, and otherwise their outcome
 abbrev pub Parsed : List Symbol → Option Outcome → Type 0
 Parsed symbols r = MatchOption r (¬ IsExpression symbols) (Denotes symbols)
 

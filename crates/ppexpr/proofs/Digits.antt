@@ -1,4 +1,4 @@
--- Numbers by their digits.
+-- Bounds on the number that digits denote.
 use Rattle.std.proofs.Common.{◌≡◌, ℕ, ◌+◌, ◌*◌, ◌<◌, ◌≤◌, ◌^◌, List, [], ◌∷◌, length, take, drop, get_or, arith, sym, ap, ◌∙◌, subst}
 use Rattle.std.specs.List.{fold}
 use Rattle.std.specs.Char.{digit_value}
@@ -7,11 +7,11 @@ use Rattle.std.proofs.lemmas.List.{take-append-drop}
 use Rattle.std.proofs.Math.Nat.{le-mul_of_pos_right}
 use Rattle.ppexpr.specs.Integers.{number}
 
--- one more digit, whatever digits are worth
+-- appends a digit to a number; `worth` maps a digit to its value
 abbrev pub step : (ℕ → ℕ) → ℕ → ℕ → ℕ → ℕ
 step worth base n c = n * base + worth c
 
--- more digits write no smaller number
+-- Appending digits does not make a number smaller.
 grows : (worth : ℕ → ℕ) (base : ℕ) → 0 < base → (ds : List ℕ) (n : ℕ) → n ≤ fold (step worth base) n ds
 grows worth base h [] n = omega arith
 grows worth base h (d ∷ ds) n =
@@ -28,12 +28,12 @@ front_no_larger worth base ds i h within =
     let one : fold (step worth base) 0 (take (i + 1) ds) ≡ step worth base (fold (step worth base) 0 (take i ds)) (get_or ds i 0) = fold_more (step worth base) 0 ds i 0 within in
     omega (arith, split, rest, one)
 
--- the number is no smaller than that of its first digits
+-- A number is at least the number of its first i + 1 digits.
 number_reaches : (base : ℕ) (ds : List ℕ) (i n : ℕ) → 0 < base → i < length ds → n ≡ number base (take i ds) → n * base + digit_value (get_or ds i 0) ≤ number base ds
 number_reaches base ds i n h within is =
     subst (λ (m : ℕ). m * base + digit_value (get_or ds i 0) ≤ number base ds) (sym is) (front_no_larger digit_value base ds i h within)
 
--- a number is too large where its first digits write one, with the next digit or without it
+-- A number is too large if its prefix overflows when multiplied by the base, or when the next digit is added.
 plain_sum : (n b base digit all bound shifted more : ℕ) → b ≡ base → n * base + digit ≤ all → shifted ≡ n * b → more ≡ digit → (shifted + more < bound → ⊥) → bound ≤ all
 plain_sum n b base digit all bound shifted more e reached f m h = let p : shifted ≡ n * base = rw (← e) f in omega (arith, p)
 

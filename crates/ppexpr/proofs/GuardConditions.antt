@@ -1,4 +1,4 @@
--- The condition of a guard (6.10.1) whose name is a macro's.
+-- The condition of an include guard (6.10.1) is false if the guard's name is a macro's.
 use Rattle.std.proofs.Common.{◌≡◌, ℕ, zero, suc, pos, Bool, true, false, List, [], ◌∷◌, Option, None, Ok, refl, ap, subst, codes, if◌then◌else◌, is_some, arith}
 use Rattle.std.specs.FinMap as table
 use Rattle.pptext.specs.declared.tokens.Place.{Place}
@@ -7,7 +7,7 @@ use Rattle.pptext.specs.declared.tokens.Kind.TheVariants.{Ident, Number, Punct}
 use Rattle.ppmacro.specs.Names.{Macros}
 use Rattle.ppexpand.specs.declared.env.Env.{Env}
 use Rattle.ppexpand.specs.Expansion.{IsExpansion, ended}
-use Rattle.ppexpand.proofs.Skipping.{expansion-following, expands-nothing}
+use Rattle.ppexpand.proofs.SkippedTokens.{expansion-following, expands-nothing}
 use Rattle.ppexpr.specs.Outcomes.{Signed}
 use Rattle.ppexpr.specs.Operators.{Bang}
 use Rattle.ppexpr.specs.Symbols.{Symbol, Constant, Operator}
@@ -18,7 +18,7 @@ use Rattle.ppexpr.specs.Grammar.{Derives, constant, unary, tighter}
 use Rattle.ppexpr.specs.DefinedOperator.{ReplacesDefined, nothing, other, defined_use, defined_value}
 use Rattle.ppexpr.specs.Nesting.{IsTooNested}
 use Rattle.ppexpr.specs.Conditions.{EvaluatesShallow, has_value, not_nested, constants, IsCondition, replaced}
-use Rattle.ppexpr.proofs.Shallow.{few_shallow}
+use Rattle.ppexpr.proofs.ShortExpressions.{few_shallow}
 
 -- ---- `! 1`
 
@@ -42,7 +42,7 @@ is_false at = has_value (tree, loosest 12 (unary Bang Not refl (tighter {k = 12}
 
 -- ---- the tokens
 
--- a punctuator of this spelling, `defined`, and an identifier, at the places of these tokens
+-- a punctuator with this spelling, `defined`, and an identifier, at the location of the given token
 abbrev pub punctuator : List ℕ → Token → Token
 punctuator text t = record t { kind = Punct; text = text }
 

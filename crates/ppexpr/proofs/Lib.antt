@@ -2,51 +2,51 @@
 
 -- When a left shift has no value.
 pub mod Shifts
--- Numbers by their digits.
+-- Bounds on the number that digits denote.
 pub mod Digits
--- Numbers that no constant has.
-pub mod Large
--- The parser's steps over a whole list.
-pub mod Machine
--- The stack machine evaluates each expression to what its tree means.
-pub mod Complete
--- The result of the stack machine is what a tree of the symbols means.
-pub mod Sound
--- The machine's result for a list of symbols is exact.
-pub mod Exact
--- An expression has one tree.
-pub mod OneTree
--- How far the uses of `defined` have been replaced by numbers.
-pub mod DefinedReplaced
--- The symbols of the tokens so far.
+-- An integer constant whose number is 2^64 or more has no value.
+pub mod OversizedConstants
+-- A run of the parser's stack machine over a list of symbols.
+pub mod MachineRuns
+-- The stack machine evaluates each expression to the meaning of its tree.
+pub mod MachineCompleteness
+-- The result of the stack machine is the meaning of a tree of the symbols.
+pub mod MachineSoundness
+-- The machine computes the outcome of an expression, and fails if the symbols are no expression.
+pub mod MachineCorrectness
+-- A list of symbols has at most one tree.
+pub mod TreeUniqueness
+-- The invariant of the loop that replaces the uses of `defined` by numbers.
+pub mod DefinedReplacement
+-- The invariant of the loop that converts tokens to symbols.
 pub mod SymbolSteps
--- The steps of a condition.
+-- The steps that evaluate a condition.
 pub mod ConditionSteps
--- How deep symbols are nested, by counts of them.
-pub mod Nested
--- Few symbols are not nested too deep.
-pub mod Shallow
+-- Bounds on counts of symbols rule out nesting that is too deep.
+pub mod NestingCounts
+-- A list of at most 256 symbols is not nested too deep.
+pub mod ShortExpressions
 -- A condition without macro replacement has the result of its tokens' symbols.
-pub mod Unreplaced
--- The truth value of a list with `defined` alone.
-pub mod Truths
+pub mod UnreplacedConditions
+-- The truth value of a condition that consists of uses of `defined` alone.
+pub mod TruthValues
 -- A condition has at most one result.
-pub mod OneCondition
--- A condition has a result.
-pub mod SomeCondition
+pub mod ConditionUniqueness
+-- Every condition has a result.
+pub mod ConditionExistence
 -- A value has the type of its expression.
 pub mod Types
 -- A value lies in the range of its type.
 pub mod Ranges
--- So does each constant, and the value of each expression of tokens.
+-- Constants, and the values of expressions of tokens, lie in the range of their type.
 pub mod RangedTokens
 -- A text is read as an integer constant if and only if it has the syntax of one.
 pub mod ReadIntegers
 -- A text is read as a character constant if and only if it has the syntax of one.
 pub mod ReadCharacters
--- The condition of a guard (6.10.1) whose name is a macro's.
+-- The condition of an include guard (6.10.1) is false if the guard's name is a macro's.
 pub mod GuardConditions
 -- Conditions within a budget compared with conditions within a larger one or without one.
-pub mod Capped
--- A condition within a budget is the one without, or fault 35.
-pub mod CappedLaw
+pub mod ConditionBudgets
+-- A condition within a budget is the condition without a budget, or fault 35.
+pub mod BudgetTheorem

@@ -1,4 +1,4 @@
--- Constants lie in the range of their type, and so does the value of each expression of tokens.
+-- Constants, and the values of expressions of tokens, lie in the range of their type.
 use Rattle.std.proofs.Common.{◌≡◌, ℕ, pos, ◌^◌, ◌<◌, ◌≤◌, Bool, true, false, nat_lt, nat_le, List, [], ◌∷◌, ◌++◌, Option, Some, None, Result, Ok, Err, refl, arith, subst, drop}
 use Rattle.std.specs.Prelude.{if◌then◌else◌, option_and_then, nat_eq, codes, take}
 use Rattle.std.specs.List.{starts_with}

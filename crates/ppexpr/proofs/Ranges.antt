@@ -70,7 +70,7 @@ range-arithmetic : (o : Operator) (f : ℤ → ℤ → ℤ) (x : Operands) → I
 range-arithmetic o f (BothSigned a b) = range-signed o (f a b)
 range-arithmetic o f (BothUnsigned a b) = modulo_small (f (pos a) (pos b))
 
--- where the divisor is not 0 and the quotient is in range
+-- the result of f is in range if the divisor is not 0 and the quotient is in range
 abbrev Divides : (ℤ → ℤ → ℤ) → Type 0
 Divides f = (a b : ℤ) → is_intmax b ≡ true → int_eq b (pos 0) ≡ false → is_intmax (int_div a b) ≡ true → is_intmax (f a b) ≡ true
 
@@ -111,7 +111,7 @@ range-comparison : (f : ℤ → ℤ → Bool) (x : Operands) → InRange (compar
 range-comparison f (BothSigned a b) = range-truth (f a b)
 range-comparison f (BothUnsigned a b) = range-truth (f (pos a) (pos b))
 
--- ---- bits
+-- ---- bitwise operators
 
 bits_of : (z : ℤ) → is_intmax z ≡ true → cast_unsigned w64 z < 2 ^ 64
 bits_of (pos n) h = let l = pos_small n h in omega arith

@@ -109,7 +109,7 @@ escape_by s n false false e f g = other_is s n g
 
 -- ---- the text between the quotes
 
--- its one byte, where it is no backslash, is neither a quote nor a new-line
+-- if the text is one byte other than `\`, this byte is neither `'` nor a new-line
 abbrev pub IsSound : List ℕ → Type 0
 IsSound (c ∷ []) = c ≢ 92 → (c ≢ 39) × (c ≢ 10)
 IsSound _ = Unit {0}
@@ -176,7 +176,7 @@ quoted_read body =
     let inner : slice_range s 1 (length s - 1) ≡ body = grind (arith, common_steps) in
     rw (two, last, inner) refl
 
--- ---- a type
+-- ---- the value for a type
 
 record Typed (greatest : ℕ) (unsigned : Bool) (s : List ℕ) (v : Value) : Type 0 where
   pub body : List ℕ
@@ -213,7 +213,7 @@ constant_of prefix s greatest unsigned v e p sound t =
     let out : s ≡ prefix ++ 39 ∷ (t.body ++ 39 ∷ []) = e ∙ ap (λ (x : List ℕ). prefix ++ x) t.laid_out in
     record { prefix = prefix; body = t.body; greatest = greatest; type_unsigned = unsigned; number = t.number; laid_out = out; type_is = p; character = body_is t.body t.number (sound t.body out) t.reads; fits = t.fits; value = t.value }
 
--- the text between the quotes, whichever prefix there is, is sound
+-- with any prefix, the text between the quotes is sound
 abbrev IsSoundText : List ℕ → Type 0
 IsSoundText s = (prefix body : List ℕ) (greatest : ℕ) (unsigned : Bool) → IsPrefix prefix greatest unsigned → s ≡ prefix ++ 39 ∷ (body ++ 39 ∷ []) → IsSound body
 
@@ -241,7 +241,7 @@ character_read s v i =
 
 -- ---- the spelling of a token
 
--- a text without its prefix
+-- the text of a character constant without its prefix
 abbrev bare : List ℕ → List ℕ
 bare [] = []
 bare (c ∷ s) = if c == 39 then c ∷ s else s

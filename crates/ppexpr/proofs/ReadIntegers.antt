@@ -21,12 +21,12 @@ use Rattle.ppexpr.specs.Constants.{HasValue, is_unsigned, is_signed, too_large, 
 abbrev step : ℕ → ℕ → ℕ → ℕ
 step base n c = n * base + digit_value c
 
--- digits denote the number that is read
+-- The number that digits denote is the number that is read.
 pub number_is : {base m n : ℕ} {digits : List ℕ} → Continues base m digits n → fold (step base) m digits ≡ n
 number_is done = refl
 number_is (digit e w) = number_is w
 
--- all that begin a text are laid out
+-- The leading digits of a text denote the number that is read from them.
 begin_by : (base m c : ℕ) (s : List ℕ) (b : Bool)
     → is_digit c base ≡ b
     → Continues base (step base m c) (take (digits_len base s) s) (fold (step base) (step base m c) (take (digits_len base s) s))
@@ -41,7 +41,7 @@ pub begin : (base m : ℕ) (s : List ℕ) → Continues base m (take (digits_len
 begin base m [] = done
 begin base m (c ∷ s) = begin_by base m c s (is_digit c base) refl (begin base (step base m c) s)
 
--- the text after digits does not begin with a digit
+-- the text does not begin with a digit of this base
 abbrev pub NoDigit : ℕ → List ℕ → Type 0
 NoDigit base [] = Unit {0}
 NoDigit base (c ∷ s) = is_digit c base ≡ false
@@ -77,7 +77,7 @@ unsigned_suffix s e =
     let large : Each (IsSuffix true) (drop 9 unsigned_suffixes) = (unsigned large_u, (unsigned_long large_u small_l, (unsigned_long large_u large_l, (unsigned_long large_u small_ll, (unsigned_long large_u large_ll, (long_unsigned small_l large_u, (long_unsigned large_l large_u, (long_unsigned small_ll large_u, (long_unsigned large_ll large_u, tt))))))))) in
     among (IsSuffix true) unsigned_suffixes s (unsigned small_u, (unsigned_long small_u small_l, (unsigned_long small_u large_l, (unsigned_long small_u small_ll, (unsigned_long small_u large_ll, (long_unsigned small_l small_u, (long_unsigned large_l small_u, (long_unsigned small_ll small_u, (long_unsigned large_ll small_u, large))))))))) e
 
--- a suffix as the tests find it
+-- the suffix is in the list of unsigned suffixes, or only in the list of plain ones
 abbrev Tested : Bool → List ℕ → Type 0
 Tested true s = is_one_of unsigned_suffixes s ≡ true
 Tested false s = (is_one_of unsigned_suffixes s ≡ false) × (is_one_of plain_suffixes s ≡ true)
@@ -119,7 +119,7 @@ tested b s (unsigned {u = u} h) = tested_unsigned u h
 tested b s (unsigned_long {u = u} {l = l} h k) = tested_unsigned_long u l h k
 tested b s (long_unsigned {u = u} {l = l} h k) = tested_long_unsigned u l h k
 
--- no suffix begins with a digit of any base up to 16
+-- the text does not begin with a digit of base 8, 10 or 16
 abbrev HasNoDigit : List ℕ → Type 0
 HasNoDigit s = NoDigit 8 s × NoDigit 10 s × NoDigit 16 s
 
@@ -197,7 +197,7 @@ typed_of base u suffix n v t (too_large d low h) = let e : nat_lt n (2 ^ 63) ≡
 
 -- ---- digits and a suffix
 
--- what is read as a number in a base: its digits, at least one, and a suffix
+-- a text that is read as a number in a base: at least one digit, and a suffix
 record Parts (base : Base) (radix : ℕ) (text : List ℕ) (v : Value) : Type 0 where
   pub first : ℕ
   pub digits : List ℕ
@@ -283,7 +283,7 @@ prefixed (a ∷ []) e = by (nat_eq 48 a) e
     by false e = absurd (false≢true e)
 prefixed (a ∷ b ∷ r) e = prefixed_by a b r (nat_eq 48 a && (nat_eq 120 b && true)) refl e
 
--- the first byte of a text that begins with it
+-- If `starts_with` finds the byte k, k is the first byte of the text.
 pub starts : (k c : ℕ) (s : List ℕ) → starts_with nat_eq (c ∷ s) (k ∷ []) ≡ true → c ≡ k
 starts k c s e = let p = and_parts (nat_eq k c) true e in let t = p.0 in grind (arith, nat_tests)
 
@@ -293,7 +293,7 @@ zero_first c s e = let p = and_parts (nat_eq 48 c) true e in grind (arith, nat_t
 other_first : (c : ℕ) (s : List ℕ) → starts_with nat_eq (c ∷ s) (codes "0") ≡ false → c ≢ 48
 other_first c s e same = false≢true (sym e ∙ ap (λ (x : ℕ). nat_eq 48 x && true) same)
 
--- ---- what is read is laid out
+-- ---- a text that is read has the syntax of an integer constant
 
 abbrev Reads : Bool → Bool → List ℕ → Option Value
 Reads h o s = if h then in_base 16 false (drop 2 s) else (if o then in_base 8 false s else in_base 10 true s)
@@ -325,9 +325,9 @@ read_by s v false false e f is =
 pub integer_laid_out : (s : List ℕ) (v : Value) → integer_of s ≡ Some v → IsInteger s v
 integer_laid_out s v e = read_by s v (is_hexadecimal s) (starts_with nat_eq s (codes "0")) refl refl e
 
--- ---- what is laid out is read
+-- ---- a text with the syntax of an integer constant is read
 
--- the second byte of octal digits and a suffix is no `x`
+-- The byte after the 0 of an octal constant is neither `x` nor `X`.
 no_x : (digits suffix : List ℕ) (m n : ℕ) (u : Bool) → Continues 8 m digits n → IsSuffix u suffix → is_hexadecimal (48 ∷ (digits ++ suffix)) ≡ false
 no_x digits suffix m n u (digit {c = c} e w) ends = by (nat_eq 120 c) (nat_eq 88 c) refl refl
   where

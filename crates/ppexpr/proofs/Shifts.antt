@@ -10,7 +10,7 @@ use Rattle.ppexpr.specs.Outcomes.{Signed, Shift}
 use Rattle.ppexpr.specs.Operators.{ShiftLeft}
 use Rattle.ppexpr.specs.Values.{left_shift}
 
--- a number above the quotient exceeds the bound when it is shifted
+-- A number above bound / 2^k exceeds the bound when it is shifted left by k.
 past : (n k bound : ℕ) → bound / 2 ^ k < n → bound < n * 2 ^ k
 past n k bound h = (div-lt_iff_lt-mul (pow_pos k)).0 h
 

@@ -1,4 +1,4 @@
--- The symbols of the tokens so far.
+-- The invariant of the loop that converts tokens to symbols.
 use Rattle.std.proofs.Common.{suc, ◌≡◌, ℕ, ◌+◌, ◌<◌, ◌≤◌, List, [], ◌∷◌, ◌++◌, length, drop, get_or, Ok, Err, append_assoc, add-one, drop-cons, sym, ap, ◌∙◌, refl}
 use Rattle.std.proofs.lemmas.List.{append-nil, drop_all}
 use Rattle.pptext.specs.declared.tokens.Place.{Place}
@@ -8,7 +8,7 @@ use Rattle.std.specs.Prelude.{Result}
 use Rattle.ppexpr.specs.Symbols.{Symbol}
 use Rattle.ppexpr.specs.Tokens.{symbol_of, before, symbols_of}
 
--- these symbols, and then those
+-- prepends symbols to a list of symbols; a fault is unchanged
 abbrev pub led : List Symbol → Result (List Symbol) Fault → Result (List Symbol) Fault
 led ss (Ok ts) = Ok (ss ++ ts)
 led ss (Err f) = Err f

@@ -65,7 +65,7 @@ type-shift : (o : Operator) (f : Value → ℕ → Evaluation) (v w : Value) →
 type-shift o f v w h =
     elim (is_amount (whole w)) as (λ b. HasType (has_unsigned_type v) (if b then f v (unsigned_abs (whole w)) else Err (Shift o))) [ true ↦ h (unsigned_abs (whole w)) | false ↦ tt ]
 
--- operands of one type
+-- If an operation's result has the type of its converted operands, it has the common type.
 common : (v w : Value) (a : Operands → Evaluation) → ((x : Operands) → HasType (type_of x) (a x)) → HasType (has_unsigned_type v || has_unsigned_type w) (a (converted v w))
 common v w a h = subst (λ (u : Bool). HasType u (a (converted v w))) (type-converted v w) (h (converted v w))
 

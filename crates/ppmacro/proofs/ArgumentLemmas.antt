@@ -1,4 +1,4 @@
--- Arguments whose hide sets are known.
+-- Arguments whose hide-set numbers are all known to the pool.
 use Rattle.std.proofs.Common.{◌≡◌, ℕ, zero, suc, List, [], ◌∷◌, map, Vec, Global, sym, subst}
 use Rattle.ppmacro.specs.HideSetPool.{HideSetPool}
 use Rattle.ppmacro.specs.HideSets.{AllKnown}
@@ -20,7 +20,7 @@ expanded-known (g ∷ gs) (v ∷ vs) k zero = k.each.0
 expanded-known [] (v ∷ vs) k (suc i) = expanded-known [] vs (record { each = k.each.1 }) i
 expanded-known (g ∷ gs) (v ∷ vs) k (suc i) = expanded-known gs vs (record { each = k.each.1 }) i
 
--- Arguments, and either themselves or other lists as their expansions.
+-- `ArgumentsKnown` holds if the hide sets of the arguments and of their owned expansions are known.
 pub all-known : {s : HideSetPool} (given others shown : List (Vec Hidden Global)) (expanded : List ArgumentExpansion)
     → shown ≡ given
     → expanded ≡ map (λ v. Owned v) others

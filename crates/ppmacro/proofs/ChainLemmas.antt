@@ -1,11 +1,11 @@
--- Chains that are built from the front.
+-- Chains that are built from left to right, one part at a time.
 use Rattle.std.proofs.Common.{◌≡◌, ℕ, zero, suc, Bool, true, false, List, [], ◌∷◌, ◌++◌, length, set, get_or, refl, sym, ap, ◌∙◌, arith, append_assoc, append-nil}
 use Rattle.ppmacro.specs.declared.macros.Chain.{Chain}
 use Rattle.ppmacro.specs.declared.macros.Operand.{Operand}
 use Rattle.ppmacro.specs.Chains.{ChainPart, Operates, Joins, begins_joined, join_first, group_parts}
 use Rattle.ppmacro.specs.code.ChainParts.{joined_to, followed, resumed}
 
--- ---- one operand more
+-- ---- one more operand
 
 abbrev lone : Bool → Operand → Chain
 lone space o = record { space = space; operands = o ∷ [] }
@@ -20,7 +20,7 @@ added false space o ds = lone space o ∷ ds
 group_parts-added : (space : Bool) (o : Operand) (is : List ChainPart) → group_parts (Operates space o ∷ is) ≡ added (begins_joined is) space o (group_parts is)
 group_parts-added space o is = elim (begins_joined is) as (λ b. elim b [ true ↦ join_first space o (group_parts is) | false ↦ lone space o ∷ group_parts is ] ≡ added b space o (group_parts is)) [ true ↦ refl | false ↦ refl ]
 
--- At the front, an operand without `##` after it is a chain of its own.
+-- The first operand is a chain of its own if no `##` follows it.
 pub group_parts-alone : (space : Bool) (o : Operand) (is : List ChainPart) → begins_joined is ≡ false → group_parts (Operates space o ∷ is) ≡ record { space = space; operands = o ∷ [] } ∷ group_parts is
 group_parts-alone space o is e = rw (group_parts, e) refl
 
@@ -70,7 +70,7 @@ pub resumed-joined : (cs : List Chain) (n : ℕ) (c : Chain) (space : Bool) (o :
     → resumed false (set cs n (record { space = c.space; operands = c.operands ++ o ∷ [] })) is ≡ resumed true cs (Operates space o ∷ is)
 resumed-joined cs n c space o is h e = followed-set cs n c (begins_joined is) space o (group_parts is) h e ∙ ap (λ ds. followed true cs ds) (sym (group_parts-added space o is))
 
--- ---- the start, `##` and the end
+-- ---- no chain so far, a `##`, and no part left
 
 pub resumed-none : (is : List ChainPart) → resumed false [] is ≡ group_parts is
 resumed-none is = elim (begins_joined is) as (λ b. followed b [] (group_parts is) ≡ group_parts is) [ true ↦ refl | false ↦ refl ]

@@ -1,4 +1,4 @@
--- Lists that `##` joins, while hide sets are added.
+-- Token lists that `##` joins, while hide sets are added to the pool.
 use Rattle.std.proofs.Common.{◌≡◌, ℕ, suc, zero, ◌+◌, ◌<◌, ◌≤◌, List, [], ◌∷◌, ◌++◌, map, drop, length, get_or, Option, Some, None}
 use Rattle.std.proofs.Common.{Vec, Global, Result, Ok, Err, refl, sym, ap, ◌∙◌, slice_get, unwrap_or, arith}
 use Rattle.std.proofs.lemmas.List.{map-append, drop_more}
@@ -12,7 +12,7 @@ use Rattle.ppmacro.specs.Substitution.{after_ok, pasted, join, join_all, argumen
 use Rattle.ppmacro.specs.Substituting.{tokens_of, lists_of, option_of, options_of}
 use Rattle.ppmacro.specs.declared.hidden_token.Hidden.{Hidden}
 use Rattle.ppmacro.specs.declared.hidden_token.ArgumentExpansion.{ArgumentExpansion}
-use Rattle.ppmacro.proofs.KeepLemmas.{hidings-keeps, known-keeps, known-append, known-front, known-rest}
+use Rattle.ppmacro.proofs.PoolGrowthLemmas.{hidings-keeps, known-keeps, known-append, known-front, known-rest}
 
 -- ---- arguments
 
@@ -30,7 +30,7 @@ argument-absent [] i h = refl
 argument-absent (v ∷ vs) zero h = absurd (omega arith)
 argument-absent (v ∷ vs) (suc i) h = argument-absent vs i (omega arith)
 
--- The expansion of a parameter, by the entry at its index.
+-- The expansion of parameter i is that of the entry with index i.
 pub expansion-at : (given : List (Vec Hidden Global)) (es : List ArgumentExpansion) (i : ℕ) (e : ArgumentExpansion)
     → i < length es
     → e ≡ get_or es i e
@@ -132,6 +132,6 @@ join_all-more s t left next right rest used h = ap (λ r. after_ok r (λ ts. joi
 pub join_all-refused : (left : List Hiding) (right : List Hiding) (rest : List (List Hiding)) (used : Place) (f : Fault) → Err f ≡ join left right used → Err f ≡ join_all left (right ∷ rest) used
 join_all-refused left right rest used f h = ap (λ r. after_ok r (λ ts. join_all ts rest used)) h
 
--- The next list, joined to the tokens so far.
+-- The lists from index i on are the list with index i and those after it.
 pub lists-drop : (vs : List (Vec Hidden Global)) (i : ℕ) (v : Vec Hidden Global) → i < length vs → v ≡ get_or vs i v → drop i vs ≡ v ∷ drop (i + 1) vs
 lists-drop vs i v h e = drop_more vs i v h ∙ ap (λ x. x ∷ drop (i + 1) vs) (sym e)

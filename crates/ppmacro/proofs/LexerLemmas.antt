@@ -3,7 +3,7 @@ use Rattle.std.proofs.Common.{◌≡◌, ℕ, List, Option, Some, None, IfNone, 
 use Rattle.pptext.specs.declared.tokens.Kind.{Kind}
 use Rattle.pptext.specs.Sources.{IsOneToken, IsUnmatchedQuote}
 use Rattle.pptext.specs.Lexing.{Lexes, IsLexer}
-use Rattle.pptext.proofs.OneLexer.{lexer_is, one_lexing}
+use Rattle.pptext.proofs.TextKinds.{lexer_is, one_lexing}
 use Rattle.ppmacro.specs.Lexing.{kind_of}
 
 pub kind_of_is : IsLexer kind_of
@@ -13,6 +13,6 @@ lexed : (text : List ℕ) (r : Option Kind) → IfNone r ((k : Kind) → IsOneTo
 lexed text None n s = n
 lexed text (Some k) n s = s
 
--- The results of the lexer.
+-- A result that satisfies these two properties of the lexer is `kind_of text`.
 pub lexes-same : (text : List ℕ) (r : Option Kind) → IfNone r ((k : Kind) → IsOneToken text k → IsUnmatchedQuote text) → IfSome r (λ k. IsOneToken text k × (¬ IsUnmatchedQuote text)) → r ≡ kind_of text
 lexes-same text r n s = one_lexing text r (kind_of text) (lexed text r n s) (kind_of_is.each text)

@@ -2,55 +2,55 @@
 
 -- The entries of a table as a finite map.
 pub mod TableLemmas
--- The filter of a table's names.
+-- The name filter of a macro table rejects only names without a macro.
 pub mod NameFilterLemmas
--- Chains that are built from the front.
+-- Chains that are built from left to right, one part at a time.
 pub mod ChainLemmas
 -- The kind of a text that is one token.
 pub mod LexerLemmas
 -- Tokens keep their hide sets while sets are added.
-pub mod KeepLemmas
--- The results of a public call, by those of its step: a token, or tokens and the pending flag.
-pub mod StopLemmas
--- Lists that `##` joins, while hide sets are added.
+pub mod PoolGrowthLemmas
+-- `split_memory` preserves the meaning of a result: a token, or tokens and the pending flag.
+pub mod SplitMemoryLemmas
+-- Token lists that `##` joins, while hide sets are added to the pool.
 pub mod JoinLemmas
 -- Tokens whose kind is the kind of their spelling, as after `##`.
-pub mod WholeLemmas
--- The tokens of one chain after another, and the names that are added, while hide sets are added.
-pub mod WalkLemmas
--- The hide set of a token with one set or two, after names are added.
-pub mod Gaining
--- Arguments whose hide sets are known.
+pub mod SpelledKindLemmas
+-- Chains are replaced in order, and names are added, while hide sets are added to the pool.
+pub mod ChainReplacementLemmas
+-- The hide set of a token, stored as one set or the union of two, after names are added.
+pub mod AddedNames
+-- Arguments whose hide-set numbers are all known to the pool.
 pub mod ArgumentLemmas
--- Tries of words.
+-- Sets of numbers as tries of 64-bit words.
 pub mod Tries
--- Sets that exist.
-pub mod Standing
--- Cached pairs, while nodes and pairs are added.
-pub mod Remembering
--- The sets of names that numbers refer to.
-pub mod Hiding
--- Names by their numbers.
-pub mod Naming
--- What contracts see of hide sets.
-pub mod Viewed
--- The faults of `#define` and `#undef` are 9 to 16.
-pub mod Numbers
+-- Sets that exist in the pool already.
+pub mod ExistingSets
+-- Cached results of pairs, while nodes and pairs are added.
+pub mod CachedResults
+-- The set of names that each node of the trie represents.
+pub mod NodeHideSets
+-- Names and their numbers.
+pub mod NameNumbers
+-- The hide sets as callers and contracts see them.
+pub mod HideSetViews
+-- The faults of `#define` and `#undef` have numbers of at most 16.
+pub mod FaultNumbers
 -- Names that occur twice.
-pub mod Repeating
+pub mod RepeatedNames
 -- A parameter list is read exactly if it has the syntax of one.
-pub mod Layouts
--- No variable argument may be absent without the rules of GNU C, and no chain has a rest without such an argument.
-pub mod Lenient
--- The chains of a replacement list, laid end to end, are the list.
-pub mod Chained
--- A list that is laid out as chains has valid operators.
-pub mod Placed
--- Chains of one token, as in a list without `##`.
-pub mod Lonely
+pub mod ParameterListSyntax
+-- Without the rules of GNU C, no variable argument may be absent, and no chain has a `VariadicAfterComma`.
+pub mod AbsentArguments
+-- A replacement list with valid `#` and `##` splits into chains in exactly one way: `chains_of`.
+pub mod ChainSplits
+-- A replacement list that splits into chains has valid operators.
+pub mod OperatorPlacement
+-- Chains of one token, as in an object-like macro without `##`.
+pub mod ObjectLikeChains
 -- Chains of one entry, as in a list without `#` and `##`.
-pub mod Patterned
--- Chains whose last operand may be a rest.
-pub mod Resting
+pub mod EntryChains
+-- Chains whose last operand may be a variable argument after a comma.
+pub mod VariadicOperands
 -- The origin, the hide set and the leading-space flag of each token of a replacement.
-pub mod Originating
+pub mod TokenOrigins

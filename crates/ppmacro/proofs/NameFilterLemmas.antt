@@ -1,4 +1,4 @@
--- The filter of a table's names.
+-- The name filter of a macro table rejects only names without a macro.
 use Rattle.std.proofs.Common.{◌≡◌, ℕ, ◌<◌, Bool, true, false, cond, List, [], Some, None, refl, sym, ap, ◌∙◌}
 use native.Mathlib.Omega.{arith}
 use Rattle.std.specs.FinMap as table
@@ -11,11 +11,11 @@ use Rattle.ppmacro.specs.declared.macros.Macro.{Macro}
 use Rattle.ppmacro.specs.Names.{Name, Macros}
 use Rattle.ppmacro.specs.code.NameFilter.{at, RejectsOnlyUnknown}
 
--- A filter with more names.
+-- A filter with more nonzero slots still rejects only unknown names.
 pub marked-grown : (old new : List ℕ) (m : Macros) → ((n : Name) → at new n ≡ 0 → at old n ≡ 0) → RejectsOnlyUnknown old m → RejectsOnlyUnknown new m
 marked-grown old new m grows h n e = h n (grows n e)
 
--- A name that is inserted into both.
+-- A filter still rejects only unknown names after a name with a nonzero slot is inserted in the table.
 pub marked-insert : (filter : List ℕ) (m : Macros) (name : Name) (d : Macro) → 0 < at filter name → RejectsOnlyUnknown filter m → RejectsOnlyUnknown filter (table.insert m name d)
 marked-insert filter m name d here h n e = table.get-insert nat_list_cmp_total m name d n ∙ go (eq_by_cmp (slice_cmp nat_cmp) n name) refl
   where
@@ -25,7 +25,7 @@ marked-insert filter m name d here h n e = table.get-insert nat_list_cmp_total m
         absurd (let zero : at filter name ≡ 0 = ap (at filter) (sym same) ∙ e in omega arith)
     go false is = h n e
 
--- A name that is removed from the table.
+-- A filter still rejects only unknown names after a name is removed from the table.
 pub marked-remove : (filter : List ℕ) (m : Macros) (name : Name) → RejectsOnlyUnknown filter m → RejectsOnlyUnknown filter (table.remove m name)
 marked-remove filter m name h n e = table.get-remove nat_list_cmp_total m name n ∙ go (eq_by_cmp (slice_cmp nat_cmp) n name)
   where
@@ -33,6 +33,6 @@ marked-remove filter m name h n e = table.get-remove nat_list_cmp_total m name n
     go true = refl
     go false = h n e
 
--- The empty table.
+-- For an empty table, every filter rejects only unknown names.
 pub marked-none : (filter : List ℕ) → RejectsOnlyUnknown filter (table.from_entries [])
 marked-none filter n e = table.get-from_entries nat_list_cmp_total [] n

@@ -27,7 +27,7 @@ swap a b = symm a b ∙ sym (is_eq-slice_cmp b a)
     symm : (x y : Name) → bytes_eq x y ≡ bytes_eq y x
     symm = nat_list_eq_equiv.symm
 
--- An update that gives a name another value, and keeps the others, does the same to the finite map.
+-- An update that changes the value of one name has the same effect on the finite map.
 pub updates-get : (old new : Entries) (name : Name) (value : Option Macro) (m : Macros)
     → ((q : Name) → lookup (bytes_eq q) new ≡ cond (bytes_eq name q) value (lookup (bytes_eq q) old))
     → ((q : Name) → table.get m q ≡ cond (eq_by_cmp (slice_cmp nat_cmp) q name) value (table.get (table.from_entries {R = slice_cmp nat_cmp} old) q))
@@ -42,6 +42,6 @@ pub none-of : (o : Option Macro) → false ≡ is_some o → None ≡ o
 none-of None e = refl
 none-of (Some d) e = absurd (true≢false (sym e))
 
--- The second part of an entry is its value.
+-- The value at an index is the second component of the entry there.
 pub second-at : (es : Entries) (place : ℕ) (name : Name) (d : Macro) (o : Option Macro) → Some (name, d) ≡ slice_get es place → slice_get (map (λ e. e.1) es) place ≡ o → Some d ≡ o
 second-at es place name d o entry value = ap (option_map (λ e. e.1)) entry ∙ sym (slice_get-map (λ e. e.1) es place) ∙ value

@@ -1,4 +1,4 @@
--- Tries of words.
+-- Sets of numbers as tries of 64-bit words.
 use Rattle.std.proofs.Common.{◌≡◌, ℕ, zero, suc, ◌<◌, ◌+◌, ◌-◌, ◌*◌, ◌/◌, ◌%◌, ◌^◌, Bool, true, false, ◌||◌, ◌&&◌, nat_eq, max}
 use Rattle.std.proofs.Common.{min, List, [], ◌∷◌, ◌++◌, length, refl, sym, ap, ◌∙◌, subst, arith, append-nil, length-append}
 use Rattle.std.proofs.Common.{true≢false, if◌then◌else◌, ◌⊎◌, inl, inr, Some, slice_get, ◌≤◌, ◌↔◌}
@@ -57,7 +57,7 @@ same-bit a b i = same (bit_at a i) (bit_at b i) (bit_at-lt a i) (bit_at-lt b i)
       | false ↦ λ h g. not-one p lp h ∙ sym (not-one q lq (sym g))
     ] refl e
 
--- A bit of the result of two words.
+-- Each bit of a union or intersection of two words is the `member_rule` of both bits.
 bit-member_rule : (o : Operation) (a b i : ℕ) → has_bit (word_rule o a b) i ≡ member_rule o (has_bit a i) (has_bit b i)
 bit-member_rule Union a b i = (λ j. nat_eq (bit_at_or a b i j) 1) ∙ either-one (bit_at a i) (bit_at b i) (bit_at-lt a i) (bit_at-lt b i)
   where
@@ -96,9 +96,9 @@ even_rest y = elim (nat_eq ((2 * y + 1) % 2) 0) as (λ b. nat_eq ((2 * y + 1) % 
 pub half_less : (k : ℕ) → k / 2 < suc k
 half_less k = omega arith
 
--- ---- sets made of two parts
+-- ---- sets made of a word and two parts
 
--- The members of two parts of a set.
+-- A word of a set depends only on words with smaller indices in its parts.
 pub made-same : (h : ℕ) (f g f' g' : ℕ → ℕ) (x : ℕ) → ((y : ℕ) → y < x → f y ≡ f' y) → ((y : ℕ) → y < x → g y ≡ g' y) → made h f g x ≡ made h f' g' x
 made-same h f g f' g' zero p q = refl
 made-same h f g f' g' (suc k) p q = (λ i. if nat_eq (k % 2) 0 then p (k / 2) (half_less k) i else q (k / 2) (half_less k) i)
@@ -227,7 +227,7 @@ pub word-lt : (ns : List Node) (n x : ℕ) → IsPool ns → n < length ns → w
 unfolding word
 word-lt ns n x p l = below-lt ns (suc x) n x p l
 
--- ---- equal members, equal numbers
+-- ---- sets with equal members have equal numbers
 
 at-end : (ns : List Node) (node : Node) → node_at (ns ++ node ∷ []) (length ns) ≡ node
 at-end [] node = refl
@@ -271,7 +271,7 @@ sets_are_unique-below ns p (suc k) (suc m) n lm ln a b h = sets_are_unique-step 
 pub words-sets_are_unique : (ns : List Node) (m n : ℕ) → IsPool ns → m < length ns → n < length ns → Alike ns m n → m ≡ n
 words-sets_are_unique ns m n p lm ln h = sets_are_unique-below ns p (suc (m + n)) m n lm ln (omega arith) (omega arith) h
 
--- a set's words by its members
+-- The words of a set are determined by its members.
 pub words-of : (ns : List Node) (n : ℕ) (f : ℕ → ℕ)
     → IsPool ns
     → n < length ns
@@ -287,7 +287,7 @@ words-of ns n f p l b h w = same_from_bits_below 64 (word ns n w) (f w) (word-lt
 pub sets_are_unique : (ns : List Node) (m n : ℕ) → IsPool ns → m < length ns → n < length ns → ((x : ℕ) → member ns m x ≡ member ns n x) → m ≡ n
 sets_are_unique ns m n p lm ln h = words-sets_are_unique ns m n p lm ln (words-of ns m (word ns n) p lm (λ w. word-lt ns n w p ln) (λ x. h x ∙ sym (member-bit ns n x)))
 
--- ---- one node more
+-- ---- one more node
 
 at-new : (ns : List Node) (node : Node) (n : ℕ) → n < length (ns ++ node ∷ []) → (n < length ns) ⊎ (n ≡ length ns)
 at-new ns node n l = split (dec n (length ns))
@@ -368,7 +368,7 @@ pool-after = pool-insert same_node same_node-Decides
 pub keeps-insert_node : (ns : List Node) (node : Node) → KeepsNodes ns (insert_key same_node ns node)
 keeps-insert_node = keeps-insert same_node same_node-Decides
 
--- ---- a step down
+-- ---- a word of a set is a word of its left or right part
 
 below-step : (ns : List Node) (n k : ℕ) → word ns n (suc k) ≡ (if nat_eq (k % 2) 0 then word ns (node_at ns n).left (k / 2) else word ns (node_at ns n).right (k / 2))
 below-step ns n k = word-made ns n (suc k)
@@ -393,7 +393,7 @@ word-right ns n (suc k) z e = subst (λ j. (¬ (j % 2 ≡ 0)) → word ns n (suc
     step : (¬ (k % 2 ≡ 0)) → word ns n (suc k) ≡ word ns (node_at ns n).right (k / 2)
     step h = below-step ns n k ∙ (λ i. if differs (k % 2) 0 h i then word ns (node_at ns n).left (k / 2) else word ns (node_at ns n).right (k / 2))
 
--- ---- one bit more
+-- ---- one more bit
 
 same-tests : (a b : Bool) → (a ≡ true → b ≡ true) → (b ≡ true → a ≡ true) → a ≡ b
 same-tests true b f g = sym (f refl)
@@ -424,7 +424,7 @@ one-right k bit (suc j) e = elim (nat_eq (j % 2) 0) as (λ t. nat_eq (j % 2) 0 �
       (λ s. eq-eqb (suc j) (suc k) (half-alike j k (λ z. true≢false (sym (eq-eqb (j % 2) 0 z) ∙ h)) e (eqb-true (j / 2) (k / 2) s))))
 ] refl
 
--- A set by its node.
+-- A word of a set by the fields of its node.
 at-node : (ns : List Node) (n : ℕ) (node : Node) (x : ℕ) → node_at ns n ≡ node → word ns n x ≡ made node.here (word ns node.left) (word ns node.right) x
 at-node ns n node x e = word-made ns n x ∙ (λ i. made (e i).here (word ns (e i).left) (word ns (e i).right) x)
 
@@ -501,7 +501,7 @@ insert-right old mid new set r n (suc j) bit x p q k kr km kn pos odd is e =
     ∙ made-both bit_or s.here 0 (word old s.left) (word old s.right) (λ _. 0) (word_with (j / 2) bit) x
     ∙ (λ i. bit_or (sym (word-made old set x) i) (sym (one-right j bit x (subst (λ z. ¬ (z % 2 ≡ 0)) same odd)) i))
 
--- A word with one bit has only that number.
+-- `word_with index bit` has only the member index * 64 + bit.
 with-is : (index bit x : ℕ) → bit < 64 → has_bit (word_with index bit (x / 64)) (x % 64) ≡ nat_eq x (index * 64 + bit)
 with-is index bit x l = elim (nat_eq (x / 64) index) as (λ t. nat_eq (x / 64) index ≡ t → has_bit (if t then 2 ^ bit else 0) (x % 64) ≡ nat_eq x (index * 64 + bit)) [
   | true ↦ λ h. elim (nat_eq (x % 64) bit) as (λ t. nat_eq (x % 64) bit ≡ t → has_bit (2 ^ bit) (x % 64) ≡ nat_eq x (index * 64 + bit)) [
@@ -514,7 +514,7 @@ with-is index bit x l = elim (nat_eq (x / 64) index) as (λ t. nat_eq (x / 64) i
   | false ↦ λ h. no-bit (x % 64) ∙ sym (differs x (index * 64 + bit) (λ z. true≢false (sym (eq-eqb (x / 64) index (omega (arith, z, l))) ∙ h)))
 ] refl
 
--- the bits of words with one bit more
+-- The bits of a set's words with one more bit.
 pub inserted-bits : (ns : List Node) (set index bit : ℕ) → bit < 64 → (x : ℕ) → has_bit (bit_or (word ns set (x / 64)) (word_with index bit (x / 64))) (x % 64) ≡ (nat_eq x (index * 64 + bit) || member ns set x)
 unfolding member
 inserted-bits ns set index bit l x =
@@ -528,7 +528,7 @@ inserted-bits ns set index bit l x =
     turned false true = refl
     turned false false = refl
 
--- A set with one more bit in a word has one more number.
+-- A set with one more bit in a word has one more member.
 pub member-inserted : (old new : List Node) (set n index bit : ℕ)
     → bit < 64
     → ((w : ℕ) → word new n w ≡ bit_or (word old set w) (word_with index bit w))
@@ -537,7 +537,7 @@ pub member-inserted : (old new : List Node) (set n index bit : ℕ)
 unfolding member
 member-inserted old new set n index bit l is x = (λ i. has_bit (is (x / 64) i) (x % 64)) ∙ inserted-bits old set index bit l x
 
--- ---- two sets together
+-- ---- the union or intersection of two sets
 
 pub combine-set : (op : ℕ → ℕ → ℕ) (old mid after new : List Node) (one two l r n x : ℕ)
     → IsPool old
@@ -566,12 +566,12 @@ combine-set op old mid after new one two l r n x p q u k1 k2 kl kr km ka kn isl 
     ∙ made-both op s.here t.here (word old s.left) (word old s.right) (word old t.left) (word old t.right) x
     ∙ (λ i. op (sym (word-made old one x) i) (sym (word-made old two x) i))
 
--- the bits of what is made of two words
+-- The bits of the union or intersection of two sets' words.
 pub member_rule-bits : (o : Operation) (ns : List Node) (one two x : ℕ) → has_bit (word_rule o (word ns one (x / 64)) (word ns two (x / 64))) (x % 64) ≡ member_rule o (member ns one x) (member ns two x)
 unfolding member
 member_rule-bits o ns one two x = bit-member_rule o (word ns one (x / 64)) (word ns two (x / 64)) (x % 64)
 
--- The result of two sets' words has the result of their members.
+-- A set whose words are a union or intersection has the members of the union or intersection.
 pub member-member_rule : (o : Operation) (old new : List Node) (one two n : ℕ)
     → ((w : ℕ) → word new n w ≡ word_rule o (word old one w) (word old two w))
     → (x : ℕ)
@@ -602,7 +602,7 @@ lt-apart a b l e = omega (arith, l, e)
 pub lt-on : (a b c : ℕ) → a < b → b < c → a < c
 lt-on a b c k l = omega (arith, k, l)
 
--- ---- a new node, and the numbers that sets may have
+-- ---- a new node, and bounds on the members of sets
 
 fresh-push : (ns : List Node) (node : Node) (n : ℕ) → length ns ≤ n → n < length (ns ++ node ∷ []) → node_at (ns ++ node ∷ []) n ≡ node
 fresh-push ns node n a l = elim (at-new ns node n l) [
@@ -647,7 +647,7 @@ bounded-insert limit number old new set m l b k is x e = elim (either (nat_eq x 
   | inr h ↦ b.each set x k h
 ]
 
--- The result has no member that neither set has.
+-- Each member of the result is a member of one of the two sets.
 one-of : (o : Operation) (a b : Bool) → member_rule o a b ≡ true → (a ≡ true) ⊎ (b ≡ true)
 one-of Union a b h = either a b h
 one-of Intersection a b h = inl (and_parts a b h).0
@@ -687,13 +687,13 @@ bounded-first = record { each = λ n x l e. let z : n ≡ 0 = omega (arith, l) i
 any-node : (ns : List Node) (node : Node) (n : ℕ) → n < length ns → node_at ns n ≡ node → list_any (same_node node) ns ≡ true
 any-node ns node n l e = list_any_at (same_node node) ns n no_node l ((same_node-Decides node (node_at ns n)).1 (sym e))
 
--- Inserting it changes nothing.
+-- Inserting an existing node changes nothing.
 pub inserted-there : (ns : List Node) (node : Node) (n : ℕ) → n < length ns → node_at ns n ≡ node → insert_key same_node ns node ≡ ns
 inserted-there ns node n l e = ap (λ b. if b then ns else ns ++ node ∷ []) (any-node ns node n l e)
 
 pub never-absent : (ns : List Node) (node : Node) (n : ℕ) → n < length ns → node_at ns n ≡ node → list_any (same_node node) ns ≡ false → ⊥
 never-absent ns node n l e absent = true≢false (sym (any-node ns node n l e) ∙ absent)
 
--- The search for a node.
+-- A search that finds a node returns its index.
 pub searched : (ns : List Node) (node : Node) (k : ℕ) → position (same_node node) ns ≡ Some k → (k < length ns) × (node_at ns k ≡ node)
 searched ns node k e = let h = position-Some (same_node node) ns k no_node e in (h.0, sym (same_node-true node (node_at ns k) h.1))

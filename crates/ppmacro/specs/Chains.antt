@@ -49,7 +49,7 @@ abbrev pub plain_part : Option ℕ → Token → ChainPart
 plain_part (Some i) t = Operates t.space (Param i)
 plain_part None t = Operates t.space (Tok t)
 
--- The part that a token after `#` gives.
+-- The part that a token after `#` becomes.
 abbrev pub stringized_part : Option ℕ → HashSign → Token → ChainPart
 stringized_part (Some i) hash t = Operates hash.space (Str i hash.at)
 stringized_part None hash t = plain_part None t

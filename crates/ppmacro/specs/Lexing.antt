@@ -1,2 +1,2 @@
--- The kind of a text that is one token (6.4). Theorem `tells_each_kind` proves that this definition of `pptext` is right.
+-- The kind of a text that is one token (6.4). Theorem `decides_each_kind` proves that this definition of `pptext` is right.
 pub use Rattle.pptext.specs.Kinds.{kind_of}

@@ -53,7 +53,7 @@ abbrev pub own_space : List Chain → Chain → Bool
 own_space [] c = false
 own_space (b ∷ bs) c = c.space
 
--- The number of tokens of these chains, and whether a leading-space flag is pending after them. At the front the flag of the
+-- The number of tokens of these chains, and whether a leading-space flag is pending after them. At the start the flag of the
 -- macro name is pending. A chain without tokens leaves the pending flag, or its own, to the next.
 pub data LeavesPending (args : Arguments) (used : Place) (space : Bool) : List Chain → ℕ → Bool → Type 0 where
   at_start : LeavesPending args used space [] 0 space

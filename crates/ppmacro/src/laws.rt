@@ -41,7 +41,7 @@ pub fn lenient_in_gnu_alone()
 /// Proves the origin of each token of a replacement: the replacement list, an argument, a `#` or a `##` (6.10.3.1 to 6.10.3.4).
 /// Its hide set is that of its origin, or for `##` the intersection of both, with the names that the invocation adds. Its
 /// leading-space flag is its own or depends on the chains before it.
-pub fn tells_origins()
+pub fn traces_origins()
     ensures replaces { (chains : List Chain) (args : Arguments) (added : HideSet) (used : Place) (space : Bool) (whole : Replacement)
         → chains_replacement chains args added used space ≡ Ok whole
         → (prefix : List Hiding) (token : Hiding) (following : List Hiding)

@@ -22,13 +22,13 @@ pub use defining::{define, undef};
 pub use hidden_token::{ArgumentExpansion, Hidden};
 pub use hide_sets::{HideSets, Set};
 pub use invocation::{Arguments, MacroName};
-pub use laws::{lays_out_chains, lenient_in_gnu_alone, reads_parameter_lists, tells_origins};
+pub use laws::{lays_out_chains, lenient_in_gnu_alone, reads_parameter_lists, traces_origins};
 pub use macros::{
     Chain, Chains, Macro, MacroKind, Names, Operand, Operands, PredefinedMacro, Variadic,
 };
 pub use patterns::{Entry, Pattern};
 pub use replacement_list::{BodyToken, ReplacementList};
 pub use substituting::{
-    paste, push_escaped, stringize, substitute, substitute_pattern, tells_each_kind,
+    paste, push_escaped, stringize, substitute, substitute_pattern, decides_each_kind,
 };
 pub use tables::Table;

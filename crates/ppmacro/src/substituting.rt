@@ -18,7 +18,7 @@ mod stringizing;
 pub use self::entries::substitute_pattern;
 use self::hsadd::hsadd_names;
 use self::joining::{join_all, push_all};
-pub use self::lexing::tells_each_kind;
+pub use self::lexing::decides_each_kind;
 use self::operands::{expansion, operands_tokens};
 pub use self::pasting::paste;
 pub use self::stringizing::{push_escaped, stringize};

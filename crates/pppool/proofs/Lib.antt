@@ -1,16 +1,16 @@
--- The lemmas of this crate, by file; the proofs of its functions stand in a directory for each file of the sources.
+-- The lemmas of this crate, by file. The proofs of its functions are in one directory per source file.
 
--- Totals over the views, and how often a number stands in a list.
-pub mod Totals
--- Each step at a desk keeps its rule.
-pub mod Steps
--- Seats that are handed in one after the other, from the last.
-pub mod Closing
--- What is kept of the units' answers.
-pub mod Retained
--- What workers' answers keep.
-pub mod Answering
--- Answers that are put into their units' slots.
-pub mod Placing
--- What units give over some files is the one thing that they give over any more; over files that are all known they give something.
-pub mod OneValue
+-- Sums over seat states, and how often a number occurs in a list.
+pub mod SeatTotals
+-- Each step of the claim protocol preserves `ClaimInvariant`.
+pub mod ClaimSteps
+-- Closing a desk: its seats are joined one by one, starting with the last.
+pub mod SeatJoining
+-- Retained outputs of units.
+pub mod RetainedOutputs
+-- The invariants of a worker's results are preserved when files, results or blocks are added.
+pub mod WorkerResults
+-- Filling the units' slots with results.
+pub mod SlotFilling
+-- Units' values are unique, and stay so over more files. If all files are known, units have values.
+pub mod ValueUniqueness

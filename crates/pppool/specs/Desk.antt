@@ -5,13 +5,13 @@ use mathlib.Core.Option.{some}
 use lib.ListN.{get_elem?}
 use Rattle.atomic_table.specs.Table.{State, Me, Step}
 use Rattle.atomic_table.specs.Seated.{TableId}
-use Rattle.ppshelf.specs.Files.{most_rows}
+use Rattle.ppshelf.specs.Files.{max_rows}
 use Rattle.pppool.specs.declared.seat_state.SeatState.{SeatState}
 use Rattle.pppool.specs.declared.seat_state.Plan.{Plan}
 
 -- the largest number of blocks of a desk: one for each unit of the longest list
-abbrev pub most_blocks : ℕ
-most_blocks = most_rows
+abbrev pub max_blocks : ℕ
+max_blocks = max_rows
 
 -- the state of a seat
 abbrev pub seat_state : List ℕ → ℕ → ℕ → Plan → SeatState
@@ -42,7 +42,7 @@ pub record FitsSeat (p : Plan) (n : ℕ) (v : SeatState) : Type 0 where
 -- The claims of all seats together are the blocks below the word, each once. The word has passed the last block once
 -- for each time that a seat found none left.
 pub record ClaimInvariant (p : Plan) (s : State ℕ SeatState) : Type 0 where
-  pub small : (p.blocks ≤ most_blocks) × (p.seats ≤ 64)
+  pub small : (p.blocks ≤ max_blocks) × (p.seats ≤ 64)
   pub word : length s.words ≡ 1
   pub claims : (x : ℕ) → total (λ v. times x v.claims) s.views ≡ once_below x (min (slice_index s.words 0) p.blocks)
   pub seats : total (λ v. v.seats) s.views ≡ p.seats

@@ -1,7 +1,7 @@
 //! The desk: an atomic counter, at which workers claim blocks.
 ghost use Rattle.std.specs.Prelude.{◌≡◌, ℕ, ◌<◌, ◌≤◌, ◌==◌, ◌&&◌, true, false, [], ◌∷◌, ◌++◌, length, All};
 ghost use Rattle.std.specs.Prelude.{IfOk, IfSome, IfNone, IsTrue, if◌then◌else◌};
-ghost use Rattle.pppool.specs.Desk.{most_blocks, times, once_below, claims_of, any_empty, plan_of, new_seat};
+ghost use Rattle.pppool.specs.Desk.{max_blocks, times, once_below, claims_of, any_empty, plan_of, new_seat};
 
 use crate::claim_protocol::{ClaimBlock, ClaimProtocol, JoinSeats, SplitSeat};
 use crate::seat_state::{Plan, SeatState};
@@ -55,7 +55,7 @@ impl Desk {
     /// Creates a desk with `blocks` blocks, at most 65,535, and `seats` seats, 1 to 64, that have claimed nothing.
     /// Fails if an allocation fails.
     pub fn new(alloc: Global, blocks: u64, seats: usize) -> Result<(Desk, Vec<DeskSeat>), Memory>
-        requires blocks { blocks ≤ most_blocks }
+        requires blocks { blocks ≤ max_blocks }
         requires seats { (1 ≤ seats) × (seats ≤ 64) }
         ensures plan { IfOk result (λ r. r.0.plan ≡ plan_of blocks seats) }
         ensures count { IfOk result (λ r. length r.1.items ≡ seats) }

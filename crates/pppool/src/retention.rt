@@ -8,9 +8,9 @@ use std::alloc::Global;
 /// How much of each unit's output is kept.
 #[derive(Clone, Copy, Debug, PartialEq, Eq)]
 pub enum Retain {
-    /// All of it.
+    /// The whole output.
     Everything,
-    /// All but the items, which take most of the memory.
+    /// The output without its items, which take most of the memory.
     WithoutItems,
 }
 

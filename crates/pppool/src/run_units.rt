@@ -1,9 +1,9 @@
 //! Runs all units of a list.
 ghost use Rattle.std.specs.Prelude.{◌≡◌, ℕ, ◌<◌, ◌≤◌, ◌/◌, [], length, All, IfOk, IsSome, Some, None, true, slice_index_or};
-ghost use Rattle.ppshelf.specs.Files.{most_rows, Extends, Agree, AllPermitted};
+ghost use Rattle.ppshelf.specs.Files.{max_rows, Extends, Agree, AllPermitted};
 ghost use Rattle.ppunit.specs.Unit.{IsUnitOf};
 ghost use Rattle.ppunit.specs.Units.{AreUnits, AreInBudget, AreCapped};
-ghost use Rattle.pppool.specs.Desk.{most_blocks, new_seat, times, claims_of};
+ghost use Rattle.pppool.specs.Desk.{max_blocks, new_seat, times, claims_of};
 ghost use Rattle.pppool.specs.Retained.{AreRetained, AreRetainedInBudget, AreRetainedCapped};
 ghost use Rattle.pppool.specs.code.Workers.{AllFilled, FitSlots, IsDone};
 
@@ -39,7 +39,7 @@ pub fn run<'a, R: Threads + Sync, D: Disk + Send + Sync, G: Gate + Sync>(
     requires shelf { pass.old.shelf ≡ batch.now.shelf.now }
     requires workers { (1 ≤ batch.now.workers) × (batch.now.workers ≤ 64) }
     requires block { (1 ≤ batch.now.block) × (batch.now.block ≤ 1024) }
-    requires count { length batch.now.units.now ≤ most_rows }
+    requires count { length batch.now.units.now ≤ max_rows }
     requires profile { batch.now.shelf.now.profile ≡ batch.now.setting.now.profile }
     requires rows { All (IsUnitOf (length batch.now.shelf.now.names) batch.now.setting.now.profile) batch.now.units.now }
     ensures shelf { pass.new.shelf ≡ batch.now.shelf.now }
@@ -71,7 +71,7 @@ pub fn run_retaining<'a, R: Threads + Sync, D: Disk + Send + Sync, G: Gate + Syn
     requires shelf { pass.old.shelf ≡ batch.now.shelf.now }
     requires workers { (1 ≤ batch.now.workers) × (batch.now.workers ≤ 64) }
     requires block { (1 ≤ batch.now.block) × (batch.now.block ≤ 1024) }
-    requires count { length batch.now.units.now ≤ most_rows }
+    requires count { length batch.now.units.now ≤ max_rows }
     requires profile { batch.now.shelf.now.profile ≡ batch.now.setting.now.profile }
     requires rows { All (IsUnitOf (length batch.now.shelf.now.names) batch.now.setting.now.profile) batch.now.units.now }
     ensures shelf { pass.new.shelf ≡ batch.now.shelf.now }
@@ -122,9 +122,9 @@ pub fn run_retaining<'a, R: Threads + Sync, D: Disk + Send + Sync, G: Gate + Syn
 
 /// Returns the number of blocks. The last block may be shorter than the others.
 fn block_count(units: usize, block: usize) -> u64
-    requires units { units ≤ most_rows }
+    requires units { units ≤ max_rows }
     requires block { 1 ≤ block }
-    ensures few { result ≤ most_blocks }
+    ensures few { result ≤ max_blocks }
     ensures all { (i : ℕ) → i < units → i / block < result }
 {
     units.div_ceil(block) as u64
@@ -140,7 +140,7 @@ fn gather<'a, R: Threads + Sync, D: Disk + Send + Sync, G: Gate + Sync>(
     requires seats { All (λ s. s ≡ new_seat job.now.desk.now) seats.items }
     requires shelf { pass.old.shelf ≡ job.now.shelf.now }
     requires block { (1 ≤ job.now.block) × (job.now.block ≤ 1024) }
-    requires blocks { job.now.desk.now.plan.blocks ≤ most_blocks }
+    requires blocks { job.now.desk.now.plan.blocks ≤ max_blocks }
     requires profile { job.now.shelf.now.profile ≡ job.now.setting.now.profile }
     requires rows { All (IsUnitOf (length job.now.shelf.now.names) job.now.setting.now.profile) job.now.units.now }
     ensures shelf { pass.new.shelf ≡ job.now.shelf.now }
@@ -153,7 +153,7 @@ fn gather<'a, R: Threads + Sync, D: Disk + Send + Sync, G: Gate + Sync>(
 {
     let task = |seat: DeskSeat| -> Result<Worker<D>, Memory>
         requires { (seat ≡ new_seat job.now.desk.now) × (1 ≤ job.now.block) × (job.now.block ≤ 1024)
-            × (job.now.desk.now.plan.blocks ≤ most_blocks)
+            × (job.now.desk.now.plan.blocks ≤ max_blocks)
             × (job.now.shelf.now.profile ≡ job.now.setting.now.profile)
             × All (IsUnitOf (length job.now.shelf.now.names) job.now.setting.now.profile) job.now.units.now }
         ensures { IfOk result (λ w. IsDone job.entry.now.retain job.entry.now.desk.now job.entry.now.shelf.now

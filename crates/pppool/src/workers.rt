@@ -1,7 +1,7 @@
 //! Workers, which claim blocks of units and preprocess them.
 ghost use Rattle.std.specs.Prelude.{◌≡◌, ℕ, ◌<◌, ◌≤◌, ◌/◌, [], ◌∷◌, ◌++◌, length, All, IfOk, OnOk};
 ghost use Rattle.ppunit.specs.Unit.{IsUnitOf};
-ghost use Rattle.pppool.specs.Desk.{most_blocks, new_seat, times};
+ghost use Rattle.pppool.specs.Desk.{max_blocks, new_seat, times};
 ghost use Rattle.pppool.specs.code.Workers.{AreUnitResults, IsDone, result_units};
 
 use crate::desk::{Desk, DeskSeat};
@@ -108,7 +108,7 @@ impl<'a, D: Disk> Worker<'a, D> {
     fn work_block<G: Gate>(&mut self, job: &Job<'a, '_, D, G>, number: usize) -> Result<(), Memory>
         requires shelf { self.old.pass.shelf ≡ job.now.shelf.now }
         requires block { (1 ≤ job.now.block) × (job.now.block ≤ 1024) }
-        requires number { number < most_blocks }
+        requires number { number < max_blocks }
         requires profile { job.now.shelf.now.profile ≡ job.now.setting.now.profile }
         requires rows { All (IsUnitOf (length job.now.shelf.now.names) job.now.setting.now.profile) job.now.units.now }
         requires results { AreUnitResults job.now.retain job.now.shelf.now self.old.pass.files
@@ -134,7 +134,7 @@ impl<'a, D: Disk> Worker<'a, D> {
         requires seat { (self.old.seat.desk ≡ job.now.desk.now) × (self.old.seat.claims ≡ []) }
         requires shelf { self.old.pass.shelf ≡ job.now.shelf.now }
         requires block { (1 ≤ job.now.block) × (job.now.block ≤ 1024) }
-        requires blocks { job.now.desk.now.plan.blocks ≤ most_blocks }
+        requires blocks { job.now.desk.now.plan.blocks ≤ max_blocks }
         requires profile { job.now.shelf.now.profile ≡ job.now.setting.now.profile }
         requires rows { All (IsUnitOf (length job.now.shelf.now.names) job.now.setting.now.profile) job.now.units.now }
         requires results { self.old.results.items ≡ [] }
@@ -151,7 +151,7 @@ impl<'a, D: Disk> Worker<'a, D> {
     pub(crate) fn in_seat<G: Gate>(job: &Job<'a, '_, D, G>, seat: DeskSeat) -> Result<Self, Memory>
         requires seat { seat ≡ new_seat job.now.desk.now }
         requires block { (1 ≤ job.now.block) × (job.now.block ≤ 1024) }
-        requires blocks { job.now.desk.now.plan.blocks ≤ most_blocks }
+        requires blocks { job.now.desk.now.plan.blocks ≤ max_blocks }
         requires profile { job.now.shelf.now.profile ≡ job.now.setting.now.profile }
         requires rows { All (IsUnitOf (length job.now.shelf.now.names) job.now.setting.now.profile) job.now.units.now }
         ensures { IfOk result (λ w. IsDone job.now.retain job.now.desk.now job.now.shelf.now job.now.setting.now

@@ -1,4 +1,4 @@
--- The JSON value of bytes, from what a read says.
+-- The JSON value of bytes, by the result of reading them.
 use Rattle.std.proofs.Common.{◌≡◌, List, ℕ, Bool, true, false, refl, Option, Some, None, cond}
 use Rattle.std.specs.Str.{IsUtf8, is_utf8}
 use Rattle.std.proofs.lemmas.Str.{IsUtf8-from_is_utf8, is_utf8-from_IsUtf8}

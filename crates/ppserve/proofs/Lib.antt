@@ -1,38 +1,38 @@
--- The lemmas of this crate, by file; the proofs of its functions are in a directory for each file of the sources.
+-- The lemmas of this crate, by file. The proofs of its functions are in one directory per source file.
 
--- The members of an object.
-pub mod Objects
--- A value gives a draft exactly where it has the shape of a list with it.
-pub mod Drafted
+-- The members of a JSON object.
+pub mod ObjectMembers
+-- `draft` returns `x` for a JSON value exactly if the value has the shape of a list with draft `x`.
+pub mod DraftShape
 -- Reading the items of an array, one after another.
-pub mod Each
--- The lines of records.
-pub mod Records
--- What is printed of what is retained of units' outputs is what is printed of the outputs.
-pub mod Shown
--- What the units of a list give, over files that are known.
-pub mod Giving
--- Bytes by pairs of hexadecimal digits.
-pub mod Hex
--- The JSON value of bytes, from what a read says.
+pub mod ArrayItems
+-- Records of the output and their lines.
+pub mod RecordLines
+-- Retained outputs print the same text as whole outputs.
+pub mod RetainedText
+-- The values of a list's units over known files, and the output of a run.
+pub mod ServedOutput
+-- Bytes from pairs of hexadecimal digits.
+pub mod HexPairs
+-- The JSON value of bytes, by the result of reading them.
 pub mod JsonValue
--- The steps to a list's outcome, and what an accepted list keeps to.
-pub mod Validated
--- The refusal with the least number that applies.
-pub mod Refusing
--- What a run's output depends on.
-pub mod OneOutput
--- Known bytes over several reads and writes.
-pub mod Known
--- The names of files, one after another.
-pub mod Names
--- Texts that are printed one after another.
-pub mod Printing
--- Bytes that came from a reader whose bytes are known.
-pub mod Received
+-- Validation of a draft, and properties of an accepted list.
+pub mod DraftValidation
+-- Bytes are refused with the least number whose refusal applies.
+pub mod LeastRefusal
+-- A run's output depends only on the mode, the input bytes and the file contents.
+pub mod OutputUniqueness
+-- Known bytes of readers and writers across several reads and writes.
+pub mod KnownStreamBytes
+-- File names, added to an index one by one.
+pub mod NameIndexing
+-- Printing texts one after another through a buffer.
+pub mod BufferedPrinting
+-- The outcome of bytes that were read is the outcome of all known bytes of the reader.
+pub mod ReceivedBytes
 -- Pages that are filled and written.
-pub mod Pages
--- Text after the first bytes of a list.
-pub mod AfterPrefix
--- From the mask of eight lanes to the bytes that are printed as they are.
-pub mod Lanes
+pub mod PageRecords
+-- Text written after a prefix of a buffer.
+pub mod BufferPrefix
+-- Finding bytes that print as they are, from the bit mask of eight lanes.
+pub mod LaneMasks

@@ -4,7 +4,7 @@ use Rattle.serde_json.specs.Data.{Data}
 use Rattle.ppshelf.specs.Files.{Files, Agree}
 use Rattle.ppserve.specs.Contents.{AreInList}
 use Rattle.ppserve.specs.Drafts.{Draft}
-use Rattle.ppserve.specs.Listing.{json_value, most_input, names_of, names_hold, sizes_hold, are_known, times_hold, lines_hold, directories_hold}
+use Rattle.ppserve.specs.Listing.{json_value, max_input, names_of, names_hold, sizes_hold, are_known, times_hold, lines_hold, directories_hold}
 use Rattle.ppserve.specs.Listing.{profile_holds, budget_holds, listed, outcome_of, accepted, refused}
 use Rattle.ppserve.specs.Serving.{Serves}
 use Rattle.ppserve.specs.Shape.{IsDraft}
@@ -21,7 +21,7 @@ pub record HoldsDraft (inline : Bool) (bytes : List ℕ) (x : Draft) : Type 0 wh
 
 -- The refusal with this number applies to the bytes. From 3 on the bytes must have a draft.
 pub data Applies (inline : Bool) (bytes : List ℕ) : ℕ → Type 0 where
-  too_long : most_input < length bytes → Applies inline bytes 1
+  too_long : max_input < length bytes → Applies inline bytes 1
   no_json : json_value bytes ≡ None → Applies inline bytes 1
   no_shape : {value : Data}
       → json_value bytes ≡ Some value

@@ -9,7 +9,7 @@ use Rattle.serde_json.specs.Read.{read}
 use Rattle.pptext.specs.declared.sources.Profile.{Profile}
 use Rattle.pptext.specs.declared.sources.Profile.TheVariants.{C11, Later, Gnu}
 use Rattle.ppshelf.specs.Content.{longest}
-use Rattle.ppshelf.specs.Files.{most_rows}
+use Rattle.ppshelf.specs.Files.{max_rows}
 use Rattle.ppshelf.specs.Names.{AreNames, are_names, is_directory, row_among}
 use Rattle.ppunit.specs.WellFormed.{is_date, is_time, is_one_line, is_setting, is_unit}
 use Rattle.ppunit.specs.Unit.{command_text}
@@ -41,8 +41,8 @@ abbrev pub contents_of : List DraftFile → List (List ℕ)
 contents_of files = map (λ (f : DraftFile). f.content) files
 
 -- the largest number of bytes in a list
-abbrev pub most_input : ℕ
-most_input = 2 ^ 28
+abbrev pub max_input : ℕ
+max_input = 2 ^ 28
 
 -- the files' names are in normal form and distinct
 abbrev pub names_hold : List DraftFile → Bool
@@ -55,7 +55,7 @@ abbrev pub commands_fit : List DraftUnit → Bool
 commands_fit = list_all (λ (u : DraftUnit). nat_le (length (command_text u.defines)) longest)
 
 abbrev pub sizes_hold : Draft → Bool
-sizes_hold d = nat_le (length d.files) most_rows && nat_le (length d.units) most_rows && contents_fit d.files && commands_fit d.units
+sizes_hold d = nat_le (length d.files) max_rows && nat_le (length d.units) max_rows && contents_fit d.files && commands_fit d.units
 
 -- each unit's file is among the names
 abbrev pub are_known : List (List ℕ) → List DraftUnit → Bool
@@ -86,13 +86,13 @@ abbrev pub profile_of : DraftSetting → Profile
 profile_of s = unwrap_or (profile_named s.profile) C11
 
 -- the largest budget of a list
-abbrev pub most_budget : ℕ
-most_budget = 2 ^ 32 - 1
+abbrev pub max_budget : ℕ
+max_budget = 2 ^ 32 - 1
 
 -- no budget, or an integer that isn't too large
 abbrev pub is_budget : DraftBudget → Bool
 is_budget Missing = true
-is_budget (Integer n) = nat_le n most_budget
+is_budget (Integer n) = nat_le n max_budget
 is_budget Other = false
 
 abbrev pub budget_holds : DraftSetting → Bool
@@ -168,13 +168,13 @@ parsed inline (Some d) = shaped inline (draft inline d)
 
 -- the list that bytes hold, or the least number of a refusal that applies
 abbrev pub outcome_of : Bool → List ℕ → Outcome
-outcome_of inline bytes = if nat_lt most_input (length bytes) then refused 1 else parsed inline (json_value bytes)
+outcome_of inline bytes = if nat_lt max_input (length bytes) then refused 1 else parsed inline (json_value bytes)
 
 -- a list whose units can be preprocessed
 pub record IsRunnable (l : CompilationList) : Type 0 where
   pub names : AreNames l.names
-  pub few : length l.names ≤ most_rows
-  pub many : length l.units ≤ most_rows
+  pub few : length l.names ≤ max_rows
+  pub many : length l.units ≤ max_rows
   pub small : All (λ bytes. length bytes ≤ longest) l.contents
   pub setting : is_setting l.setting ≡ true
   pub units : All (λ (u : UnitOfList). is_unit (length l.names) l.setting.profile u ≡ true) l.units

@@ -12,7 +12,7 @@ use Rattle.ppserve.specs.declared.list.ListFault.TheVariants as list_fault
 use Rattle.ppserve.specs.declared.output.Mode.{Mode}
 use Rattle.ppserve.specs.declared.serving.RunFault.{RunFault}
 use Rattle.ppserve.specs.declared.serving.RunFault.TheVariants as run_fault
-use Rattle.ppserve.specs.Listing.{most_input, outcome_of, accepted, refused}
+use Rattle.ppserve.specs.Listing.{max_input, outcome_of, accepted, refused}
 use Rattle.ppserve.specs.Output.{numbered, unit_lines, output_text}
 
 -- some unit has a fault
@@ -23,7 +23,7 @@ any_fault (out ∷ outs) = is_some out.fault || any_fault outs
 -- the bytes were read, and are all that the reader had unless they are more than a list may have
 pub record Received (before after : Option (List ℕ)) (bytes : List ℕ) : Type 0 where
   pub came : Consumes before after bytes
-  pub whole : length bytes ≤ most_input → IsAtEnd after
+  pub whole : length bytes ≤ max_input → IsAtEnd after
 
 -- a list was read, with its contents if `inline`
 pub record ReadsList (inline : Bool) (before after : Option (List ℕ)) (list : CompilationList) : Type 0 where

@@ -12,7 +12,7 @@ use std::marker::Model;
 const CAPACITY: usize = 32;
 
 /// The largest number of bytes before a token's spelling: a word of 3, two locations of 33, and 4 after them.
-pub(crate) const MOST_PREFIX: usize = 73;
+pub(crate) const MAX_PREFIX: usize = 73;
 
 /// What the line of a token has before the spelling.
 #[derive(Clone, Copy)]

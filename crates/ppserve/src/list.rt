@@ -1,7 +1,7 @@
 //! Reads the list of translation units from JSON.
 ghost use Rattle.std.specs.Prelude.{◌≡◌, ◌≤◌, ℕ, Some, None, IfOk, IfErr, IsErrOf, true, length};
 ghost use Rattle.serde_json.specs.View.{view};
-ghost use Rattle.ppserve.specs.Listing.{RefusedFor, IsRunnable, json_value, outcome_of, validated, accepted, refused, most_input};
+ghost use Rattle.ppserve.specs.Listing.{RefusedFor, IsRunnable, json_value, outcome_of, validated, accepted, refused, max_input};
 ghost use Rattle.ppserve.specs.declared.list.ListFault.TheVariants.{Bad, Memory as OutOfMemory};
 
 mod drafts;
@@ -64,7 +64,7 @@ impl<T: Drop> From<AllocFailed<T>> for ListFault {
 }
 
 /// The largest number of bytes in a list.
-pub(crate) const MOST_INPUT: usize = 268_435_456;
+pub(crate) const MAX_INPUT: usize = 268_435_456;
 
 /// Reads a list from JSON. If `inline` is false, its files have only names, and it holds no contents. Names are hashed
 /// by `hashing`.
@@ -88,7 +88,7 @@ pub fn read_list(
     ensures contents { inline ≡ true → IfOk result (λ l. length l.contents ≡ length l.names) }
     ensures bad { (n : ℕ) → IsErrOf result (Bad n) → outcome_of inline bytes.now ≡ refused n }
 {
-    if bytes.len() > MOST_INPUT {
+    if bytes.len() > MAX_INPUT {
         return Err(ListFault::Bad(1));
     }
     let draft = draft_from(alloc, bytes, inline)?;
@@ -97,7 +97,7 @@ pub fn read_list(
 
 /// Reads a draft of the list. The JSON value is freed before the list is validated.
 fn draft_from(alloc: Global, bytes: &[u8], inline: bool) -> Result<Draft, ListFault>
-    requires { length bytes.now ≤ most_input }
+    requires { length bytes.now ≤ max_input }
     ensures ok { IfOk result (λ d. outcome_of inline bytes.now ≡ validated inline d) }
     ensures bad { (n : ℕ) → IsErrOf result (Bad n) → outcome_of inline bytes.now ≡ refused n }
 {

@@ -5,7 +5,7 @@ ghost use Rattle.ppserve.specs.Output.{escaped};
 ghost use Rattle.ppserve.specs.code.Printing.{Puts};
 
 use crate::formatting::{as_is_prefix, put_byte, put_prefix};
-use crate::line_prefix::{LastPrefixes, LineFields, MOST_PREFIX};
+use crate::line_prefix::{LastPrefixes, LineFields, MAX_PREFIX};
 use crate::streams::Sink;
 use std::alloc::{AllocError, Global};
 use std::marker::Model;
@@ -20,7 +20,7 @@ const SMALL: usize = 65_536;
 const SHORT: usize = 14;
 
 /// The longest line of a token with a short spelling.
-const LONGEST: usize = MOST_PREFIX + SHORT + 1;
+const LONGEST: usize = MAX_PREFIX + SHORT + 1;
 
 /// A buffer of 1 MiB with the bytes that aren't written yet. It is allocated once, so that later calls can't run out
 /// of memory.

@@ -15,13 +15,13 @@ use std::thread::{Threads, for_each_mut};
 
 /// The number of records that a worker formats in a round: as many as nearly fill its buffer, since the line of a token
 /// has about 35 bytes.
-const MOST_RECORDS: usize = SIZE / 40;
+const MAX_RECORDS: usize = SIZE / 40;
 
 /// The least number of records that a worker formats in a round.
-const FEWEST_RECORDS: usize = 256;
+const MIN_RECORDS: usize = 256;
 
 /// The largest number of pages. More gain nothing, because one thread writes them.
-const MOST_PAGES: usize = 16;
+const MAX_PAGES: usize = 16;
 
 /// A sink that refuses all bytes. A buffer in front of it keeps all that is put into it; if the buffer overflows, the
 /// sink has failed.
@@ -127,7 +127,7 @@ pub(crate) fn new_pages<'a>(
     ensures count { IfOk result (λ pages. length pages.items ≡ min workers 16) }
     ensures empty { IfOk result (λ pages. All IsEmpty pages.items) }
 {
-    let count = workers.min(MOST_PAGES);
+    let count = workers.min(MAX_PAGES);
     let mut pages = Vec::with_capacity(alloc, count)?;
     for _ in 0..count {
         pages.push(Page::new(alloc, output)?)?;
@@ -190,7 +190,7 @@ fn put_in_rounds<'a, T: Threads + Sync, W: Sink>(
     ensures { Puts W.written W.has_failed writer.old writer.new [] [] (output_bytes output.entry) }
 {
     let mut cursor = LineCursor::new(output);
-    let mut count = MOST_RECORDS;
+    let mut count = MAX_RECORDS;
     while !cursor.is_at_end() {
         if writer.failed() {
             return;
@@ -198,7 +198,7 @@ fn put_in_rounds<'a, T: Threads + Sync, W: Sink>(
         assign_all(pages, &mut cursor, count);
         fill_all(threads, pages, output.names);
         if !write_all(pages, writer, output.names) {
-            count = (count / 2).max(FEWEST_RECORDS);
+            count = (count / 2).max(MIN_RECORDS);
         }
     }
 }

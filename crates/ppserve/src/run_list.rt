@@ -1,7 +1,7 @@
 //! Runs the units of a list with workers.
 ghost use Rattle.std.specs.Prelude.{◌≡◌, ◌≤◌, [], length, map, replicate, string_bytes, All, IfOk, None};
 ghost use Rattle.ppshelf.specs.Content.{longest};
-ghost use Rattle.ppshelf.specs.Files.{most_rows, IsFull};
+ghost use Rattle.ppshelf.specs.Files.{max_rows, IsFull};
 ghost use Rattle.ppshelf.specs.Names.{AreNames};
 ghost use Rattle.ppunit.specs.Unit.{IsUnitOf};
 ghost use Rattle.pppool.specs.Retained.{AreRetained};
@@ -114,7 +114,7 @@ pub(crate) fn empty_shelf<D: Disk>(
     hashing: Hashing,
 ) -> Result<Shelf<D>, Memory>
     requires form { AreNames names.now }
-    requires few { length names.now ≤ most_rows }
+    requires few { length names.now ≤ max_rows }
     ensures names { IfOk result (λ s. s.names ≡ names.now) }
     ensures profile { IfOk result (λ s. s.profile ≡ profile) }
     ensures empty { IfOk result (λ s. s.filled ≡ replicate (length names.now) None) }
@@ -139,7 +139,7 @@ pub(crate) fn filled_shelf(
     hashing: Hashing,
 ) -> Result<Shelf<MemoryDisk>, Memory>
     requires form { AreNames names.now }
-    requires few { length names.now ≤ most_rows }
+    requires few { length names.now ≤ max_rows }
     requires count { length contents ≡ length names.now }
     requires small { All (λ bytes. length bytes ≤ longest) contents }
     ensures names { IfOk result (λ s. s.names ≡ names.now) }
@@ -163,7 +163,7 @@ pub(crate) fn run_over_contents<'a, R: Threads + Sync>(
     options: RunOptions,
 ) -> Result<Vec<UnitOut<'a>>, Memory>
     requires full { IsFull shelf.now }
-    requires count { length units.now ≤ most_rows }
+    requires count { length units.now ≤ max_rows }
     requires profile { shelf.now.profile ≡ setting.now.profile }
     requires units { All (IsUnitOf (length shelf.now.names) setting.now.profile) units.now }
     requires workers { (1 ≤ options.workers) × (options.workers ≤ 64) }
@@ -201,7 +201,7 @@ pub(crate) fn run_over_disk<'a, R: Threads + Sync, D: Disk + Send + Sync>(
     batch: &Batch<'a, '_, D, OpenGate>,
     mode: Mode,
 ) -> Result<Vec<UnitOut<'a>>, Memory>
-    requires count { length batch.now.units.now ≤ most_rows }
+    requires count { length batch.now.units.now ≤ max_rows }
     requires profile { batch.now.shelf.now.profile ≡ batch.now.setting.now.profile }
     requires units { All (IsUnitOf (length batch.now.shelf.now.names) batch.now.setting.now.profile) batch.now.units.now }
     requires workers { (1 ≤ batch.now.workers) × (batch.now.workers ≤ 64) }

@@ -8,7 +8,7 @@ ghost use Rattle.ppserve.specs.declared.serving.RunFault.TheVariants.{Read as Re
 ghost use Rattle.ppserve.specs.code.Records.{output_bytes};
 ghost use Rattle.ppserve.specs.Serving.{any_fault, Received, ReadsList, WritesAll, WritesPrefix, Serves, ServesPrefix, Refuses};
 
-use crate::list::{List, ListFault, MOST_INPUT, read_list};
+use crate::list::{List, ListFault, MAX_INPUT, read_list};
 use crate::out_buffer::OutBuffer;
 use crate::output::{Mode, Output, print};
 use crate::rounds::{new_pages, print_in_rounds};
@@ -255,7 +255,7 @@ fn read_all<R: Feed>(alloc: Global, reader: &mut R) -> Result<Vec<u8>, RunFault>
 {
     let mut chunk = [0u8; CHUNK];
     let mut bytes = Vec::new(alloc);
-    while bytes.len() <= MOST_INPUT {
+    while bytes.len() <= MAX_INPUT {
         let Ok(count) = reader.read(&mut chunk) else {
             return Err(RunFault::Read);
         };

@@ -1,4 +1,4 @@
--- Whatever happens to a shelf and a block counter, what callers have observed is what rows cache, and what they claimed are the blocks below the next one.
+-- After any events, callers have observed only cached contents and claimed each block below the next one once.
 use Rattle.std.proofs.Common.{◌≡◌, ℕ, zero, suc, ◌+◌, ◌<◌, ◌≤◌, nat_lt, min, true, false, List, [], ◌∷◌, ◌++◌, length, get_or, set, Some, None}
 use Rattle.std.proofs.Common.{refl, sym, ◌∙◌, ap, subst, arith, ◌⊎◌, inl, inr}
 use Rattle.std.specs.Prelude.{if◌then◌else◌}
@@ -8,16 +8,16 @@ use Rattle.std.proofs.lemmas.List.{get_or_past, get_or-set_other, get_or-set_sam
 use Rattle.std.proofs.lemmas.Option.{none-some, same_Some}
 use Rattle.ppshelf.specs.Content.{Content}
 use Rattle.ppshelf.specs.Files.{Files, file_at, Extends}
-use Rattle.ppshelf.proofs.Files.{none_known}
+use Rattle.ppshelf.proofs.ObservedContents.{none_known}
 use Rattle.ppshelf.specs.Events.{Caller, no_caller, Shared, caller_at, observed_by, with_changed_caller, observing, caching, with_block, with_no_block_left, with_next_block, Event, Happens, caches, reads, claims, finds_none, Happen, none, next, initial_state, ObservedStays, CallersAgree, times, claims_of, EachBlockOnce}
 
--- all that a caller has observed is cached
+-- Each content that a caller has observed is cached.
 abbrev Sound : Shared → Type 0
 Sound shared = (caller : ℕ) → Extends shared.cached (observed_by shared caller)
 
--- ---- a row of files that is written
+-- ---- writing the content of a row
 
--- a row that knew nothing, or knew this, keeps what was known
+-- Writing c to a row extends the files if the row was unknown or had the content c.
 set_extends : (files : Files) (row : ℕ) (c : Content) → ((d : Content) → file_at files row ≡ Some d → d ≡ c) → Extends (set files row (Some c)) files
 set_extends files row c same at d e =
     elim (cases_eq at row) [
@@ -30,7 +30,7 @@ set_extends files row c same at d e =
           ]
     ]
 
--- what is known afterwards was known, or is what was written
+-- A content after the write was there before, or is the one that was written.
 set_known : (files : Files) (row : ℕ) (c : Content) (at : ℕ) (d : Content) → file_at (set files row (Some c)) at ≡ Some d → (file_at files at ≡ Some d) ⊎ ((at ≡ row) × (c ≡ d))
 set_known files row c at d e =
     elim (cases_eq at row) [
@@ -46,18 +46,18 @@ set_known files row c at d e =
 
 -- ---- an event
 
--- no caller forgets
+-- No observation of a caller is lost.
 abbrev Grown : Shared → Shared → Type 0
 Grown before after = (caller : ℕ) → Extends (observed_by after caller) (observed_by before caller)
 
--- a caller that is changed, and the others
+-- A changed caller has its new state, and the others are unchanged.
 changed_same : (shared : Shared) (caller : ℕ) (change : Caller → Caller) → caller < length shared.callers → caller_at (with_changed_caller shared caller change) caller ≡ change (caller_at shared caller)
 changed_same shared caller change within = get_or-set_same shared.callers caller (change (caller_at shared caller)) no_caller within
 
 changed_other : (shared : Shared) (caller : ℕ) (change : Caller → Caller) (who : ℕ) → (who ≡ caller → ⊥) → caller_at (with_changed_caller shared caller change) who ≡ caller_at shared who
 changed_other shared caller change who other = get_or-set_other shared.callers caller who (change (caller_at shared caller)) no_caller other
 
--- what a caller has observed once some caller observes
+-- After some caller observes a row, each caller's observations are unchanged or include that row.
 learnt_after : (shared : Shared) (caller row : ℕ) (c : Content) (who : ℕ) → caller < length shared.callers
     → (observed_by (observing shared caller row c) who ≡ observed_by shared who)
     ⊎ (observed_by (observing shared caller row c) who ≡ set (observed_by shared who) row (Some c))
@@ -89,7 +89,7 @@ learns shared caller row c within sound cached =
           ],
     )
 
--- a change of a caller that leaves what it has observed
+-- A change that leaves one caller's observations leaves those of all callers.
 keeps_learnt : (shared : Shared) (caller : ℕ) (change : Caller → Caller) → ((k : Caller) → (change k).observed ≡ k.observed) → caller < length shared.callers → (who : ℕ) → observed_by (with_changed_caller shared caller change) who ≡ observed_by shared who
 keeps_learnt shared caller change same within who =
     elim (cases_eq who caller) [
@@ -147,7 +147,7 @@ times-append : (x : ℕ) (a b : List ℕ) → times x (a ++ b) ≡ times x a + t
 times-append x [] b = omega arith
 times-append x (y ∷ a) b = let e = times-append x a b in omega arith
 
--- a change of a caller that adds to what it claimed
+-- If one caller gets more claims, the total count of each number grows by its count in them.
 claims_more : (x : ℕ) (more : List ℕ) (change : Caller → Caller) → ((k : Caller) → (change k).claims ≡ k.claims ++ more) → (ks : List Caller) (i : ℕ) → i < length ks
     → times x (claims_of (set ks i (change (get_or ks i no_caller)))) ≡ times x (claims_of ks) + times x more
 claims_more x more change adds [] i within = absurd (omega arith)
@@ -163,7 +163,7 @@ claims_more x more change adds (k ∷ ks) (suc i) within =
     let old = times-append x k.claims (claims_of ks) in
     omega arith
 
--- what is claimed so far, with what it says of callers that found nothing left
+-- Each block below the next one is claimed once. If a caller found no block left, all are claimed.
 record Counted (blocks : ℕ) (shared : Shared) : Type 0 where
   pub each : (x : ℕ) → times x (claims_of shared.callers) ≡ (if nat_lt x (min shared.block blocks) then 1 else 0)
   pub empty : (caller : ℕ) → (caller_at shared caller).found_empty ≡ true → blocks ≤ shared.block
@@ -174,7 +174,7 @@ one_more x n blocks less = grind (arith, nat_tests)
 none_more : (x n blocks : ℕ) → blocks ≤ n → (if nat_lt x (min n blocks) then 1 else 0) + 0 ≡ (if nat_lt x (min (suc n) blocks) then 1 else 0)
 none_more x n blocks past = grind (arith, nat_tests)
 
--- a change of a caller that leaves whether it found nothing left
+-- A change that leaves one caller's `found_empty` leaves that of all callers.
 keeps_empty : (shared : Shared) (caller : ℕ) (change : Caller → Caller) → ((k : Caller) → (change k).found_empty ≡ k.found_empty) → caller < length shared.callers → (who : ℕ) → (caller_at (with_changed_caller shared caller change) who).found_empty ≡ (caller_at shared who).found_empty
 keeps_empty shared caller change same within who =
     elim (cases_eq who caller) [
@@ -184,7 +184,7 @@ keeps_empty shared caller change same within who =
           subst P (sym is) (ap (λ (k : Caller). k.found_empty) (changed_same shared caller change within) ∙ same (caller_at shared caller))
     ]
 
--- a change that claims nothing and finds nothing
+-- A change that adds no claim and leaves `found_empty` preserves `Counted`.
 uncounted : (blocks : ℕ) (shared : Shared) (caller : ℕ) (change : Caller → Caller) (cached : Files)
     → ((k : Caller) → (change k).claims ≡ k.claims ++ [])
     → ((k : Caller) → (change k).found_empty ≡ k.found_empty)

@@ -14,7 +14,7 @@ use Rattle.std.proofs.lemmas.List.Splits.{slice_split-cons_yes, slice_split-cons
 use Rattle.ppshelf.specs.Names.{segments, is_file_name, is_name_byte, is_segment}
 use Rattle.ppshelf.specs.Search.{Path, follow_segment, follow, parent, parent_of}
 use Rattle.ppshelf.proofs.Paths.{no_cut}
-use Rattle.ppshelf.proofs.Plain.{lead_by, some_segment}
+use Rattle.ppshelf.proofs.DotFreePaths.{lead_by, some_segment}
 
 by_tests : (a b c : Bool) (x y z : Option Path) → (not a && not b && not c) ≡ true → cond (a || b) x (cond c y z) ≡ z
 by_tests false false false x y z e = refl
@@ -25,7 +25,7 @@ by_tests true b c x y z e = absurd (false≢true e)
 leads_in : (path : Path) (s : List ℕ) → is_segment s ≡ true → follow_segment path s ≡ Some (path ++ s ∷ [])
 leads_in path s e = by_tests (length s == 0) (bytes_eq s (codes ".")) (bytes_eq s (codes "..")) (Some path) (parent path) (Some (path ++ s ∷ [])) e
 
--- a name in normal form leads along its segments
+-- The path of a name in normal form is the list of its segments.
 lead_in : (text : List ℕ) → list_all is_segment (segments text) ≡ true → follow (Some []) text ≡ Some (segments text)
 lead_in text e = lead_by is_segment leads_in [] (segments text) e
 
@@ -38,7 +38,7 @@ onto_front : (b : ℕ) (ss ts : List (List ℕ)) → 0 < length ss → onto_firs
 onto_front b [] ts some = absurd (omega arith)
 onto_front b (s ∷ ss) ts some = refl
 
--- a text is cut at each of its slashes
+-- A slash splits the segments of a text into those before it and those after it.
 segments_cut : (xs ys : List ℕ) → segments (xs ++ 47 ∷ ys) ≡ segments xs ++ segments ys
 segments_cut [] ys = slice_split-cons_yes (λ b. b == 47) 47 ys refl
 segments_cut (b ∷ xs) ys = by b xs ys (b == 47) refl (segments_cut xs ys)
@@ -60,7 +60,7 @@ parent_last path s =
     ∙ (ap (λ (b : Bool). cond {A = Option Path} b None (Some (take (suc (length path) - 1) (path ++ s ∷ [])))) (eqb-suc-zero (length path))
     ∙ (ap (λ (n : ℕ). Some (take n (path ++ s ∷ []))) less ∙ ap (λ (p : Path). Some p) (take-append_seam path (s ∷ []))))
 
--- what is before the last slash of a name leads to its directory
+-- The text before the last slash of a name leads to the directory of the name.
 pub before_slash : (name : List ℕ) (i : ℕ) → is_file_name name ≡ true → i < length name → (get_or name i 0 == 47) ≡ true
     → ((k : ℕ) → i < k → k < length name → (get_or name k 0 == 47) ≡ false) → follow (Some []) (take i name) ≡ parent_of (follow (Some []) name)
 before_slash name i normal within here after =
@@ -77,7 +77,7 @@ before_slash name i normal within here after =
     let parts = and_parts (list_all is_segment (segments front)) (list_all is_segment (last ∷ [])) (sym (list_all-append is_segment (segments front) (last ∷ [])) ∙ (ap (list_all is_segment) (sym cut) ∙ all)) in
     lead_in front parts.0 ∙ sym (ap parent_of (lead_in name all) ∙ (ap parent cut ∙ parent_last (segments front) last))
 
--- and a name without a slash is in the root
+-- A name without a slash is in the root directory.
 pub no_slash : (name : List ℕ) → is_file_name name ≡ true → ((k : ℕ) → k < length name → (get_or name k 0 == 47) ≡ false) → follow (Some []) [] ≡ parent_of (follow (Some []) name)
 no_slash name normal none =
     let alone : segments name ≡ name ∷ [] = no_cut name none in

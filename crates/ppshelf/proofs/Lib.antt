@@ -1,20 +1,20 @@
--- The lemmas of this crate, by file; the proofs of its functions are in a directory for each file of the sources.
+-- The lemmas of this crate, by file. The proofs of its functions are in a directory for each source file.
 
--- What a pass knows at a row.
-pub mod Files
--- Whatever happens to a shelf and a block counter, what callers have observed is what rows cache, and what they claimed are the blocks below the next one.
+-- The contents that a pass has observed, by row.
+pub mod ObservedContents
+-- After any events, callers have observed only cached contents and claimed each block below the next one once.
 pub mod Events
--- What a fill keeps from row to row.
-pub mod Filling
--- The content that a list holds for a name, and a shelf that nothing fills yet.
-pub mod Finding
+-- The invariant of a fill, row by row, and its effect on the shelf.
+pub mod FillInvariant
+-- The content of a name in a list of files, and a shelf before its fill.
+pub mod InitialShelf
 -- Names and their rows.
-pub mod Naming
--- Texts, their segments and the paths to which they lead.
+pub mod NameRows
+-- Texts, their segments, and the spelling of paths.
 pub mod Paths
--- Texts whose segments all lead on.
-pub mod Plain
+-- Texts in which no segment is empty or begins with `.`, so that each segment extends the path.
+pub mod DotFreePaths
 -- The directory of a file with a name in normal form.
 pub mod IncluderDirectory
--- The first of several names that a shelf has.
-pub mod Finds
+-- The first candidate of a search that is a name of the shelf.
+pub mod SearchResults

@@ -1,4 +1,4 @@
--- Texts, their segments and the paths to which they lead.
+-- Texts, their segments, and the spelling of paths.
 use Rattle.std.proofs.Common.{◌≡◌, ℕ, ◌+◌, ◌==◌, suc, zero, ◌<◌, true, false, List, [], ◌∷◌, ◌++◌, length, get_or, take, drop, refl, sym, ap, ◌∙◌, arith, append_assoc}
 use Rattle.std.specs.List.{onto_first, join_with_byte}
 use Rattle.std.proofs.lemmas.Grind.{common_steps}
@@ -6,7 +6,7 @@ use Rattle.std.proofs.lemmas.List.{take_more}
 use Rattle.std.proofs.lemmas.List.Splits.{slice_split-cons_yes, slice_split-cons_no}
 use Rattle.ppshelf.specs.Names.{segments}
 
--- a text is cut at its first slash
+-- The first segment of a text ends at the first slash.
 pub cut_at : (text : List ℕ) (i : ℕ) → i < length text → (get_or text i 0 == 47) ≡ true → ((k : ℕ) → k < i → (get_or text k 0 == 47) ≡ false) → segments text ≡ take i text ∷ segments (drop (i + 1) text)
 cut_at [] i within here before = absurd (omega arith)
 cut_at (b ∷ text) zero within here before = slice_split-cons_yes (λ b. b == 47) b text here
@@ -21,7 +21,7 @@ no_cut (b ∷ text) none =
     slice_split-cons_no (λ b. b == 47) b text (none 0 (omega arith))
     ∙ ap (onto_first b) (no_cut text (λ k below. none (suc k) (omega arith)))
 
--- one more segment after others
+-- The spelling of a path with one more segment after others has a `/` between them.
 pub join_more : (path : List (List ℕ)) (s : List ℕ) → 0 < length path → join_with_byte 47 (path ++ s ∷ []) ≡ (join_with_byte 47 path ++ 47 ∷ []) ++ s
 join_more [] s some = absurd (omega arith)
 join_more (t ∷ []) s some = sym (append_assoc t (47 ∷ []) s)
@@ -30,12 +30,12 @@ join_more (t ∷ u ∷ path) s some =
     let e : t ++ 47 ∷ ((rest ++ 47 ∷ []) ++ s) ≡ ((t ++ 47 ∷ rest) ++ 47 ∷ []) ++ s = simp append_assoc in
     ap (λ (x : List ℕ). t ++ 47 ∷ x) (join_more (u ∷ path) s (omega arith)) ∙ e
 
--- the spelling of the first segments, and one more
+-- The first segment of a path is spelled without a `/` before it.
 pub spelled_first : (path : List (List ℕ)) (s : List ℕ) → length path ≡ 0 → join_with_byte 47 (path ++ s ∷ []) ≡ join_with_byte 47 path ++ s
 spelled_first [] s e = refl
 spelled_first (t ∷ path) s e = absurd (omega arith)
 
--- the spelling of one more of a path's segments
+-- The spelling of the first i + 1 segments of a path, by that of the first i.
 module _ (path : List (List ℕ)) (i : ℕ) (within : i < length path) (before : List ℕ) (path_name : before ≡ join_with_byte 47 (take i path)) where
   pub spelled_next : 0 < i → join_with_byte 47 (take (i + 1) path) ≡ (before ++ 47 ∷ []) ++ get_or path i []
   spelled_next some =

@@ -6,8 +6,8 @@ use Rattle.ppshelf.specs.Content.{Content, IsPermitted}
 use Rattle.ppshelf.specs.Names.{name_in}
 
 -- The maximum number of rows of a shelf
-abbrev pub most_rows : ℕ
-most_rows = 65535
+abbrev pub max_rows : ℕ
+max_rows = 65535
 
 -- A finite map from rows to contents: the content of each row, or nothing if the row is unknown
 abbrev pub Files : Type 0

@@ -26,4 +26,4 @@ pub use memory_disk::{File, MemoryDisk};
 pub use names::{is_directory, is_file_name};
 pub use pptext::LONGEST;
 pub use search::{Directories, Form, resolve, resolve_next};
-pub use shelf::{Contents, LookFault, MOST_ROWS, Pass, Shelf, ShelfFault};
+pub use shelf::{Contents, LookFault, MAX_ROWS, Pass, Shelf, ShelfFault};

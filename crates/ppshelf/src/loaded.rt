@@ -5,7 +5,7 @@ ghost use Rattle.std.specs.Option.{option_map};
 ghost use Rattle.std.specs.String.{string_bytes};
 ghost use Rattle.pptext.specs.Sources.{Reads};
 ghost use Rattle.ppshelf.specs.Content.{unreadable, readable, IsPermitted, longest, content_of, IsRead};
-ghost use Rattle.ppshelf.specs.Files.{most_rows};
+ghost use Rattle.ppshelf.specs.Files.{max_rows};
 ghost use Rattle.ppshelf.specs.code.ShelfRows.{LoadedView, IsPlaced};
 
 use crate::disk::{Disk, ReadFault};
@@ -70,7 +70,7 @@ fn parse_bytes(
     row: usize,
     bytes: Vec<u8>,
 ) -> Result<Parsed, Memory>
-    requires row { row < most_rows }
+    requires row { row < max_rows }
     requires short { length bytes.items ≤ longest }
     ensures bytes { IfOk result (λ p. p.bytes.items ≡ bytes.items) }
     ensures reading { IfOk result (λ p. Reads profile row p.bytes.items p.lines) }
@@ -87,7 +87,7 @@ fn read_parsed<D: Disk>(
     row: usize,
     name: &str,
 ) -> Result<Option<Parsed>, Memory>
-    requires { row < most_rows }
+    requires { row < max_rows }
     ensures content { IfOk result (λ parsed. IsPermitted (D.gives disk.now) name.now (content_of (option_map (λ p. p.bytes.items) parsed))) }
     ensures reading { IfOk result (λ parsed. IfSome parsed (λ p. Reads profile row p.bytes.items p.lines)) }
 {
@@ -112,7 +112,7 @@ impl<D: Disk> Loaded<D> {
         row: usize,
         name: &str,
     ) -> Result<Loaded<D>, Memory>
-        requires { row < most_rows }
+        requires { row < max_rows }
         ensures place { IfOk result (λ l. IsPlaced profile row name.now l) }
         ensures content { IfOk result (λ l. IsPermitted (D.gives disk.now) name.now l.content) }
     {
@@ -135,7 +135,7 @@ impl<D: Disk> Loaded<D> {
         name: &str,
         bytes: Vec<u8>,
     ) -> Result<Loaded<D>, Memory>
-        requires row { row < most_rows }
+        requires row { row < max_rows }
         requires contents_permitted { IsPermitted D.may name.now (readable bytes.items) }
         ensures place { IfOk result (λ l. IsPlaced profile row name.now l) }
         ensures content { IfOk result (λ l. l.content ≡ readable bytes.items) }

@@ -2,7 +2,7 @@
 ghost use Rattle.std.specs.Prelude.{◌≡◌, ◌<◌, IfOk, OnErr, OnOk, IsSome, IfSome, IsOkAnd, Some, None};
 ghost use Rattle.std.specs.String.{string_bytes};
 ghost use Rattle.ppshelf.specs.Content.{IsPermitted, readable};
-ghost use Rattle.ppshelf.specs.Files.{most_rows, or_else};
+ghost use Rattle.ppshelf.specs.Files.{max_rows, or_else};
 ghost use Rattle.ppshelf.specs.code.ShelfRows.{LoadedView, IsPlaced, FitsRow, FilledRow};
 
 use crate::disk::Disk;
@@ -98,7 +98,7 @@ impl<D: Disk> Row<D> {
         row: usize,
         disk: &D,
     ) -> Result<(), Memory>
-        requires { row < most_rows }
+        requires { row < max_rows }
         ensures turned { FilledRow (IsPermitted (D.gives disk.now)) profile row self.old self.new }
         ensures full { OnOk result (IsSome self.new.filled) }
     {
@@ -117,7 +117,7 @@ impl<D: Disk> Row<D> {
         row: usize,
         bytes: Vec<u8>,
     ) -> Result<(), Memory>
-        requires row { row < most_rows }
+        requires row { row < max_rows }
         requires contents_permitted { IsPermitted D.may self.old.name (readable bytes.items) }
         ensures turned { FilledRow (λ name c. c ≡ readable bytes.items) profile row self.old self.new }
         ensures full { OnOk result (IsSome self.new.filled) }
@@ -139,7 +139,7 @@ impl<D: Disk> Row<D> {
         row: usize,
         disk: &D,
     ) -> Result<&'a Loaded<D>, Memory>
-        requires row { row < most_rows }
+        requires row { row < max_rows }
         requires placed { (h : LoadedView) → self.now.filled ≡ Some h → IsPlaced profile row self.now.name h }
         requires fits { FitsRow D.may profile row self.now seen.old }
         ensures fits { FitsRow D.may profile row self.now seen.new }
@@ -171,7 +171,7 @@ impl<D: Disk> Row<D> {
         row: usize,
         disk: &D,
     ) -> Result<&'a Loaded<D>, Memory>
-        requires row { row < most_rows }
+        requires row { row < max_rows }
         requires cell { note.old.cell ≡ self.now.cell }
         ensures cell { note.new.cell ≡ note.old.cell }
         ensures known { IfOk result (λ l. note.new.known ≡ Some l.now) }

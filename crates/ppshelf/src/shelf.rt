@@ -5,7 +5,7 @@ ghost use Rattle.std.specs.String.{string_bytes};
 ghost use Rattle.std.specs.Vec.{vec_len};
 ghost use Rattle.ppshelf.specs.Content.{IsPermitted, readable};
 ghost use Rattle.ppshelf.specs.Faults.{IsShelfFault};
-ghost use Rattle.ppshelf.specs.Files.{most_rows, file_at, AllPermitted, Agree, Extends, IsMerged, IsFull, Filled, bytes_at};
+ghost use Rattle.ppshelf.specs.Files.{max_rows, file_at, AllPermitted, Agree, Extends, IsMerged, IsFull, Filled, bytes_at};
 ghost use Rattle.ppshelf.specs.Names.{AreNames, IsRowOf, name_in};
 ghost use Rattle.ppshelf.specs.code.ShelfRows.{names_of, filled_of};
 
@@ -21,7 +21,7 @@ use std::marker::Model;
 pub type Contents = Sequence<Sequence<u8>>;
 
 /// The maximum number of rows of a shelf.
-pub const MOST_ROWS: usize = 65_535;
+pub const MAX_ROWS: usize = 65_535;
 
 /// A table of files, which are numbered by rows from 0 and read by one profile. A row has one content for all callers:
 /// that of `fill` or `fill_with`, or otherwise the one that the first look cached. Simultaneous looks may each read the
@@ -98,14 +98,14 @@ pub enum LookFault {
 }
 
 impl<D: Disk> Shelf<D> {
-    /// Creates a shelf of files with these names, at most `MOST_ROWS`, in order, to be read by this profile. No row is
+    /// Creates a shelf of files with these names, at most `MAX_ROWS`, in order, to be read by this profile. No row is
     /// filled. Names are hashed with a public key: see `with_hasher`.
     ///
     /// # Errors
     ///
     /// `Name` with the first row whose name isn't in normal form or occurs before. `Memory` if an allocation fails.
     pub fn new(alloc: Global, names: Vec<String>, profile: Profile) -> Result<Shelf<D>, ShelfFault>
-        requires { vec_len names ≤ most_rows }
+        requires { vec_len names ≤ max_rows }
         ensures names { IfOk result (λ s. s.names ≡ map string_bytes names.items) }
         ensures profile { IfOk result (λ s. s.profile ≡ profile) }
         ensures form { OnOk result (AreNames (map string_bytes names.items)) }
@@ -127,7 +127,7 @@ impl<D: Disk> Shelf<D> {
         profile: Profile,
         hashing: Hashing,
     ) -> Result<Shelf<D>, ShelfFault>
-        requires { vec_len names ≤ most_rows }
+        requires { vec_len names ≤ max_rows }
         ensures names { IfOk result (λ s. s.names ≡ map string_bytes names.items) }
         ensures profile { IfOk result (λ s. s.profile ≡ profile) }
         ensures hashing { IfOk result (λ s. s.hashing ≡ hashing) }
@@ -147,10 +147,10 @@ impl<D: Disk> Shelf<D> {
         })
     }
 
-    /// Returns the number of rows, at most `MOST_ROWS`.
+    /// Returns the number of rows, at most `MAX_ROWS`.
     pub fn len(&self) -> usize
         ensures count { result ≡ length self.now.names }
-        ensures small { result ≤ most_rows }
+        ensures small { result ≤ max_rows }
     {
         self.rows.len()
     }

@@ -1,1 +1,1 @@
--- The proofs of the tests stand in a folder for each part of the sources.
+-- The proofs of the tests, in a directory for each source file.

@@ -1,7 +1,7 @@
 //! Helpers for the tests of the file table.
 ghost use Rattle.std.specs.Prelude.{◌≡◌, ◌≤◌, IfOk, length};
 ghost use Rattle.std.specs.Vec.{vec_len};
-ghost use Rattle.ppshelf.specs.Files.{most_rows};
+ghost use Rattle.ppshelf.specs.Files.{max_rows};
 
 mod again;
 mod filling;
@@ -79,7 +79,7 @@ fn owned(alloc: Global, texts: &[&str]) -> Result<OwnedTexts, AllocError> {
 
 /// Creates a shelf of these names, with no row filled.
 fn named<D: Disk>(alloc: Global, names: &[&str]) -> Result<Shelf<D>, Fail>
-    requires { length names.now ≤ most_rows }
+    requires { length names.now ≤ max_rows }
 {
     Ok(Shelf::new(alloc, texts(alloc, names)?, Profile::C11)?)
 }

@@ -6,7 +6,7 @@ mod again;
 mod judging;
 
 use crate::showing::{assert_shown, push_fault, push_place};
-use ppshelf::{File, MOST_ROWS, MemoryDisk, Pass, Shelf};
+use ppshelf::{File, MAX_ROWS, MemoryDisk, Pass, Shelf};
 use pptext::{Fault, Memory, Profile, Token};
 use ppunit::{
     CommandMacros, Item, Items, OwnedText, OwnedTexts, Setting, Unit, UnitOut, fits_command,
@@ -26,7 +26,7 @@ fn shelf_of(alloc: Global, profile: Profile, files: Files) -> Result<Shelf<Memor
         names.push(String::from_str(alloc, name)?)?;
     }
     names.push(String::from_str(alloc, GONE)?)?;
-    if names.len() > MOST_ROWS {
+    if names.len() > MAX_ROWS {
         return Err(Fail::new("too many files"));
     }
     Ok(Shelf::new(alloc, names, profile)?)

@@ -1,4 +1,4 @@
--- One step of phases 1 and 2 in one reading, against the three passes.
+-- One step of phases 1 and 2 in a single pass agrees with the three passes of the specification.
 use Rattle.std.proofs.Common.{◌≡◌, ℕ, zero, suc, ◌+◌, ◌<◌, ◌≤◌, Bool, true, false, ◌==◌, ◌&&◌, if◌then◌else◌, List, [], ◌∷◌, ◌++◌, length, take}
 use Rattle.std.proofs.Common.{drop, refl, sym, ap, ◌∙◌, subst, arith, Option, None, Some, length-append, length-drop}
 use Rattle.std.proofs.lemmas.Bool.{false≢true, and_parts, eqb-true, ne_eqb}
@@ -8,26 +8,26 @@ use Rattle.std.proofs.lemmas.List.{drop-map, drop-drop, drop_all, length-map}
 use Rattle.pptext.specs.declared.tokens.Place.{Place}
 use Rattle.pptext.specs.declared.characters.Char.{Char}
 use Rattle.pptext.specs.Clean.{codes_of, head_code, is_return_at, without_returns, trigraph, trigraph_at, trigraphs_after, trigraphs, splices, splice_at_end}
-use Rattle.pptext.specs.code.Steps.{CharStep, Code, Removed, lacks_newline, trigraph_front, return_front, newline_front, spliced, coded, step_of}
+use Rattle.pptext.specs.code.Steps.{CharStep, Code, Removed, lacks_newline, leading_trigraph, leading_crlf, leading_newline, spliced, coded, step_of}
 use Rattle.pptext.specs.code.CleanedText.{supply, logical}
 
--- The tests on bytes are those on characters.
-pub return_same : (cs : List Char) → return_front (codes_of cs) ≡ is_return_at cs
+-- The tests on bytes equal the tests on characters.
+pub return_same : (cs : List Char) → leading_crlf (codes_of cs) ≡ is_return_at cs
 return_same [] = refl
 return_same (c ∷ []) = sym (and-false (c.code == 13))
 return_same (c ∷ d ∷ cs) = refl
 
-pub trigraph_same : (cs : List Char) → trigraph_front (codes_of cs) ≡ trigraph_at cs
+pub trigraph_same : (cs : List Char) → leading_trigraph (codes_of cs) ≡ trigraph_at cs
 trigraph_same [] = refl
 trigraph_same (a ∷ []) = refl
 trigraph_same (a ∷ b ∷ []) = refl
 trigraph_same (a ∷ b ∷ c ∷ cs) = refl
 
--- what a CR directly before an LF stands on
+-- the properties of a CR directly before an LF
 record Return (a : Char) (cs : List Char) : Type 0 where
   cr : a.code ≡ 13
   lf : head_code cs ≡ 10
-  room : 0 < length cs
+  in_bounds : 0 < length cs
   kept : is_return_at cs ≡ false
 
 lf_kept : (c : Char) (cs : List Char) → c.code ≡ 10 → is_return_at (c ∷ cs) ≡ false
@@ -37,7 +37,7 @@ return_is : (a : Char) (cs : List Char) → is_return_at (a ∷ cs) ≡ true →
 return_is a [] h = absurd (false≢true (sym (and-false (a.code == 13)) ∙ h))
 return_is a (b ∷ cs) h =
     let parts = and_parts (a.code == 13) (b.code == 10) h in
-    record { cr = eqb-true a.code 13 parts.0; lf = eqb-true b.code 10 parts.1; room = omega arith; kept = lf_kept b cs (eqb-true b.code 10 parts.1) }
+    record { cr = eqb-true a.code 13 parts.0; lf = eqb-true b.code 10 parts.1; in_bounds = omega arith; kept = lf_kept b cs (eqb-true b.code 10 parts.1) }
 
 pub kept : (c : Char) (cs : List Char) → is_return_at (c ∷ cs) ≡ false → without_returns (c ∷ cs) ≡ c ∷ without_returns cs
 kept c cs h = rw h refl
@@ -45,12 +45,12 @@ kept c cs h = rw h refl
 pub dropped : (c : Char) (cs : List Char) → is_return_at (c ∷ cs) ≡ true → without_returns (c ∷ cs) ≡ without_returns cs
 dropped c cs h = rw h refl
 
--- an LF in front is kept
+-- Removing CRs preserves the first character, unless it is a CR before an LF.
 lf_head : (cs tail : List Char) → 0 < length cs → is_return_at cs ≡ false → head_code (without_returns cs ++ tail) ≡ head_code cs
 lf_head [] tail lt h = absurd (omega arith)
 lf_head (c ∷ cs) tail lt h = rw (kept c cs h) refl
 
--- A front that is no question mark begins no trigraph.
+-- No trigraph begins unless the second character is `?`.
 third : (c a : Char) (xs : List Char) → trigraph_at (c ∷ a ∷ xs) ≡ (if c.code == 63 && a.code == 63 then trigraph (head_code xs) else 0)
 third c a [] = elim (c.code == 63 && a.code == 63) as (λ t. zero ≡ (if t then zero else zero)) [ true ↦ refl | false ↦ refl ]
 third c a (x ∷ xs) = refl
@@ -67,7 +67,7 @@ third_same s e (c ∷ cs) = by (is_return_at (c ∷ cs)) refl
     by : (t : Bool) → is_return_at (c ∷ cs) ≡ t → trigraph (head_code (without_returns (c ∷ cs) ++ supply s e)) ≡ trigraph c.code
     by true h =
         let r = return_is c cs h in
-        rw (dropped c cs h, lf_head cs (supply s e) r.room r.kept, r.lf, r.cr) refl
+        rw (dropped c cs h, lf_head cs (supply s e) r.in_bounds r.kept, r.lf, r.cr) refl
     by false h = rw (kept c cs h) refl
 
 lf_no_mark : (n : ℕ) → n ≡ 10 → n ≡ 63 → ⊥
@@ -76,7 +76,7 @@ lf_no_mark n e q = omega arith
 cr_no_mark : (n : ℕ) → n ≡ 13 → n ≡ 63 → ⊥
 cr_no_mark n e q = omega arith
 
--- A trigraph begins where it begins in the file.
+-- Removing CRs and supplying the last new-line do not change which trigraph begins here.
 pub trigraph_kept : (s : Bool) (e : Place) (c : Char) (cs : List Char) → trigraph_at (c ∷ (without_returns cs ++ supply s e)) ≡ trigraph_at (c ∷ cs)
 trigraph_kept true e c [] = refl
 trigraph_kept false e c [] = refl
@@ -85,7 +85,7 @@ trigraph_kept s e c (a ∷ cs) = by (is_return_at (a ∷ cs)) refl
     by : (t : Bool) → is_return_at (a ∷ cs) ≡ t → trigraph_at (c ∷ (without_returns (a ∷ cs) ++ supply s e)) ≡ trigraph_at (c ∷ a ∷ cs)
     by true h =
         let r = return_is a cs h in
-        let lf = lf_head cs (supply s e) r.room r.kept ∙ r.lf in
+        let lf = lf_head cs (supply s e) r.in_bounds r.kept ∙ r.lf in
         ap (λ z. trigraph_at (c ∷ (z ++ supply s e))) (dropped a cs h)
         ∙ no_second c (without_returns cs ++ supply s e) (lf_no_mark (head_code (without_returns cs ++ supply s e)) lf)
         ∙ sym (no_second c (a ∷ cs) (cr_no_mark a.code r.cr))
@@ -95,7 +95,7 @@ trigraph_kept s e c (a ∷ cs) = by (is_return_at (a ∷ cs)) refl
         ∙ ap (λ n. if c.code == 63 && a.code == 63 then n else 0) (third_same s e cs)
         ∙ sym (third c a cs)
 
--- Phases 1 and 2 from a character on, one character at a time.
+-- One step of `logical`: a CR that is removed, or a character that is kept.
 pub return_step : (s : Bool) (e : Place) (c : Char) (cs : List Char) → is_return_at (c ∷ cs) ≡ true → logical s e (c ∷ cs) ≡ logical s e cs
 return_step s e c cs h = ap (λ z. trigraphs (z ++ supply s e)) (dropped c cs h)
 
@@ -104,9 +104,9 @@ own_step s e c cs h t =
     let k = trigraph_kept s e c cs ∙ t in
     ap (λ z. trigraphs (z ++ supply s e)) (kept c cs h) ∙ rw k refl
 
--- what begins a trigraph
+-- The three characters of a trigraph are present, and none of them is removed as a CR.
 record Three (c : Char) (cs : List Char) : Type 0 where
-  room : 2 ≤ length cs
+  in_bounds : 2 ≤ length cs
   kept : without_returns (c ∷ cs) ≡ c ∷ take 2 cs ++ without_returns (drop 2 cs)
 
 no_return : (c : Char) (cs : List Char) → (c.code ≡ 13 → ⊥) → is_return_at (c ∷ cs) ≡ false
@@ -129,7 +129,7 @@ three a (b ∷ c ∷ cs) h =
     let m = marks (a.code == 63 && b.code == 63) (trigraph c.code) h in
     let q = and_parts (a.code == 63) (b.code == 63) m.0 in
     record {
-      room = omega arith;
+      in_bounds = omega arith;
       kept = mark_kept a (b ∷ c ∷ cs) (eqb-true a.code 63 q.0) ∙ ap (λ z. a ∷ z) (mark_kept b (c ∷ cs) (eqb-true b.code 63 q.1) ∙ ap (λ z. b ∷ z) (kept c cs (no_return c cs (no_trigraph_cr c.code m.1))));
     }
 
@@ -140,7 +140,7 @@ trigraph_step s e a (b ∷ c ∷ cs) h =
     let t = three a (b ∷ c ∷ cs) h in
     ap (λ z. trigraphs (z ++ supply s e)) t.kept ∙ rw (ne_eqb (trigraph_at (a ∷ b ∷ c ∷ cs)) 0 h) refl
 
--- a new-line of this length in front, or the supplied one
+-- The text begins with a new-line of m bytes. If m is 0, the text is empty and the new-line is supplied.
 record NewLine (s : Bool) (e : Place) (cs : List Char) (m : ℕ) : Type 0 where
   fits : m ≤ length cs
   more : 0 < m → (nl : Char) × (nl.code ≡ 10) × (logical s e cs ≡ nl ∷ logical s e (drop m cs))
@@ -162,14 +162,14 @@ last_lf : (y : Char) (ys : List Char) → y.code ≡ 10 → length ys ≡ 0 → 
 last_lf y [] p l0 = rw p refl
 last_lf y (w ∷ ys) p l0 = absurd (omega arith)
 
-newline_at : (s : Bool) (e : Place) (cs : List Char) (m : ℕ) → newline_front s (codes_of cs) ≡ Some m → NewLine s e cs m
+newline_at : (s : Bool) (e : Place) (cs : List Char) (m : ℕ) → leading_newline s (codes_of cs) ≡ Some m → NewLine s e cs m
 newline_at true e [] m h =
     let z = some_is 0 m h in
     record { fits = omega arith; more = λ lt. absurd (omega arith); none = λ q. (refl, refl); last = λ lt. absurd (omega arith) }
 newline_at false e [] m h = cc
 newline_at s e (c ∷ cs) m h = by (c.code == 10) refl
   where
-    two : (t : Bool) → return_front (codes_of (c ∷ cs)) ≡ t → (if t then Some 2 else None) ≡ Some m → NewLine s e (c ∷ cs) m
+    two : (t : Bool) → leading_crlf (codes_of (c ∷ cs)) ≡ t → (if t then Some 2 else None) ≡ Some m → NewLine s e (c ∷ cs) m
     two false q k = cc
     two true q k =
         let z = some_is 2 m k in
@@ -196,7 +196,7 @@ newline_at s e (c ∷ cs) m h = by (c.code == 10) refl
           none = λ r. absurd (omega arith);
           last = λ lt. λ l. last_lf c cs lf (omega arith);
         }
-    by false q = two (return_front (codes_of (c ∷ cs))) refl (rw q at h)
+    by false q = two (leading_crlf (codes_of (c ∷ cs))) refl (rw q at h)
 
 if_not : (b : Bool) (x y : ℕ) → (x == 10) ≡ false → (y == 10) ≡ false → ((if b then x else y) == 10) ≡ false
 if_not true x y p q = p
@@ -223,7 +223,7 @@ some_not n e = cc
 abbrev two_bytes : Option ℕ
 two_bytes = Some 2
 
-no_newline : (s : Bool) (e : Place) (cs : List Char) → newline_front s (codes_of cs) ≡ None → (head_code (logical s e cs) == 10) ≡ false
+no_newline : (s : Bool) (e : Place) (cs : List Char) → leading_newline s (codes_of cs) ≡ None → (head_code (logical s e cs) == 10) ≡ false
 no_newline true e [] h = cc
 no_newline false e [] h = refl
 no_newline s e (c ∷ cs) h = by (c.code == 10) refl
@@ -238,16 +238,16 @@ no_newline s e (c ∷ cs) h = by (c.code == 10) refl
     kinds true z q r = own (trigraph_at (c ∷ cs)) refl z q r
     kinds false z q r = three_bytes z
 
-    two : (t : Bool) → return_front (codes_of (c ∷ cs)) ≡ t → (if t then two_bytes else None) ≡ None → (c.code == 10) ≡ false → (head_code (logical s e (c ∷ cs)) == 10) ≡ false
+    two : (t : Bool) → leading_crlf (codes_of (c ∷ cs)) ≡ t → (if t then two_bytes else None) ≡ None → (c.code == 10) ≡ false → (head_code (logical s e (c ∷ cs)) == 10) ≡ false
     two true r k q = absurd (some_not 2 k)
     two false r k q = kinds (trigraph_at (c ∷ cs) == 0) refl q (sym (return_same (c ∷ cs)) ∙ r)
 
     by : (t : Bool) → (c.code == 10) ≡ t → (head_code (logical s e (c ∷ cs)) == 10) ≡ false
     by true q =
         absurd (some_not 1 (rw q at h))
-    by false q = two (return_front (codes_of (c ∷ cs))) refl (rw q at h) q
+    by false q = two (leading_crlf (codes_of (c ∷ cs))) refl (rw q at h) q
 
--- What the last pass and the end of the file make of a character in front.
+-- The effect of `splices` and `splice_at_end` on the first character.
 splice_yes : (x nl : Char) (ys : List Char) → x.code ≡ 92 → nl.code ≡ 10 → splices (x ∷ nl ∷ ys) ≡ splices ys
 splice_yes x nl ys p q = rw (p, q) refl
 
@@ -266,7 +266,7 @@ not_splice x ys h = rw h refl
 not_end : (x : Char) (ys : List Char) → (x.code == 92 && head_code ys == 10) ≡ false → splice_at_end (x ∷ ys) ≡ splice_at_end ys
 not_end x ys h = rw (h, and-false (length ys == 1)) refl
 
--- What a step leaves: a character and the rest, or the rest alone.
+-- The result of a step: a character and the rest of the text, or only the rest.
 pub record CodeStep (s : Bool) (e : Place) (c : Char) (cs : List Char) (code n : ℕ) : Type 0 where
   pub some : 0 < n
   pub fits : n ≤ suc (length cs)
@@ -284,13 +284,13 @@ abbrev pub Outcome : Bool → Place → Char → List Char → CharStep → Type
 Outcome s e c cs (Code code n) = CodeStep s e c cs code n
 Outcome s e c cs (Removed n) = RemovedStep s e c cs n
 
--- rest is never used up by the passes alone
+-- The passes before splicing do not make a non-empty text empty.
 pub returns_some : (cs : List Char) → 0 < length cs → 0 < length (without_returns cs)
 returns_some [] lt = absurd (omega arith)
 returns_some (c ∷ cs) lt = by (λ k. returns_some cs k) (is_return_at (c ∷ cs)) refl
   where
     by : (0 < length cs → 0 < length (without_returns cs)) → (t : Bool) → is_return_at (c ∷ cs) ≡ t → 0 < length (without_returns (c ∷ cs))
-    by more true h = rw (dropped c cs h) (more (return_is c cs h).room)
+    by more true h = rw (dropped c cs h) (more (return_is c cs h).in_bounds)
     by more false h = rw (kept c cs h) (omega arith)
 
 trigraphs_some : (cs : List Char) → 0 < length cs → 0 < length (trigraphs cs)
@@ -303,7 +303,7 @@ logical_some s e cs lt =
     let w = returns_some cs lt in
     trigraphs_some (without_returns cs ++ supply s e) (omega (arith, length-append (without_returns cs) (supply s e)))
 
--- the same end for each rest
+-- Each non-empty suffix of the bytes lacks a final new-line exactly if the whole does.
 pub open_end_drop : (n : ℕ) (bs : List ℕ) → n < length bs → lacks_newline (drop n bs) ≡ lacks_newline bs
 open_end_drop n [] lt = absurd (omega arith)
 open_end_drop zero (b ∷ bs) lt = refl
@@ -316,7 +316,7 @@ no_code x ys h = rw h refl
 no_line : (x : Char) (ys : List Char) → (head_code ys == 10) ≡ false → (x.code == 92 && head_code ys == 10) ≡ false
 no_line x ys h = rw (h, and-false (x.code == 92)) refl
 
--- a character that a backslash or no new-line keeps
+-- A character that does not begin a splice is kept.
 as_code : (s : Bool) (e : Place) (c : Char) (cs : List Char) (code k : ℕ) → 0 < k → k ≤ suc (length cs) → logical s e (c ∷ cs) ≡ record { code = code; at = c.at } ∷ logical s e (drop k (c ∷ cs))
     → (code == 92 && head_code (logical s e (drop k (c ∷ cs))) == 10) ≡ false → CodeStep s e c cs code k
 as_code s e c cs code k lt fits is other =
@@ -329,7 +329,7 @@ as_code s e c cs code k lt fits is other =
       ends = ap splice_at_end is ∙ not_end x ys other;
     }
 
--- a backslash and a new-line that the file or its end has
+-- A backslash and a new-line after it are removed. The new-line may be the supplied one.
 splice_more : (s : Bool) (e : Place) (c : Char) (cs : List Char) (code k m : ℕ)
     → k ≤ suc (length cs)
     → logical s e (c ∷ cs) ≡ record { code = code; at = c.at } ∷ logical s e (drop k (c ∷ cs))
@@ -372,8 +372,8 @@ splice_last s e c cs code k (suc m) fits is p line lt o =
     let l = length-drop k (c ∷ cs) in
     let f = line.more (omega arith) in
     let lf = line.last (omega arith) (omega arith) in
-    let room : k < length (codes_of (c ∷ cs)) = rw (length-map (c ∷ cs) (λ (y : Char). y.code)) (omega arith) in
-    let closed : s ≡ false = o ∙ sym (open_end_drop k (codes_of (c ∷ cs)) room) ∙ ap lacks_newline (drop-map (λ (y : Char). y.code) k (c ∷ cs)) ∙ lf in
+    let in_bounds : k < length (codes_of (c ∷ cs)) = rw (length-map (c ∷ cs) (λ (y : Char). y.code)) (omega arith) in
+    let closed : s ≡ false = o ∙ sym (open_end_drop k (codes_of (c ∷ cs)) in_bounds) ∙ ap lacks_newline (drop-map (λ (y : Char). y.code) k (c ∷ cs)) ∙ lf in
     let none = drop_all (suc m) rest (omega arith) in
     ap splice_at_end (is ∙ ap (λ z. x ∷ z) f.2 ∙ ap (λ z. x ∷ f.0 ∷ logical s e z) none ∙ ap (λ t. x ∷ f.0 ∷ logical t e []) closed) ∙ end_here x f.0 p f.1
 
@@ -395,7 +395,7 @@ as_splice s e c cs code k m lt fits is p line =
       last = λ h o. splice_last s e c cs code k m fits is p line h o;
     }
 
--- a character in front, spliced or not
+-- At a character, spliced or not, `coded` is the step of the three passes.
 as_coded : (s : Bool) (e : Place) (c : Char) (cs : List Char) (code k : ℕ)
     → 0 < k
     → k ≤ suc (length cs)
@@ -409,20 +409,20 @@ as_coded s e c cs code k lt fits is = by (code == 92) refl
     x : Char
     x = record { code = code; at = c.at }
 
-    line : code ≡ 92 → (found : Option ℕ) → newline_front s (drop k (codes_of (c ∷ cs))) ≡ found → Outcome s e c cs (spliced found code k)
+    line : code ≡ 92 → (found : Option ℕ) → leading_newline s (drop k (codes_of (c ∷ cs))) ≡ found → Outcome s e c cs (spliced found code k)
     line p None h =
-        as_code s e c cs code k lt fits is (no_line x (logical s e rest) (no_newline s e rest (ap (newline_front s) (sym (drop-map (λ (y : Char). y.code) k (c ∷ cs))) ∙ h)))
-    line p (Some m) h = as_splice s e c cs code k m lt fits is p (newline_at s e rest m (ap (newline_front s) (sym (drop-map (λ (y : Char). y.code) k (c ∷ cs))) ∙ h))
+        as_code s e c cs code k lt fits is (no_line x (logical s e rest) (no_newline s e rest (ap (leading_newline s) (sym (drop-map (λ (y : Char). y.code) k (c ∷ cs))) ∙ h)))
+    line p (Some m) h = as_splice s e c cs code k m lt fits is p (newline_at s e rest m (ap (leading_newline s) (sym (drop-map (λ (y : Char). y.code) k (c ∷ cs))) ∙ h))
 
-    by : (t : Bool) → (code == 92) ≡ t → Outcome s e c cs (if t then spliced (newline_front s (drop k (codes_of (c ∷ cs)))) code k else Code code k)
-    by true h = line (eqb-true code 92 h) (newline_front s (drop k (codes_of (c ∷ cs)))) refl
+    by : (t : Bool) → (code == 92) ≡ t → Outcome s e c cs (if t then spliced (leading_newline s (drop k (codes_of (c ∷ cs)))) code k else Code code k)
+    by true h = line (eqb-true code 92 h) (leading_newline s (drop k (codes_of (c ∷ cs)))) refl
     by false h = as_code s e c cs code k lt fits is (no_code x (logical s e rest) h)
 
--- a CR directly before an LF
+-- A CR directly before an LF is removed.
 as_return : (s : Bool) (e : Place) (c : Char) (cs : List Char) → is_return_at (c ∷ cs) ≡ true → RemovedStep s e c cs 1
 as_return s e c cs h =
     let r = return_is c cs h in
-    let room = r.room in
+    let in_bounds = r.in_bounds in
     let same = return_step s e c cs h in
     record {
       some = omega arith;
@@ -432,9 +432,9 @@ as_return s e c cs h =
       last = λ q o. absurd (omega arith);
     }
 
--- The step that the bytes show is the step of the three passes.
+-- The step computed from the bytes, `step_of`, is the step of the three passes.
 pub outcome : (s : Bool) (e : Place) (c : Char) (cs : List Char) → Outcome s e c cs (step_of s (codes_of (c ∷ cs)))
-outcome s e c cs = first (return_front (codes_of (c ∷ cs))) refl
+outcome s e c cs = first (leading_crlf (codes_of (c ∷ cs))) refl
   where
     one : is_return_at (c ∷ cs) ≡ false → (trigraph_at (c ∷ cs) == 0) ≡ true → Outcome s e c cs (coded s (codes_of (c ∷ cs)) c.code 1)
     one r z = as_coded s e c cs c.code 1 (omega arith) (omega arith) (own_step s e c cs r (eqb-true (trigraph_at (c ∷ cs)) 0 z))
@@ -442,7 +442,7 @@ outcome s e c cs = first (return_front (codes_of (c ∷ cs))) refl
     three_bytes : (trigraph_at (c ∷ cs) == 0) ≡ false → Outcome s e c cs (coded s (codes_of (c ∷ cs)) (trigraph_at (c ∷ cs)) 3)
     three_bytes z =
         let some : trigraph_at (c ∷ cs) ≡ 0 → ⊥ = λ k. false≢true (sym z ∙ rw k refl) in
-        let room = (three c cs some).room in
+        let in_bounds = (three c cs some).in_bounds in
         as_coded s e c cs (trigraph_at (c ∷ cs)) 3 (omega arith) (omega arith) (trigraph_step s e c cs some)
 
     second : is_return_at (c ∷ cs) ≡ false → (t : Bool) → (trigraph_at (c ∷ cs) == 0) ≡ t → Outcome s e c cs (if t then coded s (codes_of (c ∷ cs)) c.code 1 else coded s (codes_of (c ∷ cs)) (trigraph_at (c ∷ cs)) 3)
@@ -450,11 +450,11 @@ outcome s e c cs = first (return_front (codes_of (c ∷ cs))) refl
     second r false z = three_bytes z
 
     first : (t : Bool)
-        → return_front (codes_of (c ∷ cs)) ≡ t
+        → leading_crlf (codes_of (c ∷ cs)) ≡ t
         → Outcome s e c cs
         (if t then Removed 1
-        else (if trigraph_front (codes_of (c ∷ cs)) == 0 then coded s (codes_of (c ∷ cs)) c.code 1
-        else coded s (codes_of (c ∷ cs)) (trigraph_front (codes_of (c ∷ cs))) 3))
+        else (if leading_trigraph (codes_of (c ∷ cs)) == 0 then coded s (codes_of (c ∷ cs)) c.code 1
+        else coded s (codes_of (c ∷ cs)) (leading_trigraph (codes_of (c ∷ cs))) 3))
     first true h = as_return s e c cs (sym (return_same (c ∷ cs)) ∙ h)
     first false h =
         subst (λ n. Outcome s e c cs (if n == 0 then coded s (codes_of (c ∷ cs)) c.code 1 else coded s (codes_of (c ∷ cs)) n 3)) (sym (trigraph_same (c ∷ cs)))

@@ -1,4 +1,4 @@
--- A cursor over a file's bytes, which stands before one character after another.
+-- A cursor over a file's bytes that moves from character to character.
 use Rattle.std.proofs.Common.{◌≡◌, ℕ, suc, ◌+◌, ◌-◌, ◌<◌, ◌≤◌, Bool, true, false, List, [], ◌∷◌, length, take, drop, get_or, sym, ap, ◌∙◌, arith, None, length-drop, add-zero, zero-add, refl, subst}
 use Rattle.std.proofs.lemmas.List.{drop-drop, drop-map, get_or-drop, get_or-take, take_all, length-take-le}
 use Rattle.pptext.specs.declared.tokens.Place.{Place}
@@ -8,12 +8,12 @@ use Rattle.pptext.specs.Clean.{codes_of, place, splices}
 use Rattle.pptext.specs.code.LineNotes.{IsTable, PlainRun, after_note, step_len}
 use Rattle.pptext.specs.code.Steps.{Code, Removed, lacks_newline, step_of, place_after}
 use Rattle.pptext.specs.code.CleanedText.{InLine, TextCursor, supply, start, end_from, text_from, IsCursorAt}
-use Rattle.pptext.proofs.PlaceLines.{no_line_passed}
+use Rattle.pptext.proofs.ByteLocations.{no_line_passed}
 use Rattle.pptext.proofs.Offsets.{behind_append, behind_bounds, take_add}
 use Rattle.pptext.proofs.LineNoteLemmas.{behind_at, own_less, stretch_rest, table_next}
-use Rattle.pptext.proofs.Copies.{code_at, removed_at, removed_inside, at_end, own_at, own_from}
+use Rattle.pptext.proofs.CleanedCopies.{code_at, removed_at, removed_inside, at_end, own_at, own_from}
 
--- the fields of the code's cursor are those that contracts see
+-- The fields of the code's cursor equal the fields of the `TextCursor` in contracts.
 pub record Opened (a : Inside) (c : TextCursor) : Type 0 where
   pub consumed : a.consumed ≡ c.consumed
   pub offset : a.offset ≡ c.offset
@@ -22,7 +22,7 @@ pub record Opened (a : Inside) (c : TextCursor) : Type 0 where
 pub after_line : (a : Inside) (c : TextCursor) → record { consumed = a.consumed; offset = a.offset; plain = a.plain; next = a.next; at = a.at } ≡ c → Opened a c
 after_line a c e = record { consumed = ap (λ (x : TextCursor). x.consumed) e; offset = ap (λ (x : TextCursor). x.offset) e; plain = ap (λ (x : TextCursor). x.plain) e }
 
--- the bounds of a cursor's place
+-- the bounds of a cursor's location
 pub record Bounds (file : ℕ) (c : TextCursor) : Type 0 where
   pub same_file : c.at.file ≡ file
   pub line : c.at.line ≤ c.offset + 1
@@ -42,20 +42,20 @@ moved file raw line_notes c n s = ap (λ p. place_after p (take n (drop c.offset
     ∙ sym (behind_append (take c.offset raw) (take n (drop c.offset raw)) (start file))
     ∙ ap (place_after (start file)) (sym (take_add c.offset n raw))
 
--- a cursor at a line note, whose bytes it passes
+-- the cursor after it has passed the n bytes of a line note
 abbrev pub behind : List ℕ → List ℕ → TextCursor → ℕ → ℕ → TextCursor
 behind raw line_notes c consumed n = record { consumed = consumed; offset = c.offset + n; plain = get_or line_notes c.next (length raw - (c.offset + n)); next = c.next + 1; at = place_after c.at (take n (drop c.offset raw)) }
 
--- the stretch after a line note, and what follows in the table
+-- the plain bytes after a line note, and the rest of the table
 pub record Onward (raw line_notes : List ℕ) (offset next n : ℕ) : Type 0 where
-  pub stretch : PlainRun (lacks_newline raw) (drop (offset + n) raw) (get_or line_notes next (length raw - (offset + n)))
+  pub plain_run : PlainRun (lacks_newline raw) (drop (offset + n) raw) (get_or line_notes next (length raw - (offset + n)))
   pub table : IsTable (lacks_newline raw) (after_note (lacks_newline raw) (drop (offset + n + get_or line_notes next (length raw - (offset + n))) raw)) (drop (next + 1) line_notes)
 
 abbrev Reads : List ℕ → List ℕ → ℕ → ℕ → ℕ → Type 0
 Reads raw line_notes offset next last = PlainRun (lacks_newline raw) (drop offset raw) (get_or line_notes next last) × IsTable (lacks_newline raw) (after_note (lacks_newline raw) (drop (get_or line_notes next last) (drop offset raw))) (drop (next + 1) line_notes)
 
 onward : (file : ℕ) (raw line_notes : List ℕ) (c : TextCursor) (n : ℕ) → IsCursorAt file raw line_notes c → c.plain ≡ 0 → step_len (step_of (lacks_newline raw) (drop c.offset raw)) ≡ n → Onward raw line_notes c.offset c.next n
-onward file raw line_notes c n s none is = record { stretch = read.0; table = subst (λ z. IsTable (lacks_newline raw) (after_note (lacks_newline raw) z) (drop (c.next + 1) line_notes)) (drop-drop _ (c.offset + n) raw) read.1 }
+onward file raw line_notes c n s none is = record { plain_run = read.0; table = subst (λ z. IsTable (lacks_newline raw) (after_note (lacks_newline raw) z) (drop (c.next + 1) line_notes)) (drop-drop _ (c.offset + n) raw) read.1 }
   where
     here : drop (c.offset + c.plain) raw ≡ drop c.offset raw
     here = ap (λ k. drop k raw) (omega arith)
@@ -84,7 +84,7 @@ skip_removed file raw line_notes c n s none lt is =
         at = moved file raw line_notes c n s;
         rest = s.rest ∙ r.text inner;
         ends = sym (r.ends inner) ∙ s.ends;
-        stretch = o.stretch;
+        plain_run = o.plain_run;
         next = omega (arith, r.some);
         table = o.table;
       },
@@ -107,7 +107,7 @@ pass_code file raw line_notes c code n s none lt is =
         at = moved file raw line_notes c n s;
         rest = sym (drop-drop 1 c.consumed (text_from file raw 0)) ∙ ap (drop 1) (s.rest ∙ r.text);
         ends = sym r.ends ∙ s.ends;
-        stretch = o.stretch;
+        plain_run = o.plain_run;
         next = omega (arith, r.some);
         table = o.table;
       },
@@ -120,7 +120,7 @@ pub pass_plain : (file : ℕ) (raw line_notes : List ℕ) (c : TextCursor) (n : 
     × IsCursorAt file raw line_notes
     (record { consumed = c.consumed + n; offset = c.offset + n; plain = c.plain - n; next = c.next; at = place_after c.at (take n (drop c.offset raw)) })
 pass_plain file raw line_notes c n s le =
-    let prefix = own_less (lacks_newline raw) (drop c.offset raw) n c.plain le s.stretch.prefix in
+    let prefix = own_less (lacks_newline raw) (drop c.offset raw) n c.plain le s.plain_run.prefix in
     let p = own_from n file raw c.offset prefix in
     let l = length-drop c.offset raw in
     let w = s.within in
@@ -133,7 +133,7 @@ pass_plain file raw line_notes c n s le =
         at = moved file raw line_notes c n s;
         rest = sym (drop-drop n c.consumed (text_from file raw 0)) ∙ ap (drop n) s.rest ∙ p.0;
         ends = sym p.1 ∙ s.ends;
-        stretch = stretch_rest (lacks_newline raw) raw c.offset n c.plain le s.stretch;
+        plain_run = stretch_rest (lacks_newline raw) raw c.offset n c.plain le s.plain_run;
         next = omega arith;
         table = subst (λ k. IsTable (lacks_newline raw) (after_note (lacks_newline raw) (drop k raw)) (drop c.next line_notes)) same s.table;
       },
@@ -145,7 +145,7 @@ pub stands_first : (file : ℕ) (raw line_notes : List ℕ)
     → IsCursorAt file raw line_notes (record { consumed = 0; offset = 0; plain = get_or line_notes 0 (length raw); next = 1; at = start file })
 stands_first file raw line_notes ends table =
     let read = table_next (lacks_newline raw) raw line_notes 0 table in
-    record { within = omega arith; at = refl; rest = refl; ends = ends; stretch = read.0; next = omega arith; table = rw zero-add read.1 }
+    record { within = omega arith; at = refl; rest = refl; ends = ends; plain_run = read.0; next = omega arith; table = rw zero-add read.1 }
 
 head_at : (cs : List Char) (n : ℕ) (d x : Char) (xs : List Char) → drop n cs ≡ x ∷ xs → get_or cs n d ≡ x
 head_at cs n d x xs e = sym (get_or-drop n cs 0 d ∙ ap (λ k. get_or cs k d) (add-zero n)) ∙ ap (λ z. get_or z 0 d) e
@@ -159,13 +159,13 @@ stands_at_code file raw line_notes c code n d s lt is =
     let r = code_at file raw c.offset code n lt is in
     s.at ∙ sym (ap (λ (x : Char). x.at) (head_at (text_from file raw 0) c.consumed d _ _ (s.rest ∙ r.text)))
 
--- a plain byte is the character that is sought
+-- If plain bytes follow, the cursor's location is the location of its next character.
 stands_at_plain : (file : ℕ) (raw line_notes : List ℕ) (c : TextCursor) (d : Char) → IsCursorAt file raw line_notes c → 0 < c.plain → c.at ≡ (get_or (text_from file raw 0) c.consumed d).at
 stands_at_plain file raw line_notes c d s some =
-    let one = own_at raw c.offset (c.plain - 1) (own_less (lacks_newline raw) (drop c.offset raw) (suc (c.plain - 1)) c.plain (omega arith) s.stretch.prefix) in
-    stands_at_code file raw line_notes c (get_or raw c.offset 0) 1 d s one.room one.step
+    let one = own_at raw c.offset (c.plain - 1) (own_less (lacks_newline raw) (drop c.offset raw) (suc (c.plain - 1)) c.plain (omega arith) s.plain_run.prefix) in
+    stands_at_code file raw line_notes c (get_or raw c.offset 0) 1 d s one.in_bounds one.step
 
--- a cursor before the character sought
+-- the cursor is directly before the character with index `to`
 pub record InFront (file : ℕ) (raw line_notes : List ℕ) (to : ℕ) (c : TextCursor) : Type 0 where
   pub is_there : IsCursorAt file raw line_notes c
   pub consumed : c.consumed ≡ to
@@ -180,7 +180,7 @@ in_front file raw line_notes to c is_there some consumed = record {
   place = λ d. stands_at_plain file raw line_notes c d is_there some ∙ ap (λ k. (get_or (text_from file raw 0) k d).at) consumed;
 }
 
--- a cursor that is moved to the character sought, over this many plain bytes
+-- A cursor that is moved over plain bytes to the character with index `to` is directly before it.
 pub arrives : (file : ℕ) (raw line_notes : List ℕ) (c after : TextCursor) (to : ℕ)
     → IsCursorAt file raw line_notes c
     → c.consumed ≤ to
@@ -204,14 +204,14 @@ code_of_head cs n x xs e =
     sym (get_or-drop n (codes_of cs) 0 0 ∙ ap (λ k. get_or (codes_of cs) k 0) (add-zero n))
     ∙ ap (λ (z : List ℕ). get_or z 0 0) (drop-map (λ (c : Char). c.code) n cs ∙ ap codes_of e)
 
--- and it is the byte that stands there
+-- If plain bytes follow, the code of the next character is the byte at the cursor's offset.
 code_at_plain : (file : ℕ) (raw line_notes : List ℕ) (c : TextCursor) → IsCursorAt file raw line_notes c → 0 < c.plain → get_or (codes_of (text_from file raw 0)) c.consumed 0 ≡ get_or raw c.offset 0
 code_at_plain file raw line_notes c s some =
-    let one = own_at raw c.offset (c.plain - 1) (own_less (lacks_newline raw) (drop c.offset raw) (suc (c.plain - 1)) c.plain (omega arith) s.stretch.prefix) in
-    let r = code_at file raw c.offset (get_or raw c.offset 0) 1 one.room one.step in
+    let one = own_at raw c.offset (c.plain - 1) (own_less (lacks_newline raw) (drop c.offset raw) (suc (c.plain - 1)) c.plain (omega arith) s.plain_run.prefix) in
+    let r = code_at file raw c.offset (get_or raw c.offset 0) 1 one.in_bounds one.step in
     code_of_head (text_from file raw 0) c.consumed _ _ (s.rest ∙ r.text)
 
--- the bytes that a cursor passes are no new-lines where those characters aren't
+-- The bytes that a cursor passes are no new-lines if no line ends before `to`.
 bytes_in_line : (file : ℕ) (raw line_notes : List ℕ) (c : TextCursor) (line to k : ℕ)
     → IsCursorAt file raw line_notes c
     → to - c.consumed < c.plain
@@ -225,7 +225,7 @@ bytes_in_line file raw line_notes c line to k s near behind in_line lt e =
     in_line (c.consumed + k) (omega arith) (omega arith)
     (code ∙ sym (get_or-drop c.offset raw k 0) ∙ sym (get_or-take (to - c.consumed) (drop c.offset raw) k 0 lt) ∙ e)
 
--- a cursor that is moved so, where no line ends among those bytes
+-- As `arrives`, if no line ends among the bytes: only the column grows.
 pub arrives_along : (file : ℕ) (raw line_notes : List ℕ) (c after : TextCursor) (to line : ℕ)
     → IsCursorAt file raw line_notes c
     → c.consumed ≤ to
@@ -243,7 +243,7 @@ pub arrives_along : (file : ℕ) (raw line_notes : List ℕ) (c after : TextCurs
 arrives_along file raw line_notes c after to line s forward near behind in_line is =
     let n = to - c.consumed in
     let bytes = take n (drop c.offset raw) in
-    let room = (pass_plain file raw line_notes c n s (omega arith)).0 in
+    let in_bounds = (pass_plain file raw line_notes c n s (omega arith)).0 in
     let l = length-drop c.offset raw in
     let long : length bytes ≡ n = length-take-le n (drop c.offset raw) (omega arith) in
     let moved : place_after c.at bytes ≡ place c.at.file c.at.line (c.at.col + n) =
@@ -252,7 +252,7 @@ arrives_along file raw line_notes c after to line s forward near behind in_line 
     arrives file raw line_notes c after to s forward near
     (is ∙ ap (λ (p : Place). record { consumed = c.consumed + n; offset = c.offset + n; plain = c.plain - n; next = c.next; at = p }) (sym moved))
 
--- At the end stands the supplied new-line.
+-- At the end of the bytes there is only the supplied new-line.
 abbrev end_text : ℕ → List ℕ → Bool → List Char
 end_text file raw t = splices (supply t (place_after (start file) raw))
 

@@ -1,4 +1,4 @@
--- The first fault of a file's groups, with the open sections kept as their opening lines' indices.
+-- The first fault of a file's groups, found with the indices of the lines that opened the if-sections.
 use Rattle.std.proofs.Common.{◌≡◌, ℕ, suc, ◌+◌, ◌-◌, ◌<◌, ◌≤◌, Bool, true, false, List, [], ◌∷◌, map, length, take, drop, get_or}
 use Rattle.std.proofs.Common.{refl, sym, ap, ◌∙◌, subst, arith, Option, None, Some, if◌then◌else◌, ◌||◌, codes}
 use Rattle.std.specs.Str.{bytes_eq}
@@ -28,13 +28,13 @@ unmatched : (b : Bool) → IsBranching (role_by (if b then Some Null else None))
 unmatched true h = h
 unmatched false h = h
 
--- a line of a directive's name has two tokens
+-- A line that opens, branches or closes an if-section has at least two tokens.
 pub two_tokens : (profile : Profile) (ts : List Token) → IsBranching (role_by (directive_of profile ts)) → 2 ≤ length ts
 two_tokens profile [] h = absurd h
 two_tokens profile (a ∷ []) h = absurd (unmatched (bytes_eq a.text (codes "#") || bytes_eq a.text (codes "%:")) h)
 two_tokens profile (a ∷ b ∷ ts) h = omega arith
 
--- the open sections by their opening lines
+-- the open if-sections with their opening lines instead of indices
 abbrev pub open_lines : List LogicalLine → List (ℕ × Bool) → List Open
 open_lines rs os = map (λ o. (get_or rs o.0 blank_line, o.1)) os
 
@@ -65,12 +65,12 @@ faulty_branches Closes at n os e = tt
 faulty_branches TextLine at n os e = absurd (cc)
 faulty_branches ControlLine at n os e = absurd (cc)
 
--- the line at an index opens a section
+-- the line at this index opens an if-section
 pub record OpensAt (ls : List Line) (at : ℕ) : Type 0 where
   pub within : at < length ls
   pub opens : (d : Line) → line_role (get_or ls at d) ≡ Opens
 
--- before the line at an index, with these sections open
+-- the state before the line at this index, with these if-sections open
 pub record FaultsSoFar (ts : List Token) (ls : List Line) (at : ℕ) (os : List (ℕ × Bool)) : Type 0 where
   pub same : group_fault (open_lines (lines_from ts ls) os) (drop at (lines_from ts ls)) ≡ group_fault [] (lines_from ts ls)
   pub opens : AllByRecursion (λ o. OpensAt ls o.0) os
@@ -84,7 +84,7 @@ module _ (ts : List Token) (ls : List Line) (lines : AreLines ts ls) where
       let x = line_at ts ls at d lines l in
       ap role (x.line blank_line)
 
-  -- what the line at an index does
+  -- The effect of the line at this index on the fault.
   step_at : (at : ℕ) (os : List (ℕ × Bool)) (d : Line)
       → at < length ls
       → FaultsSoFar ts ls at os
@@ -123,7 +123,7 @@ module _ (ts : List Token) (ls : List Line) (lines : AreLines ts ls) where
   branching_here at n os d f l e =
       subst (λ (z : Line). IsBranching (line_role z)) (get_or_default ls at d f l) (faulty_branches (line_role (get_or ls at d)) at n os e)
 
-  -- at the end
+  -- The fault at the end of the lines.
   pub fault_at_last : (at : ℕ) (os : List (ℕ × Bool)) → length ls ≤ at → FaultsSoFar ts ls at os → fault_at_end (open_lines (lines_from ts ls) os) ≡ group_fault [] (lines_from ts ls)
   fault_at_last at os l sofar =
       let rs = lines_from ts ls in
@@ -132,7 +132,7 @@ module _ (ts : List Token) (ls : List Line) (lines : AreLines ts ls) where
   pub opens_branching : (at : ℕ) → OpensAt ls at → (d : Line) → IsBranching (line_role (get_or ls at d))
   opens_branching at opens d = subst IsBranching (sym (opens.opens d)) tt
 
-  -- the tokens of a line of a directive's name
+  -- The first two tokens of a line that opens, branches or closes an if-section are among the tokens.
   pub named_within : (at : ℕ) (d : Line) → at < length ls → IsBranching (line_role (get_or ls at d)) → (get_or ls at d).start + 1 < length ts
   named_within at d l b =
       let x = get_or ls at d in

@@ -1,4 +1,4 @@
--- Which fault lines without a tree have, by trees alone.
+-- The fault of lines that have no tree, in terms of trees alone.
 use Rattle.std.proofs.Common.{◌≡◌, ◌≢◌, ◌↔◌, ℕ, Bool, true, false, List, [], ◌∷◌, ◌++◌, refl, sym, ap, ◌∙◌, subst, inl, inr, ◌⊎◌, append_assoc, None, Some}
 use Rattle.std.specs.Prelude.{Option}
 use Rattle.std.proofs.lemmas.List.{append-nil}
@@ -12,7 +12,7 @@ use Rattle.pptext.proofs.Trees.{a_tree, no_fault, parts_pass, one_line, with_tex
 
 -- ---- a walk over the lines
 
--- the lines without fault lead from these open sections to those
+-- No line has a fault; the if-sections that are open before the lines and after them.
 data Walk : List Open → List LogicalLine → List Open → Type 0 where
   stay : {os : List Open} → Walk os [] os
   over : {os next last : List Open} {r : LogicalLine} {rs : List LogicalLine} → after_line (role r) r os ≡ (None, next) → Walk next rs last → Walk os (r ∷ rs) last
@@ -25,7 +25,7 @@ walk_more : {os last next : List Open} {prefix : List LogicalLine} (r : LogicalL
 walk_more r stay e = over e stay
 walk_more r (over f w) e = over f (walk_more r w e)
 
--- at this line the lines have a fault of this number
+-- the first line with a fault, and the number of the fault
 record Stopped (os : List Open) (lines : List LogicalLine) : Type 0 where
   before : List LogicalLine
   line : LogicalLine
@@ -57,12 +57,12 @@ outcome os (r ∷ rs) = cases (after_line (role r) r os) refl (λ next. outcome 
     cases (None, next) e later = further next e (later next)
     cases (Some n, next) e later = inr (record { before = []; line = r; rest = rs; last = os; number = n; whole = refl; advance_over_notes = stay; fault = ap (λ (z : Option ℕ × List Open). z.0) e })
 
--- ---- what trees say of a walk
+-- ---- walks and trees
 
 end_line : LogicalLine
 end_line = record { tokens = []; number = 0; directive = Some Endif }
 
--- an `#endif` for each open section
+-- an `#endif` for each open if-section
 endings : List Open → List LogicalLine
 endings [] = []
 endings (o ∷ os) = end_line ∷ endings os
@@ -75,7 +75,7 @@ all_closed (o ∷ os) = all_closed os
 walk_begins : {last : List Open} {prefix : List LogicalLine} → Walk [] prefix last → BeginsTree prefix
 walk_begins {last} {prefix} w = (endings last, a_tree (prefix ++ endings last) (walk_fault (endings last) w ∙ all_closed last))
 
--- with a line that has a fault, the lines begin no list that has a tree
+-- Lines that end in a line with a fault begin no list that has a tree.
 stopped_wrong : (last : List Open) (prefix : List LogicalLine) (r : LogicalLine) (n : ℕ) → Walk [] prefix last → (after_line (role r) r last).0 ≡ Some n → ¬ BeginsTree (prefix ++ r ∷ [])
 stopped_wrong last prefix r n w e (rest, (parts, tree)) =
     let none : group_fault [] (prefix ++ (r ∷ rest)) ≡ None = ap (group_fault []) (sym (append_assoc prefix (r ∷ []) rest)) ∙ no_fault _ parts tree in
@@ -83,7 +83,7 @@ stopped_wrong last prefix r n w e (rest, (parts, tree)) =
     let some : group_fault [] (prefix ++ (r ∷ rest)) ≡ Some (fault_at n r) = walk_fault (r ∷ rest) w ∙ ap (λ (z : Option ℕ). fault_or r z later) e in
     cc
 
--- lines that begin a list that has a tree have no fault on the way
+-- No line has a fault if the lines begin a list that has a tree.
 begins_walk : (prefix : List LogicalLine) → BeginsTree prefix → (last : List Open) × Walk [] prefix last
 begins_walk prefix begins = cases (outcome [] prefix) begins
   where
@@ -96,7 +96,7 @@ begins_walk prefix begins = cases (outcome [] prefix) begins
 tree_begins : (lines : List LogicalLine) → HasTree lines → BeginsTree lines
 tree_begins lines tree = ([], subst HasTree (sym (append-nil lines)) tree)
 
--- after lines that have a tree no section is open, and after others one is
+-- If no line has a fault, the lines have a tree exactly if no if-section is open after them.
 tree_closed : (last : List Open) (lines : List LogicalLine) → Walk [] lines last → HasTree lines → last ≡ []
 tree_closed [] lines w tree = refl
 tree_closed (o ∷ os) lines w (parts, tree) =
@@ -109,7 +109,7 @@ closed_tree {lines} w = a_tree lines (ap (group_fault []) (sym (append-nil lines
 
 -- ---- faults 3 and 4
 
--- 3 where no section is open, 4 where one is
+-- The number is 3 if no if-section is open, and 4 if one is.
 which_number : (s : Role) (r : LogicalLine) (os : List Open) (n : ℕ) → (after_line s r os).0 ≡ Some n → ((os ≡ []) × (n ≡ 3)) ⊎ ((os ≢ []) × (n ≡ 4))
 which_number Opens r os n e = cc
 which_number TextLine r os n e = cc
@@ -140,7 +140,7 @@ stopped_is lines s = cases (which_number (role s.line) s.line s.last s.number s.
 
 -- ---- fault 5
 
--- lines that stand in an open section, whose `#else` has come or not
+-- lines inside an open if-section; the flag is true if its `#else` has occurred
 data Within : Bool → List LogicalLine → Type 0 where
   none : {b : Bool} → Within b []
   text : {b : Bool} (r : LogicalLine) {rs : List LogicalLine} → role r ≡ TextLine → Within b rs → Within b (r ∷ rs)
@@ -148,7 +148,7 @@ data Within : Bool → List LogicalLine → Type 0 where
   branch : (final : Bool) (r : LogicalLine) {rs : List LogicalLine} → role r ≡ Elses final → Within final rs → Within false (r ∷ rs)
   section : {b : Bool} (r e : LogicalLine) {inner rs : List LogicalLine} → role r ≡ Opens → Within false inner → role e ≡ Closes → Within b rs → Within b (r ∷ inner ++ (e ∷ rs))
 
--- With an `#endif` they are a group and branches.
+-- With an `#endif`, the lines are a group and branches.
 record Ended (b : Bool) (rest : List LogicalLine) (e : LogicalLine) : Type 0 where
   parts : GroupParts
   branches : Branches
@@ -188,12 +188,12 @@ ended b _ (section r last {inner = inner} {rs = rs} is w ends later) e closes =
           ∙ simp append_assoc;
     }
 
--- From these open sections the lines come back into the section that this line opened.
+-- After these open if-sections, the lines end inside the if-section that this line opened.
 data Lands : List Open → List LogicalLine → LogicalLine → Type 0 where
   here : {o : LogicalLine} {b : Bool} {os : List Open} {rs : List LogicalLine} → Within b rs → Lands ((o, b) ∷ os) rs o
   past : {x o : LogicalLine} {c : Bool} {os : List Open} (e : LogicalLine) {inner rs : List LogicalLine} → Within c inner → role e ≡ Closes → Lands os rs o → Lands ((x, c) ∷ os) (inner ++ (e ∷ rs)) o
 
--- The line opens a section among the lines, and it is open after them.
+-- The line is among the lines and opens an if-section that is still open after them.
 record Opening (lines : List LogicalLine) (o : LogicalLine) : Type 0 where
   before : List LogicalLine
   rest : List LogicalLine
@@ -237,7 +237,7 @@ lands_over (Elses final) ((x, false) ∷ os) next rs o r is e l =
 lands_over Closes [] next rs o r is e l = let f = ap (λ (z : Option ℕ × List Open). z.0) e in cc
 lands_over Closes ((x, c) ∷ os) next rs o r is e l = let same : next ≡ os = sym (ap (λ (z : Option ℕ × List Open). z.1) e) in inl (past r none is (subst (λ (z : List Open). Lands z rs o) same l))
 
--- the innermost section that is open after the lines was open before, or a line among them opened it
+-- The innermost open if-section after the lines was open before them, or a line among them opened it.
 landed : (os last : List Open) (o : Open) (lines : List LogicalLine) → Walk os lines (o ∷ last) → Lands os lines o.0 ⊎ Opening lines o.0
 landed _ last o _ stay = inl (here none)
 landed os last o _ (over {next = next} {r = r} {rs = rs} e w) = cases (landed next last o rs w)
@@ -289,7 +289,7 @@ fault_is lines fault e = cases (outcome [] lines)
         let same : fault_at s.number s.line ≡ fault = cc in
         subst (IsGroupFault lines) same (stopped_is lines s)
 
--- ---- the fault of each case
+-- ---- lines in each case of `IsGroupFault` have that fault
 
 -- the branches without their `#endif`
 record Unended (bs : Branches) (last : Bool) : Type 0 where

@@ -1,4 +1,4 @@
--- The flat form of the guard, as the lines' spans and next branch lines show it.
+-- The flat form of the guard, in terms of the lines' spans and next branch lines.
 use Rattle.std.proofs.Common.{◌≡◌, ◌↔◌, ℕ, zero, suc, ◌+◌, ◌-◌, ◌<◌, ◌≤◌, List, [], ◌∷◌, map, length, take, drop, get_or, refl, sym}
 use Rattle.std.proofs.Common.{ap, ◌∙◌, subst, Option, None, Some, IfNone, IfSome, MatchOption, inl, inr, arith}
 use Rattle.std.specs.List.{AllByRecursion}
@@ -35,7 +35,7 @@ blank_if_none (r ∷ rs) e =
     let l = length-append r.tokens (tokens_of rs) in
     (nil_from_length r.tokens (omega arith), blank_if_none rs (omega arith))
 
--- the token at an index of a part
+-- The token with index i of a span has index `start + i` in the file.
 pub part_index : (ts : List Token) (start end i : ℕ) (t : Token)
     → start ≤ end
     → end ≤ length ts
@@ -120,7 +120,7 @@ module _ (ts : List Token) (ls : List Line) (lines : AreLines ts ls) where
       let behind : (get_or ls last f).end + length (tokens_of (drop (last + 1) rs)) ≡ length ts = ap (λ (z : ℕ). (get_or ls last f).end + length (tokens_of (drop z rs))) (sym s) ∙ (line_at ts ls last f lines w.1).behind in
       (sym (role_is last f w.1) ∙ ap role head ∙ closed.closes, omega arith)
 
-  -- at a line with tokens
+  -- The flat guard at a line with tokens.
   pub flat_here : (at : ℕ) (d : Line) (x : List ℕ)
       → at < length ls
       → line_role (get_or ls at d) ≡ Opens
@@ -149,7 +149,7 @@ module _ (ts : List Token) (ls : List Line) (lines : AreLines ts ls) where
       cases (inl here) = absurd (omega (arith, ap length here.0, (line_at ts ls at d lines l).tokens, some))
       cases (inr here) = (sym (role_is at d l) ∙ here.0, here.1, here.2)
 
-  -- past a line without tokens
+  -- Skipping a line without tokens does not change the flat guard.
   pub flat_past : (at : ℕ) (d : Line) (x : List ℕ) → at < length ls → (get_or ls at d).end ≤ (get_or ls at d).start → FlatGuard at (drop at (lines_from ts ls)) x ↔ FlatGuard (at + 1) (drop (at + 1) (lines_from ts ls)) x
   flat_past at d x l none =
       (λ flat. cases (subst (λ (z : List LogicalLine). FlatGuard at z x) (rest_at at d l) flat), λ later. subst (λ (z : List LogicalLine). FlatGuard at z x) (sym (rest_at at d l)) (inl (blank, later)))
@@ -164,7 +164,7 @@ module _ (ts : List Token) (ls : List Line) (lines : AreLines ts ls) where
   pub flat_never : (at : ℕ) (x : List ℕ) → length ls ≤ at → FlatGuard at (drop at (lines_from ts ls)) x → ⊥
   flat_never at x l flat = subst (λ (z : List LogicalLine). FlatGuard at z x) (drop_all at (lines_from ts ls) (omega (arith, length-map ls (line_from ts)))) flat
 
--- of a file without fault the token that was found is the guard's name
+-- In a file without fault, the token that was found names the guard; if none was found, there is no guard.
 pub guard_found : (ts ts' : List Token) (ls ls' : List Line) (r : Option ℕ)
     → ts' ≡ ts
     → ls' ≡ ls

@@ -1,4 +1,4 @@
--- The guard of a file with a tree, seen without the tree.
+-- The guard of a file with a tree, expressed without the tree.
 use Rattle.std.proofs.Common.{◌≡◌, ℕ, suc, ◌+◌, Bool, false, List, [], ◌∷◌, ◌++◌, map, length, refl, sym, ap, ◌∙◌, subst, append_assoc, None, Some, inl, inr, arith}
 use Rattle.std.specs.List.{AllByRecursion}
 use Rattle.std.proofs.lemmas.List.{drop_at, length-append}
@@ -10,7 +10,7 @@ use Rattle.pptext.specs.Guard.{IsBlankLine, AreBlank, guard_name, GuardedParts, 
 use Rattle.pptext.specs.code.Grouping.{ClosedAtOnce, FlatGuard}
 use Rattle.pptext.proofs.Trees.{section_lines, branch_line, a_tree, at_most_one}
 
--- the next branch line after parts is after their lines
+-- The search for the next branch line skips group-parts.
 
 one_role : (depth k : ℕ) (r : LogicalLine) (rs : List LogicalLine) (s : Role) → role r ≡ s → branch_after depth k (map role (r ∷ rs)) ≡ branch_after depth k (s ∷ map role rs)
 one_role depth k r rs s e = ap (λ (z : Role). branch_after depth k (z ∷ map role rs)) e
@@ -52,7 +52,7 @@ mutual
 
 -- lines without tokens
 
--- a line without tokens is text, since its directive is that of its tokens
+-- if the line has no tokens, it is a text line
 abbrev pub IsTextIfBlank : LogicalLine → Type 0
 IsTextIfBlank r = IsBlankLine r → role r ≡ TextLine
 
@@ -117,7 +117,7 @@ text_front [] rest k x all flat = (tt, (k, flat))
 text_front (r ∷ rs) rest k x all (inl here) = let later = text_front rs rest (k + 1) x all.1 here.1 in ((here.0, later.0), later.1)
 text_front (r ∷ rs) rest k x all (inr here) = let opens = here.0 in let text = all.0 in absurd (cc)
 
--- the first line after the parts of a section is its next branch line
+-- If an if-section is closed at once, the first line after its parts closes it, and no token follows.
 closed_first : (ps : GroupParts) (h : LogicalLine) (rest : List LogicalLine) (k : ℕ)
     → AreGroupParts ps
     → ((j : ℕ) → branch_after 0 j (map role (h ∷ rest)) ≡ Some j)
@@ -158,7 +158,7 @@ flat_guarded (Control r ps) x k are texts (inr here) = let opens = here.0 in let
 flat_guarded (Section r ps bs qs) x k are texts (inl here) = let text = texts.0 here.0 in let opens = are.0 in absurd (cc)
 flat_guarded (Section r ps bs qs) x k are texts (inr here) = flat_section r ps qs bs x (k + 1) are texts here.1 here.2
 
--- of a file without fault the flat form is the guard
+-- In a file without fault, the flat guard is the guard.
 pub guarded_by_flat : (lines : List LogicalLine) (x : List ℕ) → AreDirected lines → group_fault [] lines ≡ None → FlatGuard 0 lines x → GuardedBy lines x
 guarded_by_flat lines x directed e flat =
     let t = a_tree lines e in
@@ -168,7 +168,7 @@ pub flat_by_guarded : (lines : List LogicalLine) (x : List ℕ) → GuardedBy li
 flat_by_guarded lines x (parts, tree, guarded) =
     subst (λ (z : List LogicalLine). FlatGuard 0 z x) tree.whole (guarded_flat parts x 0 tree.each guarded)
 
--- a file has one guard at the most
+-- A file has at most one guard.
 
 one_name : (ps : GroupParts) (x y : List ℕ) → GuardedParts ps x → GuardedParts ps y → x ≡ y
 one_name Done x y g h = absurd g

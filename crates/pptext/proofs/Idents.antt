@@ -3,7 +3,7 @@ use Rattle.std.proofs.Common.{◌≡◌, ℕ, ◌<◌, Bool, true, false, ◌||�
 use Rattle.std.proofs.lemmas.Bool.{false≢true}
 use Rattle.pptext.specs.Languages.{One, Either, NoPrefix, IsNext, NextPart, IsOnly, OnlyPart}
 use Rattle.pptext.specs.Spellings.{is_digit, is_nondigit, IsUniversal, IsNondigit}
-use Rattle.pptext.proofs.Fronts.{next_from_only, either_lacks, one_empty, nondigit_here, nondigit_later, nondigit_none, ident_part_here, ident_part_later}
+use Rattle.pptext.proofs.LanguagePrefixes.{next_from_only, either_lacks, one_empty, nondigit_here, nondigit_later, nondigit_none, ident_part_here, ident_part_later}
 
 abbrev pub IdentPart : List ℕ → Type 0
 IdentPart = Either IsNondigit (One is_digit)

@@ -1,4 +1,4 @@
--- Each test of `Kinds` is the language of its name; what the kind of a text says.
+-- Each test of `Kinds` decides the language of its name; the kind of a text, in terms of languages.
 use Rattle.std.proofs.Common.{◌≡◌, ◌↔◌, ℕ, List, [], ◌∷◌, length, take, Option, None, Some, ap, subst, arith}
 use Rattle.std.specs.Prelude.{codes}
 use Rattle.std.proofs.lemmas.List.{take_all}
@@ -8,9 +8,9 @@ use Rattle.pptext.specs.Kinds.{kind_of, spelled_kind}
 use Rattle.pptext.specs.Sources.{IsUnmatchedQuote}
 use Rattle.pptext.specs.Lexing.{Lexes}
 use Rattle.pptext.specs.KindTests.{OpensComment, TestsAreLanguages}
-use Rattle.pptext.proofs.Decides as tests
-use Rattle.pptext.proofs.OneKind.{one_kind}
-use Rattle.pptext.proofs.OneLexer.{lexer_is, one_lexing, plain_token, spelled_whole}
+use Rattle.pptext.proofs.KindTestDecisions as tests
+use Rattle.pptext.proofs.KindUniqueness.{one_kind}
+use Rattle.pptext.proofs.TextKinds.{lexer_is, one_lexing, plain_token, spelled_whole}
 
 one_spelling : (text : List ℕ) (k : Kind) (o : Option Kind) → tests.HasKind text o → Spells k text → o ≡ Some k
 one_spelling text k None none h = absurd (none k h)

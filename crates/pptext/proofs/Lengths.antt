@@ -1,4 +1,4 @@
--- Phases 1 and 2 add one character at the most.
+-- Phases 1 and 2 add at most one character.
 use Rattle.std.proofs.Common.{◌≡◌, ℕ, zero, suc, ◌+◌, ◌≤◌, true, false, ◌==◌, if◌then◌else◌, List, [], ◌∷◌, length, length-append, ap, refl, arith, None, Some, Ok, Err}
 use Rattle.std.specs.Prelude.{Option, Result}
 use Rattle.pptext.specs.declared.tokens.Place.{Place}

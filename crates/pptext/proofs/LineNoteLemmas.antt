@@ -1,19 +1,19 @@
--- Stretches of bytes that are characters of their own, and tables of the line notes between them.
+-- Runs of bytes that are characters of their own, and tables of the line notes between them.
 use Rattle.std.proofs.Common.{◌≡◌, ℕ, zero, suc, ◌⊎◌, inl, inr, ◌+◌, ◌-◌, ◌<◌, ◌≤◌, Bool, true, false, ◌==◌, ◌||◌, if◌then◌else◌, List, [], ◌∷◌, ◌++◌, length}
 use Rattle.std.proofs.Common.{drop, get_or, refl, sym, ap, ◌∙◌, subst, arith, Option, None, Some, length-drop, append_assoc, add-zero}
 use Rattle.std.proofs.lemmas.Bool.{false≢true, cases_lt}
 use Rattle.std.proofs.lemmas.List.{drop_more, drop-drop, drop_all, get_or-drop, get_or_past, append-nil}
 use Rattle.pptext.specs.Clean.{backslash}
 use Rattle.pptext.specs.code.LineNotes.{IsTable, OwnPrefix, PlainRun, after_note, step_len}
-use Rattle.pptext.specs.code.Steps.{Code, Removed, IsChanged, PlainPrefix, coded, is_special, newline_front, return_front, spliced, step_of, trigraph_front}
+use Rattle.pptext.specs.code.Steps.{Code, Removed, IsChanged, PlainPrefix, coded, is_special, leading_newline, leading_crlf, spliced, step_of, leading_trigraph}
 
--- a byte that isn't special is a character
-no_mark : (b : ℕ) (bs : List ℕ) → (b == 63) ≡ false → trigraph_front (b ∷ bs) ≡ 0
+-- A byte that is not special is a character of its own.
+no_mark : (b : ℕ) (bs : List ℕ) → (b == 63) ≡ false → leading_trigraph (b ∷ bs) ≡ 0
 no_mark b [] h = refl
 no_mark b (c ∷ []) h = refl
 no_mark b (c ∷ d ∷ bs) h = rw h refl
 
-no_cr : (b : ℕ) (bs : List ℕ) → (b == 13) ≡ false → return_front (b ∷ bs) ≡ false
+no_cr : (b : ℕ) (bs : List ℕ) → (b == 13) ≡ false → leading_crlf (b ∷ bs) ≡ false
 no_cr b [] h = refl
 no_cr b (c ∷ bs) h = rw h refl
 
@@ -29,7 +29,7 @@ plain_step s b bs h =
     rw (no_cr b bs n.2, no_mark b bs n.1, n.0) refl
 
 one_byte : (s : Bool) (bs : List ℕ) (code : ℕ) → step_of s bs ≡ Code code 1 → code ≡ get_or bs 0 0
-one_byte s bs code h = first (return_front bs) h
+one_byte s bs code h = first (leading_crlf bs) h
   where
     codes : (a b m n : ℕ) → Code a m ≡ Code b n → (a ≡ b) × (m ≡ n)
     codes a b m n e = (cc, cc)
@@ -38,19 +38,19 @@ one_byte s bs code h = first (return_front bs) h
     none None a m e = codes a code m 1 e
     none (Some k) a m e = cc
 
-    third : (t : Bool) (a m : ℕ) → (if t then spliced (newline_front s (drop m bs)) a m else Code a m) ≡ Code code 1 → (a ≡ code) × (m ≡ 1)
-    third true a m e = none (newline_front s (drop m bs)) a m e
+    third : (t : Bool) (a m : ℕ) → (if t then spliced (leading_newline s (drop m bs)) a m else Code a m) ≡ Code code 1 → (a ≡ code) × (m ≡ 1)
+    third true a m e = none (leading_newline s (drop m bs)) a m e
     third false a m e = codes a code m 1 e
 
-    second : (t : Bool) → (if t then coded s bs (get_or bs 0 0) 1 else coded s bs (trigraph_front bs) 3) ≡ Code code 1 → code ≡ get_or bs 0 0
+    second : (t : Bool) → (if t then coded s bs (get_or bs 0 0) 1 else coded s bs (leading_trigraph bs) 3) ≡ Code code 1 → code ≡ get_or bs 0 0
     second true e = sym (third (get_or bs 0 0 == backslash) (get_or bs 0 0) 1 e).0
-    second false e = absurd (omega (arith, (third (trigraph_front bs == backslash) (trigraph_front bs) 3 e).1))
+    second false e = absurd (omega (arith, (third (leading_trigraph bs == backslash) (leading_trigraph bs) 3 e).1))
 
-    first : (t : Bool) → (if t then Removed 1 else (if trigraph_front bs == 0 then coded s bs (get_or bs 0 0) 1 else coded s bs (trigraph_front bs) 3)) ≡ Code code 1 → code ≡ get_or bs 0 0
+    first : (t : Bool) → (if t then Removed 1 else (if leading_trigraph bs == 0 then coded s bs (get_or bs 0 0) 1 else coded s bs (leading_trigraph bs) 3)) ≡ Code code 1 → code ≡ get_or bs 0 0
     first true e = cc
-    first false e = second (trigraph_front bs == 0) e
+    first false e = second (leading_trigraph bs == 0) e
 
--- What is no character of one byte is a line note.
+-- A character of more than one byte, and removed bytes, are line notes.
 pub long_code : (s : Bool) (bs : List ℕ) (a n : ℕ) → step_of s bs ≡ Code a n → (n ≡ 1 → ⊥) → IsChanged s bs
 long_code s bs a n is long = λ code e. long (same code (sym is ∙ e))
   where
@@ -66,7 +66,7 @@ removed_bytes s bs n is = λ code e. none code (sym is ∙ e)
 pub stretch_all : (s : Bool) (bs : List ℕ) → OwnPrefix s bs (length bs) → PlainRun s bs (length bs)
 stretch_all s bs h = record { prefix = h; stops = λ lt. absurd (omega arith) }
 
--- A front of own bytes grows, byte by byte.
+-- A prefix of bytes that are characters of their own grows byte by byte.
 pub own_none : (s : Bool) (bs : List ℕ) → OwnPrefix s bs 0
 own_none s bs = record { fits = omega arith; own = λ k lt. absurd (omega arith) }
 
@@ -89,7 +89,7 @@ own_plain s bs at n h prefix =
         ap (step_of s) (drop_more bs k 0 (omega arith)) ∙ plain_step s (get_or bs k 0) (drop (k + 1) bs) (plain k le lt)
 
 pub own_code : (s : Bool) (bs : List ℕ) (at code : ℕ) → OwnPrefix s bs at → at < length bs → step_of s (drop at bs) ≡ Code code 1 → OwnPrefix s bs (at + 1)
-own_code s bs at code h room is = record { fits = omega arith; own = λ k lt. by k lt (cases_lt k at) }
+own_code s bs at code h in_bounds is = record { fits = omega arith; own = λ k lt. by k lt (cases_lt k at) }
   where
     this : step_of s (drop at bs) ≡ Code (get_or bs at 0) 1
     this = is ∙ ap (λ c. Code c 1) (one_byte s (drop at bs) code is ∙ get_or-drop at bs 0 0 ∙ ap (λ k. get_or bs k 0) (add-zero at))
@@ -100,7 +100,7 @@ own_code s bs at code h room is = record { fits = omega arith; own = λ k lt. by
         let e : at ≡ k = omega arith in
         subst (λ i. step_of s (drop i bs) ≡ Code (get_or bs i 0) 1) e this
 
--- the front and the rest of a stretch
+-- A shorter prefix of own bytes, and the rest of a plain run.
 pub own_less : (s : Bool) (bs : List ℕ) (n m : ℕ) → n ≤ m → OwnPrefix s bs m → OwnPrefix s bs n
 own_less s bs n m le h =
     let fits = h.fits in
@@ -125,7 +125,7 @@ stretch_rest s raw o n m le h =
     byte : (k : ℕ) → get_or (drop o raw) (n + k) 0 ≡ get_or (drop (o + n) raw) k 0
     byte k = get_or-drop o raw (n + k) 0 ∙ ap (λ i. get_or raw i 0) (omega arith) ∙ sym (get_or-drop (o + n) raw k 0)
 
--- What follows the entries made so far makes the table whole.
+-- The entries so far, followed by a table of the bytes from `start` on, are a table of the whole.
 pub record Begun (s : Bool) (raw : List ℕ) (start : ℕ) (done : List ℕ) : Type 0 where
   pub fits : start ≤ length raw
   pub table : (ns : List ℕ) → IsTable s (drop start raw) ns → IsTable s raw (done ++ ns)
@@ -144,9 +144,9 @@ pub begun_more : (s : Bool) (raw : List ℕ) (start n len : ℕ) (done : List �
     → step_len (step_of s (drop (start + n) raw)) ≡ len
     → start + n + len ≤ length raw
     → Begun s raw (start + n + len) (done ++ n ∷ [])
-begun_more s raw start n len done h room stretch is fits = record {
+begun_more s raw start n len done h in_bounds plain_run is fits = record {
   fits = fits;
-  table = λ ns rest. subst (IsTable s raw) (sym (append_assoc done (n ∷ []) ns)) (h.table (n ∷ ns) (room, stretch, subst (λ z. IsTable s z ns) behind rest));
+  table = λ ns rest. subst (IsTable s raw) (sym (append_assoc done (n ∷ []) ns)) (h.table (n ∷ ns) (in_bounds, plain_run, subst (λ z. IsTable s z ns) behind rest));
 }
   where
     behind : drop (start + n + len) raw ≡ after_note s (drop n (drop start raw))
@@ -155,7 +155,7 @@ begun_more s raw start n len done h room stretch is fits = record {
 pub begun_all : (s : Bool) (raw : List ℕ) (start : ℕ) (done : List ℕ) → Begun s raw start done → PlainRun s (drop start raw) (length (drop start raw)) → IsTable s raw done
 begun_all s raw start done h last = subst (IsTable s raw) (append-nil done) (h.table [] last)
 
--- The table is read from its front: the next stretch, and what follows after its line note.
+-- The table is read from its start: the next plain run, and the entries after its line note.
 drop_nil : (n : ℕ) → drop {A = ℕ} n [] ≡ []
 drop_nil zero = refl
 drop_nil (suc n) = refl

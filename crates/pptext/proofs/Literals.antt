@@ -1,13 +1,13 @@
--- Character constants and string literals: what opens them, their elements, and their end.
+-- Character constants and string literals: their opening, their elements and their end.
 use Rattle.std.proofs.Common.{◌≡◌, ℕ, zero, suc, ◌+◌, ◌-◌, ◌<◌, ◌≤◌, Bool, true, false, not, ◌||◌, ◌==◌, List, [], ◌∷◌, ◌++◌, length}
 use Rattle.std.proofs.Common.{take, drop, refl, sym, ap, ◌∙◌, inl, inr, ◌⊎◌, arith, length-drop, get_or, Contains}
 use Rattle.std.proofs.lemmas.List.{append-nil}
 use Rattle.std.proofs.lemmas.Bool.Decides.{nat_tests}
 use Rattle.pptext.specs.Languages.{Exactly, One, Then, Repeated, NoPrefix, IsOnly, OnlyPart}
 use Rattle.pptext.specs.Spellings.{IsElement, IsCharConst, IsStr, char_prefixes, str_prefixes}
-use Rattle.pptext.proofs.Parts.{front_of, front_length}
-use Rattle.pptext.proofs.Fronts.{one_here, one_lacks, either_lacks, either_right, only_zero, only_some}
-use Rattle.pptext.proofs.Combine.{begins_one, begins_two, begins_three, one_begins, three_begins, then_lacks, then_lacks_rest, then_only, exactly_lacks, exactly_here, head_behind, part_along, then_left, then_right}
+use Rattle.pptext.proofs.RepeatedParts.{front_of, front_length}
+use Rattle.pptext.proofs.LanguagePrefixes.{one_here, one_lacks, either_lacks, either_right, only_zero, only_some}
+use Rattle.pptext.proofs.ComposedLanguages.{begins_one, begins_two, begins_three, one_begins, three_begins, then_lacks, then_lacks_rest, then_only, exactly_lacks, exactly_here, head_behind, part_along, then_left, then_right}
 
 abbrev pub plain : ℕ → ℕ → Bool
 plain quote c = not (c == quote || (c == 92 || c == 10))
@@ -41,7 +41,7 @@ escaped-other c h = grind (arith, nat_tests)
 backslash_here : (text : List ℕ) → 2 ≤ length text → get_or text 0 0 ≡ 92 → IsOnly (Exactly (92 ∷ [])) text 1
 backslash_here text l e = exactly_here (92 ∷ []) text (omega arith) (one_begins text 92 (omega arith) e) (omega arith)
 
--- `\` before a new-line
+-- A `\` before a new-line begins no element.
 pub escape_lacks : (quote : ℕ) (text : List ℕ) → 2 ≤ length text → get_or text 0 0 ≡ 92 → get_or text 1 0 ≡ 10 → OnlyPart (IsElement quote) text 0
 escape_lacks quote text l e f =
     only_zero (IsElement quote) text
@@ -73,7 +73,7 @@ abbrev pub StrOpens : List ℕ → ℕ → Type 0
 StrOpens text m =
     ((m ≡ 1) × (get_or text 0 0 ≡ 34)) ⊎ (((m ≡ 2) × IsLetter (get_or text 0 0) × (get_or text 1 0 ≡ 34)) ⊎ ((m ≡ 3) × (get_or text 0 0 ≡ 117) × (get_or text 1 0 ≡ 56) × (get_or text 2 0 ≡ 34)))
 
--- a front that is this text
+-- If a prefix equals w, it has the length of w, and the text begins with w.
 front_is : (w text : List ℕ) (m : ℕ) → m ≤ length text → take m text ≡ w → (length w ≡ m) × (take (length w) text ≡ w)
 front_is w text m fits e =
     let e' : take m text ≡ w ++ [] = e ∙ sym (append-nil w) in
@@ -113,7 +113,7 @@ letter-no_quote c q (inl e) f l = absurd (omega arith)
 letter-no_quote c q (inr (inl e)) f l = absurd (omega arith)
 letter-no_quote c q (inr (inr e)) f l = absurd (omega arith)
 
--- a letter and the quote
+-- A prefix letter and the quote open a literal.
 letter_opening : (prefixes : List (List ℕ)) (q : ℕ) (text : List ℕ)
     → ((c : ℕ) → IsLetter c → Contains prefixes (c ∷ []))
     → 2 ≤ length text
@@ -175,7 +175,7 @@ u8_opens text l e f g =
     same m (inr (inl a)) = let x : ◌≡◌ {A = ℕ} 56 34 = sym f ∙ a.2 in absurd (omega arith)
     same m (inr (inr a)) = a.0
 
--- the opening, and then the rest
+-- a literal: a prefix, the quote, and the rest
 abbrev Opened : List (List ℕ) → ℕ → (List ℕ → Type 0) → List ℕ → Type 0
 Opened prefixes q rest = Then (Contains prefixes) (Then (Exactly (q ∷ [])) rest)
 

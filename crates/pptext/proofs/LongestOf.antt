@@ -8,17 +8,17 @@ use Rattle.pptext.specs.declared.tokens.Kind.TheVariants.{Ident, Number, CharCon
 use Rattle.pptext.specs.Languages.{Exactly, One, Then, Repeated, Longest, NoPrefix, IsNext, IsOnly}
 use Rattle.pptext.specs.Spellings.{is_digit, is_nondigit, is_blank, IsNondigit, IsIdent, IsNumber, IsNumberPart, IsCharConst, IsStr, IsPunct, IsOther, Spells, IsSpelling, punctuators, char_prefixes, str_prefixes}
 use Rattle.pptext.specs.code.UnmatchedQuotes.{IsQuoted}
-use Rattle.pptext.proofs.Parts.{front_of, front_length, none_repeated, more_repeated, then_longest}
-use Rattle.pptext.proofs.Fronts.{one_front, one_lacks, either_lacks, nondigit_here}
-use Rattle.pptext.proofs.Table.{any_passes}
-use Rattle.pptext.proofs.OneKind.{is_ident_head, is_number_head}
-use Rattle.pptext.proofs.Combine.{then_lacks, exactly_lacks, head_behind, then_left, one_begins, begins_one}
+use Rattle.pptext.proofs.RepeatedParts.{front_of, front_length, none_repeated, more_repeated, then_longest}
+use Rattle.pptext.proofs.LanguagePrefixes.{one_front, one_lacks, either_lacks, nondigit_here}
+use Rattle.pptext.proofs.LongestPunctuator.{any_passes}
+use Rattle.pptext.proofs.KindUniqueness.{is_ident_head, is_number_head}
+use Rattle.pptext.proofs.ComposedLanguages.{then_lacks, exactly_lacks, head_behind, then_left, one_begins, begins_one}
 use Rattle.pptext.proofs.Numbers.{lacks_nondigit, Fraction, NumberStart, period_front}
 use Rattle.pptext.proofs.Idents.{IdentPart, ident_byte}
 use Rattle.pptext.proofs.UnmatchedQuoteLemmas.{CharRest}
 use Rattle.pptext.proofs.Literals.{CharOpening, StrOpening, CharOpens, StrOpens, IsLetter, char_opens, str_opens, letter-no_quote}
 
--- nothing longer begins the text
+-- no prefix longer than n is in the language
 abbrev pub NoLonger : (List ℕ → Type 0) → List ℕ → ℕ → Type 0
 NoLonger P text n = (m : ℕ) → n < m → m ≤ length text → P (take m text) → ⊥
 
@@ -31,7 +31,7 @@ only_longer P text n only m more fits p = let e = only.only m fits p in omega ar
 other_longer : (text : List ℕ) (n : ℕ) → 0 < n → NoLonger IsOther text n
 other_longer text n some m more fits o = let f = one_front (λ c. not (is_blank c || c == 10)) text m fits o.0 in omega (arith, f.0)
 
--- what no kind spells longer
+-- no identifier, number, literal or punctuator is a prefix longer than n
 pub record NoneLonger (text : List ℕ) (n : ℕ) : Type 0 where
   pub ident : NoLonger IsIdent text n
   pub number : NoLonger IsNumber text n
@@ -55,7 +55,7 @@ longest_spelling text n k some fits spelled none = record {
     longer m more within Header s = s
     longer m more within Other s = other_longer text n some m more within s
 
--- by the first byte
+-- Kinds that are excluded by the first byte.
 abbrev is_quote : ℕ → Bool
 is_quote c = c == 39 || c == 34
 
@@ -81,7 +81,7 @@ number_lacks text e =
     (either_lacks (One is_digit) Fraction text (one_lacks is_digit text (number_head-digit (get_or text 0 0) e))
     (then_lacks (Exactly (46 ∷ [])) (One is_digit) text (exactly_lacks 46 [] text (number_head-period (get_or text 0 0) e))))
 
--- no punctuator begins as a word or a literal does
+-- No punctuator begins with a character that begins an identifier, or with a quote.
 abbrev pub begins_word : ℕ → Bool
 begins_word c = is_ident_head c || is_quote c
 
@@ -107,7 +107,7 @@ word-no_number c e = grind (arith, nat_tests)
 pub word_lacks_number : (text : List ℕ) → begins_word (get_or text 0 0) ≡ true → NoPrefix IsNumber text
 word_lacks_number text e = number_lacks text (word-no_number (get_or text 0 0) e)
 
--- an identifier
+-- An identifier as the longest spelling.
 ident_head-word : (c : ℕ) → is_ident_head c ≡ true → begins_word c ≡ true
 ident_head-word c e = grind (arith, nat_tests)
 
@@ -129,7 +129,7 @@ ident_longest text n some p char_const string =
       punct = none_longer IsPunct text n (punct_lacks text word);
     })
 
--- a number
+-- A number as the longest spelling.
 abbrev NumberHead : List ℕ → Type 0
 NumberHead text = (is_digit (get_or text 0 0) ≡ true) ⊎ ((2 ≤ length text) × (get_or text 0 0 ≡ 46) × (is_digit (get_or text 1 0) ≡ true))
 
@@ -187,7 +187,7 @@ punct_longest text n some p char_const string ident number =
       punct = p.longest;
     })
 
--- each other character
+-- Any other character as the longest spelling.
 visible : (c : ℕ) → is_blank c ≡ false → (c ≡ 10 → ⊥) → not (is_blank c || c == 10) ≡ true
 visible c e f = grind (arith, nat_tests)
 
@@ -213,7 +213,7 @@ other_longest text l p char_const string ident number punct =
       punct = none_longer IsPunct text 1 punct;
     })
 
--- literals: an identifier that begins as one ends before its quote
+-- Literals: an identifier that begins a literal ends before its quote.
 quote-no_nondigit : (c : ℕ) → is_quote c ≡ true → is_nondigit c ≡ false
 quote-no_nondigit c e = grind (arith, nat_tests)
 
@@ -257,7 +257,7 @@ ident_two text l e g f =
 shorter : (P : List ℕ → Type 0) (text : List ℕ) (j n : ℕ) → j ≤ n → Longest P text j → NoLonger P text n
 shorter P text j n le p m more fits q = p.longest m (omega arith) fits q
 
--- what opens a literal that begins the text
+-- The opening of a literal that begins the text.
 opened_by : (P Q : List ℕ → Type 0) (text : List ℕ) (n : ℕ) → n ≤ length text → Then P Q (take n text) → (o : ℕ) × (o ≤ n) × P (take o text)
 opened_by P Q text n fits (a, b, e, p, q) =
     let l = front_length text a b n fits e in
@@ -273,7 +273,7 @@ str_opened text n fits p =
     let o = opened_by StrOpening (IsQuoted 34) text n fits (then_left (Contains str_prefixes) (Exactly (34 ∷ [])) (IsQuoted 34) (take n text) p) in
     (o.0, o.1, str_opens text o.0 (omega (arith, o.1)) o.2)
 
--- what begins with no quote and with no letter of a prefix begins no literal
+-- A text that begins with neither a quote nor a prefix letter begins no literal.
 abbrev pub LiteralHead : ℕ → Type 0
 LiteralHead c = (c ≡ 39) ⊎ ((c ≡ 34) ⊎ IsLetter c)
 

@@ -1,4 +1,4 @@
--- The next branch line of each line is the one that the tree shows.
+-- The next branch line of each line is the one that the tree determines.
 use Rattle.std.proofs.Common.{◌≡◌, ℕ, ◌+◌, Bool, false, List, [], ◌∷◌, ◌++◌, map, length, refl, sym, ap, ◌∙◌, append_assoc, None, Some, arith}
 use Rattle.std.specs.Prelude.{Option}
 use Rattle.std.specs.List.{AllByRecursion}
@@ -9,9 +9,9 @@ use Rattle.pptext.specs.Tree.{TextLine, GroupParts, Done, TextLines, Control, Se
 use Rattle.pptext.specs.Sources.{next_branch, spans}
 use Rattle.pptext.specs.NextBranches.{part_branches, later_branches}
 use Rattle.pptext.proofs.Trees.{section_lines, branch_line}
-use Rattle.pptext.proofs.Walks.{next_of_opening, next_of_branch, next_of_end, next_behind}
+use Rattle.pptext.proofs.NextBranchFacts.{next_of_opening, next_of_branch, next_of_end, next_behind}
 
--- the next branch lines of the lines from place k on
+-- the next branch lines of the lines, the first of which has index k
 abbrev links : ℕ → List LogicalLine → List (Option ℕ)
 links k [] = []
 links k (r ∷ rs) = next_branch k (role r) rs ∷ links (k + 1) rs

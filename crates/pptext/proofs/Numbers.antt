@@ -4,10 +4,10 @@ use Rattle.std.proofs.lemmas.Bool.{false≢true}
 use Rattle.std.proofs.lemmas.Bool.Decides.{nat_tests}
 use Rattle.pptext.specs.Languages.{Exactly, One, Then, Either, NoPrefix, NextPart, IsOnly, OnlyPart}
 use Rattle.pptext.specs.Spellings.{is_digit, is_nondigit, is_exponent, is_sign, IsUniversal, IsNondigit, IsNumberPart}
-use Rattle.pptext.proofs.Fronts.{next_from_only, one_here, one_lacks, universal_lacks, either_lacks, either_left, either_right, either_left_part, nondigit_here, only_zero, only_some}
-use Rattle.pptext.proofs.Parts.{front_of}
-use Rattle.pptext.proofs.OneKind.{is_number_head}
-use Rattle.pptext.proofs.Combine.{begins_two, then_lacks, then_only, next_some, two_front, two_here, head_behind, exactly_here, one_begins}
+use Rattle.pptext.proofs.LanguagePrefixes.{next_from_only, one_here, one_lacks, universal_lacks, either_lacks, either_left, either_right, either_left_part, nondigit_here, only_zero, only_some}
+use Rattle.pptext.proofs.RepeatedParts.{front_of}
+use Rattle.pptext.proofs.KindUniqueness.{is_number_head}
+use Rattle.pptext.proofs.ComposedLanguages.{begins_two, then_lacks, then_only, next_some, two_front, two_here, head_behind, exactly_here, one_begins}
 
 abbrev Exponent : List ℕ → Type 0
 Exponent = Then (One is_exponent) (One is_sign)
@@ -42,7 +42,7 @@ sign-no_digit x t = grind (arith, nat_tests)
 sign-no_exponent : (x : ℕ) → is_sign x ≡ true → is_exponent x ≡ false
 sign-no_exponent x t = grind (arith, nat_tests)
 
--- a sign begins no part
+-- A sign begins no part of a number.
 sign_begins_none : (text : List ℕ) → is_sign (get_or text 0 0) ≡ true → NoPrefix IsNumberPart text
 sign_begins_none text t =
     let x : ℕ = get_or text 0 0 in
@@ -59,7 +59,7 @@ digit_part text l t =
     either_right IsNondigit (Either (One is_number_head) Exponent) text 1 (lacks_nondigit text (number_head-no_nondigit x t) (number_head-no_backslash x t)) (only_some (Either (One is_number_head) Exponent) text 1 inner) in
     next_some IsNumberPart text 1 (next_from_only IsNumberPart text 1 (whole.1 (omega arith)))
 
--- the letter alone is a part too, and then the sign would stand before a part
+-- The exponent letter alone is a part too, but then the sign after it begins no part.
 exponent_others : (text : List ℕ)
     → 2 ≤ length text
     → is_exponent (get_or text 0 0) ≡ true
@@ -96,7 +96,7 @@ nondigit_part text n f g p =
     let whole : OnlyPart IsNumberPart text n = either_left_part IsNondigit (Either (One is_number_head) Exponent) text n p lacks in
     (whole.0, λ some. next_from_only IsNumberPart text n (whole.1 some))
 
--- with what a number begins
+-- the start of a number: a digit, or a period and a digit
 abbrev pub Fraction : List ℕ → Type 0
 Fraction = Then (Exactly (46 ∷ [])) (One is_digit)
 

@@ -1,4 +1,4 @@
--- A file's characters from an offset on, and where they stand.
+-- A file's characters from an offset on, and their locations.
 use Rattle.std.proofs.Common.{◌≡◌, ℕ, zero, suc, ◌+◌, ◌-◌, ◌<◌, ◌≤◌, true, false, not, ◌==◌, if◌then◌else◌, List, [], ◌∷◌}
 use Rattle.std.proofs.Common.{◌++◌, length, take, drop, get_or, refl, sym, ap, ◌∙◌, arith, length-drop}
 use Rattle.std.proofs.lemmas.List.{drop_more, take-append-drop, take-take, drop-take, length-map}
@@ -39,7 +39,7 @@ pub behind_append : (xs ys : List ℕ) (p : Place) → place_after p (xs ++ ys) 
 behind_append [] ys p = refl
 behind_append (x ∷ xs) ys p = behind_append xs ys (after_byte x p)
 
--- what is known of a place after bytes
+-- the bounds of a location that is n bytes after another one
 pub record Behind (p q : Place) (n : ℕ) : Type 0 where
   pub file : q.file ≡ p.file
   pub line : q.line ≤ p.line + n
@@ -67,7 +67,7 @@ pub record Here (file : ℕ) (raw : List ℕ) (offset : ℕ) : Type 0 where
   pub is : drop offset (with_locations file 1 1 raw) ≡ head ∷ rest
   pub codes : codes_of (head ∷ rest) ≡ drop offset raw
   pub at : head.at ≡ place_after (start file) (take offset raw)
-  pub room : suc (length rest) ≡ length raw - offset
+  pub in_bounds : suc (length rest) ≡ length raw - offset
 
 pub here : (file : ℕ) (raw : List ℕ) (offset : ℕ) → offset < length raw → Here file raw offset
 here file raw offset lt =
@@ -83,5 +83,5 @@ here file raw offset lt =
       is = is;
       codes = codes;
       at = refl;
-      room = sym (length-map (c ∷ cs) (λ (y : Char). y.code)) ∙ ap length codes ∙ length-drop offset raw;
+      in_bounds = sym (length-map (c ∷ cs) (λ (y : Char). y.code)) ∙ ap length codes ∙ length-drop offset raw;
     }

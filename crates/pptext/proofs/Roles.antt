@@ -1,4 +1,4 @@
--- A role of the code that stands for `Opens` is the code's `Opens`.
+-- Each role of the code represents a role of the specification; only `Opens` represents `Opens`.
 use Rattle.std.proofs.Common.{◌≡◌, refl}
 use Rattle.pptext.specs.declared.directives.Role as code
 use Rattle.pptext.specs.declared.directives.Role.TheVariants as variant

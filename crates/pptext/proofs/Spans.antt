@@ -1,4 +1,4 @@
--- Lines as spans of tokens: each span at its index, and the lines that the spans cut the tokens into.
+-- Lines as spans of tokens: the span at each index, and the lines into which spans divide the tokens.
 use Rattle.std.proofs.Common.{◌≡◌, ℕ, zero, suc, ◌+◌, ◌-◌, ◌<◌, ◌≤◌, List, [], ◌∷◌, ◌++◌, length, take, drop, get_or, refl, sym, ap, ◌∙◌, arith, add-zero, zero-add, append_assoc, subst, None}
 use Rattle.std.specs.List.{AllByRecursion}
 use Rattle.std.proofs.lemmas.List.{append-nil, length-append, length-map}
@@ -14,7 +14,7 @@ use Rattle.pptext.specs.code.Grouping.{line_span, line_spans, AreLineSpans, AreL
 abbrev pub no_line : Line
 no_line = record { start = 0; end = 0; number = 0; directive = None; next_branch = None }
 
--- the span of a line at place k from token start on, before these lines
+-- the span of the line with index k, whose tokens begin at `start`; `rest` is the later lines
 abbrev pub span : ℕ → ℕ → LogicalLine → List LogicalLine → Line
 span k start r rest =
     record { start = start; end = start + length r.tokens; number = r.number; directive = r.directive; next_branch = next_branch k (role r) rest }
@@ -34,7 +34,7 @@ span_at k start (r ∷ rs) (suc i) d e l =
     ∙ ap (λ (z : ℕ). span z (start + length r.tokens + length (tokens_of (take i rs))) (get_or rs i e) (drop (suc i) rs)) n
     ∙ ap (λ (z : ℕ). span (k + suc i) z (get_or rs i e) (drop (suc i) rs)) m
 
--- the tokens before, on and after a line
+-- The numbers of tokens before, on and after a line add up to the number of all tokens.
 pub tokens_parted : (rs : List LogicalLine) (i : ℕ) (r : LogicalLine) → i < length rs → length (tokens_of (take i rs)) + length (get_or rs i r).tokens + length (tokens_of (drop (suc i) rs)) ≡ length (tokens_of rs)
 tokens_parted [] i r l = absurd (omega arith)
 tokens_parted (r ∷ rs) zero e l = omega (arith, length-append r.tokens (tokens_of rs))
@@ -46,7 +46,7 @@ each_directed profile [] i r all l = absurd (omega arith)
 each_directed profile (q ∷ rs) zero r all l = all.0
 each_directed profile (q ∷ rs) (suc i) r all l = each_directed profile rs i r all.1 (omega arith)
 
--- what is known of the line at an index
+-- the properties of the line at an index
 pub record LineAt (ts : List Token) (ls : List Line) (i : ℕ) (l : Line) : Type 0 where
   pub begins : l.start ≤ l.end
   pub behind : l.end + length (tokens_of (drop (suc i) (lines_from ts ls))) ≡ length ts
@@ -87,7 +87,7 @@ line_at ts ls i d lines l =
       tokens = omega arith;
     }
 
--- the spans without next branch lines
+-- Spans without next branch lines represent the lines from which they were made.
 
 pub lines_of_drafts : (before : List Token) (rs : List LogicalLine) → lines_from (before ++ tokens_of rs) (line_spans (length before) rs) ≡ rs
 lines_of_drafts before [] = refl
@@ -105,7 +105,7 @@ lines_of_drafts before (r ∷ rs) =
     ∷ lines_from (before ++ (r.tokens ++ tokens_of rs)) (line_spans (length before + length r.tokens) rs)) here
     ∙ ap (λ (z : List LogicalLine). r ∷ z) rest
 
--- the lines that a text is cut into
+-- If the spans are the `line_spans` of some lines, they divide the tokens into these lines.
 pub drafts_are : (ts : List Token) (ls : List Line) (rs : List LogicalLine) → tokens_of rs ≡ ts → ls ≡ line_spans 0 rs → AreDirected rs → (lines_from ts ls ≡ rs) × AreLineSpans ts ls
 drafts_are ts ls rs tokens lines directed =
     let same : lines_from ts ls ≡ rs = ap (lines_from ts) lines ∙ ap (λ (z : List Token). lines_from z (line_spans 0 rs)) (sym tokens) ∙ lines_of_drafts [] rs in
@@ -121,6 +121,6 @@ pub tokens_of-append : (rs : List LogicalLine) (r : LogicalLine) → tokens_of (
 tokens_of-append [] r = append-nil r.tokens
 tokens_of-append (q ∷ rs) r = ap (λ (z : List Token). q.tokens ++ z) (tokens_of-append rs r) ∙ sym (append_assoc q.tokens (tokens_of rs) r.tokens)
 
--- the same lines of equal tokens and spans
+-- Equal tokens and spans represent equal lines.
 pub same_lines : (ts ts' : List Token) (ls ls' : List Line) → ts' ≡ ts → ls' ≡ ls → lines_from ts' ls' ≡ lines_from ts ls
 same_lines ts ts' ls ls' st sl = ap (λ (z : List Token). lines_from z ls') st ∙ ap (lines_from ts) sl

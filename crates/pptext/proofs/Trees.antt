@@ -1,4 +1,4 @@
--- Trees of groups: a file has one exactly where it has no fault, and at most one.
+-- Trees of groups: a file has at most one, and it has one exactly if it has no fault.
 use Rattle.std.proofs.Common.{◌≡◌, ◌↔◌, Bool, true, false, List, [], ◌∷◌, ◌++◌, refl, sym, ap, ◌∙◌, append_assoc, None}
 use Rattle.std.specs.List.{AllByRecursion}
 use Rattle.std.proofs.lemmas.List.{append-nil}
@@ -6,7 +6,7 @@ use Rattle.pptext.specs.Lines.{LogicalLine}
 use Rattle.pptext.specs.Tree.{Role, TextLine, ControlLine, Opens, Elses, Closes, GroupParts, Done, TextLines, Control, Section, Branches, End, Branch, part_lines}
 use Rattle.pptext.specs.Tree.{branch_lines, BeginsTextLines, AreGroupParts, AreBranches, Tree, role, Open, after_line, fault_or, group_fault}
 
--- a tree has no fault
+-- Lines that have a tree have no fault.
 
 pub one_line : (os : List Open) (r : LogicalLine) (rs : List LogicalLine) (s : Role) → role r ≡ s → group_fault os (r ∷ rs) ≡ fault_or r (after_line s r os).0 (group_fault (after_line s r os).1 rs)
 one_line os r rs s e = ap (λ (z : Role). fault_or r (after_line z r os).0 (group_fault (after_line z r os).1 rs)) e
@@ -47,7 +47,7 @@ pub no_fault : (lines : List LogicalLine) (parts : GroupParts) → Tree lines pa
 no_fault lines parts tree =
     ap (group_fault []) (sym tree.whole ∙ sym (append-nil (part_lines parts))) ∙ parts_pass parts [] [] tree.each
 
--- lines without fault have a tree: a prefix of the lines after open sections is parts, then each section's branches and parts
+-- Lines without fault have a tree: they are parts, and then branches and parts of each open if-section.
 
 record LeadingLexeme (Rest : List LogicalLine → Type 0) (lines : List LogicalLine) : Type 0 where
   parts : GroupParts
@@ -66,7 +66,7 @@ with_text r (TextLines rs ps) is are = (TextLines (r ∷ rs) ps, ((λ (e : r ∷
 with_text r (Control q ps) is are = (TextLines (r ∷ []) (Control q ps), ((λ (e : r ∷ [] ≡ []). cc), (is, tt), (λ (e : ⊥). e), are), refl)
 with_text r (Section q ps bs qs) is are = (TextLines (r ∷ []) (Section q ps bs qs), ((λ (e : r ∷ [] ≡ []). cc), (is, tt), (λ (e : ⊥). e), are), refl)
 
--- what a line adds to the prefixes of the later lines
+-- A line extends the leading parts of the later lines.
 front_at : (r : LogicalLine) (rs : List LogicalLine) (os : List Open) (s : Role)
     → role r ≡ s
     → ((before : List Open) → group_fault before rs ≡ None → LeadingLexeme (Behind before) rs)
@@ -122,8 +122,8 @@ a_tree lines e =
 pub tree_exactly : (lines : List LogicalLine) → (group_fault [] lines ≡ None) ↔ ((parts : GroupParts) × Tree lines parts)
 tree_exactly lines = (a_tree lines, λ t. no_fault lines t.0 t.1)
 
--- Reading the lines from the last to the first gives back their tree: the parts that begin them, and after those the branches and parts
--- of each section that is open there.
+-- Reading the lines from the last to the first restores their tree: the leading parts, and then the branches
+-- and the following parts of each if-section that is open there.
 
 abbrev Reading : Type 0
 Reading = GroupParts × List (Branches × GroupParts)

@@ -1,4 +1,4 @@
--- Quotes that nothing closes in their line: what the search for one closing quote says of the others.
+-- Unmatched quotes: the search for one closing quote also shows that other quotes are unmatched.
 use Rattle.std.proofs.Common.{◌≡◌, ℕ, zero, suc, ◌+◌, ◌-◌, ◌<◌, ◌≤◌, List, [], ◌∷◌, ◌++◌, length, take, drop, sym, ap, ◌∙◌, subst, inl, inr, ◌⊎◌, arith, length-drop, get_or, append_assoc}
 use Rattle.std.proofs.lemmas.Bool.{false≢true, cases_lt}
 use Rattle.std.proofs.lemmas.List.{drop-drop, get_or-drop}
@@ -6,16 +6,16 @@ use Rattle.std.proofs.Math.Seq.{take-add}
 use Rattle.pptext.specs.Languages.{One, Then, NoPrefix, IsOnly}
 use Rattle.pptext.specs.Spellings.{IsElement}
 use Rattle.pptext.specs.code.UnmatchedQuotes.{IsQuoted, AreUnmatched, KnowsUnmatched}
-use Rattle.pptext.proofs.Fronts.{one_front, exactly_then}
-use Rattle.pptext.proofs.Combine.{begins_one, then_lacks}
-use Rattle.pptext.proofs.Closing.{lacks_later, closed_front}
+use Rattle.pptext.proofs.LanguagePrefixes.{one_front, exactly_then}
+use Rattle.pptext.proofs.ComposedLanguages.{begins_one, then_lacks}
+use Rattle.pptext.proofs.ClosedTexts.{lacks_later, closed_front}
 use Rattle.pptext.proofs.Literals.{plain, escaped, plain-no_quote, quote_lacks}
 
--- nothing is known
+-- Initially, no quote is known to be unmatched.
 pub knows_nothing : (text : List ℕ) (n : ℕ) → n ≡ length text → KnowsUnmatched text n n
 knows_nothing text n e = record { single = λ r lt q. absurd (omega arith); double = λ r lt q. absurd (omega arith) }
 
--- from n characters further on
+-- Unmatched quotes of a text are also unmatched in its suffixes.
 lone_behind : (quote : ℕ) (text : List ℕ) (n left : ℕ) → AreUnmatched quote text (length text - left) → AreUnmatched quote (drop n text) (length (drop n text) - left)
 lone_behind quote text n left h r lt e =
     let d : length (drop n text) ≡ length text - n = length-drop n text in
@@ -28,7 +28,7 @@ knows_behind text n single double h = record { single = lone_behind 39 text n si
 pub knows_later : (text : List ℕ) (at n : ℕ) (single double : ℕ) → KnowsUnmatched (drop at text) single double → KnowsUnmatched (drop (at + n) text) single double
 knows_later text at n single double h = subst (λ t. KnowsUnmatched t single double) (drop-drop n at text) (knows_behind (drop at text) n single double h)
 
--- a quote stands only at the end of an element
+-- A quote occurs only at the end of an element.
 element_quote : (quote : ℕ) (text : List ℕ) (n : ℕ) → (quote ≡ 92 → ⊥) → IsOnly (IsElement quote) text n → (j : ℕ) → j < n → get_or text j 0 ≡ quote → j + 1 ≡ n
 element_quote quote text n h p j lt e = cases p.part
   where
@@ -51,7 +51,7 @@ element_quote quote text n h p j lt e = cases p.part
         let two : n ≡ 2 = omega (arith, f.0, second.0) in
         at j (omega arith) two (begins_one text 92 [] f.1).1 e
 
--- whatever closes after a passed quote closes from here on
+-- each quote before `at` is unmatched if nothing closes from `at` on
 abbrev pub Passed : ℕ → List ℕ → ℕ → Type 0
 Passed quote text at = (r : ℕ) → r < at → get_or text r 0 ≡ quote → NoPrefix (IsQuoted quote) (drop at text) → NoPrefix (IsQuoted quote) (drop (r + 1) text)
 
@@ -77,7 +77,7 @@ lone_opening quote text opening n some le e h =
     let same : (opening - 1) + 1 ≡ opening = omega arith in
     subst (λ i. NoPrefix (IsQuoted quote) (drop i text)) same (h (opening - 1) le e)
 
--- the opening and what was searched after it
+-- If a literal is not closed, the quotes of its opening and of the searched text are unmatched.
 pub lone_literal : (quote : ℕ) (text : List ℕ) (opening n : ℕ)
     → ((r : ℕ) → r + 1 < opening → get_or text r 0 ≡ quote → ⊥)
     → NoPrefix (IsQuoted quote) (drop opening text)
@@ -122,6 +122,6 @@ char_rest_only text n h p = record {
         let same : j + (n - j) ≡ n = omega arith in
         (take j text, take (n - j) (drop j text), ap (λ i. take i text) (sym same) ∙ take-add j (n - j) text, e, q)
 
--- an empty character constant
+-- A closing quote directly after the opening makes no character constant.
 pub char_rest_empty : (text : List ℕ) → get_or text 0 0 ≡ 39 → NoPrefix CharRest text
 char_rest_empty text e = then_lacks (IsElement 39) (IsQuoted 39) text (quote_lacks 39 text (λ f. omega arith) e)

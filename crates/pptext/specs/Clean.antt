@@ -62,7 +62,7 @@ terminated cs = cs ++ missing_newline cs
 abbrev pub line_ends : ℕ → List ℕ → List Char
 line_ends file bytes = terminated (without_returns (with_locations file 1 1 (without_bom bytes)))
 
--- the trigraphs (5.2.1.1): the character after `??`, and the one that all three stand for
+-- the trigraphs (5.2.1.1): the character after `??`, and the one that replaces all three
 abbrev pub trigraph_pairs : List (List ℕ × List ℕ)
 trigraph_pairs =
     (codes "=", codes "#") ∷ (codes "(", codes "[") ∷ (codes "/", backslash ∷ []) ∷ (codes ")", codes "]") ∷ (codes "'", codes "^")
@@ -77,7 +77,7 @@ abbrev pub replaced_by : List (List ℕ × List ℕ) → ℕ → ℕ
 replaced_by [] c = 0
 replaced_by ((third, whole) ∷ more) c = if c == only_code third then only_code whole else replaced_by more c
 
--- what `??` and this character stand for, or 0
+-- the character that replaces `??` and this character, or 0
 abbrev pub trigraph : ℕ → ℕ
 trigraph c = replaced_by trigraph_pairs c
 

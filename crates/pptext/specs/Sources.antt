@@ -61,7 +61,7 @@ abbrev pub Reads : Profile → ℕ → List ℕ → Result (List LogicalLine) Fa
 Reads profile file bytes (Ok lines) = IsSource profile file bytes lines
 Reads profile file bytes (Err f) = IsFaultOf profile file bytes f
 
--- outside an include line the text is one token of this kind. All profiles tokenize it alike, so C11 stands for all.
+-- outside an include line the text is one token of this kind. All profiles tokenize it alike, so C11 is used.
 abbrev pub IsOneToken : List ℕ → Kind → Type 0
 IsOneToken text k = let cs = with_locations 0 1 1 text in Tokenizes C11 cs (record { kind = Spelled k; chars = cs } ∷ [])
 

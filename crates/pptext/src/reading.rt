@@ -105,7 +105,7 @@ fn is_unmatched_quote(text: &[u8]) -> bool
 
 /// Returns the kind of the one preprocessing token (6.4) that the whole text is outside an include line. Returns None
 /// if the text is no token, more than one, white space, a comment, or an unmatched quote (6.4p3). Allocates nothing.
-#[tactic(auto, using(crate::proofs::OneToken::finds_token))]
+#[tactic(auto, using(crate::proofs::SingleTokens::finds_token))]
 pub fn relex(text: &[u8]) -> Option<Kind>
     ensures none { IfNone result ((k : Kind) → IsOneToken text.now k → IsUnmatchedQuote text.now) }
     ensures some { IfSome result (λ k. IsOneToken text.now k × (¬ IsUnmatchedQuote text.now)) }

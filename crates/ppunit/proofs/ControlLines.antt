@@ -6,32 +6,32 @@ use Rattle.pptext.specs.declared.sources.Directive.TheVariants.{Null}
 use Rattle.pptext.specs.Lines.{LogicalLine}
 use Rattle.pptext.specs.Tree.{GroupParts, Control, AreGroupParts, role, role_by}
 use Rattle.pptext.specs.Classes.{opens_section, ends_group}
-use Rattle.ppunit.specs.States.{State, Context, going}
+use Rattle.ppunit.specs.States.{State, Context, running}
 use Rattle.ppunit.specs.Group.{Group}
-use Rattle.ppunit.specs.Group.{Controls}
+use Rattle.ppunit.specs.Group.{ExecutesControlLine}
 use Rattle.ppshelf.specs.Files.{Files, Extends}
-use Rattle.ppunit.specs.code.Walk.{line_at, Outer, lay, AreOuter, StandsAt, Ends, Advances, Passes, PassesFrom}
-use Rattle.ppunit.proofs.FirstLine.{lay_control, control_role, First, text, control, opening, ending}
-use Rattle.ppunit.proofs.Advancing.{ends_front, ends_stop, stands_behind, AdvancesFrom, advances, first_at, run_result}
+use Rattle.ppunit.specs.code.Walk.{line_at, Outer, lay, AreOuter, HasPartsAt, Ends, Advances, Passes, PassesFrom}
+use Rattle.ppunit.proofs.FirstLineCases.{lay_control, control_role, First, text, control, opening, ending}
+use Rattle.ppunit.proofs.WalkSteps.{ends_front, ends_stop, stands_behind, AdvancesFrom, advances, first_at, run_result}
 
 control_on : (context : Files → Context) (files : Files) (depth row : ℕ) (lines : List LogicalLine) (index : ℕ) (s t : State) (f : Option Fault)
     (r : LogicalLine) (qs : GroupParts) (k : Outer)
     → drop index lines ≡ r ∷ lay qs k
     → AreGroupParts qs
     → AreOuter k
-    → ((more : Files) → Extends more files → Controls (context more) depth row s r (record { state = t; fault = f }))
+    → ((more : Files) → Extends more files → ExecutesControlLine (context more) depth row s r (record { state = t; fault = f }))
     → AdvancesFrom context files depth row lines s t (run_result (index + 1) f) (Control r qs) k
 control_on context files depth row lines index s t None r qs k there are outer controls =
-    (qs, k, stands_behind lines index r qs k there are outer, λ more grows end rest. ends_front (context more) depth row (going s) (going t) (Control r qs) qs k end (λ o g. Group.control (controls more grows) g) rest)
+    (qs, k, stands_behind lines index r qs k there are outer, λ more grows end rest. ends_front (context more) depth row (running s) (running t) (Control r qs) qs k end (λ o g. Group.control (controls more grows) g) rest)
 control_on context files depth row lines index s t (Some f) r qs k there are outer controls =
-    λ more grows. ends_stop (context more) depth row (going s) t f (Control r qs) k (Group.control (controls more grows) Group.already_stopped)
+    λ more grows. ends_stop (context more) depth row (running s) t f (Control r qs) k (Group.control (controls more grows) Group.already_stopped)
 
 control_by : (context : Files → Context) (files : Files) (depth row : ℕ) (lines : List LogicalLine) (index : ℕ) (s t : State) (f : Option Fault)
     (ps : GroupParts) (k : Outer)
     → role (line_at lines index) ≡ role_by (Some Null)
     → First (line_at lines index) ps k
-    → StandsAt lines index ps k
-    → ((more : Files) → Extends more files → Controls (context more) depth row s (line_at lines index) (record { state = t; fault = f }))
+    → HasPartsAt lines index ps k
+    → ((more : Files) → Extends more files → ExecutesControlLine (context more) depth row s (line_at lines index) (record { state = t; fault = f }))
     → AdvancesFrom context files depth row lines s t (run_result (index + 1) f) ps k
 control_by context files depth row lines index s t f (Control x qs) k is (control same other) stands controls =
     let r = line_at lines index in
@@ -47,7 +47,7 @@ pub control_advances : (context : Files → Context) (files : Files) (depth row 
     → (line_at lines index).directive ≡ Some d
     → opens_section d ≡ false
     → ends_group d ≡ false
-    → ((more : Files) → Extends more files → Controls (context more) depth row s (line_at lines index) (record { state = t; fault = f }))
+    → ((more : Files) → Extends more files → ExecutesControlLine (context more) depth row s (line_at lines index) (record { state = t; fault = f }))
     → Advances context files depth row lines index s t (run_result (index + 1) f)
 control_advances context files depth row lines index s t f d within is opens ends controls =
     advances context files depth row lines index s t (run_result (index + 1) f)
@@ -57,7 +57,7 @@ control_advances context files depth row lines index s t f d within is opens end
 passes_by : (depth row : ℕ) (lines : List LogicalLine) (index : ℕ) (s : State) (ps : GroupParts) (k : Outer)
     → role (line_at lines index) ≡ role_by (Some Null)
     → First (line_at lines index) ps k
-    → StandsAt lines index ps k
+    → HasPartsAt lines index ps k
     → PassesFrom depth row lines index s (index + 1) ps k
 passes_by depth row lines index s (Control x qs) k is (control same other) stands =
     let r = line_at lines index in
@@ -66,8 +66,8 @@ passes_by depth row lines index s (Control x qs) k is (control same other) stand
       k,
       stands_behind lines index r qs k there stands.parts.1 stands.outer,
       λ context m end controls rest. subst
-          (λ (z : LogicalLine). Ends context depth row (going s) (Control z qs) k end) (sym same)
-          (ends_front context depth row (going s) m (Control r qs) qs k end (λ o g. Group.control controls g) rest),
+          (λ (z : LogicalLine). Ends context depth row (running s) (Control z qs) k end) (sym same)
+          (ends_front context depth row (running s) m (Control r qs) qs k end (λ o g. Group.control controls g) rest),
     )
 passes_by depth row lines index s ps k is (text same) stands = absurd (cc)
 passes_by depth row lines index s ps k is (opening same other) stands = absurd (cc)

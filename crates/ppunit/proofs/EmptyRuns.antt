@@ -1,4 +1,4 @@
--- A text run without tokens, as blank lines are: nothing comes of it.
+-- A text run without tokens, for example of blank lines, emits nothing.
 use Rattle.std.proofs.Common.{◌≡◌, ℕ, List, [], ◌∷◌, length, nat_eq, Option, None, Some, refl, append-nil, sym, true, zero, suc, arith}
 use Rattle.std.proofs.lemmas.Bool.{eqb-true}
 use Rattle.pptext.specs.declared.tokens.Token.{Token}

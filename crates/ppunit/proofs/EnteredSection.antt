@@ -6,15 +6,15 @@ use Rattle.pptext.specs.declared.sources.Directive.TheVariants.{If}
 use Rattle.pptext.specs.Lines.{LogicalLine}
 use Rattle.pptext.specs.Tree.{GroupParts, Section, Branches, role, role_by}
 use Rattle.pptext.specs.Classes.{opens_section}
-use Rattle.pptext.proofs.Walks.{next_of_opening}
-use Rattle.ppunit.specs.States.{Search, State, Context, search_of, going, with_remaining}
+use Rattle.pptext.proofs.NextBranchFacts.{next_of_opening}
+use Rattle.ppunit.specs.States.{Search, State, Context, search_of, running, with_remaining}
 use Rattle.ppunit.specs.Group.{Group}
 use Rattle.ppunit.specs.Conditions.{Decides}
 use Rattle.ppshelf.specs.Files.{Files}
-use Rattle.ppunit.specs.code.Walk.{line_at, Outer, lay, StandsAt, Advances, BranchesAt, FindsBranch}
-use Rattle.ppunit.proofs.FirstLine.{lay_section, opening_role, First, text, control, opening, ending}
-use Rattle.ppunit.proofs.FoundBranch.{decides_around}
-use Rattle.ppunit.proofs.Advancing.{ends_front, ends_stop, stands_behind, AdvancesFrom, advances, first_at}
+use Rattle.ppunit.specs.code.Walk.{line_at, Outer, lay, HasPartsAt, Advances, BranchesAt, FindsBranch}
+use Rattle.ppunit.proofs.FirstLineCases.{lay_section, opening_role, First, text, control, opening, ending}
+use Rattle.ppunit.proofs.BranchSearch.{decides_around}
+use Rattle.ppunit.proofs.WalkSteps.{ends_front, ends_stop, stands_behind, AdvancesFrom, advances, first_at}
 
 record SectionAt (lines : List LogicalLine) (index : ℕ) (ps : GroupParts) (k : Outer) : Type 0 where
   first : GroupParts
@@ -22,9 +22,9 @@ record SectionAt (lines : List LogicalLine) (index : ℕ) (ps : GroupParts) (k :
   branches : Branches
   whole : ps ≡ Section (line_at lines index) first branches following
   at : BranchesAt lines index first branches following k
-  stands : StandsAt lines (index + 1) first ((branches, following) ∷ k)
+  stands : HasPartsAt lines (index + 1) first ((branches, following) ∷ k)
 
-section_by : (lines : List LogicalLine) (index : ℕ) (ps : GroupParts) (k : Outer) → role (line_at lines index) ≡ role_by (Some If) → First (line_at lines index) ps k → StandsAt lines index ps k → SectionAt lines index ps k
+section_by : (lines : List LogicalLine) (index : ℕ) (ps : GroupParts) (k : Outer) → role (line_at lines index) ≡ role_by (Some If) → First (line_at lines index) ps k → HasPartsAt lines index ps k → SectionAt lines index ps k
 section_by lines index (Section x ps bs qs) k is (opening same other) stands =
     let r = line_at lines index in
     let there : drop index lines ≡ r ∷ lay ps ((bs, qs) ∷ k) = stands.rest ∙ lay_section x ps qs bs k ∙ ap (λ (z : LogicalLine). z ∷ lay ps ((bs, qs) ∷ k)) same in
@@ -45,7 +45,7 @@ section_at : (lines : List LogicalLine) (index : ℕ) (d : Directive) (ps : Grou
     → index < length lines
     → (line_at lines index).directive ≡ Some d
     → opens_section d ≡ true
-    → StandsAt lines index ps k
+    → HasPartsAt lines index ps k
     → SectionAt lines index ps k
 section_at lines index d ps k within is opens stands =
     section_by lines index ps k (ap role_by is ∙ opening_role d opens) (first_at lines index ps k within stands) stands
@@ -64,7 +64,7 @@ enter_taken context search files depth row lines index s remaining_after d withi
       a.first,
       (a.branches, a.following) ∷ k,
       a.stands,
-      λ more grows end rest. ends_front (context more) depth row (going s) rest.0
+      λ more grows end rest. ends_front (context more) depth row (running s) rest.0
           (Section (line_at lines index) a.first a.branches a.following) a.following k end (λ o g. Group.taken (decides_around (context more) search row s (line_at lines index) remaining_after (Ok true) (by more) decides) rest.1 g) rest.2,
     )
 
@@ -75,9 +75,9 @@ skipped_to : (context : Files → Context) (search : Search) (files : Files) (de
     → FindsBranch search row lines (with_remaining s remaining_after) t bs qs k found
     → AdvancesFrom context files depth row lines s t found (Section r ps bs qs) k
 skipped_to context search files depth row lines index s t remaining_after r ps qs bs k (Ok next) by decides finds =
-    (finds.0, finds.1, finds.2, λ more grows end rest. let f = finds.3 (context more) (by more) depth end rest in ends_front (context more) depth row (going s) f.0 (Section r ps bs qs) qs k end (λ o g. Group.skipped (decides_around (context more) search row s r remaining_after (Ok false) (by more) decides) f.1 g) f.2)
+    (finds.0, finds.1, finds.2, λ more grows end rest. let f = finds.3 (context more) (by more) depth end rest in ends_front (context more) depth row (running s) f.0 (Section r ps bs qs) qs k end (λ o g. Group.skipped (decides_around (context more) search row s r remaining_after (Ok false) (by more) decides) f.1 g) f.2)
 skipped_to context search files depth row lines index s t remaining_after r ps qs bs k (Err f) by decides finds =
-    λ more grows. ends_stop (context more) depth row (going s) t f (Section r ps bs qs) k (Group.skipped (decides_around (context more) search row s r remaining_after (Ok false) (by more) decides) (finds (context more) (by more) depth) Group.already_stopped)
+    λ more grows. ends_stop (context more) depth row (running s) t f (Section r ps bs qs) k (Group.skipped (decides_around (context more) search row s r remaining_after (Ok false) (by more) decides) (finds (context more) (by more) depth) Group.already_stopped)
 
 pub enter_skipped : (context : Files → Context) (search : Search) (files : Files) (depth row : ℕ) (lines : List LogicalLine) (index : ℕ) (s t : State)
     (remaining_after : Option ℕ) (d : Directive) (found : Result ℕ Fault)
@@ -106,5 +106,5 @@ pub enter_refused : (context : Files → Context) (search : Search) (files : Fil
 enter_refused context search files depth row lines index s remaining_after d f within is opens by decides ps k stands =
     let a = section_at lines index d ps k within is opens stands in
     subst (λ (z : GroupParts). AdvancesFrom context files depth row lines s (with_remaining s remaining_after) (Err f) z k) (sym a.whole)
-    (λ more grows. ends_stop (context more) depth row (going s) (with_remaining s remaining_after) f (Section (line_at lines index) a.first a.branches a.following) k
+    (λ more grows. ends_stop (context more) depth row (running s) (with_remaining s remaining_after) f (Section (line_at lines index) a.first a.branches a.following) k
     (Group.condition_fault (decides_around (context more) search row s (line_at lines index) remaining_after (Err f) (by more) decides)))

@@ -1,4 +1,4 @@
--- Each token of a file is spelled as its kind, or as a header name, and each line has the directive of its tokens.
+-- Each token has a spelling of its kind or of a header name. Each line has the directive that its tokens determine.
 use Rattle.std.proofs.Common.{◌≡◌, ℕ, Bool, true, false, ◌||◌, nat_eq, List, [], ◌∷◌, ◌++◌, length, take, ◌⊎◌, inl, inr, refl, sym, ap, ◌∙◌, subst, codes}
 use Rattle.std.specs.List.{AllByRecursion}
 use Rattle.std.proofs.lemmas.Bool.{false≢true}
@@ -14,7 +14,7 @@ use Rattle.pptext.specs.Spellings.{is_digit, is_nondigit, IsNondigit, IsHeader, 
 use Rattle.pptext.specs.Lexemes.{LexemeKind, NewLine, Blank, Comment, Spelled, Lexeme, IsLexemeAt, AreLexemes, with_lexeme, characters_of}
 use Rattle.pptext.specs.Lines.{LogicalLine, leaves_space, tokens_after, lines_ended, lines_after, IsDirected}
 use Rattle.pptext.specs.Sources.{IsSource}
-use Rattle.pptext.proofs.OneKind.{begins, one_kind}
+use Rattle.pptext.proofs.KindUniqueness.{begins, one_kind}
 
 abbrev pub IsSpelled : Token → Type 0
 IsSpelled t = Spells t.kind t.text ⊎ IsHeader t.text
@@ -22,7 +22,7 @@ IsSpelled t = Spells t.kind t.text ⊎ IsHeader t.text
 abbrev pub AreSpelled : List Token → Type 0
 AreSpelled ts = AllByRecursion IsSpelled ts
 
--- the tokens are spelled so, and the directive is that of the tokens
+-- the tokens have such spellings, and the directive is the one that they determine
 abbrev pub IsSpelledLine : Profile → LogicalLine → Type 0
 IsSpelledLine profile r = AreSpelled r.tokens × IsDirected profile r
 
@@ -30,7 +30,7 @@ pub both : {A : Type 0} (P : A → Type 0) (xs ys : List A) → AllByRecursion P
 both P [] ys a b = b
 both P (x ∷ xs) ys a b = (a.0, both P xs ys a.1 b)
 
--- ---- from the pieces of the text
+-- ---- from the lexemes of the text
 
 piece_spelled : (profile : Profile) (line : List (List ℕ)) (chars rest : List Char) (k : Kind) → IsLexemeAt profile line (codes_of (chars ++ rest)) (length chars) (Spelled k) → Spells k (codes_of chars) ⊎ IsHeader (codes_of chars)
 piece_spelled profile line chars rest k here = cases here

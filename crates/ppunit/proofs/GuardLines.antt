@@ -1,4 +1,4 @@
--- The opening line of a guarded file does not take its group where the guard is a macro's name, in each of its three forms.
+-- If the guard of a file is defined, the opening line skips its group, in each of the three forms of a guard.
 use Rattle.std.proofs.Common.{◌≡◌, ℕ, ◌+◌, Bool, true, false, ◌&&◌, List, [], ◌∷◌, Option, Some, None, Result, Ok, refl, sym, ap, ◌∙◌, subst, codes, if◌then◌else◌, is_some, arith}
 use Rattle.std.proofs.lemmas.Bool.{and_parts}
 use Rattle.pptext.specs.declared.tokens.Place.{Place}
@@ -18,14 +18,14 @@ use Rattle.pptext.specs.Spellings.{Spells}
 use Rattle.pptext.specs.Lines.{LogicalLine, directive_of, directive_named}
 use Rattle.pptext.specs.Tree.{role, role_by, role_named}
 use Rattle.pptext.specs.Guard.{named, is_not_defined, are_parentheses, ident_if, guard_name}
-use Rattle.pptext.proofs.OneKind.{begins}
+use Rattle.pptext.proofs.KindUniqueness.{begins}
 use Rattle.pptext.specs.Tokens.{is_identifier_kind}
 use Rattle.ppmacro.specs.Define.{same_bool}
 use Rattle.ppexpand.specs.Laws.{plus}
 use Rattle.ppexpand.proofs.BudgetLemmas.{without}
 use Rattle.ppexpr.specs.Conditions.{IsCondition, count_condition}
-use Rattle.ppexpr.proofs.OneCondition.{same_condition}
-use Rattle.ppexpr.proofs.Capped.{condition_spends, condition_enough}
+use Rattle.ppexpr.proofs.ConditionUniqueness.{same_condition}
+use Rattle.ppexpr.proofs.ConditionBudgets.{condition_spends, condition_enough}
 use Rattle.ppexpr.proofs.GuardConditions.{punctuator, as_defined, as_name, bare_false, parenthesized_false}
 use Rattle.ppunit.specs.States.{Search, State}
 use Rattle.ppunit.specs.Quotes.{unmatched_quote}
@@ -35,7 +35,7 @@ use Rattle.ppunit.specs.Conditions.{is_macro_name, by_name, DecidesOf, Decides, 
 use Rattle.ppunit.specs.Counts.{count_decides_of, count_decides_by, count_decides_unless, count_decides}
 use Rattle.ppunit.proofs.FileTokens.{IsSpelled, AreSpelled, IsSpelledLine, opens_header, kind_is, defined_spelled}
 use Rattle.std.specs.FinMap as table
-use Rattle.ppunit.proofs.Unquoted.{is_quote, is_ident_kind, ident_unquoted, named_is, is_hash, hash_unquoted, opens_by, AreUnquoted, no_quote, named_unquoted}
+use Rattle.ppunit.proofs.QuoteFreeTokens.{is_quote, is_ident_kind, ident_unquoted, named_is, is_hash, hash_unquoted, opens_by, AreUnquoted, no_quote, named_unquoted}
 
 -- the group after a line is not taken, and that costs nothing
 abbrev SkipsOf : Result (List Token) Fault → State → Place → Type 0
@@ -47,11 +47,11 @@ SkipsBy search row q s tokens = (h : DecidesBy search row q s tokens s.remaining
 abbrev SkipsUnless : Search → ℕ → Option Fault → Option Directive → State → List Token → Type 0
 SkipsUnless search row quote d s tokens = (h : DecidesUnless search row quote d s tokens s.remaining (Ok false)) × (count_decides_unless search row quote d s tokens s.remaining (Ok false) h ≡ 0)
 
--- of a line of these tokens
+-- a line of these tokens skips its group, at no cost
 abbrev Skips : Search → ℕ → State → Option Directive → List Token → Type 0
 Skips search row s d tokens = SkipsUnless search row (unmatched_quote tokens) d s tokens
 
--- of a line without unmatched quotes whose directive is spelled so
+-- A line with this directive name and without unmatched quotes skips its group.
 decided : (search : Search) (row : ℕ) (s : State) (profile : Profile) (h d : Token) (ts : List Token) (name : List ℕ) (is_called : Directive)
     → is_hash h.text ≡ true
     → named d name ≡ true
@@ -68,7 +68,7 @@ decided search row s profile h d ts name is_called hash is called plain rest dec
     subst (λ (q : Option Fault). SkipsUnless search row q (directive_of profile (h ∷ d ∷ ts)) s (h ∷ d ∷ ts)) (sym quotes)
     (subst (λ (z : Option Directive). SkipsBy search row (question_by z) s (h ∷ d ∷ ts)) (sym directive) decides)
 
--- each profile has the names of C11
+-- In each profile, `if` and `ifndef` are directive names.
 if_called : (profile : Profile) → directive_named profile (codes "if") ≡ If
 if_called C11 = refl
 if_called Later = refl
@@ -93,7 +93,7 @@ ident_if_is b t x e = cases (b && is_identifier_kind t.kind) refl e
     cases true is f = let p = and_parts b (is_identifier_kind t.kind) is in let same : t.text ≡ x = cc in record { form = p.0; kind = is_ident_kind t.kind p.1; name = same }
     cases false is f = absurd (cc)
 
--- the macro's name is that of the token
+-- A token spelled as a macro name is in the table of macros.
 known_name : (s : State) (x : List ℕ) (t : Token) → t.text ≡ x → is_macro_name s.macros x ≡ true → is_some (table.get s.macros t.text) ≡ true
 known_name s x t e known = ap (λ (z : List ℕ). is_some (table.get s.macros z)) e ∙ known
 
@@ -114,14 +114,14 @@ defined_is t spelled is =
 name_is : (t : Token) → t.kind ≡ Ident → as_name t ≡ t
 name_is t e = let k : Ident ≡ t.kind = sym e in λ i. record t { kind = k i }
 
--- the condition is false, whatever is left of a budget, and leaves it as it is
+-- the condition is false with any remaining budget, and spends nothing
 abbrev IsFalseFreely : State → Place → List Token → Type 0
 IsFalseFreely s at tokens = (remaining : Option ℕ) → IsCondition s.macros s.env at tokens remaining (Ok false) remaining
 
 nothing_spent : (n count : ℕ) → Some n ≡ plus count (Some n) → count ≡ 0
 nothing_spent n count e = let same : n ≡ count + n = cc in omega arith
 
--- so it costs nothing
+-- The count of such a condition is 0.
 costs_nothing : (s : State) (at : Place) (tokens : List Token) (condition : IsFalseFreely s at tokens) (remaining : Option ℕ) → count_condition (condition remaining) ≡ 0
 costs_nothing s at tokens condition (Some n) = nothing_spent n (count_condition (condition (Some n))) (condition_spends (condition (Some n)))
 costs_nothing s at tokens condition None =
@@ -131,7 +131,7 @@ costs_nothing s at tokens condition None =
     let counts : k ≡ 0 = cc in
     counts
 
--- a condition that asks for no file is decided as it stands
+-- If operands have no `__has_include` to replace, they are the tokens of the condition.
 unprobed : (search : Search) (row : ℕ) (h d : Token) (ts : List Token) → probed search row None ts ≡ Some ts → condition_tokens search row (h ∷ d ∷ ts) ≡ Ok ts
 unprobed search row h d ts e = chosen (is_gnu search.profile)
   where
@@ -234,7 +234,7 @@ guard_decides search row s profile (h ∷ d ∷ n ∷ f ∷ l ∷ t ∷ r ∷ []
     (ident_if_is _ t x is) known
 guard_decides search row s profile (a ∷ b ∷ c ∷ d ∷ e ∷ f ∷ g ∷ h ∷ ts) x all opens is known = absurd (cc)
 
--- the opening line of a guarded file
+-- If the guard is defined, the opening line of the file skips its group, at no cost.
 pub guard_line : (search : Search) (row : ℕ) (s : State) (profile : Profile) (r : LogicalLine) (x : List ℕ)
     → IsSpelledLine profile r
     → role r ≡ role_named If

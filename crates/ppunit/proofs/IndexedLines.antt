@@ -32,7 +32,7 @@ has_hash lines index directed within asked =
     let line = line_at lines index in
     hash_of directed.0 line.directive line.tokens (each_directed directed.0 lines index no_line directed.1 within) asked
 
--- what stands at an index
+-- the line at an index, and the lines after it
 pub record At (lines : List LogicalLine) (index : ℕ) (r : LogicalLine) (rest : List LogicalLine) : Type 0 where
   pub within : index < length lines
   pub here : line_at lines index ≡ r
@@ -64,7 +64,7 @@ take_parted lines i j l =
     sym (take-append-drop i (take j lines)) ∙ ap (λ (z : List LogicalLine). z ++ drop i (take j lines)) (take-take i j lines l)
     ∙ ap (λ (z : ℕ). take i lines ++ drop i (take z lines)) sum ∙ ap (λ (z : List LogicalLine). take i lines ++ z) (drop-take i (j - i) lines)
 
--- the tokens of the lines from i up to j, among those of the file
+-- the tokens of the lines from i up to j are the tokens of the file from p up to q
 pub record Between (lines : List LogicalLine) (i j p q : ℕ) : Type 0 where
   pub begins : p ≤ q
   pub ends : q ≤ length (tokens_of lines)

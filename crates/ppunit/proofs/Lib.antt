@@ -1,98 +1,98 @@
--- The lemmas of this crate, by file; the proofs of its functions stand in a directory for each file of the sources.
+-- The lemmas of this crate, by file. The proofs of its functions are in a directory for each source file.
 
--- A number that is read digit by digit, and stays as it is once it is too great.
-pub mod Digits
--- The message of `#error` and the name of an include line, token by token: `first` says that none stands before.
+-- A number that is read digit by digit. Once it is too large, it no longer changes.
+pub mod LineNumberDigits
+-- The message of `#error` and the name of an include line, token by token. `first` is true for the first token.
 pub mod Messages
--- Where a unit gives something over some files, it gives the same over any more, with the same count.
-pub mod Grows
--- Over the same files a line does one thing, and leaves one thing of a budget.
-pub mod OneLine
--- Over the same files an if-section reaches one state, if its groups do.
-pub mod OneSection
--- Over the same files a control line reaches one state, if the file that it opens does.
-pub mod OneControl
--- A file is opened in one way.
-pub mod OneOpening
--- Over the same files a unit reaches one state, and leaves one thing of its budget.
-pub mod OneUnit
--- Over the same files a unit gives one thing, and has one count.
-pub mod OneCount
--- From what is read of a unit's definitions and what is walked to the unit's value.
-pub mod Preprocessed
+-- The value of a unit over some files is its value over any larger set of files, with the same count.
+pub mod LargerFileSets
+-- The effect of a line that opens no file is unique, and so is the remaining budget.
+pub mod LineUniqueness
+-- Over the same files an if-section has one outcome, if its groups have one each.
+pub mod SectionUniqueness
+-- Over the same files a control line has one outcome, if the file that it opens has one.
+pub mod ControlLineUniqueness
+-- Over the same files the opening of a file has one outcome, if the group of the file has one.
+pub mod OpeningUniqueness
+-- Over the same files a unit reaches one state, with one remaining budget.
+pub mod UnitUniqueness
+-- Over the same files a unit has one value and one count.
+pub mod CountUniqueness
+-- The value of a unit, from the reading of its definitions and the walk over its lines.
+pub mod UnitValue
 -- The lines of a file by index, and their tokens.
 pub mod IndexedLines
 -- The length of the file that holds a unit's definitions.
 pub mod CommandFile
--- Which part of a group the first line of its lines belongs to, by the line's directive.
-pub mod FirstLine
--- What is after a line follows from what is left: one step of a walk.
-pub mod Advancing
--- A text run without tokens, as blank lines are: nothing comes of it.
+-- The group-part to which the first line belongs, by the directive of the line.
+pub mod FirstLineCases
+-- One step of a walk: the lines from here on reach all that the lines after the step reach.
+pub mod WalkSteps
+-- A text run without tokens, for example of blank lines, emits nothing.
 pub mod EmptyRuns
 -- A walk over a text run.
 pub mod TextRuns
 -- A walk from the end of a group to the end of its if-section.
 pub mod SectionEnds
 -- The search for the branch that is taken, from branch line to branch line.
-pub mod FoundBranch
+pub mod BranchSearch
 -- A walk into an if-section.
 pub mod EnteredSection
 -- A walk over a control line.
 pub mod ControlLines
--- Where a text run ends.
+-- The end of a text run.
 pub mod RunEnd
--- A file whose lines are walked, from its first line to its end.
-pub mod WholeFile
--- What the preprocessor of a unit keeps over two calls.
-pub mod Continuing
--- Options that are none, or are not.
-pub mod Options
--- What the code decides by tokens and a directive, of a line.
-pub mod Deciding
--- A walk over the lines of a file and of all that it includes, with the files that wait.
-pub mod OpenFiles
--- How much work is left on the files that are open: a line of a file counts more than all lines of a file one deeper.
-pub mod Work
--- Whether a search finds a row, as a test.
-pub mod Finding
--- How far the uses of `__has_include` have become numbers.
-pub mod Probed
--- Opening a file, from what the steps of the code ensure.
-pub mod Opens
--- A control line, and where a line leads, from what the steps of the code ensure.
-pub mod Leading
--- The dependencies of a unit are rows that there are.
-pub mod Dependent
--- Each token of a file is spelled as its kind, or as a header name, and each line has the directive of its tokens.
+-- A walk over the lines of a file, from the first line to the end.
+pub mod FileWalk
+-- What each call of the preprocessor preserves, two calls in sequence preserve.
+pub mod CallSequences
+-- Whether an option is `None`.
+pub mod OptionCases
+-- A decision from the tokens and the directive of a line is a decision of the line.
+pub mod LineDecisions
+-- A walk over the lines of a file and of all files that it includes, with a stack of suspended files.
+pub mod FileStack
+-- The remaining work on the open files. A line counts more than all lines of a file one level deeper.
+pub mod RemainingWork
+-- A search finds a file exactly if one of the candidates is among the file names.
+pub mod FileSearch
+-- Replacing the uses of `__has_include` by numbers, token by token.
+pub mod HasIncludeNumbers
+-- The postconditions of the code imply the outcome of opening a file.
+pub mod FileOpening
+-- The postconditions of the code imply the effect of a control line and the step to the next line.
+pub mod ControlLineSteps
+-- The dependencies of a unit are indices of the file table, if the unit's own file is one.
+pub mod DependencyIndices
+-- Each token has a spelling of its kind or of a header name. Each line has the directive that its tokens determine.
 pub mod FileTokens
 -- Tokens without unmatched quotes.
-pub mod Unquoted
--- The opening line of a guarded file does not take its group where the guard is a macro's name, in each of its three forms.
+pub mod QuoteFreeTokens
+-- If the guard of a file is defined, the opening line skips its group, in each of the three forms of a guard.
 pub mod GuardLines
--- A guarded file changes nothing where its guard is a macro's name, and costs no more than its opening (6.10.1).
-pub mod Guarding
--- What the test of a unit says.
-pub mod Tested
--- What phase 4 does and what it leaves make up the budget.
-pub mod Spends
--- What is passed on, and what a unit depends on, stays.
-pub mod Kept
--- A line does the same within a budget that suffices for it, and leaves the rest.
-pub mod EnoughForLines
--- Groups and units do the same within a budget that suffices for them, and leave the rest.
-pub mod Enough
--- A line within a budget that it would overrun: it stops by fault 35, before the state that it would have reached.
-pub mod CappedLines
--- A group and all that it includes within a budget that they would overrun.
-pub mod CappedGroups
--- What a unit gives within a budget is a beginning of what it gives without one.
-pub mod Capped
+-- Opening a file whose guard is defined only adds a dependency and spends one of the budget (6.10.1).
+pub mod GuardedFiles
+-- A unit that passes the test has a file of the file table and definitions with the table's profile.
+pub mod UnitTest
+-- The budget is the count of phase 4 plus the remaining budget.
+pub mod BudgetSums
+-- Phase 4 only appends to the items and the dependencies.
+pub mod OutputPrefixes
+-- A line has the same effect with any sufficient budget, and leaves the rest of the budget.
+pub mod SufficientLineBudgets
+-- Groups and units have the same effect with any sufficient budget, and leave the rest of the budget.
+pub mod SufficientBudgets
+-- If its budget is too small, a line stops with fault 35, after a prefix of its full output.
+pub mod ExhaustedLines
+-- If their budget is too small, groups and units stop with fault 35, after a prefix of their full output.
+pub mod ExhaustedGroups
+-- The value of a unit with a budget is a prefix of its value without a budget or with a larger one.
+pub mod BudgetPrefixes
 -- Without a budget no line ends in fault 35.
-pub mod RefusingLines
+pub mod UnlimitedLines
 -- Without a budget no unit ends in fault 35.
-pub mod Refusing
--- The directives of the control lines that open no file and do not refuse.
-pub mod ControlKinds
--- Over files of which each is known, a unit gives something.
-pub mod SomeUnit
+pub mod UnlimitedUnits
+-- The class of control lines that open no file, except `#error` and lines without effect.
+pub mod ControlClasses
+-- If the content of each file is known, a unit has a value.
+pub mod UnitExistence

@@ -1,4 +1,4 @@
--- The message of `#error` and the name of an include line, token by token: `first` says that none stands before.
+-- The message of `#error` and the name of an include line, token by token. `first` is true for the first token.
 use Rattle.std.proofs.Common.{◌≡◌, ◌∙◌, refl, sym, ap, ℕ, suc, ◌+◌, ◌<◌, ◌==◌, Bool, true, false, not, ◌&&◌, if◌then◌else◌}
 use Rattle.std.proofs.Common.{List, [], ◌∷◌, ◌++◌, length, get_or, drop, flat_map, Option, None, Some, codes, arith, add-one, append_assoc, drop-cons}
 use Rattle.std.proofs.lemmas.Bool.Decides.{nat_tests}
@@ -34,9 +34,9 @@ told_behind : (ts : List Token) → probe_result false ts ≡ flat_map spaced ts
 told_behind [] = refl
 told_behind (t ∷ ts) = behind_mark t.space t.text (probe_result false ts) ∙ ap (λ (z : List ℕ). spaced t ++ z) (told_behind ts)
 
-pub told_message : (ts : List Token) → probe_result true ts ≡ message ts
-told_message [] = refl
-told_message (t ∷ ts) = ap (λ (z : List ℕ). z ++ (t.text ++ probe_result false ts)) (unmarked t.space) ∙ ap (λ (z : List ℕ). t.text ++ z) (told_behind ts)
+pub message_is : (ts : List Token) → probe_result true ts ≡ message ts
+message_is [] = refl
+message_is (t ∷ ts) = ap (λ (z : List ℕ). z ++ (t.text ++ probe_result false ts)) (unmarked t.space) ∙ ap (λ (z : List ℕ). t.text ++ z) (told_behind ts)
 
 -- ---- the name
 
@@ -44,7 +44,7 @@ abbrev pub named : Bool → List Token → Option (List ℕ)
 named first [] = None
 named first (t ∷ ts) = if is_punct (codes ">") t then ended (spelled_space first t) ts else prefixed (spelled_space first t ++ t.text) (named false ts)
 
--- a name from its first token on, by the space before that
+-- the rest of a name from the token t on, with this space before t
 abbrev from : Token → List Token → Option (List ℕ) → List ℕ → Option (List ℕ)
 from t ts more space = if is_punct (codes ">") t then ended space ts else prefixed (space ++ t.text) more
 
@@ -62,7 +62,7 @@ prefixed_twice : (a b c : List ℕ) (more : Option (List ℕ)) → prefixed ((a 
 prefixed_twice a b c None = refl
 prefixed_twice a b c (Some more) = ap Some (simp append_assoc)
 
--- one token more, which is no `>`
+-- one more token, if it is not `>`
 pub named_more : (ts : List Token) (i : ℕ) (t : Token) (name longer : List ℕ)
     → i < length ts
     → t ≡ get_or ts i t

@@ -1,11 +1,11 @@
--- Where a text run ends.
+-- The end of a text run.
 use Rattle.std.proofs.Common.{◌≡◌, ℕ, ◌+◌, ◌<◌, ◌≤◌, List, [], ◌∷◌, ◌++◌, length, drop, refl, sym, ◌∙◌, subst, arith, add-one}
 use Rattle.std.specs.List.{AllByRecursion}
 use Rattle.pptext.specs.Lines.{LogicalLine}
 use Rattle.ppunit.specs.code.Walk.{line_at, IsTextLine, IsRest}
 use Rattle.ppunit.proofs.IndexedLines.{at_index, from_index}
 
--- as far as the text lines go that have been passed
+-- loop invariant: the lines from `start` up to `end` are lines of the text run
 pub record RunSoFar (lines : List LogicalLine) (start end : ℕ) : Type 0 where
   pub within : end ≤ length lines
   pub from : start ≤ end

@@ -6,16 +6,16 @@ use Rattle.pptext.specs.Lines.{LogicalLine}
 use Rattle.pptext.specs.Sources.{next_branch}
 use Rattle.pptext.specs.Tree.{GroupParts, Done, Branches, End, Branch, part_lines, branch_lines, AreGroupParts, AreBranches, role, role_by, branch_after}
 use Rattle.pptext.specs.Classes.{ends_group}
-use Rattle.pptext.proofs.Walks.{next_within, next_of_branch, next_of_end, next_behind}
-use Rattle.ppunit.specs.States.{State, Context, going}
+use Rattle.pptext.proofs.NextBranchFacts.{next_within, next_of_branch, next_of_end, next_behind}
+use Rattle.ppunit.specs.States.{State, Context, running}
 use Rattle.ppunit.specs.Group.{Group}
 use Rattle.ppshelf.specs.Files.{Files}
-use Rattle.ppunit.specs.code.Walk.{line_at, Outer, lay, StandsAt, Advances}
+use Rattle.ppunit.specs.code.Walk.{line_at, Outer, lay, HasPartsAt, Advances}
 use Rattle.ppunit.proofs.IndexedLines.{at_index, drop_further}
-use Rattle.ppunit.proofs.FirstLine.{Differs, ending_role, First, text, control, opening, ending}
-use Rattle.ppunit.proofs.Advancing.{AdvancesFrom, first_at}
+use Rattle.ppunit.proofs.FirstLineCases.{Differs, ending_role, First, text, control, opening, ending}
+use Rattle.ppunit.proofs.WalkSteps.{AdvancesFrom, first_at}
 
--- ---- the end of a section
+-- ---- the end of an if-section
 
 pub branches_next : (lines : List LogicalLine) (index : ℕ) (r : LogicalLine) (ps qs : GroupParts) (bs : Branches) (last : Bool) (rest : List LogicalLine)
     → drop index lines ≡ r ∷ (part_lines ps ++ (branch_lines bs ++ rest))
@@ -103,13 +103,13 @@ end_by : (context : Files → Context) (files : Files) (depth row : ℕ) (lines 
     (k : Outer)
     → Differs (line_at lines index)
     → First (line_at lines index) ps k
-    → StandsAt lines index ps k
+    → HasPartsAt lines index ps k
     → ((last : Bool) (bs : Branches) (rest : List LogicalLine) → drop index lines ≡ branch_lines bs ++ rest → AreBranches last bs → drop next lines
     ≡ rest)
     → AdvancesFrom context files depth row lines s s (Ok next) ps k
 end_by context files depth row lines index next s Done ((bs, qs) ∷ k) differs (ending other) stands over =
     let outer = stands.outer in
-    (qs, k, record { rest = over outer.0.0 bs (lay qs k) stands.rest outer.0.1; parts = outer.1; outer = outer.2 }, λ more grows end rest. (going s, Group.no_parts, rest))
+    (qs, k, record { rest = over outer.0.0 bs (lay qs k) stands.rest outer.0.1; parts = outer.1; outer = outer.2 }, λ more grows end rest. (running s, Group.no_parts, rest))
 end_by context files depth row lines index next s ps k differs (text same) stands over = absurd (differs.not_text same)
 end_by context files depth row lines index next s ps k differs (control same other) stands over = absurd (differs.not_control other)
 end_by context files depth row lines index next s ps k differs (opening same other) stands over = absurd (differs.not_opening other)

@@ -5,14 +5,14 @@ use Rattle.std.specs.List.{AllByRecursion}
 use Rattle.pptext.specs.declared.tokens.Fault.{Fault}
 use Rattle.pptext.specs.Lines.{LogicalLine}
 use Rattle.pptext.specs.Tree.{GroupParts, Done, TextLines, Control, Section, End, Branch, part_lines, branch_lines, BeginsTextLines, AreGroupParts, role, role_by}
-use Rattle.ppunit.specs.States.{State, Context, going}
+use Rattle.ppunit.specs.States.{State, Context, running}
 use Rattle.ppunit.specs.Group.{Group}
 use Rattle.ppunit.specs.Directives.{EmitsText}
 use Rattle.ppunit.specs.DirectiveLines.{text_tokens}
 use Rattle.ppshelf.specs.Files.{Files}
-use Rattle.ppunit.specs.code.Walk.{line_at, Outer, lay, AreOuter, StandsAt, Advances, IsTextLine, IsRest}
-use Rattle.ppunit.proofs.FirstLine.{lay_run, text_directive, branches_differ, First, text, control, opening, ending}
-use Rattle.ppunit.proofs.Advancing.{ends_front, ends_stop, AdvancesFrom, advances, first_at, run_result}
+use Rattle.ppunit.specs.code.Walk.{line_at, Outer, lay, AreOuter, HasPartsAt, Advances, IsTextLine, IsRest}
+use Rattle.ppunit.proofs.FirstLineCases.{lay_run, text_directive, branches_differ, First, text, control, opening, ending}
+use Rattle.ppunit.proofs.WalkSteps.{ends_front, ends_stop, AdvancesFrom, advances, first_at, run_result}
 
 text_lines : (rs : List LogicalLine) → AllByRecursion (λ r. role r ≡ role_by None) rs → AllByRecursion IsTextLine rs
 text_lines [] all = tt
@@ -45,7 +45,7 @@ run_by : (context : Files → Context) (files : Files) (depth row : ℕ) (lines 
     (ps : GroupParts) (k : Outer)
     → role (line_at lines index) ≡ role_by None
     → First (line_at lines index) ps k
-    → StandsAt lines index ps k
+    → HasPartsAt lines index ps k
     → RunOf lines index end
     → EmitsText s (text_tokens (take (end - index) (drop index lines))) (record { state = t; fault = f })
     → (rs : List LogicalLine) × (qs : GroupParts) × (ps ≡ TextLines rs qs) × (drop end lines ≡ lay qs k) × EmitsText s (text_tokens rs)
@@ -67,9 +67,9 @@ run_on : (context : Files → Context) (files : Files) (depth row : ℕ) (lines 
     → EmitsText s (text_tokens rs) (record { state = t; fault = f })
     → AdvancesFrom context files depth row lines s t (run_result end f) (TextLines rs qs) k
 run_on context files depth row lines index end s t None rs qs k are outer there gives =
-    (qs, k, record { rest = there; parts = are; outer = outer }, λ more grows last rest. ends_front (context more) depth row (going s) (going t) (TextLines rs qs) qs k last (λ o g. Group.text_lines gives g) rest)
+    (qs, k, record { rest = there; parts = are; outer = outer }, λ more grows last rest. ends_front (context more) depth row (running s) (running t) (TextLines rs qs) qs k last (λ o g. Group.text_lines gives g) rest)
 run_on context files depth row lines index end s t (Some f) rs qs k are outer there gives =
-    λ more grows. ends_stop (context more) depth row (going s) t f (TextLines rs qs) k (Group.text_lines gives Group.already_stopped)
+    λ more grows. ends_stop (context more) depth row (running s) t f (TextLines rs qs) k (Group.text_lines gives Group.already_stopped)
 
 pub run_advances : (context : Files → Context) (files : Files) (depth row : ℕ) (lines : List LogicalLine) (index end : ℕ) (s t : State)
     (f : Option Fault)

@@ -1,11 +1,11 @@
 -- The file that holds a unit's definitions.
 use Rattle.std.specs.Prelude.{ℕ, List, ◌∷◌, ◌++◌, [], codes, flat_map}
 use Rattle.pptext.specs.declared.sources.Profile.{Profile}
-use Rattle.ppshelf.specs.Files.{most_rows}
+use Rattle.ppshelf.specs.Files.{max_rows}
 
 -- the index of the file that holds a unit's definitions: no file table has it
 abbrev pub command_file : ℕ
-command_file = most_rows
+command_file = max_rows
 
 abbrev pub command_line : List ℕ → List ℕ
 command_line text = codes "#define " ++ text ++ 10 ∷ []

@@ -13,14 +13,14 @@ use Rattle.pptext.specs.Lines.{LogicalLine}
 use Rattle.pptext.specs.Tree.{hash_place, GroupParts, Branches}
 use Rattle.ppexpand.specs.Expansion.{count_expansion}
 use Rattle.ppexpr.specs.Conditions.{count_condition}
-use Rattle.ppunit.specs.States.{Search, search_of, State, Context, Reached}
+use Rattle.ppunit.specs.States.{Search, search_of, State, Context, Progress}
 use Rattle.ppunit.specs.DirectiveLines.{operands}
 use Rattle.ppunit.specs.Quotes.{unmatched_quote}
 use Rattle.ppunit.specs.Probing.{condition_tokens}
 use Rattle.ppunit.specs.Including.{IncludeName, begins_with_header}
 use Rattle.ppunit.specs.Conditions.{DecidesOf, DecidesBy, DecidesUnless, Decides}
-use Rattle.ppunit.specs.Directives.{NamesHeaderBy, NamesHeader, ControlBy}
-use Rattle.ppunit.specs.Group.{Group, Branched, Controls, ExecutesInclude, Opened}
+use Rattle.ppunit.specs.Directives.{NamesHeaderBy, NamesHeader, ExecutesDirective}
+use Rattle.ppunit.specs.Group.{Group, Branched, ExecutesControlLine, ExecutesInclude, Opened}
 
 -- ---- lines: the replacements in their operands
 
@@ -59,8 +59,8 @@ count_names_header_by false s line remaining_after include_name h = count_expans
 abbrev pub count_names_header : (s : State) (line : List Token) (remaining_after : Option ℕ) (include_name : Result IncludeName Fault) → NamesHeader s line remaining_after include_name → ℕ
 count_names_header s line remaining_after include_name h = count_names_header_by (begins_with_header (operands line)) s line remaining_after include_name h
 
-abbrev pub count_control_by : (profile : Profile) (row : ℕ) (d : Option Directive) (s : State) (line : LogicalLine) (m : Reached)
-    → ControlBy profile row d s line m
+abbrev pub count_control_by : (profile : Profile) (row : ℕ) (d : Option Directive) (s : State) (line : LogicalLine) (m : Progress)
+    → ExecutesDirective profile row d s line m
     → ℕ
 count_control_by profile row (Some Line) s line m h = count_expansion h.expands
 count_control_by profile row _ s line m h = 0
@@ -68,7 +68,7 @@ count_control_by profile row _ s line m h = 0
 -- ---- groups: their lines, and the files that they include
 
 abbrev mutual
-  pub count_group : {context : Context} {depth row : ℕ} {r : Reached} {ps : GroupParts} {end : Reached} → Group context depth row r ps end → ℕ
+  pub count_group : {context : Context} {depth row : ℕ} {r : Progress} {ps : GroupParts} {end : Progress} → Group context depth row r ps end → ℕ
   count_group Group.already_stopped = 0
   count_group Group.no_parts = 0
   count_group (Group.text_lines gives rest) = count_expansion gives.expands + count_group rest
@@ -79,10 +79,10 @@ abbrev mutual
       count_decides (search_of context) row s line remaining_after (Ok false) decides + (count_branched here + count_group rest)
   count_group {context} {depth} {row} (Group.condition_fault {s = s} {line = line} {remaining_after = remaining_after} {f = f} decides) = count_decides (search_of context) row s line remaining_after (Err f) decides
 
-  pub count_branched : {context : Context} {depth row : ℕ} {s : State} {bs : Branches} {m : Reached}
+  pub count_branched : {context : Context} {depth row : ℕ} {s : State} {bs : Branches} {m : Progress}
       → Branched context depth row s bs m
       → ℕ
-  count_branched Branched.ended = 0
+  count_branched Branched.no_branch_taken = 0
   count_branched (Branched.else_group is here) = count_group here
   count_branched {context} {depth} {row} (Branched.branch_taken {s = s} {line = line} {remaining_after = remaining_after} is decides here) =
       count_decides (search_of context) row s line remaining_after (Ok true) decides + count_group here
@@ -90,25 +90,25 @@ abbrev mutual
       count_decides (search_of context) row s line remaining_after (Ok false) decides + count_branched rest
   count_branched {context} {depth} {row} (Branched.branch_condition_fault {s = s} {line = line} {remaining_after = remaining_after} {f = f} is decides) = count_decides (search_of context) row s line remaining_after (Err f) decides
 
-  pub count_control : {context : Context} {depth row : ℕ} {s : State} {line : LogicalLine} {m : Reached}
-      → Controls context depth row s line m
+  pub count_control : {context : Context} {depth row : ℕ} {s : State} {line : LogicalLine} {m : Progress}
+      → ExecutesControlLine context depth row s line m
       → ℕ
-  count_control (Controls.error is) = 0
-  count_control (Controls.ignored is) = 0
-  count_control (Controls.quote is q) = 0
-  count_control {context} {depth} {row} (Controls.other {s = s} {line = line} {m = m} q does) =
+  count_control (ExecutesControlLine.error is) = 0
+  count_control (ExecutesControlLine.ignored is) = 0
+  count_control (ExecutesControlLine.quote_fault is q) = 0
+  count_control {context} {depth} {row} (ExecutesControlLine.executed {s = s} {line = line} {m = m} q does) =
       count_control_by context.profile row line.directive s line m does
-  count_control (Controls.include is q here) = count_includes here
+  count_control (ExecutesControlLine.include is q here) = count_includes here
 
-  pub count_includes : {context : Context} {depth row : ℕ} {search_after : Option ℕ} {s : State} {line : LogicalLine} {m : Reached}
-      → ExecutesInclude context depth row search_after s line m
+  pub count_includes : {context : Context} {depth row : ℕ} {previous_directory : Option ℕ} {s : State} {line : LogicalLine} {m : Progress}
+      → ExecutesInclude context depth row previous_directory s line m
       → ℕ
   count_includes (ExecutesInclude.operand_fault {s = s} {line = line} {remaining_after = remaining_after} {f = f} asks) = count_names_header s line.tokens remaining_after (Err f) asks
   count_includes (ExecutesInclude.missing {s = s} {line = line} {remaining_after = remaining_after} a asks finds) = count_names_header s line.tokens remaining_after (Ok a) asks
   count_includes (ExecutesInclude.included {s = s} {line = line} {remaining_after = remaining_after} a found asks finds opens) =
       count_names_header s line.tokens remaining_after (Ok a) asks + count_opened opens
 
-  pub count_opened : {context : Context} {depth row : ℕ} {directory : Option ℕ} {at : Place} {s : State} {m : Reached}
+  pub count_opened : {context : Context} {depth row : ℕ} {directory : Option ℕ} {at : Place} {s : State} {m : Progress}
       → Opened context depth at s row directory m
       → ℕ
   count_opened (Opened.too_deep deep) = 0

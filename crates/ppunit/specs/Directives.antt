@@ -20,21 +20,21 @@ use Rattle.ppexpand.specs.Expansion.{IsExpansion}
 use Rattle.ppshelf.specs.Names.{name_in}
 use Rattle.ppshelf.specs.Search.{Candidate, candidates, candidates_after, IsFirstRow}
 use Rattle.ppunit.specs.declared.units.Item.TheVariants as item
-use Rattle.ppunit.specs.States.{State, Context, Reached, going, stopped, emitted, with_once, with_remaining}
+use Rattle.ppunit.specs.States.{State, Context, Progress, running, stopped, emitted, with_once, with_remaining}
 use Rattle.ppunit.specs.DirectiveLines.{operands, line_fault, named_fault, spaced}
 use Rattle.ppunit.specs.LineControl.{Presumed, presumed, renumbered}
 use Rattle.ppunit.specs.Including.{IncludeName, begins_with_header, name_of_header, name_or, name_of_expansion_or, if_possible_name}
 
 -- consecutive text lines emit their expansion (6.10.3), up to its first fault
-pub record EmitsText (s : State) (tokens : List Token) (r : Reached) : Type 0 where
+pub record EmitsText (s : State) (tokens : List Token) (r : Progress) : Type 0 where
   pub expanded : Expanded
   pub expands : IsExpansion s.macros s.env s.remaining tokens expanded
   pub is : r ≡ record { state = emitted (with_remaining s expanded.remaining) (map item.Token expanded.tokens); fault = expanded.fault }
 
 -- ---- `#define`, `#undef`
 
-abbrev pub with_macros : State → Result Macros Fault → Reached
-with_macros s (Ok macros) = going (record s { macros = macros })
+abbrev pub with_macros : State → Result Macros Fault → Progress
+with_macros s (Ok macros) = running (record s { macros = macros })
 with_macros s (Err f) = stopped s f
 
 -- ---- `#error` (6.10.5)
@@ -46,15 +46,15 @@ message (t ∷ ts) = t.text ++ flat_map spaced ts
 
 -- ---- `#line` (6.10.4)
 
-abbrev pub renumbered_by : State → LogicalLine → Option Fault → Option Presumed → Reached
+abbrev pub renumbered_by : State → LogicalLine → Option Fault → Option Presumed → Progress
 renumbered_by s line (Some f) p = stopped s f
 renumbered_by s line None None = stopped s (line_fault 33 line.tokens [])
-renumbered_by s line None (Some p) = going (renumbered s line p)
+renumbered_by s line None (Some p) = running (renumbered s line p)
 
-pub record SetsLine (s : State) (line : LogicalLine) (reached : Reached) : Type 0 where
+pub record SetsLine (s : State) (line : LogicalLine) (progress : Progress) : Type 0 where
   pub expanded : Expanded
   pub expands : IsExpansion s.macros s.env s.remaining (operands line.tokens) expanded
-  pub is : reached ≡ renumbered_by (with_remaining s expanded.remaining) line expanded.fault (presumed expanded.tokens)
+  pub is : progress ≡ renumbered_by (with_remaining s expanded.remaining) line expanded.fault (presumed expanded.tokens)
 
 -- ---- `#include` (6.10.2)
 
@@ -84,7 +84,7 @@ candidates_for context from (Some number) a = candidates_after number context.un
 -- the index of the file that is found for the header, if there is one, and the number of the directory in which it is
 -- found
 abbrev pub FindsFile : Context → ℕ → Option ℕ → IncludeName → Option (ℕ × ℕ) → Type 0
-FindsFile context from search_after a found = IsFirstRow context.names (candidates_for context from search_after a) found
+FindsFile context from previous_directory a found = IsFirstRow context.names (candidates_for context from previous_directory a) found
 
 -- ---- `#pragma` (6.10.6)
 
@@ -104,20 +104,20 @@ pragma_emitted profile row s line = noting_pragma_once profile row (operands lin
 
 -- An unmatched quote is a fault of each line except `#error`, whose tokens are a message, and lines without effect,
 -- whatever their tokens are.
-abbrev pub looks_at_quotes : Option Class → Bool
-looks_at_quotes (Some class.Error) = false
-looks_at_quotes (Some class.Ignored) = false
-looks_at_quotes _ = true
+abbrev pub checks_quotes : Option Class → Bool
+checks_quotes (Some class.Error) = false
+checks_quotes (Some class.Ignored) = false
+checks_quotes _ = true
 
 -- a control line without unmatched quotes that includes no file, in the file at index `row`
-abbrev pub ControlBy : Profile → ℕ → Option Directive → State → LogicalLine → Reached → Type 0
-ControlBy profile row (Some Null) s line reached = reached ≡ going s
-ControlBy profile row (Some Define) s line reached = reached ≡ with_macros s (after_define profile s.macros (hash_place line.tokens) (operands line.tokens))
-ControlBy profile row (Some Undef) s line reached = reached ≡ with_macros s (after_undef profile s.macros (hash_place line.tokens) (operands line.tokens))
-ControlBy profile row (Some Line) s line reached = SetsLine s line reached
-ControlBy profile row (Some Pragma) s line reached = reached ≡ going (pragma_emitted profile row s line.tokens)
-ControlBy profile row (Some Unknown) s line reached = reached ≡ stopped s (named_fault 8 line.tokens)
-ControlBy _ _ _ s line reached = ⊥
+abbrev pub ExecutesDirective : Profile → ℕ → Option Directive → State → LogicalLine → Progress → Type 0
+ExecutesDirective profile row (Some Null) s line progress = progress ≡ running s
+ExecutesDirective profile row (Some Define) s line progress = progress ≡ with_macros s (after_define profile s.macros (hash_place line.tokens) (operands line.tokens))
+ExecutesDirective profile row (Some Undef) s line progress = progress ≡ with_macros s (after_undef profile s.macros (hash_place line.tokens) (operands line.tokens))
+ExecutesDirective profile row (Some Line) s line progress = SetsLine s line progress
+ExecutesDirective profile row (Some Pragma) s line progress = progress ≡ running (pragma_emitted profile row s line.tokens)
+ExecutesDirective profile row (Some Unknown) s line progress = progress ≡ stopped s (named_fault 8 line.tokens)
+ExecutesDirective _ _ _ s line progress = ⊥
 
 -- the control lines that open no file, except `#error` and those without effect
 abbrev pub IsControl : Directive → Type 0

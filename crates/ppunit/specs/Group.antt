@@ -15,57 +15,57 @@ use Rattle.ppshelf.specs.Content.{unreadable, readable}
 use Rattle.ppshelf.specs.Files.{file_at}
 use Rattle.ppshelf.specs.Names.{name_in}
 use Rattle.ppunit.specs.Dependencies.{has_row}
-use Rattle.ppunit.specs.States.{State, Context, search_of, Reached, going, stopped, with_dependency, entering, leaving, with_remaining, with_one_spent}
+use Rattle.ppunit.specs.States.{State, Context, search_of, Progress, running, stopped, with_dependency, entering, leaving, with_remaining, with_one_spent}
 use Rattle.ppunit.specs.DirectiveLines.{operands, line_fault, text_tokens}
 use Rattle.ppunit.specs.Quotes.{unmatched_quote}
 use Rattle.ppunit.specs.Conditions.{Decides}
 use Rattle.ppunit.specs.Including.{IncludeName}
-use Rattle.ppunit.specs.Directives.{EmitsText, ControlBy, NamesHeader, FindsFile, message, looks_at_quotes}
+use Rattle.ppunit.specs.Directives.{EmitsText, ExecutesDirective, NamesHeader, FindsFile, message, checks_quotes}
 
--- the largest depth of an included file
-abbrev pub deepest : ℕ
-deepest = 200
+-- the largest include depth (5.2.4.1 requires at least 15)
+abbrev pub depth_limit : ℕ
+depth_limit = 200
 
 mutual
   -- A group in the file at index `row`, at an include depth. After its first fault a unit does nothing more.
-  pub data Group (context : Context) : ℕ → ℕ → Reached → GroupParts → Reached → Type 0 where
+  pub data Group (context : Context) : ℕ → ℕ → Progress → GroupParts → Progress → Type 0 where
     already_stopped : {depth row : ℕ} {s : State} {f : Fault} {ps : GroupParts} → Group context depth row (stopped s f) ps (stopped s f)
-    no_parts : {depth row : ℕ} {s : State} → Group context depth row (going s) Done (going s)
-    text_lines : {depth row : ℕ} {s : State} {lines : List LogicalLine} {ps : GroupParts} {m end : Reached}
+    no_parts : {depth row : ℕ} {s : State} → Group context depth row (running s) Done (running s)
+    text_lines : {depth row : ℕ} {s : State} {lines : List LogicalLine} {ps : GroupParts} {m end : Progress}
         → EmitsText s (text_tokens lines) m
         → Group context depth row m ps end
-        → Group context depth row (going s) (TextLines lines ps) end
-    control : {depth row : ℕ} {s : State} {line : LogicalLine} {ps : GroupParts} {m end : Reached}
-        → Controls context depth row s line m
+        → Group context depth row (running s) (TextLines lines ps) end
+    control : {depth row : ℕ} {s : State} {line : LogicalLine} {ps : GroupParts} {m end : Progress}
+        → ExecutesControlLine context depth row s line m
         → Group context depth row m ps end
-        → Group context depth row (going s) (Control line ps) end
-    taken : {depth row : ℕ} {s : State} {line : LogicalLine} {ps qs : GroupParts} {bs : Branches} {remaining_after : Option ℕ} {m end : Reached}
+        → Group context depth row (running s) (Control line ps) end
+    taken : {depth row : ℕ} {s : State} {line : LogicalLine} {ps qs : GroupParts} {bs : Branches} {remaining_after : Option ℕ} {m end : Progress}
         → Decides (search_of context) row s line remaining_after (Ok true)
-        → Group context depth row (going (with_remaining s remaining_after)) ps m
+        → Group context depth row (running (with_remaining s remaining_after)) ps m
         → Group context depth row m qs end
-        → Group context depth row (going s) (Section line ps bs qs) end
-    skipped : {depth row : ℕ} {s : State} {line : LogicalLine} {ps qs : GroupParts} {bs : Branches} {remaining_after : Option ℕ} {m end : Reached}
+        → Group context depth row (running s) (Section line ps bs qs) end
+    skipped : {depth row : ℕ} {s : State} {line : LogicalLine} {ps qs : GroupParts} {bs : Branches} {remaining_after : Option ℕ} {m end : Progress}
         → Decides (search_of context) row s line remaining_after (Ok false)
         → Branched context depth row (with_remaining s remaining_after) bs m
         → Group context depth row m qs end
-        → Group context depth row (going s) (Section line ps bs qs) end
+        → Group context depth row (running s) (Section line ps bs qs) end
     condition_fault : {depth row : ℕ} {s : State} {line : LogicalLine} {ps qs : GroupParts} {bs : Branches} {remaining_after : Option ℕ} {f : Fault}
         → Decides (search_of context) row s line remaining_after (Err f)
-        → Group context depth row (going s) (Section line ps bs qs) (stopped (with_remaining s remaining_after) f)
+        → Group context depth row (running s) (Section line ps bs qs) (stopped (with_remaining s remaining_after) f)
 
   -- the branches of an if-section, up to the first that is taken (6.10.1)
-  pub data Branched (context : Context) : ℕ → ℕ → State → Branches → Reached → Type 0 where
-    ended : {depth row : ℕ} {s : State} {line : LogicalLine} → Branched context depth row s (End line) (going s)
-    else_group : {depth row : ℕ} {s : State} {line : LogicalLine} {ps : GroupParts} {bs : Branches} {m : Reached}
+  pub data Branched (context : Context) : ℕ → ℕ → State → Branches → Progress → Type 0 where
+    no_branch_taken : {depth row : ℕ} {s : State} {line : LogicalLine} → Branched context depth row s (End line) (running s)
+    else_group : {depth row : ℕ} {s : State} {line : LogicalLine} {ps : GroupParts} {bs : Branches} {m : Progress}
         → line.directive ≡ Some Else
-        → Group context depth row (going s) ps m
+        → Group context depth row (running s) ps m
         → Branched context depth row s (Branch line ps bs) m
-    branch_taken : {depth row : ℕ} {s : State} {line : LogicalLine} {ps : GroupParts} {bs : Branches} {remaining_after : Option ℕ} {m : Reached}
+    branch_taken : {depth row : ℕ} {s : State} {line : LogicalLine} {ps : GroupParts} {bs : Branches} {remaining_after : Option ℕ} {m : Progress}
         → line.directive ≢ Some Else
         → Decides (search_of context) row s line remaining_after (Ok true)
-        → Group context depth row (going (with_remaining s remaining_after)) ps m
+        → Group context depth row (running (with_remaining s remaining_after)) ps m
         → Branched context depth row s (Branch line ps bs) m
-    branch_skipped : {depth row : ℕ} {s : State} {line : LogicalLine} {ps : GroupParts} {bs : Branches} {remaining_after : Option ℕ} {m : Reached}
+    branch_skipped : {depth row : ℕ} {s : State} {line : LogicalLine} {ps : GroupParts} {bs : Branches} {remaining_after : Option ℕ} {m : Progress}
         → line.directive ≢ Some Else
         → Decides (search_of context) row s line remaining_after (Ok false)
         → Branched context depth row (with_remaining s remaining_after) bs m
@@ -76,81 +76,81 @@ mutual
         → Branched context depth row s (Branch line ps bs) (stopped (with_remaining s remaining_after) f)
 
   -- A control line. `#include_next` searches the directories after the one in which the file of this line was found. In the
-  -- unit's own file it searches as `#include` does.
-  pub data Controls (context : Context) : ℕ → ℕ → State → LogicalLine → Reached → Type 0 where
+  -- main file it searches as `#include` does.
+  pub data ExecutesControlLine (context : Context) : ℕ → ℕ → State → LogicalLine → Progress → Type 0 where
     error : {depth row : ℕ} {s : State} {line : LogicalLine}
         → class_by line.directive ≡ Some class.Error
-        → Controls context depth row s line (stopped s (line_fault 34 line.tokens (message (operands line.tokens))))
+        → ExecutesControlLine context depth row s line (stopped s (line_fault 34 line.tokens (message (operands line.tokens))))
     ignored : {depth row : ℕ} {s : State} {line : LogicalLine}
         → class_by line.directive ≡ Some class.Ignored
-        → Controls context depth row s line (going s)
-    quote : {depth row : ℕ} {s : State} {line : LogicalLine} {f : Fault}
-        → looks_at_quotes (class_by line.directive) ≡ true
+        → ExecutesControlLine context depth row s line (running s)
+    quote_fault : {depth row : ℕ} {s : State} {line : LogicalLine} {f : Fault}
+        → checks_quotes (class_by line.directive) ≡ true
         → unmatched_quote line.tokens ≡ Some f
-        → Controls context depth row s line (stopped s f)
-    other : {depth row : ℕ} {s : State} {line : LogicalLine} {m : Reached}
+        → ExecutesControlLine context depth row s line (stopped s f)
+    executed : {depth row : ℕ} {s : State} {line : LogicalLine} {m : Progress}
         → unmatched_quote line.tokens ≡ None
-        → ControlBy context.profile row line.directive s line m
-        → Controls context depth row s line m
-    include : {depth row : ℕ} {next : Bool} {s : State} {line : LogicalLine} {m : Reached}
-        → class_by line.directive ≡ Some (class.Includes next)
+        → ExecutesDirective context.profile row line.directive s line m
+        → ExecutesControlLine context depth row s line m
+    include : {depth row : ℕ} {include_next : Bool} {s : State} {line : LogicalLine} {m : Progress}
+        → class_by line.directive ≡ Some (class.Includes include_next)
         → unmatched_quote line.tokens ≡ None
-        → ExecutesInclude context depth row (if next then s.directory else None) s line m
-        → Controls context depth row s line m
+        → ExecutesInclude context depth row (if include_next then s.directory else None) s line m
+        → ExecutesControlLine context depth row s line m
 
-  -- An include line without unmatched quotes (6.10.2): its operands name no header or their expansion has a fault, or no file
+  -- An include line without unmatched quotes (6.10.2). Its operands name no header or their expansion has a fault, or no file
   -- is found for the header, or the file that is found is opened one level deeper. The search begins after the directory
-  -- with the number `search_after`, or at the first directory if there is none.
-  pub data ExecutesInclude (context : Context) : ℕ → ℕ → Option ℕ → State → LogicalLine → Reached → Type 0 where
-    operand_fault : {depth row : ℕ} {search_after : Option ℕ} {s : State} {line : LogicalLine} {remaining_after : Option ℕ} {f : Fault}
+  -- with the number `previous_directory`, or at the first directory if that is `None`.
+  pub data ExecutesInclude (context : Context) : ℕ → ℕ → Option ℕ → State → LogicalLine → Progress → Type 0 where
+    operand_fault : {depth row : ℕ} {previous_directory : Option ℕ} {s : State} {line : LogicalLine} {remaining_after : Option ℕ} {f : Fault}
         → NamesHeader s line.tokens remaining_after (Err f)
-        → ExecutesInclude context depth row search_after s line (stopped (with_remaining s remaining_after) f)
-    missing : {depth row : ℕ} {search_after : Option ℕ} {s : State} {line : LogicalLine} {remaining_after : Option ℕ} (a : IncludeName)
+        → ExecutesInclude context depth row previous_directory s line (stopped (with_remaining s remaining_after) f)
+    missing : {depth row : ℕ} {previous_directory : Option ℕ} {s : State} {line : LogicalLine} {remaining_after : Option ℕ} (a : IncludeName)
         → NamesHeader s line.tokens remaining_after (Ok a)
-        → FindsFile context row search_after a None
-        → ExecutesInclude context depth row search_after s line (stopped (with_remaining s remaining_after) (line_fault 31 line.tokens a.name))
-    included : {depth row : ℕ} {search_after : Option ℕ} {s : State} {line : LogicalLine} {remaining_after : Option ℕ} (a : IncludeName) (found : ℕ × ℕ) {m : Reached}
+        → FindsFile context row previous_directory a None
+        → ExecutesInclude context depth row previous_directory s line (stopped (with_remaining s remaining_after) (line_fault 31 line.tokens a.name))
+    included : {depth row : ℕ} {previous_directory : Option ℕ} {s : State} {line : LogicalLine} {remaining_after : Option ℕ} (a : IncludeName) (found : ℕ × ℕ) {m : Progress}
         → NamesHeader s line.tokens remaining_after (Ok a)
-        → FindsFile context row search_after a (Some found)
+        → FindsFile context row previous_directory a (Some found)
         → Opened context (suc depth) (hash_place line.tokens) (with_remaining s remaining_after) found.0 (Some found.1) m
-        → ExecutesInclude context depth row search_after s line m
+        → ExecutesInclude context depth row previous_directory s line m
 
   -- Opening the file at index `row`, for the line at location `at`. `directory` is the number of the directory in which
-  -- it was found; a unit's own file has none. The opening fails if it is too deep or the budget is exhausted. Otherwise
-  -- it costs one of the budget, and the file is a dependency. If `#pragma once` was executed in this
-  -- file before, nothing else happens. Otherwise its content is needed: if that isn't known, no constructor applies.
-  pub data Opened (context : Context) : ℕ → Place → State → ℕ → Option ℕ → Reached → Type 0 where
+  -- it was found; the main file has none. The opening fails if it is too deep or the budget is exhausted. Otherwise it
+  -- takes one from the budget, and the file is a dependency. If `#pragma once` was executed in this file before, nothing
+  -- else happens. Otherwise its content is needed: if the content is unknown, no rule applies.
+  pub data Opened (context : Context) : ℕ → Place → State → ℕ → Option ℕ → Progress → Type 0 where
     too_deep : {depth row : ℕ} {directory : Option ℕ} {at : Place} {s : State}
-        → deepest < depth
+        → depth_limit < depth
         → Opened context depth at s row directory (stopped s (fault 32 at (name_in context.names row)))
     exhausted : {depth row : ℕ} {directory : Option ℕ} {at : Place} {s : State}
-        → depth ≤ deepest
+        → depth ≤ depth_limit
         → is_exhausted s.remaining ≡ true
         → Opened context depth at s row directory (stopped s (fault 35 at []))
     not_read_again : {depth row : ℕ} {directory : Option ℕ} {at : Place} {s : State}
-        → depth ≤ deepest
+        → depth ≤ depth_limit
         → is_exhausted s.remaining ≡ false
         → has_row row s.once ≡ true
-        → Opened context depth at s row directory (going (with_dependency (with_one_spent s) row))
+        → Opened context depth at s row directory (running (with_dependency (with_one_spent s) row))
     not_readable : {depth row : ℕ} {directory : Option ℕ} {at : Place} {s : State}
-        → depth ≤ deepest
+        → depth ≤ depth_limit
         → is_exhausted s.remaining ≡ false
         → has_row row s.once ≡ false
         → file_at context.files row ≡ Some unreadable
         → Opened context depth at s row directory (stopped (with_dependency (with_one_spent s) row) (fault 6 at (name_in context.names row)))
     content_fault : {depth row : ℕ} {directory : Option ℕ} {at : Place} {s : State} {bytes : List ℕ} {f : Fault}
-        → depth ≤ deepest
+        → depth ≤ depth_limit
         → is_exhausted s.remaining ≡ false
         → has_row row s.once ≡ false
         → file_at context.files row ≡ Some (readable bytes)
         → Reads context.profile row bytes (Err f)
         → Opened context depth at s row directory (stopped (with_dependency (with_one_spent s) row) f)
-    read : {depth row : ℕ} {directory : Option ℕ} {at : Place} {s : State} {bytes : List ℕ} {lines : List LogicalLine} {parts : GroupParts} {m : Reached}
-        → depth ≤ deepest
+    read : {depth row : ℕ} {directory : Option ℕ} {at : Place} {s : State} {bytes : List ℕ} {lines : List LogicalLine} {parts : GroupParts} {m : Progress}
+        → depth ≤ depth_limit
         → is_exhausted s.remaining ≡ false
         → has_row row s.once ≡ false
         → file_at context.files row ≡ Some (readable bytes)
         → Reads context.profile row bytes (Ok lines)
         → Tree lines parts
-        → Group context depth row (going (entering context (with_one_spent s) row directory)) parts m
+        → Group context depth row (running (entering context (with_one_spent s) row directory)) parts m
         → Opened context depth at s row directory (leaving s m)

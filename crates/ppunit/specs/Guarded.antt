@@ -8,9 +8,9 @@ use Rattle.ppexpand.specs.Budget.{is_exhausted}
 use Rattle.ppshelf.specs.Names.{AreNames}
 use Rattle.ppshelf.specs.Content.{readable}
 use Rattle.ppshelf.specs.Files.{file_at}
-use Rattle.ppunit.specs.States.{State, Context, Reached, going, with_dependency, with_one_spent}
+use Rattle.ppunit.specs.States.{State, Context, Progress, running, with_dependency, with_one_spent}
 use Rattle.ppunit.specs.Conditions.{is_macro_name}
-use Rattle.ppunit.specs.Group.{deepest, Opened}
+use Rattle.ppunit.specs.Group.{depth_limit, Opened}
 use Rattle.ppunit.specs.Counts.{count_opened}
 
 -- opening a file whose guard is defined adds a dependency and spends one of the budget, and does nothing else, if the
@@ -18,28 +18,28 @@ use Rattle.ppunit.specs.Counts.{count_opened}
 abbrev pub GuardsLeaveOut : Type 0
 GuardsLeaveOut =
     (context : Context) (depth row : ℕ) (directory : Option ℕ) (at : Place) (s : State) (bytes : List ℕ) (lines : List LogicalLine) (x : List ℕ)
-    → depth ≤ deepest
+    → depth ≤ depth_limit
     → file_at context.files row ≡ Some (readable bytes)
     → Reads context.profile row bytes (Ok lines)
     → GuardedBy lines x
     → is_macro_name s.macros x ≡ true
     → is_exhausted s.remaining ≡ false
-    → (d : Opened context depth at s row directory (going (with_dependency (with_one_spent s) row))) × (count_opened d ≡ 1)
+    → (d : Opened context depth at s row directory (running (with_dependency (with_one_spent s) row))) × (count_opened d ≡ 1)
 
 -- and if file names are distinct, it has no other outcome
 abbrev pub GuardsOnlyLeaveOut : Type 0
 GuardsOnlyLeaveOut =
     (context : Context) (depth row : ℕ) (directory : Option ℕ) (at : Place) (s : State) (bytes : List ℕ) (lines : List LogicalLine) (x : List ℕ)
-    (end : Reached)
+    (end : Progress)
     → AreNames context.names
-    → depth ≤ deepest
+    → depth ≤ depth_limit
     → file_at context.files row ≡ Some (readable bytes)
     → Reads context.profile row bytes (Ok lines)
     → GuardedBy lines x
     → is_macro_name s.macros x ≡ true
     → is_exhausted s.remaining ≡ false
     → Opened context depth at s row directory end
-    → end ≡ going (with_dependency (with_one_spent s) row)
+    → end ≡ running (with_dependency (with_one_spent s) row)
 
 -- the lines are one if-section under a guard, and the guard is defined
 abbrev pub IsLeftOut : State → List LogicalLine → Type 0

@@ -78,7 +78,7 @@ pub record State : Type 0 where
   pub remaining : Option ℕ
   -- the values of the predefined names
   pub env : Env
-  -- the number of the directory in which the current file was found; a unit's own file has none
+  -- the number of the directory in which the current file was found; the main file has none
   pub directory : Option ℕ
 
 -- the context of the current file
@@ -89,25 +89,25 @@ file_context s = record { env = s.env; directory = s.directory }
 abbrev pub in_file_context : FileContext → State → State
 in_file_context c s = record s { env = c.env; directory = c.directory }
 
--- a unit continues, or has stopped at its first fault
-pub record Reached : Type 0 where
+-- a unit is still running, or has stopped at its first fault
+pub record Progress : Type 0 where
   pub state : State
   pub fault : Option Fault
 
-abbrev pub going : State → Reached
-going s = record { state = s; fault = None }
+abbrev pub running : State → Progress
+running s = record { state = s; fault = None }
 
-abbrev pub stopped : State → Fault → Reached
+abbrev pub stopped : State → Fault → Progress
 stopped s f = record { state = s; fault = Some f }
 
 abbrev pub emitted : State → List Item → State
 emitted s items = record s { items = s.items ++ items }
 
--- the file at index `row` is a dependency
+-- the state in which the file at index `row` is a dependency
 abbrev pub with_dependency : State → ℕ → State
 with_dependency s row = record s { deps = with_row row s.deps }
 
--- the file at index `row` isn't read again
+-- the state in which the file at index `row` isn't read again
 abbrev pub with_once : State → ℕ → State
 with_once s row = record s { once = with_row row s.once }
 
@@ -115,12 +115,12 @@ with_once s row = record s { once = with_row row s.once }
 abbrev pub with_remaining : State → Option ℕ → State
 with_remaining s remaining = record s { remaining = remaining }
 
--- one opened file is spent from the budget
+-- the state in which one is taken from the budget, for an opened file
 abbrev pub with_one_spent : State → State
 with_one_spent s = with_remaining s (spend_one s.remaining)
 
 -- the output of a unit
-abbrev pub output : Reached → UnitOut
+abbrev pub output : Progress → UnitOut
 output r = record { items = r.state.items; deps = r.state.deps; fault = r.fault }
 
 -- a name as a string literal
@@ -133,5 +133,5 @@ entering context s row directory =
     record (with_dependency s row) { env = record s.env { name = literal (name_in context.names row); shift = pos 0 }; directory = directory }
 
 -- after it the context of the including file is restored
-abbrev pub leaving : State → Reached → Reached
+abbrev pub leaving : State → Progress → Progress
 leaving s m = record m { state = in_file_context (file_context s) m.state }

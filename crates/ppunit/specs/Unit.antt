@@ -12,7 +12,7 @@ pub use Rattle.ppunit.specs.CommandFile.{CommandMacros, command_file, command_li
 use Rattle.ppunit.specs.declared.units.Unit.{Unit as UnitOfList}
 use Rattle.ppunit.specs.declared.units.Setting.{Setting}
 use Rattle.ppunit.specs.declared.units.UnitOut.{UnitOut}
-use Rattle.ppunit.specs.States.{State, Context, Reached, going, stopped, output}
+use Rattle.ppunit.specs.States.{State, Context, Progress, running, stopped, output}
 use Rattle.ppunit.specs.Group.{Group, Opened}
 use Rattle.ppunit.specs.Counts.{count_group, count_opened}
 
@@ -35,23 +35,23 @@ abbrev pub first_place : ℕ → Place
 first_place row = record { file = row; line = 1; col = 1 }
 
 -- phases 1 to 4 of a unit's definitions, before its file
-pub data Defines (context : Context) (defines : List (List ℕ)) : State → Reached → Type 0 where
+pub data Defines (context : Context) (defines : List (List ℕ)) : State → Progress → Type 0 where
   unread : {s : State} {f : Fault}
       → Reads context.profile command_file (command_text defines) (Err f)
       → Defines context defines s (stopped s f)
-  processed : {s : State} {lines : List LogicalLine} {parts : GroupParts} {m : Reached}
+  processed : {s : State} {lines : List LogicalLine} {parts : GroupParts} {m : Progress}
       → Reads context.profile command_file (command_text defines) (Ok lines)
       → Tree lines parts
-      → Group context 0 command_file (going s) parts m
+      → Group context 0 command_file (running s) parts m
       → Defines context defines s m
 
 -- the definitions, and then the unit's file
-pub data Translates (context : Context) (defines : List (List ℕ)) (row : ℕ) : State → Reached → Type 0 where
+pub data Translates (context : Context) (defines : List (List ℕ)) (row : ℕ) : State → Progress → Type 0 where
   definitions_fault : {s t : State} {f : Fault}
       → Defines context defines s (stopped t f)
       → Translates context defines row s (stopped t f)
-  translated : {s t : State} {m : Reached}
-      → Defines context defines s (going t)
+  translated : {s t : State} {m : Progress}
+      → Defines context defines s (running t)
       → Opened context 0 (first_place row) t row None m
       → Translates context defines row s m
 
@@ -65,11 +65,11 @@ IsUnitOf rows profile unit = (unit.file < rows) × (unit.defines.profile ≡ pro
 
 -- ---- the count
 
-abbrev pub count_defines : {context : Context} {defines : List (List ℕ)} {s : State} {m : Reached} → Defines context defines s m → ℕ
+abbrev pub count_defines : {context : Context} {defines : List (List ℕ)} {s : State} {m : Progress} → Defines context defines s m → ℕ
 count_defines (unread reads) = 0
 count_defines (processed reads tree here) = count_group here
 
-abbrev pub count_translates : {context : Context} {defines : List (List ℕ)} {row : ℕ} {s : State} {m : Reached}
+abbrev pub count_translates : {context : Context} {defines : List (List ℕ)} {row : ℕ} {s : State} {m : Progress}
     → Translates context defines row s m
     → ℕ
 count_translates (definitions_fault here) = count_defines here
@@ -79,11 +79,11 @@ count_translates (translated here opens) = count_defines here + count_opened ope
 
 -- the value of a unit over these files
 pub record IsUnit (names : List (List ℕ)) (files : Files) (setting : Setting) (unit : UnitOfList) (out : UnitOut) : Type 0 where
-  pub reached : Reached
-  pub translates : Translates (context_of_unit names files setting unit) unit.defines.texts unit.file (initial_state setting) reached
-  pub gives : out ≡ output reached
+  pub progress : Progress
+  pub translates : Translates (context_of_unit names files setting unit) unit.defines.texts unit.file (initial_state setting) progress
+  pub gives : out ≡ output progress
 
--- the number of replacements and opened files of a unit, its own file among them
+-- the number of replacements and opened files of a unit, including the main file
 abbrev pub count : {names : List (List ℕ)} {files : Files} {setting : Setting} {unit : UnitOfList} {out : UnitOut}
     → IsUnit names files setting unit out
     → ℕ

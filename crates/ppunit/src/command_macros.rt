@@ -4,14 +4,14 @@ ghost use Rattle.pptext.specs.Sources.{Reads};
 ghost use Rattle.ppshelf.specs.Content.{longest};
 ghost use Rattle.ppunit.specs.Unit.{command_file, command_text, command_line};
 
-use ppshelf::MOST_ROWS;
+use ppshelf::MAX_ROWS;
 use pptext::{Fault, Memory, OwnedTexts, Profile, Source, read_source, split_memory};
 use std::alloc::{AllocError, Global};
 use std::fmt;
 use std::marker::Model;
 
 /// The index of the file that holds a unit's definitions. No file table has it.
-pub(crate) const COMMAND_FILE: u32 = MOST_ROWS as u32;
+pub(crate) const COMMAND_FILE: u32 = MAX_ROWS as u32;
 
 /// The definitions of a unit, with the lines of the file that holds them or the fault of that file. Its model is the
 /// list of the definitions' texts, and the profile that the file is read with.

@@ -6,7 +6,7 @@ ghost use Rattle.ppunit.specs.Directives as spec;
 ghost use Rattle.ppunit.specs.DirectiveLines as spec_lines;
 ghost use Rattle.pptext.specs.Tree.{hash_place};
 ghost use Rattle.ppmacro.specs.Define.{after_define, after_undef};
-ghost use Rattle.ppunit.specs.States.{going};
+ghost use Rattle.ppunit.specs.States.{running};
 
 use crate::directive_line::{DirectiveLine, DirectiveTokens, line_fault, push_space};
 use crate::line_control::renumber;
@@ -39,7 +39,7 @@ pub(crate) fn emit_text<'x>(
 
 /// Returns the message of `#error` (6.10.5): the tokens, with one space where a token other than the first has leading
 /// white space.
-#[tactic(auto, using(crate::proofs::Messages::told_message))]
+#[tactic(auto, using(crate::proofs::Messages::message_is))]
 fn message(alloc: Global, tokens: &[Token]) -> Result<Vec<u8>, AllocError>
     ensures { IfOk result (λ m. m.items ≡ spec.message tokens.now) }
 {
@@ -79,7 +79,7 @@ fn pragma<'x>(
     row: usize,
     line: &DirectiveTokens<'x>,
 ) -> Result<(), Error>
-    ensures { UnlessOutOfMemory result (λ r. record { state = state.new; fault = result_err r } ≡ going (spec.pragma_emitted profile row state.old line.now)) }
+    ensures { UnlessOutOfMemory result (λ r. record { state = state.new; fault = result_err r } ≡ running (spec.pragma_emitted profile row state.old line.now)) }
 {
     let tokens = line.operands();
     state.emit_pragma(line.hash_place(), tokens)?;
@@ -158,7 +158,7 @@ fn control_any<'x>(
 ) -> Result<(), Error>
     requires { spec.IsControl line.directive }
     ensures { UnlessOutOfMemory result (λ r.
-        spec.ControlBy profile line.entry.row (Some line.entry.directive) state.old (spec_lines.directed line.entry.directive line.entry.tokens line.entry.number)
+        spec.ExecutesDirective profile line.entry.row (Some line.entry.directive) state.old (spec_lines.directed line.entry.directive line.entry.tokens line.entry.number)
         (record { state = state.new; fault = result_err r })) }
 {
     match line.directive {
@@ -180,7 +180,7 @@ pub(crate) fn control<'x>(
 ) -> Result<(), Error>
     requires { spec.IsControl line.directive }
     ensures { UnlessOutOfMemory result (λ r.
-        spec.ControlBy profile line.entry.row (Some line.entry.directive) state.old (spec_lines.directed line.entry.directive line.entry.tokens line.entry.number)
+        spec.ExecutesDirective profile line.entry.row (Some line.entry.directive) state.old (spec_lines.directed line.entry.directive line.entry.tokens line.entry.number)
         (record { state = state.new; fault = result_err r })) }
 {
     // Most control lines define a macro.

@@ -10,8 +10,8 @@ ghost use Rattle.pptext.specs.Tree.{GroupParts, Branches, branch_lines, AreBranc
 ghost use Rattle.pptext.specs.Classes.{opens_section, ends_group};
 ghost use Rattle.pptext.specs.declared.sources.Directive.{Directive};
 ghost use Rattle.ppshelf.specs.Files.{Files};
-ghost use Rattle.ppunit.specs.Group.{Controls, ExecutesInclude};
-ghost use Rattle.ppunit.specs.States.{Context, Reached, context_over, search_in_unit, with_remaining};
+ghost use Rattle.ppunit.specs.Group.{ExecutesControlLine, ExecutesInclude};
+ghost use Rattle.ppunit.specs.States.{Context, Progress, context_over, search_in_unit, with_remaining};
 ghost use Rattle.ppunit.specs.DirectiveLines.{directed};
 ghost use Rattle.ppunit.specs.code.Preprocessor.{Continues};
 ghost use Rattle.ppunit.specs.code.Walk.{line_at, IsTextLine, IsRest, Outer, BranchesAt, ContinuesAfter, FindsBranch, Advances, Leads, Steps, Walks};
@@ -160,10 +160,10 @@ fn execute_text_lines<'x>(
 
 /// For `#include_next`, returns the number of the directory in which the current file was found: the search begins after it.
 /// Otherwise returns `None`: the search begins at the first directory.
-fn search_after(next: bool, state: &State) -> Option<usize>
-    ensures { result ≡ (if next then state.now.directory else None) }
+fn previous_directory(include_next: bool, state: &State) -> Option<usize>
+    ensures { result ≡ (if include_next then state.now.directory else None) }
 {
-    if next { state.directory } else { None }
+    if include_next { state.directory } else { None }
 }
 
 /// Where execution continues: in the file `entered`, if a line opened one, and after it at the line at `index` of the
@@ -207,7 +207,7 @@ impl<'x, 'a: 'x, D: Disk> Preprocessor<'_, 'x, 'a, D> {
         ensures includes { UnlessOutOfMemory result (λ leads.
             (directive : Directive) (number : ℕ)
             → Leads (context_over self.old.context.now) self.new.pass.now.files (suc depth)
-            (λ (more : Files) (m : Reached). ExecutesInclude (context_over self.old.context.now more) depth from.row from.directory self.old.state (directed directive tokens.now number) m)
+            (λ (more : Files) (m : Progress). ExecutesInclude (context_over self.old.context.now more) depth from.row from.directory self.old.state (directed directive tokens.now number) m)
             self.new.state leads) }
     {
         let context = self.context;
@@ -235,17 +235,17 @@ impl<'x, 'a: 'x, D: Disk> Preprocessor<'_, 'x, 'a, D> {
         ensures continues { Continues self.old self.new }
         ensures control { UnlessOutOfMemory result (λ leads.
             Leads (context_over self.old.context.now) self.new.pass.now.files (suc depth)
-            (λ (more : Files) (m : Reached). Controls (context_over self.old.context.now more) depth line.entry.row self.old.state (directed line.entry.directive line.entry.tokens line.entry.number) m)
+            (λ (more : Files) (m : Progress). ExecutesControlLine (context_over self.old.context.now more) depth line.entry.row self.old.state (directed line.entry.directive line.entry.tokens line.entry.number) m)
             self.new.state leads) }
     {
         let context = self.context;
         match line.directive.class() {
             Class::Error => Err(Error::Fault(error(context.alloc, &line.tokens)?)),
             Class::Ignored => Ok(None),
-            Class::Includes(next) => {
+            Class::Includes(include_next) => {
                 refuse_unmatched_quote(&line.tokens)?;
                 let row = line.row;
-                let directory = search_after(next, &self.state);
+                let directory = previous_directory(include_next, &self.state);
                 self.include(depth, Opening { row, directory }, &line.tokens)
             }
             _ => {

@@ -9,7 +9,7 @@ ghost use Rattle.ppunit.specs.Directives.{FindsFile};
 ghost use Rattle.ppunit.specs.Group.{Opened};
 ghost use Rattle.ppunit.specs.code.Preprocessor.{Continues};
 ghost use Rattle.ppunit.specs.code.Opening.{SpendsOpening, HasLines, HasFault, Begins};
-ghost use Rattle.ppunit.specs.States.{Reached, with_dependency, literal, context_over};
+ghost use Rattle.ppunit.specs.States.{Progress, with_dependency, literal, context_over};
 ghost use Rattle.ppunit.specs.code.Walk.{Leads};
 
 use crate::guards::is_left_out;
@@ -152,7 +152,7 @@ impl<'a> Model for Entered<'a> {
 }
 
 /// A file to open, or an open file: its index in the file table, and the number of the directory in which it was found.
-/// A unit's own file has no such number.
+/// The main file has no such number.
 #[derive(Clone, Copy)]
 pub(crate) struct Opening {
     pub row: usize,
@@ -293,7 +293,7 @@ impl<'a, D: Disk> Preprocessor<'_, '_, 'a, D> {
         ensures continues { Continues self.old self.new }
         ensures opened { UnlessOutOfMemory result (λ leads.
             Leads (context_over self.old.context.now) self.new.pass.now.files depth
-            (λ (more : Files) (m : Reached). Opened (context_over self.old.context.now more) depth at self.old.state opening.row opening.directory m)
+            (λ (more : Files) (m : Progress). Opened (context_over self.old.context.now more) depth at self.old.state opening.row opening.directory m)
             self.new.state leads) }
     {
         let context = self.context;

@@ -4,7 +4,7 @@ ghost use Rattle.std.specs.Result.{result_err};
 ghost use Rattle.pptext.specs.Errors.{UnlessOutOfMemory};
 ghost use Rattle.pptext.specs.declared.tokens.Fault.{Fault};
 ghost use Rattle.ppshelf.specs.Files.{Files, Extends, Agree, AllPermitted};
-ghost use Rattle.ppunit.specs.States.{Reached, context_over, output};
+ghost use Rattle.ppunit.specs.States.{Progress, context_over, output};
 ghost use Rattle.ppunit.specs.Group.{Opened};
 ghost use Rattle.ppunit.specs.Unit.{IsUnit, IsUnitOf, Translates, initial_state, first_place};
 ghost use Rattle.ppunit.specs.Capped.{IsInBudget, IsCappedOver};
@@ -49,7 +49,7 @@ impl<'x, 'a: 'x, D: Disk> Preprocessor<'_, 'x, 'a, D> {
             → Extends more self.new.pass.now.files
             → Opened (context_over self.old.context.now more) 0 (first_place row) self.old.state row None (record { state = self.new.state; fault = result_err r })) }
     {
-        // A file index fits into a location, since a file table has at most `MOST_ROWS` files.
+        // A file index fits into a location, since a file table has at most `MAX_ROWS` files.
         let _count = self.context.shelf().len();
         let at = Place {
             file: row as u32,
@@ -146,9 +146,9 @@ fn run_unit<'x, 'a: 'x, D: Disk>(
     ensures shelf { pass.new.shelf ≡ context.now.shelf }
     ensures grows { Extends pass.new.files pass.old.files }
     ensures gives { IfOk result (λ out.
-        (reached : Reached)
-        × Translates (context_over context.now pass.new.files) unit.now.defines.texts unit.now.file (initial_state setting.now) reached
-        × (out ≡ output reached)) }
+        (progress : Progress)
+        × Translates (context_over context.now pass.new.files) unit.now.defines.texts unit.now.file (initial_state setting.now) progress
+        × (out ≡ output progress)) }
 {
     let state = State::new(context.alloc, setting, context.shelf().hashing())?;
     let mut preprocessor = Preprocessor {

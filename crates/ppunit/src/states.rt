@@ -15,7 +15,7 @@ use std::marker::Model;
 use std::mem::replace;
 
 /// The context of a file: the values of the predefined names in it, and the number of the directory in which it was
-/// found. A unit's own file has no such number.
+/// found. The main file has no such number.
 #[derive(Drop)]
 pub(crate) struct FileContext {
     pub env: Env,

@@ -112,13 +112,13 @@ const AROUND: usize = 9;
 pub fn fits_command(defines: &[OwnedText]) -> bool
     ensures { result ≡ nat_le (length (command_text defines.now)) longest }
 {
-    let mut room = LONGEST;
+    let mut capacity = LONGEST;
     for text in defines {
         let len = text.as_str().len();
-        if room < AROUND || room - AROUND < len {
+        if capacity < AROUND || capacity - AROUND < len {
             return false;
         }
-        room = room - AROUND - len;
+        capacity = capacity - AROUND - len;
     }
     true
 }

@@ -9,8 +9,8 @@ use Rattle.ppmacro.specs.declared.macros.Macro.{Macro}
 -- intersection of the hide sets of the name and the `)`
 pub data Action : Type 0 where
   Done : Action
-  Refused : Fault → Action
+  TokenFault : Fault → Action
   Emits : Hidden → Action
-  Failed : Fault → Action
+  ReplacementFault : Fault → Action
   Replaced : Action
   Invoked : Hidden → Macro → List (Vec Hidden Global) → ℕ → Action

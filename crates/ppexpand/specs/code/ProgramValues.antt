@@ -18,7 +18,7 @@ use Rattle.ppmacro.specs.declared.hidden_token.Hidden.{Hidden}
 use Rattle.ppmacro.specs.declared.hidden_token.ArgumentExpansion.{ArgumentExpansion}
 use Rattle.ppmacro.specs.declared.hidden_token.ArgumentExpansion.TheVariants.{Unused, AsGiven, Owned}
 use Rattle.ppexpand.specs.declared.env.Env.{Env}
-use Rattle.ppexpand.specs.ExpansionStep.{Invocation, ExpansionStep, Done, Refused, Emits, Failed, Replaced, Invoked, wanted, finish_invocation, ExpandedArguments}
+use Rattle.ppexpand.specs.ExpansionStep.{Invocation, ExpansionStep, Done, TokenFault, Emits, ReplacementFault, Replaced, Invoked, arguments_to_expand, finish_invocation, ExpandedArguments}
 use Rattle.ppexpand.specs.Budget.{spend_one}
 use Rattle.ppexpand.specs.code.Action as next
 use Rattle.ppexpand.specs.Expansion.{Outcome, step_in_budget, Expands, ExpandsArguments}
@@ -56,7 +56,8 @@ is_bare _ = false
 
 -- ---- expansion steps
 
--- an invocation: the macro name token, the macro, the arguments, the intersection of the hide sets of the name and the `)`, and the tokens after it
+-- an invocation: the macro name token, the macro, the arguments, the intersection of the hide sets of the name and of the
+-- `)`, and the tokens after it
 abbrev pub invocation_in : HideSetPool → Hidden → Macro → List (Vec Hidden Global) → ℕ → List Hidden → Invocation
 invocation_in sets name_token macro given base following = record {
   name_token = hiding sets name_token;
@@ -72,12 +73,12 @@ pub record InvocationKnown (sets : HideSetPool) (name : Hidden) (given : List (V
   pub arguments : ListsKnown sets given
   pub base_known : IsKnown sets base
 
--- the expansion step of an action after which this list is left
+-- the expansion step of an action after which this list remains
 abbrev pub step_in : HideSetPool → List Hidden → next.Action → ExpansionStep
 step_in sets following next.Done = Done
-step_in sets following (next.Refused f) = Refused f
+step_in sets following (next.TokenFault f) = TokenFault f
 step_in sets following (next.Emits token) = Emits (hiding sets token) (hidings sets following)
-step_in sets following (next.Failed f) = Failed f
+step_in sets following (next.ReplacementFault f) = ReplacementFault f
 step_in sets following next.Replaced = Replaced (hidings sets following)
 step_in sets following (next.Invoked name_token macro given base) = Invoked (invocation_in sets name_token macro given base following)
 
@@ -87,14 +88,14 @@ ActionKnown sets following next.Replaced = AllKnown sets following
 ActionKnown sets following (next.Invoked name_token macro given base) = InvocationKnown sets name_token given base × AllKnown sets following
 ActionKnown sets following _ = Unit {0}
 
--- the expansion step of a replacement after which this list is left
+-- the expansion step of a replacement after which this list remains
 abbrev pub replaced_in : HideSetPool → List Hidden → Result (Unit {0}) Fault → ExpansionStep
 replaced_in sets following (Ok u) = Replaced (hidings sets following)
-replaced_in sets following (Err f) = Failed f
+replaced_in sets following (Err f) = ReplacementFault f
 
 -- ---- expansion
 
--- an argument of an invocation at this level has this expansion or this fault, and leaves this much of the budget
+-- an argument of an invocation at this level has this expansion or this fault, and this is the remaining budget
 pub data ExpandsArgument (macros : Macros) (env : Env) (level : ℕ) (name_token : Token) (remaining : Option ℕ) (list : List Hiding)
     : Option ℕ → Result (List Hiding) Fault → Type 0 where
   expands : {steps : ℕ} {remaining_after : Option ℕ} {tokens : List Hiding}
@@ -107,24 +108,26 @@ pub data ExpandsArgument (macros : Macros) (env : Env) (level : ℕ) (name_token
       → ExpandsArgument macros env level name_token remaining list remaining_after (Err f)
   deep : 256 ≤ level → ExpandsArgument macros env level name_token remaining list remaining (Err (fault 21 name_token.used name_token.text))
 
--- an argument of an invocation at this level has an expansion, and this value of the program stands for it, or it has this fault
+-- an argument of an invocation at this level has an expansion, which this value of the program represents, or it has this
+-- fault
 abbrev pub HasExpanded : Macros → Env → ℕ → Token → Option ℕ → Option ℕ → HideSetPool → HideSetPool → List Hidden → Result ArgumentExpansion Fault → Type 0
 HasExpanded macros env level name_token remaining remaining_after before sets given (Ok e) = (tokens : List Hiding)
     × (option_map (hidings sets) (option_of given e) ≡ Some tokens)
     × ExpandsArgument macros env level name_token remaining (hidings before given) remaining_after (Ok tokens)
 HasExpanded macros env level name_token remaining remaining_after before sets given (Err f) = ExpandsArgument macros env level name_token remaining (hidings before given) remaining_after (Err f)
 
--- the arguments of an invocation at this level that are to be expanded have these expansions or this fault, and leave this much of the budget
-abbrev pub ExpandsWanted : Macros → Env → ℕ → Invocation → Option ℕ → Option ℕ → ExpandedArguments → Type 0
-ExpandsWanted macros env level invocation remaining remaining_after r = ExpandsArguments macros env level invocation remaining (wanted invocation) remaining_after r
+-- the arguments of an invocation at this level that are to be expanded have these expansions or this fault, and this is the
+-- remaining budget
+abbrev pub ExpandsInvocationArguments : Macros → Env → ℕ → Invocation → Option ℕ → Option ℕ → ExpandedArguments → Type 0
+ExpandsInvocationArguments macros env level invocation remaining remaining_after r = ExpandsArguments macros env level invocation remaining (arguments_to_expand invocation) remaining_after r
 
--- an invocation at this level has this expansion step: its arguments are expanded, then it is replaced
+-- an invocation at this level has this expansion step: its arguments are expanded, and then it is replaced
 pub data ClosedStepsTo (macros : Macros) (env : Env) (level : ℕ) (invocation : Invocation) (remaining : Option ℕ) : Option ℕ → ExpansionStep → Type 0 where
-  refuses : {remaining_after : Option ℕ} {f : Fault}
-      → ExpandsWanted macros env level invocation remaining remaining_after (Err f)
-      → ClosedStepsTo macros env level invocation remaining remaining_after (Failed f)
+  argument_raises : {remaining_after : Option ℕ} {f : Fault}
+      → ExpandsInvocationArguments macros env level invocation remaining remaining_after (Err f)
+      → ClosedStepsTo macros env level invocation remaining remaining_after (ReplacementFault f)
   finishes : {remaining_after : Option ℕ} {expanded : List (Option (List Hiding))}
-      → ExpandsWanted macros env level invocation remaining remaining_after (Ok expanded)
+      → ExpandsInvocationArguments macros env level invocation remaining remaining_after (Ok expanded)
       → ClosedStepsTo macros env level invocation remaining remaining_after (finish_invocation invocation expanded)
 
 -- one expansion step leads from the first list to the second, and emits these tokens
@@ -134,7 +137,7 @@ pub record Advances (macros : Macros) (env : Env) (level : ℕ) (remaining : Opt
       → Expands macros env level remaining_after n next out
       → Expands macros env level remaining (suc n) list (record { tokens = tokens ++ out.tokens; fault = out.fault; remaining = out.remaining })
 
--- the list ends here, with this fault or without one, and this much is left of the budget
+-- the list ends here, with this fault or without one, and this is the remaining budget
 abbrev pub EndsWith : Macros → Env → ℕ → Option ℕ → List Hiding → Option Fault → Option ℕ → Type 0
 EndsWith macros env level remaining list f remaining_after = Expands macros env level remaining 0 list (record { tokens = []; fault = f; remaining = remaining_after })
 
@@ -144,17 +147,17 @@ HasAdvanced macros env level remaining list emitted remaining_after next more = 
     × (more ≡ emitted ++ tokens)
     × Advances macros env level remaining list remaining_after next tokens
 
--- a list ended, with this fault or without one, and the emitted tokens stayed
+-- a list ended, with this fault or without one, and the emitted tokens did not change
 abbrev pub HasEnded : Macros → Env → ℕ → Option ℕ → List Hiding → List Hiding → Option Fault → Option ℕ → List Hiding → Type 0
 HasEnded macros env level remaining list emitted f remaining_after more = EndsWith macros env level remaining list f remaining_after × (more ≡ emitted)
 
--- one expansion step was made: the list goes on, or it ended, or it ended with this fault
+-- one expansion step was made: the list continues, or it ended, or it ended with this fault
 abbrev pub HasTaken : Macros → Env → ℕ → Option ℕ → List Hiding → List Hiding → Result Bool Fault → Option ℕ → List Hiding → List Hiding → Type 0
 HasTaken macros env level remaining list emitted (Ok true) remaining_after next more = HasAdvanced macros env level remaining list emitted remaining_after next more
 HasTaken macros env level remaining list emitted (Ok false) remaining_after next more = HasEnded macros env level remaining list emitted None remaining_after more
 HasTaken macros env level remaining list emitted (Err f) remaining_after next more = HasEnded macros env level remaining list emitted (Some f) remaining_after more
 
--- a list begins with this invocation, which is counted; nothing was emitted, and the list goes on
+-- a list begins with this invocation, which is counted; nothing was emitted, and the list continues
 abbrev pub HasInvoked : Macros → Env → Option ℕ → List Hiding → List Hiding → Invocation → Result Bool Fault → Option ℕ → List Hiding → Type 0
 HasInvoked macros env remaining list emitted invocation r remaining_after more =
     (step_in_budget macros env remaining list ≡ Invoked invocation) × (r ≡ Ok true) × (remaining_after ≡ spend_one remaining) × (more ≡ emitted)

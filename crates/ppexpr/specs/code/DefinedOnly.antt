@@ -8,7 +8,7 @@ use Rattle.ppexpr.specs.Symbols.{Symbol}
 use Rattle.ppexpr.specs.Trees.{Tree}
 use Rattle.ppexpr.specs.Values.{truth, constant_outcome, outcome_of}
 use Rattle.ppexpr.specs.Grammar.{Derives}
-use Rattle.ppexpr.specs.code.Unexpanded.{StandFor}
+use Rattle.ppexpr.specs.code.Unexpanded.{AllRepresent}
 use Rattle.ppexpr.specs.Conditions.{EvaluatesSymbols}
 
 -- a list begins with a punctuator of this spelling, and the rest follows
@@ -21,7 +21,7 @@ pub record BeginsPunct (text : List ℕ) (ts rest : List Token) : Type 0 where
 pub record BeginsTruth (macros : Macros) (level : ℕ) (ts : List Token) (holds : Bool) (rest : List Token) : Type 0 where
   pub symbols : List Symbol
   pub tree : Tree
-  pub onward : (ss : List Symbol) → StandFor macros rest ss → StandFor macros ts (symbols ++ ss)
+  pub onward : (ss : List Symbol) → AllRepresent macros rest ss → AllRepresent macros ts (symbols ++ ss)
   pub derives : Derives level symbols tree
   pub value : outcome_of tree ≡ constant_outcome (truth holds)
   pub shorter : length rest < length ts
@@ -29,5 +29,5 @@ pub record BeginsTruth (macros : Macros) (level : ℕ) (ts : List Token) (holds 
 -- the symbols of a list are an expression with this truth value
 pub record HasTruth (macros : Macros) (ts : List Token) (holds : Bool) : Type 0 where
   pub symbols : List Symbol
-  pub stand_for : StandFor macros ts symbols
+  pub represents : AllRepresent macros ts symbols
   pub evaluated : (at : Place) → EvaluatesSymbols at symbols (Ok holds)

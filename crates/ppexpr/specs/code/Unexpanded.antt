@@ -11,19 +11,19 @@ use Rattle.ppexpr.specs.DefinedOperator.{is_defined, Operand, operand}
 use Rattle.ppexpr.specs.Tokens.{symbol_of}
 
 -- a token that no macro replaces has this symbol
-pub record StandsFor (macros : Macros) (t : Token) (s : Symbol) : Type 0 where
+pub record Represents (macros : Macros) (t : Token) (s : Symbol) : Type 0 where
   pub unexpanded : never_expands macros t ≡ true
   pub symbol : (at : Place) → symbol_of at t ≡ Ok s
 
 -- a list begins with the tokens of this symbol, and the rest follows
 pub data BeginsWith (macros : Macros) : List Token → Symbol → List Token → Type 0 where
-  token : {t : Token} {ts : List Token} {s : Symbol} → is_defined t ≡ false → StandsFor macros t s → BeginsWith macros (t ∷ ts) s ts
+  token : {t : Token} {ts : List Token} {s : Symbol} → is_defined t ≡ false → Represents macros t s → BeginsWith macros (t ∷ ts) s ts
   defined_use : {d : Token} {ts : List Token} {o : Operand}
       → is_defined d ≡ true
       → operand ts ≡ Some o
       → BeginsWith macros (d ∷ ts) (Constant (truth (is_some (table.get macros o.name.text)))) o.rest
 
 -- a list has these symbols
-pub data StandFor (macros : Macros) : List Token → List Symbol → Type 0 where
-  nothing : StandFor macros [] []
-  more : {ts rest : List Token} {s : Symbol} {ss : List Symbol} → BeginsWith macros ts s rest → StandFor macros rest ss → StandFor macros ts (s ∷ ss)
+pub data AllRepresent (macros : Macros) : List Token → List Symbol → Type 0 where
+  nothing : AllRepresent macros [] []
+  more : {ts rest : List Token} {s : Symbol} {ss : List Symbol} → BeginsWith macros ts s rest → AllRepresent macros rest ss → AllRepresent macros ts (s ∷ ss)

@@ -29,6 +29,6 @@ followed true (c ∷ (b ∷ cs)) ds = c ∷ followed true (b ∷ cs) ds
 abbrev pub resumed : Bool → List Chain → List ChainPart → List Chain
 resumed joined cs is = followed (joined || begins_joined is) cs (group_parts is)
 
--- A parameter list with more names in front.
+-- A parameter list with more names before its own.
 abbrev pub with_names : List Name → ParsedParameters → ParsedParameters
 with_names ns h = record h { names = ns ++ h.names }

@@ -13,6 +13,6 @@ pub(crate) fn kind_of(text: &[u8]) -> Option<Kind>
 }
 
 /// Proves that `kind_of` is the kind of the one token that a text is (6.4), except for an unmatched quote.
-pub fn tells_each_kind()
+pub fn decides_each_kind()
     ensures { IsLexer kind_of }
 {}

@@ -1,11 +1,11 @@
 //! Units of small files, and their outputs as texts.
 ghost use Rattle.std.specs.Prelude.{◌≡◌, ◌≤◌, IfOk, All, length};
 ghost use Rattle.pptext.specs.declared.sources.Profile.TheVariants.{C11};
-ghost use Rattle.ppshelf.specs.Files.{most_rows};
+ghost use Rattle.ppshelf.specs.Files.{max_rows};
 ghost use Rattle.ppunit.specs.Unit.{IsUnitOf};
 
 use super::stage::Stage;
-use ppshelf::{MOST_ROWS, Shelf};
+use ppshelf::{MAX_ROWS, Shelf};
 use pptext::{Fault, Profile};
 use ppunit::{CommandMacros, Item, OwnedText, OwnedTexts, Setting, Unit, UnitOut, fits_command};
 use std::alloc::{AllocError, Global};
@@ -32,7 +32,7 @@ pub(crate) fn shelf_of(alloc: Global, names: &[&str]) -> Result<Shelf<Stage>, Fa
     ensures { IfOk result (λ s. s.profile ≡ C11) }
 {
     let names = strings_of(alloc, names)?;
-    if names.len() > MOST_ROWS {
+    if names.len() > MAX_ROWS {
         return Err(Fail::new("too many names"));
     }
     Ok(Shelf::new(alloc, names, Profile::C11)?)
@@ -74,7 +74,7 @@ pub(crate) fn units_of(
     rows: &[(usize, &[&str])],
 ) -> Result<Vec<Unit>, Fail>
     ensures rows { IfOk result (λ us. All (IsUnitOf (length shelf.now.names) C11) us.items) }
-    ensures few { IfOk result (λ us. length us.items ≤ most_rows) }
+    ensures few { IfOk result (λ us. length us.items ≤ max_rows) }
 {
     let mut units = Vec::new(alloc);
     for &(file, defines) in rows {
@@ -83,7 +83,7 @@ pub(crate) fn units_of(
         }
         units.push(unit_of(alloc, file, defines)?)?;
     }
-    if units.len() > MOST_ROWS {
+    if units.len() > MAX_ROWS {
         return Err(Fail::new("too many units"));
     }
     Ok(units)

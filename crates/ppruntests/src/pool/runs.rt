@@ -2,7 +2,7 @@
 //! failed allocation.
 ghost use Rattle.std.specs.Prelude.{◌≡◌, ◌≤◌, All, length};
 ghost use Rattle.pptext.specs.declared.sources.Profile.TheVariants.{C11};
-ghost use Rattle.ppshelf.specs.Files.{most_rows};
+ghost use Rattle.ppshelf.specs.Files.{max_rows};
 ghost use Rattle.ppunit.specs.Unit.{IsUnitOf};
 
 use super::lists::{as_text, setting_of, shelf_of, units_of};
@@ -46,7 +46,7 @@ fn run_once<'a, R: Threads + Sync>(
     requires pass { pass.old.shelf ≡ batch.now.shelf.now }
     requires workers { (1 ≤ batch.now.workers) × (batch.now.workers ≤ 64) }
     requires block { (1 ≤ batch.now.block) × (batch.now.block ≤ 1024) }
-    requires count { length batch.now.units.now ≤ most_rows }
+    requires count { length batch.now.units.now ≤ max_rows }
     requires profile { batch.now.shelf.now.profile ≡ batch.now.setting.now.profile }
     requires rows { All (IsUnitOf (length batch.now.shelf.now.names) batch.now.setting.now.profile) batch.now.units.now }
     ensures { pass.new.shelf ≡ batch.now.shelf.now }
@@ -67,7 +67,7 @@ fn run_over<'a, R: Threads + Sync + Abort>(
 ) -> Result<Vec<UnitOut<'a>>, Memory>
     requires workers { (1 ≤ batch.now.workers) × (batch.now.workers ≤ 64) }
     requires block { (1 ≤ batch.now.block) × (batch.now.block ≤ 1024) }
-    requires count { length batch.now.units.now ≤ most_rows }
+    requires count { length batch.now.units.now ≤ max_rows }
     requires profile { batch.now.shelf.now.profile ≡ batch.now.setting.now.profile }
     requires rows { All (IsUnitOf (length batch.now.shelf.now.names) batch.now.setting.now.profile) batch.now.units.now }
 {

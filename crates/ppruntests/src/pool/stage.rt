@@ -6,7 +6,7 @@ use std::sync::atomic::AtomicU64;
 use std::sync::atomic::Ordering::SeqCst;
 
 /// How often a waiting worker checks for the other before it gives up.
-const MOST_LOADS: u64 = 1_000_000_000;
+const MAX_LOADS: u64 = 1_000_000_000;
 
 /// Where two workers wait for each other.
 #[derive(Clone, Copy)]
@@ -133,7 +133,7 @@ impl Stage {
     /// Waits until two workers have come, but not forever.
     fn wait(&self) {
         let _before = self.came.fetch_add(1, SeqCst);
-        for _ in 0..MOST_LOADS {
+        for _ in 0..MAX_LOADS {
             if self.came.load(SeqCst) >= 2 {
                 let _before = self.met.fetch_add(1, SeqCst);
                 return;

@@ -11,7 +11,7 @@ ghost use Rattle.ppserve.specs.declared.list.ListFault.TheVariants.{Bad, Memory 
 
 use crate::list::drafts::{Draft, DraftBudget, DraftFile, DraftSetting, DraftUnit, WrittenBudget};
 use crate::list::{List, ListFault, Units};
-use ppshelf::{Contents, Index, LONGEST, MOST_ROWS, is_directory, is_file_name};
+use ppshelf::{Contents, Index, LONGEST, MAX_ROWS, is_directory, is_file_name};
 use pptext::{Hashing, Memory, Profile, Sequence};
 use ppunit::{
     CommandMacros, OwnedTexts, Setting, Unit, fits_command, is_date, is_one_line, is_time,
@@ -19,7 +19,7 @@ use ppunit::{
 use std::alloc::{AllocError, Global};
 
 /// The largest budget of a list.
-const MOST_BUDGET: u64 = 4_294_967_295;
+const MAX_BUDGET: u64 = 4_294_967_295;
 
 /// Validates a draft. File names are hashed by `hashing`.
 ///
@@ -150,8 +150,8 @@ fn sizes_hold(draft: &Draft) -> bool
 {
     let files = draft.files.as_slice();
     let units = draft.units.as_slice();
-    files.len() <= MOST_ROWS
-        && units.len() <= MOST_ROWS
+    files.len() <= MAX_ROWS
+        && units.len() <= MAX_ROWS
         && contents_fit(files)
         && commands_fit(units)
 }
@@ -197,7 +197,7 @@ fn is_budget(budget: &DraftBudget) -> bool
 {
     match budget.written {
         WrittenBudget::Missing => true,
-        WrittenBudget::Integer(number) => number <= MOST_BUDGET,
+        WrittenBudget::Integer(number) => number <= MAX_BUDGET,
         WrittenBudget::Other => false,
     }
 }

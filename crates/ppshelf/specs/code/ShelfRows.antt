@@ -5,7 +5,7 @@ use Rattle.pptext.specs.declared.hashing.Hashing.{Hashing}
 use Rattle.pptext.specs.declared.sources.Profile.{Profile}
 use Rattle.ppshelf.specs.Content.{Content, IsPermitted}
 use Rattle.ppshelf.specs.Names.{AreNames, name_in}
-use Rattle.ppshelf.specs.Files.{most_rows, Files, file_at, ShelfView}
+use Rattle.ppshelf.specs.Files.{max_rows, Files, file_at, ShelfView}
 
 -- A cached content with its row and name, and the profile that it was read by
 pub record LoadedView : Type 0 where
@@ -78,7 +78,7 @@ Placed profile rows =
 -- A shelf: not too many rows, their names as the index has them, in normal form and each once, each content from a fill
 -- in its own row
 pub record IsShelf (profile : Profile) (names : List (List ℕ)) (rows : List RowState) : Type 0 where
-  pub small : length rows ≤ most_rows
+  pub small : length rows ≤ max_rows
   pub named : names ≡ names_of rows
   pub form : AreNames names
   pub placed : Placed profile rows

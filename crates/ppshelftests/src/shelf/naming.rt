@@ -1,6 +1,6 @@
 //! Names in normal form, the rows of a shelf's names, and the search among them.
 ghost use Rattle.std.specs.Prelude.{◌≤◌, length};
-ghost use Rattle.ppshelf.specs.Files.{most_rows};
+ghost use Rattle.ppshelf.specs.Files.{max_rows};
 
 use super::{owned, texts};
 use ppshelf::{
@@ -49,7 +49,7 @@ fn an_index_numbers_each_name_once(rt: HostRuntime) -> Result<(), Fail> {
 
 /// Asserts that no shelf is made of these names, because of the one at this index.
 fn assert_refuses(rt: &impl Abort, alloc: Global, names: &[&str], place: usize) -> Result<(), Fail>
-    requires { length names.now ≤ most_rows }
+    requires { length names.now ≤ max_rows }
 {
     let made: Result<Shelf<MemoryDisk>, ShelfFault> = Shelf::new(
         alloc,

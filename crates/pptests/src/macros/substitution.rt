@@ -9,7 +9,7 @@ use crate::defining::{direct, source_of};
 use crate::showing::{assert_shown, push_fault, push_fields};
 use ppmacro::{
     ArgumentExpansion, Arguments, Chain, Hidden, HideSets, Macro, MacroName, Pattern, Set, Table,
-    paste, stringize, substitute, substitute_pattern, tells_each_kind,
+    paste, stringize, substitute, substitute_pattern, decides_each_kind,
 };
 use pptext::{Fault, Memory, Place, Profile, Source, Token};
 use std::alloc::{AllocError, Global};
@@ -771,7 +771,7 @@ fn assert_pasted(
 
 #[test]
 fn makes_a_literal_of_tokens(rt: HostRuntime) -> Result<(), Fail> {
-    tells_each_kind();
+    decides_each_kind();
     let source = source_of(&rt, rt.alloc(), b" x  + '\"'")?;
     let mut sets = HideSets::new(rt.alloc())?;
     let wanted = "s- \"x + '\\\"'\" 1:1:1 3:40:5, ";

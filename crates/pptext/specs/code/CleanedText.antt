@@ -59,7 +59,7 @@ pub record IsCursorAt (file : ℕ) (raw line_notes : List ℕ) (c : TextCursor) 
   pub at : c.at ≡ place_after (start file) (take c.offset raw)
   pub rest : drop c.consumed (text_from file raw 0) ≡ text_from file raw c.offset
   pub ends : end_from file raw c.offset ≡ None
-  pub stretch : PlainRun (lacks_newline raw) (drop c.offset raw) c.plain
+  pub plain_run : PlainRun (lacks_newline raw) (drop c.offset raw) c.plain
   pub next : c.next ≤ c.offset + 1
   pub table : IsTable (lacks_newline raw) (after_note (lacks_newline raw) (drop (c.offset + c.plain) raw)) (drop c.next line_notes)
 

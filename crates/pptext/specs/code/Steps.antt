@@ -23,19 +23,19 @@ abbrev pub StopsAt : List ℕ → ℕ → Type 0
 StopsAt bs n = (n < length bs) × PlainPrefix bs n × (is_special (slice_index bs n) ≡ true)
 
 -- the code of the trigraph that begins the bytes, or 0
-abbrev pub trigraph_front : List ℕ → ℕ
-trigraph_front (a ∷ b ∷ c ∷ bs) = if a == 63 && b == 63 then trigraph c else 0
-trigraph_front bs = 0
+abbrev pub leading_trigraph : List ℕ → ℕ
+leading_trigraph (a ∷ b ∷ c ∷ bs) = if a == 63 && b == 63 then trigraph c else 0
+leading_trigraph bs = 0
 
 -- whether a CR directly before an LF begins the bytes
-abbrev pub return_front : List ℕ → Bool
-return_front (a ∷ b ∷ bs) = a == 13 && b == newline
-return_front bs = false
+abbrev pub leading_crlf : List ℕ → Bool
+leading_crlf (a ∷ b ∷ bs) = a == 13 && b == newline
+leading_crlf bs = false
 
 -- the length of the new-line that begins the bytes. At the end of the file it may be supplied.
-abbrev pub newline_front : Bool → List ℕ → Option ℕ
-newline_front supplied [] = if supplied then Some 0 else None
-newline_front supplied (b ∷ bs) = if b == newline then Some 1 else (if return_front (b ∷ bs) then Some 2 else None)
+abbrev pub leading_newline : Bool → List ℕ → Option ℕ
+leading_newline supplied [] = if supplied then Some 0 else None
+leading_newline supplied (b ∷ bs) = if b == newline then Some 1 else (if leading_crlf (b ∷ bs) then Some 2 else None)
 
 -- What the remaining bytes begin with: a character's code, with the number of bytes that spell it; or a number of bytes that are removed, which are
 -- a CR before an LF, or a backslash with its new-line.
@@ -49,12 +49,12 @@ spliced None code n = Code code n
 spliced (Some m) code n = Removed (n + m)
 
 abbrev pub coded : Bool → List ℕ → ℕ → ℕ → CharStep
-coded supplied bs code n = if code == backslash then spliced (newline_front supplied (drop n bs)) code n else Code code n
+coded supplied bs code n = if code == backslash then spliced (leading_newline supplied (drop n bs)) code n else Code code n
 
 -- the character that begins the bytes, or the bytes that are removed
 abbrev pub step_of : Bool → List ℕ → CharStep
 step_of supplied bs =
-    if return_front bs then Removed 1 else (if trigraph_front bs == 0 then coded supplied bs (slice_index bs 0) 1 else coded supplied bs (trigraph_front bs) 3)
+    if leading_crlf bs then Removed 1 else (if leading_trigraph bs == 0 then coded supplied bs (slice_index bs 0) 1 else coded supplied bs (leading_trigraph bs) 3)
 
 -- the first byte isn't a character of its own
 abbrev pub IsChanged : Bool → List ℕ → Type 0

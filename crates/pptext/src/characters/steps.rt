@@ -1,7 +1,7 @@
 //! Translation phases 1 and 2 one step at a time: what the remaining bytes of a file begin with.
 ghost use Rattle.std.specs.Prelude.{◌≡◌, ◌<◌, MatchOption, length};
 ghost use Rattle.pptext.specs.Clean.{trigraph, without_bom};
-ghost use Rattle.pptext.specs.code.Steps.{Code, PlainPrefix, Removed, StopsAt, newline_front, lacks_newline, step_of, trigraph_front};
+ghost use Rattle.pptext.specs.code.Steps.{Code, PlainPrefix, Removed, StopsAt, leading_newline, lacks_newline, step_of, leading_trigraph};
 
 use memchr::memchr3;
 
@@ -34,7 +34,7 @@ pub(crate) fn lacks_newline(bytes: &[u8]) -> bool
     }
 }
 
-/// Returns the character that `??` and this one stand for (5.2.1.1), or 0.
+/// Returns the character that replaces `??` and this one (5.2.1.1), or 0.
 pub(crate) fn trigraph(code: u8) -> u8
     ensures { result ≡ trigraph code }
 {
@@ -60,8 +60,8 @@ pub(crate) fn first_special(rest: &[u8]) -> Option<usize>
 }
 
 /// Returns the character of the trigraph that begins the bytes, or 0.
-fn trigraph_front(rest: &[u8]) -> u8
-    ensures { result ≡ trigraph_front rest.now }
+fn leading_trigraph(rest: &[u8]) -> u8
+    ensures { result ≡ leading_trigraph rest.now }
 {
     match rest {
         [b'?', b'?', third, ..] => trigraph(*third),
@@ -72,7 +72,7 @@ fn trigraph_front(rest: &[u8]) -> u8
 /// Returns the length in bytes of the new-line that begins the bytes. It is 0 at the end of a file whose last new-line
 /// is supplied.
 fn newline_len(rest: &[u8], supplied: bool) -> Option<usize>
-    ensures { result ≡ newline_front supplied rest.now }
+    ensures { result ≡ leading_newline supplied rest.now }
 {
     match rest {
         [] if supplied => Some(0),
@@ -91,7 +91,7 @@ pub(crate) fn next_step(rest: &[u8], supplied: bool) -> CharStep
     if let [b'\r', b'\n', ..] = rest {
         return CharStep::Removed(1);
     }
-    let (code, len) = match trigraph_front(rest) {
+    let (code, len) = match leading_trigraph(rest) {
         0 => (rest[0], 1),
         code => (code, 3),
     };

@@ -10,7 +10,7 @@ use Rattle.ppshelf.specs.Files.{Files, ShelfView, file_at}
 use Rattle.ppshelf.specs.Names.{name_in}
 use Rattle.ppunit.specs.declared.states.FileContext.{FileContext}
 use Rattle.ppunit.specs.States.{State, file_context, with_one_spent, literal}
-use Rattle.ppunit.specs.Group.{deepest}
+use Rattle.ppunit.specs.Group.{depth_limit}
 use Rattle.ppunit.specs.Guarded.{IsLeftOut}
 
 -- a file that is being processed: its index in the file table, its lines, and the index of the next line
@@ -27,11 +27,11 @@ pub record Entered : Type 0 where
 -- why a file of this name isn't opened: it is too deep, or else the budget is exhausted
 abbrev pub IsRefusedOpening : ℕ → Place → List ℕ → State → Fault → Type 0
 IsRefusedOpening depth at name s f =
-    ((deepest < depth) × (f ≡ fault 32 at name)) ⊎ ((depth ≤ deepest) × (is_exhausted s.remaining ≡ true) × (f ≡ fault 35 at []))
+    ((depth_limit < depth) × (f ≡ fault 32 at name)) ⊎ ((depth ≤ depth_limit) × (is_exhausted s.remaining ≡ true) × (f ≡ fault 35 at []))
 
 -- one opening is spent from the budget, unless there is such a fault, which changes nothing
 abbrev pub SpendsOpening : ℕ → Place → List ℕ → State → State → Option Fault → Type 0
-SpendsOpening depth at name s t None = (depth ≤ deepest) × (is_exhausted s.remaining ≡ false) × (t ≡ with_one_spent s)
+SpendsOpening depth at name s t None = (depth ≤ depth_limit) × (is_exhausted s.remaining ≡ false) × (t ≡ with_one_spent s)
 SpendsOpening depth at name s t (Some f) = (t ≡ s) × IsRefusedOpening depth at name s f
 
 -- the file at index `row` has these lines

@@ -10,9 +10,9 @@ use Rattle.pptext.specs.Tree.{GroupParts, Branches, part_lines, branch_lines, Ar
 use Rattle.pptext.specs.Classes.{begins_elif_group}
 use Rattle.ppshelf.specs.Files.{Files, Extends}
 use Rattle.ppunit.specs.declared.states.FileContext.{FileContext}
-use Rattle.ppunit.specs.States.{Search, State, in_file_context, Context, search_of, Reached, going, stopped}
+use Rattle.ppunit.specs.States.{Search, State, in_file_context, Context, search_of, Progress, running, stopped}
 use Rattle.ppunit.specs.Conditions.{DecidesFreely, Decides}
-use Rattle.ppunit.specs.Group.{deepest, Group, Branched, Controls}
+use Rattle.ppunit.specs.Group.{depth_limit, Group, Branched, ExecutesControlLine}
 use Rattle.ppunit.specs.code.Opening.{OpenFile, Entered}
 use Rattle.ppunit.specs.Unit.{Defines}
 
@@ -36,57 +36,57 @@ AreOuter [] = Unit {0}
 AreOuter ((bs, qs) ∷ k) = ((last : Bool) × AreBranches last bs) × AreGroupParts qs × AreOuter k
 
 -- the lines from this index on are those of parts in these sections
-pub record StandsAt (lines : List LogicalLine) (index : ℕ) (ps : GroupParts) (k : Outer) : Type 0 where
+pub record HasPartsAt (lines : List LogicalLine) (index : ℕ) (ps : GroupParts) (k : Outer) : Type 0 where
   pub rest : drop index lines ≡ lay ps k
   pub parts : AreGroupParts ps
   pub outer : AreOuter k
 
 -- phase 4 of the parts and of what is after them in these sections
-abbrev pub Ends : Context → ℕ → ℕ → Reached → GroupParts → Outer → Reached → Type 0
+abbrev pub Ends : Context → ℕ → ℕ → Progress → GroupParts → Outer → Progress → Type 0
 Ends context depth row m ps [] end = Group context depth row m ps end
-Ends context depth row m ps ((bs, qs) ∷ k) end = (n : Reached) × Group context depth row m ps n × Ends context depth row n qs k end
+Ends context depth row m ps ((bs, qs) ∷ k) end = (n : Progress) × Group context depth row m ps n × Ends context depth row n qs k end
 
 -- From the line at an index to the line at another, or to a fault: what the rest of the lines reaches from the new
 -- state, all of them reach from the old one.
 abbrev pub Advances : (Files → Context) → Files → ℕ → ℕ → List LogicalLine → ℕ → State → State → Result ℕ Fault → Type 0
 Advances context files depth row lines index s t (Ok next) =
     (ps : GroupParts) (k : Outer)
-    → StandsAt lines index ps k
-    → (ps' : GroupParts) × (k' : Outer) × StandsAt lines next ps' k'
+    → HasPartsAt lines index ps k
+    → (ps' : GroupParts) × (k' : Outer) × HasPartsAt lines next ps' k'
     × ((more : Files)
     → Extends more files
-    → (end : Reached)
-    → Ends (context more) depth row (going t) ps' k' end
-    → Ends (context more) depth row (going s) ps k end)
+    → (end : Progress)
+    → Ends (context more) depth row (running t) ps' k' end
+    → Ends (context more) depth row (running s) ps k end)
 Advances context files depth row lines index s t (Err f) =
     (ps : GroupParts) (k : Outer)
-    → StandsAt lines index ps k
+    → HasPartsAt lines index ps k
     → (more : Files)
     → Extends more files
-    → Ends (context more) depth row (going s) ps k (stopped t f)
+    → Ends (context more) depth row (running s) ps k (stopped t f)
 
 -- the context of the including file is restored
-abbrev pub restored : FileContext → Reached → Reached
+abbrev pub restored : FileContext → Progress → Progress
 restored outer m = record m { state = in_file_context outer m.state }
 
 -- A file was entered and its first line is next: what its lines reach from this state, with the context of the
 -- including file restored, is what the include line reaches.
-pub record EntersFile (context : Files → Context) (files : Files) (depth : ℕ) (whole : Files → Reached → Type 0) (t : State) (e : Entered)
+pub record EntersFile (context : Files → Context) (files : Files) (depth : ℕ) (whole : Files → Progress → Type 0) (t : State) (e : Entered)
     : Type 0 where
-  pub fits : depth ≤ deepest
+  pub fits : depth ≤ depth_limit
   pub begins : e.file.index ≡ 0
   pub few : length e.file.lines < 2 ^ 64
   pub parts : GroupParts
   pub tree : Tree e.file.lines parts
   pub group : (more : Files)
       → Extends more files
-      → (m : Reached)
-      → Group (context more) depth e.file.row (going t) parts m
+      → (m : Progress)
+      → Group (context more) depth e.file.row (running t) parts m
       → whole more (restored e.outer m)
 
 -- the goal is reached, with or without a fault, or a file was entered whose lines lead to it
-abbrev pub Leads : (Files → Context) → Files → ℕ → (Files → Reached → Type 0) → State → Result (Option Entered) Fault → Type 0
-Leads context files depth whole t (Ok None) = (more : Files) → Extends more files → whole more (going t)
+abbrev pub Leads : (Files → Context) → Files → ℕ → (Files → Progress → Type 0) → State → Result (Option Entered) Fault → Type 0
+Leads context files depth whole t (Ok None) = (more : Files) → Extends more files → whole more (running t)
 Leads context files depth whole t (Ok (Some e)) = EntersFile context files depth whole t e
 Leads context files depth whole t (Err f) = (more : Files) → Extends more files → whole more (stopped t f)
 
@@ -94,16 +94,16 @@ Leads context files depth whole t (Err f) = (more : Files) → Extends more file
 -- the other, all of them reach.
 abbrev pub PassesFrom : ℕ → ℕ → List LogicalLine → ℕ → State → ℕ → GroupParts → Outer → Type 0
 PassesFrom depth row lines index s next ps k =
-    (ps' : GroupParts) × (k' : Outer) × StandsAt lines next ps' k'
-    × ((context : Context) (m end : Reached)
-    → Controls context depth row s (line_at lines index) m
+    (ps' : GroupParts) × (k' : Outer) × HasPartsAt lines next ps' k'
+    × ((context : Context) (m end : Progress)
+    → ExecutesControlLine context depth row s (line_at lines index) m
     → Ends context depth row m ps' k' end
-    → Ends context depth row (going s) ps k end)
+    → Ends context depth row (running s) ps k end)
 
 abbrev pub Passes : ℕ → ℕ → List LogicalLine → ℕ → State → ℕ → Type 0
 Passes depth row lines index s next =
     (ps : GroupParts) (k : Outer)
-    → StandsAt lines index ps k
+    → HasPartsAt lines index ps k
     → PassesFrom depth row lines index s next ps k
 
 -- from the line at an index to the line at another, and into a file if one was entered
@@ -111,7 +111,7 @@ abbrev pub StepsTo : (Files → Context) → Files → ℕ → ℕ → List Logi
 StepsTo context files depth row lines index s t next None = Advances context files depth row lines index s t (Ok next)
 StepsTo context files depth row lines index s t next (Some e) =
     Passes depth row lines index s next
-    × EntersFile context files (suc depth) (λ more m. Controls (context more) depth row s (line_at lines index) m) t e
+    × EntersFile context files (suc depth) (λ more m. ExecutesControlLine (context more) depth row s (line_at lines index) m) t e
 
 -- from the line at an index to the line at another, and into a file if one was entered, or to a fault
 abbrev pub Steps : (Files → Context) → Files → ℕ → ℕ → List LogicalLine → ℕ → State → State → Result (ℕ × Option Entered) Fault → Type 0
@@ -138,13 +138,13 @@ contexts_restored [] s = s
 contexts_restored (w ∷ ws) s = contexts_restored ws (in_file_context w.file_context s)
 
 -- phase 4 of a file's lines, over these files and any larger set
-abbrev pub Walks : (Files → Context) → Files → ℕ → ℕ → List LogicalLine → State → Reached → Type 0
+abbrev pub Walks : (Files → Context) → Files → ℕ → ℕ → List LogicalLine → State → Progress → Type 0
 Walks context files depth row lines s end =
     (parts : GroupParts)
     → Tree lines parts
     → (more : Files)
     → Extends more files
-    → Group (context more) depth row (going s) parts end
+    → Group (context more) depth row (running s) parts end
 
 -- At the index is a line that opens an if-section or a branch with a condition, then the parts of its group, and then
 -- these branches.
@@ -171,12 +171,12 @@ ContinuesAfter search row s line remaining_after taken = ContinuesBy search row 
 -- the line at which processing continues after a group that isn't taken, and the state then
 abbrev pub FindsBranch : Search → ℕ → List LogicalLine → State → State → Branches → GroupParts → Outer → Result ℕ Fault → Type 0
 FindsBranch search row lines s t bs qs k (Ok next) =
-    (ps : GroupParts) × (k' : Outer) × StandsAt lines next ps k'
+    (ps : GroupParts) × (k' : Outer) × HasPartsAt lines next ps k'
     × ((context : Context)
     → search_of context ≡ search
-    → (depth : ℕ) (end : Reached)
-    → Ends context depth row (going t) ps k' end
-    → (m : Reached) × Branched context depth row s bs m × Ends context depth row m qs k end)
+    → (depth : ℕ) (end : Progress)
+    → Ends context depth row (running t) ps k' end
+    → (m : Progress) × Branched context depth row s bs m × Ends context depth row m qs k end)
 FindsBranch search row lines s t bs qs k (Err f) =
     (context : Context)
     → search_of context ≡ search
@@ -192,5 +192,5 @@ IsRest [] = Unit {0}
 IsRest (line ∷ following) = ¬ IsTextLine line
 
 -- phases 1 to 4 of a unit's definitions, over these files and any larger set
-abbrev pub DefinesOver : (Files → Context) → Files → List (List ℕ) → State → Reached → Type 0
+abbrev pub DefinesOver : (Files → Context) → Files → List (List ℕ) → State → Progress → Type 0
 DefinesOver context files defines s end = (more : Files) → Extends more files → Defines (context more) defines s end

@@ -6,11 +6,11 @@ use Rattle.ppexpand.specs.code.ProgramValues.{given_in}
 use Rattle.ppexpand.specs.declared.token_roles.ArgumentRole as code
 use Rattle.ppexpand.specs.declared.token_roles.ArgumentRole.TheVariants as variant
 use Rattle.ppexpand.proofs.Invocations.{at_inner, at_open, at_close, at_separator, at_comma}
-use Rattle.ppexpand.proofs.Gathering.{resumed, resumed-token, resumed-argument, outermost, hidings-push, given-push, known-push, lists_known-push}
+use Rattle.ppexpand.proofs.ResumedSearch.{resumed, resumed-token, resumed-argument, outermost, hidings-push, given-push, known-push, lists_known-push}
 use Rattle.ppexpand.proofs.arguments.gather.Goals as goal
 use Rattle.ppexpand.proofs.arguments.gather.Goals.{in-Close-2, in-Comma+else-separates, in-Open, in-Inner}
 
--- the role in the specification of a role in the code
+-- the specification's role for a role of the code
 abbrev shown_mark : code.ArgumentRole → ArgumentRole
 shown_mark variant.Quote = Quote
 shown_mark variant.Open = Open

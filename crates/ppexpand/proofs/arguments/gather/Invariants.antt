@@ -4,7 +4,7 @@ use Rattle.ppmacro.specs.HideSets.{hidings, AllKnown}
 use Rattle.ppmacro.specs.Substituting.{ListsKnown}
 use Rattle.ppexpand.specs.Arguments.{gather}
 use Rattle.ppexpand.specs.code.ProgramValues.{given_in}
-use Rattle.ppexpand.proofs.Gathering.{resumed}
+use Rattle.ppexpand.proofs.ResumedSearch.{resumed}
 use Rattle.ppexpand.proofs.arguments.gather.Given as goal
 
 abbrev pub invariant-loop-hidden : goal.invariant-loop-hidden

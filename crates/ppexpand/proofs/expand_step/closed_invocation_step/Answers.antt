@@ -2,10 +2,10 @@ use Rattle.std.proofs.Common.{◌≡◌, ◌∙◌, sym, ap, subst}
 use Rattle.std.proofs.lemmas.Result.{IfOk-weaker}
 use Rattle.std.specs.FinSet as set
 use Rattle.ppmacro.specs.HideSets.{set_at, hide_of, hiding, hidings}
-use Rattle.ppmacro.proofs.KeepLemmas.{known-sets, known-keeps}
+use Rattle.ppmacro.proofs.PoolGrowthLemmas.{known-sets, known-keeps}
 use Rattle.ppexpand.specs.ExpansionStep.{Invoked, closed_invocation_step, names_to_hide_for}
 use Rattle.ppexpand.specs.code.ProgramValues.{fitting_in, FittingKnown, step_in, ActionKnown}
-use Rattle.ppexpand.proofs.Keeping.{invocation_made, given_known-keeps}
+use Rattle.ppexpand.proofs.GrowingHideSets.{invocation_made, given_known-keeps}
 use Rattle.ppexpand.proofs.expand_step.closed_invocation_step.Goals as goal
 
 pub returns-in_default-clause-is : goal.returns-in_default-clause-is

@@ -5,8 +5,8 @@ use Rattle.ppmacro.specs.HideSets.{set_at, hiding, hidings, AllKnown}
 use Rattle.ppmacro.specs.PasteFree.{lone_chain}
 use Rattle.ppmacro.specs.Substitution.{chains_replacement, hsadd, with_space, unhidden}
 use Rattle.ppexpand.proofs.SpaceFlags.{hidings-spaced, known-spaced}
-use Rattle.ppmacro.proofs.KeepLemmas.{hidings-keeps, known-keeps}
-use Rattle.ppmacro.proofs.Lonely.{lone_substituted}
+use Rattle.ppmacro.proofs.PoolGrowthLemmas.{hidings-keeps, known-keeps}
+use Rattle.ppmacro.proofs.ObjectLikeChains.{lone_substituted}
 use Rattle.ppexpand.specs.ExpansionStep.{Replaced, space_next, replaced_by}
 use Rattle.ppexpand.proofs.expand_step.replace_by.Goals as goal
 

@@ -1,7 +1,7 @@
 use Rattle.std.proofs.Common.{rules, ◌≡◌, ◌∙◌, None, ap, sym}
 use Rattle.ppmacro.specs.HideSets.{set_at, hiding}
 use Rattle.ppmacro.specs.HiddenView.{HiddenView, used_at}
-use Rattle.ppmacro.proofs.Hiding.{union-none}
+use Rattle.ppmacro.proofs.NodeHideSets.{union-none}
 use Rattle.ppexpand.proofs.expand_step.replacement_token.Goals as goal
 
 pub returns-clause-is : goal.returns-clause-is

@@ -4,7 +4,7 @@ use Rattle.ppmacro.specs.Substitution.{unhidden}
 use Rattle.ppmacro.specs.Substituting.{tokens_of}
 use Rattle.std.specs.Prelude.{IfOk}
 use Rattle.ppexpand.specs.Expansion.{ExpandsTo, IsExpansion, ended}
-use Rattle.ppexpand.proofs.Skipping.{expands-nothing, expansion-following}
+use Rattle.ppexpand.proofs.SkippedTokens.{expands-nothing, expansion-following}
 use Rattle.ppexpand.proofs.expansion.expand.Goals as goal
 
 pub returns-then-is_empty : goal.returns-then-is_empty

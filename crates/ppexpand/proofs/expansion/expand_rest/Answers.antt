@@ -3,7 +3,7 @@ use Rattle.ppmacro.specs.HideSets.{hidings}
 use Rattle.ppmacro.specs.Substituting.{tokens_of}
 use Rattle.ppmacro.proofs.JoinLemmas.{tokens-in}
 use Rattle.ppexpand.specs.Expansion.{Outcome}
-use Rattle.ppexpand.proofs.Skipping.{expansion-following}
+use Rattle.ppexpand.proofs.SkippedTokens.{expansion-following}
 use Rattle.ppexpand.proofs.expansion.expand_rest.Goals as goal
 
 pub returns : goal.returns

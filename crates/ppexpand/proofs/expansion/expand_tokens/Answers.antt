@@ -5,7 +5,7 @@ use Rattle.ppmacro.specs.HideSets.{hidings, AllKnown}
 use Rattle.ppmacro.specs.Substitution.{unhidden}
 use Rattle.ppexpand.specs.declared.env.Env.{Env}
 use Rattle.ppexpand.specs.Expansion.{Outcome, ExpandsTo}
-use Rattle.ppexpand.proofs.Skipping.{known-with_set, hidings-with_set}
+use Rattle.ppexpand.proofs.SkippedTokens.{known-with_set, hidings-with_set}
 use Rattle.ppexpand.proofs.expansion.expand_tokens.Goals as goal
 
 at_start : (macros : Macros) (env : Env) (level : ℕ) (remaining : Option ℕ) (list start : List Hiding) (out : Outcome) → level ≡ 0 → list ≡ start → ExpandsTo macros env level remaining list out → ExpandsTo macros env 0 remaining start out

@@ -1,4 +1,4 @@
-use Rattle.ppexpand.proofs.Skipping.{skipped-on}
+use Rattle.ppexpand.proofs.SkippedTokens.{skipped-on}
 use Rattle.ppexpand.proofs.expansion.skip.Goals as goal
 
 pub returns-clause-skipped : goal.returns-clause-skipped

@@ -1,6 +1,6 @@
 use Rattle.std.proofs.Common.{sym, subst}
 use Rattle.ppexpand.specs.code.Skipping.{HasSkipped}
-use Rattle.ppexpand.proofs.Skipping.{skipped-none, skipped-on, skipped-one}
+use Rattle.ppexpand.proofs.SkippedTokens.{skipped-none, skipped-on, skipped-one}
 use Rattle.ppexpand.proofs.expansion.skip_pushed.Goals as goal
 
 pub loop-hidden-init : goal.loop-hidden-init

@@ -1,5 +1,5 @@
-use Rattle.ppexpand.proofs.Total.{total}
-use Rattle.ppexpand.proofs.Bounds.{ends_within}
+use Rattle.ppexpand.proofs.OutcomeExistence.{total}
+use Rattle.ppexpand.proofs.StepBounds.{ends_within}
 use Rattle.ppexpand.proofs.laws.expansion_terminates.Goals as goal
 
 pub returns : goal.returns

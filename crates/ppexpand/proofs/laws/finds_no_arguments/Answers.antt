@@ -1,4 +1,4 @@
-use Rattle.ppexpand.proofs.Unended.{finds_quote, finds_no_end}
+use Rattle.ppexpand.proofs.FailedSearches.{finds_quote, finds_no_end}
 use Rattle.ppexpand.proofs.laws.finds_no_arguments.Goals as goal
 
 pub returns : goal.returns

@@ -1,7 +1,7 @@
 use Rattle.std.proofs.Common.{◌≡◌, refl, ap, ◌∙◌, map}
 use Rattle.ppmacro.specs.Substitution.{unhidden}
-use Rattle.ppexpand.proofs.Total.{total}
-use Rattle.ppexpand.proofs.Unique.{same_outcome}
+use Rattle.ppexpand.proofs.OutcomeExistence.{total}
+use Rattle.ppexpand.proofs.OutcomeUniqueness.{same_outcome}
 use Rattle.ppexpand.proofs.laws.one_expansion.Goals as goal
 
 pub returns : goal.returns

@@ -1,5 +1,5 @@
-use Rattle.ppexpand.proofs.Total.{total}
-use Rattle.ppexpand.proofs.Unique.{same_outcome}
+use Rattle.ppexpand.proofs.OutcomeExistence.{total}
+use Rattle.ppexpand.proofs.OutcomeUniqueness.{same_outcome}
 use Rattle.ppexpand.proofs.laws.one_outcome.Goals as goal
 
 pub returns : goal.returns

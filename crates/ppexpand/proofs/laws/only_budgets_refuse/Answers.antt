@@ -1,4 +1,4 @@
-use Rattle.ppexpand.proofs.Refusing.{never_refused}
+use Rattle.ppexpand.proofs.BudgetFaults.{never_refused}
 use Rattle.ppexpand.proofs.laws.only_budgets_refuse.Goals as goal
 
 pub returns : goal.returns

@@ -1,4 +1,4 @@
-use Rattle.ppexpand.proofs.Prefixes.{leads_step, one_more_name}
+use Rattle.ppexpand.proofs.HidingPrefixes.{leads_step, one_more_name}
 use Rattle.ppexpand.proofs.Termination as fronts
 use Rattle.ppexpand.proofs.laws.prefixes_terminate.Goals as goal
 
@@ -11,8 +11,8 @@ returns-clause-names c = one_more_name
 pub returns-clause-fewer : goal.returns-clause-fewer
 returns-clause-fewer c = fronts.fewer_left
 
-pub returns-clause-fronts : goal.returns-clause-fronts
-returns-clause-fronts c = fronts.prefixes_terminate
+pub returns-clause-prefixes : goal.returns-clause-prefixes
+returns-clause-prefixes c = fronts.prefixes_terminate
 
 pub returns-clause-lists : goal.returns-clause-lists
 returns-clause-lists c = fronts.all_end

@@ -1,6 +1,6 @@
 use Rattle.std.proofs.Common.{refl}
 use Rattle.ppexpand.proofs.BudgetLemmas.{remaining_none}
-use Rattle.ppexpand.proofs.Standard.{list_standard, expansion_standard}
+use Rattle.ppexpand.proofs.StandardAgreement.{list_standard, expansion_standard}
 use Rattle.ppexpand.proofs.laws.without_a_budget.Goals as goal
 
 pub returns-clause-steps : goal.returns-clause-steps

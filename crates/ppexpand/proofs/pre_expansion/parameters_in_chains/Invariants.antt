@@ -2,7 +2,7 @@ use Rattle.std.proofs.Common.{◌≡◌, ◌<◌, ℕ, false, get_or, length, ta
 use Rattle.ppexpand.specs.ExpansionStep.{pre_expands}
 use Rattle.ppexpand.proofs.pre_expansion.parameters_in_chains.Given as goal
 
--- what the chains before this one use is marked
+-- each flag is `pre_expands` of its parameter for the chains before the current one
 abbrev pub invariant-loop-chain : goal.invariant-loop-chain
 invariant-loop-chain l = record {
   len : length l.pre_expanded.items ≡ l.parameters;

@@ -3,7 +3,7 @@ use Rattle.ppmacro.specs.Patterns.{entry_chain}
 use Rattle.ppexpand.specs.ExpansionStep.{pre_expands}
 use Rattle.ppexpand.proofs.pre_expansion.parameters_in_entries.Given as goal
 
--- what the entries before this one are is marked
+-- each flag is `pre_expands` of its parameter for the entries before the current one
 abbrev pub invariant-loop-entry : goal.invariant-loop-entry
 invariant-loop-entry l = record {
   len : length l.pre_expanded.items ≡ l.parameters;

@@ -1,5 +1,5 @@
 use Rattle.std.proofs.Common.{sym, ◌∙◌}
-use Rattle.ppexpr.proofs.Large.{of_type_large}
+use Rattle.ppexpr.proofs.OversizedConstants.{of_type_large}
 use Rattle.ppexpr.proofs.characters.of_type.Goals as goal
 
 pub returns-in_err-number : goal.returns-in_err-number

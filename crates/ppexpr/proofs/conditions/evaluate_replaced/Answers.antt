@@ -1,7 +1,7 @@
 use Rattle.std.proofs.Common.{refl, sym}
 use Rattle.std.proofs.lemmas.Result.{IfOk-weaker}
 use Rattle.ppexpr.specs.Conditions.{ill_formed, not_replaced, replaced}
-use Rattle.pptext.proofs.Stopping.{split_memory-at_ok}
+use Rattle.pptext.proofs.ErrorReturns.{split_memory-at_ok}
 use Rattle.ppexpr.proofs.conditions.evaluate_replaced.Goals as goal
 
 pub returns-in_default : goal.returns-in_default

@@ -1,7 +1,7 @@
 use Rattle.std.proofs.Common.{ap, ◌∙◌}
 use Rattle.ppexpr.specs.Conditions.{taken}
 use Rattle.ppexpr.proofs.ConditionSteps.{evaluates_none, evaluates_some}
-use Rattle.pptext.proofs.Stopping.{if_settled-weaker}
+use Rattle.pptext.proofs.ErrorReturns.{if_settled-weaker}
 use Rattle.ppexpr.proofs.conditions.evaluate_shallow.Goals as goal
 
 pub returns-in_default : goal.returns-in_default

@@ -1,7 +1,7 @@
 use Rattle.std.proofs.Common.{refl}
 use Rattle.std.proofs.lemmas.Bool.{false≢true}
 use Rattle.ppexpr.specs.Conditions.{too_nested, not_nested}
-use Rattle.pptext.proofs.Stopping.{if_settled-weaker}
+use Rattle.pptext.proofs.ErrorReturns.{if_settled-weaker}
 use Rattle.ppexpr.proofs.conditions.evaluate_symbols.Goals as goal
 
 pub returns-then-is_too_nested : goal.returns-then-is_too_nested

@@ -1,6 +1,6 @@
 use Rattle.std.proofs.Common.{sym}
 use Rattle.ppexpr.specs.Conditions.{made_defined, bad_constant, constants}
-use Rattle.pptext.proofs.Stopping.{if_settled-weaker, raises}
+use Rattle.pptext.proofs.ErrorReturns.{if_settled-weaker, raises}
 use Rattle.ppexpr.proofs.conditions.evaluate_tokens.Goals as goal
 
 pub returns-then-has_defined : goal.returns-then-has_defined

@@ -1,5 +1,5 @@
 use Rattle.std.proofs.Common.{sym, ap, ◌∙◌, ◌&&◌}
-use Rattle.ppexpr.proofs.Truths.{as_conjunction, and_truth}
+use Rattle.ppexpr.proofs.TruthValues.{as_conjunction, and_truth}
 use Rattle.ppexpr.proofs.defined_only.conjunction.Goals as goal
 
 pub loop-next-init : goal.loop-next-init

@@ -1,6 +1,6 @@
 use Rattle.std.proofs.Common.{arith, sym, ap, ◌∙◌, ◌||◌}
 use Rattle.std.proofs.lemmas.Bool.{eqb-true}
-use Rattle.ppexpr.proofs.Truths.{as_disjunction, or_truth, has_truth}
+use Rattle.ppexpr.proofs.TruthValues.{as_disjunction, or_truth, has_truth}
 use Rattle.ppexpr.proofs.defined_only.evaluate_defined_only.Goals as goal
 
 pub loop-next-init : goal.loop-next-init

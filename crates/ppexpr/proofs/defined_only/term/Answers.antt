@@ -1,4 +1,4 @@
-use Rattle.ppexpr.proofs.Truths.{asked_truth, negated_truth}
+use Rattle.ppexpr.proofs.TruthValues.{asked_truth, negated_truth}
 use Rattle.ppexpr.proofs.defined_only.term.Goals as goal
 
 pub returns-in-Some : goal.returns-in-Some

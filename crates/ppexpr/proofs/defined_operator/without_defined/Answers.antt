@@ -1,5 +1,5 @@
 use Rattle.std.proofs.Common.{sym}
-use Rattle.ppexpr.proofs.DefinedReplaced.{same_token, follows_other, follows_question, follows_end}
+use Rattle.ppexpr.proofs.DefinedReplacement.{same_token, follows_other, follows_question, follows_end}
 use Rattle.ppexpr.proofs.defined_operator.without_defined.Goals as goal
 
 pub loop-first-preserved-then-not-is_defined : goal.loop-first-preserved-then-not-is_defined

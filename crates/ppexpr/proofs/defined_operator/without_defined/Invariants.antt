@@ -1,5 +1,5 @@
 use Rattle.std.proofs.Common.{length}
-use Rattle.ppexpr.proofs.DefinedReplaced.{Follows}
+use Rattle.ppexpr.proofs.DefinedReplacement.{Follows}
 use Rattle.ppexpr.proofs.defined_operator.without_defined.Given as goal
 
 abbrev pub invariant-loop-first : goal.invariant-loop-first

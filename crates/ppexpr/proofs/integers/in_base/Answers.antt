@@ -1,5 +1,5 @@
 use Rattle.std.proofs.Common.{sym, ◌∙◌}
-use Rattle.ppexpr.proofs.Large.{in_base_large}
+use Rattle.ppexpr.proofs.OversizedConstants.{in_base_large}
 use Rattle.ppexpr.proofs.integers.in_base.Goals as goal
 
 pub returns-in_err-number : goal.returns-in_err-number

@@ -1,4 +1,4 @@
-use Rattle.ppexpr.proofs.CappedLaw.{capped}
+use Rattle.ppexpr.proofs.BudgetTheorem.{capped}
 use Rattle.ppexpr.proofs.laws.budget_caps.Goals as goal
 
 pub returns : goal.returns

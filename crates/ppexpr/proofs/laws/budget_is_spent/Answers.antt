@@ -1,4 +1,4 @@
-use Rattle.ppexpr.proofs.Capped.{condition_spends}
+use Rattle.ppexpr.proofs.ConditionBudgets.{condition_spends}
 use Rattle.ppexpr.proofs.laws.budget_is_spent.Goals as goal
 
 pub returns : goal.returns

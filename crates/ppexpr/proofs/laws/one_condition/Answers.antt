@@ -1,4 +1,4 @@
-use Rattle.ppexpr.proofs.OneCondition.{same_condition}
+use Rattle.ppexpr.proofs.ConditionUniqueness.{same_condition}
 use Rattle.ppexpr.proofs.laws.one_condition.Goals as goal
 
 pub returns : goal.returns

@@ -1,4 +1,4 @@
-use Rattle.ppexpr.proofs.OneTree.{same_tree}
+use Rattle.ppexpr.proofs.TreeUniqueness.{same_tree}
 use Rattle.ppexpr.proofs.laws.one_tree.Goals as goal
 
 pub returns : goal.returns

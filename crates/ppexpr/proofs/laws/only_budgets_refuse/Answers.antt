@@ -1,5 +1,5 @@
 use Rattle.std.proofs.Common.{refl}
-use Rattle.ppexpr.proofs.Capped.{condition_never_refused}
+use Rattle.ppexpr.proofs.ConditionBudgets.{condition_never_refused}
 use Rattle.ppexpr.proofs.laws.only_budgets_refuse.Goals as goal
 
 pub returns : goal.returns

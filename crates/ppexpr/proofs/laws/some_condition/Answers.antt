@@ -1,4 +1,4 @@
-use Rattle.ppexpr.proofs.SomeCondition.{some_condition}
+use Rattle.ppexpr.proofs.ConditionExistence.{some_condition}
 use Rattle.ppexpr.proofs.laws.some_condition.Goals as goal
 
 pub returns : goal.returns

@@ -1,4 +1,4 @@
-use Rattle.ppexpr.proofs.Capped.{condition_leaves_none}
+use Rattle.ppexpr.proofs.ConditionBudgets.{condition_leaves_none}
 use Rattle.ppexpr.proofs.laws.without_a_budget.Goals as goal
 
 pub returns : goal.returns

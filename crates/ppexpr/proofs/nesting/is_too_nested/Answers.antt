@@ -1,5 +1,5 @@
 use Rattle.std.proofs.Common.{true≢false, sym}
-use Rattle.ppexpr.proofs.Shallow.{few_shallow}
+use Rattle.ppexpr.proofs.ShortExpressions.{few_shallow}
 use Rattle.ppexpr.proofs.nesting.is_too_nested.Goals as goal
 
 pub returns-then-symbols-le-MOST : goal.returns-then-symbols-le-MOST

@@ -1,6 +1,6 @@
 use Rattle.std.proofs.Common.{◌+◌, arith, refl, sym, true≢false}
 use Rattle.std.proofs.lemmas.Grind.{common_steps}
-use Rattle.ppexpr.proofs.Nested.{nests_signs_not}
+use Rattle.ppexpr.proofs.NestingCounts.{nests_signs_not}
 use Rattle.ppexpr.proofs.nesting.nests_signs.Goals as goal
 
 pub returns-then-signs-gt-MOST : goal.returns-then-signs-gt-MOST

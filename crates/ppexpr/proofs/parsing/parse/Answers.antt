@@ -1,7 +1,7 @@
 use Rattle.std.proofs.Common.{sym, ap, ◌∙◌}
 use Rattle.std.specs.Prelude.{None, Some, if◌then◌else◌}
 use Rattle.ppexpr.specs.code.Pending.{outcomes, step}
-use Rattle.ppexpr.proofs.Exact.{stopped, ended}
+use Rattle.ppexpr.proofs.MachineCorrectness.{stopped, ended}
 use Rattle.ppexpr.proofs.parsing.parse.Goals as goal
 
 pub returns-then-not-branch : goal.returns-then-not-branch

@@ -6,10 +6,10 @@ use Rattle.ppmacro.specs.declared.chains.ChainPart.TheVariants as variant
 use Rattle.ppmacro.specs.Chains.{ChainPart, Operates, Joins, parts_after}
 use Rattle.ppmacro.specs.code.ChainParts.{led_by, resumed}
 use Rattle.ppmacro.proofs.ChainLemmas.{resumed-end}
-use Rattle.ppmacro.proofs.WalkLemmas.{drop-item}
+use Rattle.ppmacro.proofs.ChainReplacementLemmas.{drop-item}
 use Rattle.ppmacro.proofs.chains.chains_in.Goals as goal
 
--- The meaning of a part.
+-- A part in the code as a part in the specification.
 abbrev meant : code.ChainPart → ChainPart
 meant = elim [ variant.Operates space operand ↦ Operates space operand | variant.Joins ↦ Joins ]
 

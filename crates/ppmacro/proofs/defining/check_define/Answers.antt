@@ -10,7 +10,7 @@ use Rattle.ppmacro.specs.Define.{Named, with_place, check_body, is_reserved, che
 use Rattle.ppmacro.proofs.JoinLemmas.{split-first}
 use Rattle.ppmacro.proofs.defining.check_define.Goals as goal
 
--- After a name that isn't reserved.
+-- If the name isn't reserved, `check_define` checks the rest of the line.
 allowed : (p : Profile) (m : Macros) (at : Place) (t : Token) (ts : List Token)
     → is_identifier t ≡ true
     → is_reserved p m t.text ≡ false

@@ -1,5 +1,5 @@
-use Rattle.ppmacro.proofs.Chained.{lays_out, only_chains}
-use Rattle.ppmacro.proofs.Placed as placed
+use Rattle.ppmacro.proofs.ChainSplits.{lays_out, only_chains}
+use Rattle.ppmacro.proofs.OperatorPlacement as placed
 use Rattle.ppmacro.proofs.laws.lays_out_chains.Goals as goal
 
 pub returns-clause-laid_out : goal.returns-clause-laid_out

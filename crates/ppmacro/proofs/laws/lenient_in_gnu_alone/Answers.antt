@@ -1,4 +1,4 @@
-use Rattle.ppmacro.proofs.Lenient.{strict, pasted}
+use Rattle.ppmacro.proofs.AbsentArguments.{strict, pasted}
 use Rattle.ppmacro.proofs.laws.lenient_in_gnu_alone.Goals as goal
 
 pub returns-clause-strict : goal.returns-clause-strict

@@ -1,4 +1,4 @@
-use Rattle.ppmacro.proofs.Layouts.{heads}
+use Rattle.ppmacro.proofs.ParameterListSyntax.{heads}
 use Rattle.ppmacro.proofs.laws.reads_parameter_lists.Goals as goal
 
 pub returns : goal.returns

@@ -1,6 +1,6 @@
 use Rattle.std.proofs.Common.{rules, ◌∙◌, sym, ap, set, length, ◌-◌, ◌<◌}
 use Rattle.std.proofs.lemmas.List.{set-get_or}
-use Rattle.ppmacro.proofs.Resting.{ending-short, ending-last}
+use Rattle.ppmacro.proofs.VariadicOperands.{ending-short, ending-last}
 use Rattle.ppmacro.proofs.macros.end_in_variadic.Goals as goal
 
 pub returns-then-count-lt2 : goal.returns-then-count-lt2

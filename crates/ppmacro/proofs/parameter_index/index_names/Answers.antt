@@ -3,7 +3,7 @@ use Rattle.std.specs.List.{list_any}
 use Rattle.std.specs.Str.{bytes_eq}
 use Rattle.std.proofs.lemmas.List.{take_more}
 use Rattle.ppmacro.specs.Names.{Name}
-use Rattle.ppmacro.proofs.Repeating.{repeats-next, repeats-all, was_there, was_absent}
+use Rattle.ppmacro.proofs.RepeatedNames.{repeats-next, repeats-all, was_there, was_absent}
 use Rattle.ppmacro.proofs.parameter_index.index_names.Goals as goal
 
 pub returns-then-not-new-clause-repeats : goal.returns-then-not-new-clause-repeats

@@ -1,7 +1,7 @@
 use Rattle.std.proofs.Common.{rules, ◌≡◌, ◌∙◌, ap, map, false}
 use Rattle.std.specs.List.{list_any}
 use Rattle.ppmacro.specs.Patterns.{is_operator, entry_chain}
-use Rattle.ppmacro.proofs.Patterned.{entry_chains}
+use Rattle.ppmacro.proofs.EntryChains.{entry_chains}
 use Rattle.ppmacro.proofs.patterns.pattern_of.Goals as goal
 
 pub returns : goal.returns

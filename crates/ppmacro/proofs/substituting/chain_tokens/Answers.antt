@@ -2,7 +2,7 @@ use Rattle.std.proofs.Common.{◌≡◌, ◌∙◌, ap, [], map, Ok}
 use Rattle.ppmacro.specs.HideSets.{hidings}
 use Rattle.ppmacro.specs.Substitution.{is_joined, before_variadic, variadic_of, with_variadic_tokens, operands_tokens, join_all}
 use Rattle.ppmacro.specs.Substituting.{lists_of, arguments_in}
-use Rattle.ppmacro.proofs.Resting.{chain-laid, rest-laid, rest-laid-known}
+use Rattle.ppmacro.proofs.VariadicOperands.{chain-laid, rest-laid, rest-laid-known}
 use Rattle.ppmacro.proofs.substituting.chain_tokens.Goals as goal
 
 pub returns-clause-is : goal.returns-clause-is

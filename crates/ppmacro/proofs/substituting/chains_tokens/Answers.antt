@@ -2,9 +2,9 @@ use Rattle.std.proofs.Common.{◌≡◌, ◌∙◌, ◌+◌, refl, sym, ap, ◌�
 use Rattle.ppmacro.specs.HideSets.{hidings}
 use Rattle.ppmacro.specs.Substitution.{chain_tokens, chains_tokens}
 use Rattle.ppmacro.specs.Substituting.{pushed, arguments_in}
-use Rattle.pptext.proofs.Stopping.{stops}
-use Rattle.ppmacro.proofs.KeepLemmas.{keeps-after}
-use Rattle.ppmacro.proofs.WalkLemmas.{marked_behind, drop-item, arguments-keeps, arguments-known, chains-pushed, chains-refused-pushed}
+use Rattle.pptext.proofs.ErrorReturns.{stops}
+use Rattle.ppmacro.proofs.PoolGrowthLemmas.{keeps-after}
+use Rattle.ppmacro.proofs.ChainReplacementLemmas.{marked_behind, drop-item, arguments-keeps, arguments-known, chains-pushed, chains-refused-pushed}
 use Rattle.ppmacro.proofs.substituting.chains_tokens.Goals as goal
 
 pub returns-in_err-pending-clause-is : goal.returns-in_err-pending-clause-is

@@ -2,7 +2,7 @@ use Rattle.std.proofs.Common.{◌≡◌, drop, true}
 use Rattle.ppmacro.specs.HideSets.{hidings, AllKnown, KeepsSets}
 use Rattle.ppmacro.specs.Substitution.{chains_tokens}
 use Rattle.ppmacro.specs.Substituting.{arguments_in}
-use Rattle.ppmacro.proofs.WalkLemmas.{marked_behind}
+use Rattle.ppmacro.proofs.ChainReplacementLemmas.{marked_behind}
 use Rattle.ppmacro.proofs.substituting.chains_tokens.Given as goal
 
 abbrev pub invariant-loop-chain : goal.invariant-loop-chain

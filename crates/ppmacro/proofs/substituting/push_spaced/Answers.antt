@@ -4,13 +4,13 @@ use Rattle.ppmacro.specs.HideSetPool.{HideSetPool}
 use Rattle.ppmacro.specs.HideSets.{hiding, hidings, HasSets, AllKnown}
 use Rattle.ppmacro.specs.Substitution.{space_first}
 use Rattle.ppmacro.specs.declared.hidden_token.Hidden.{Hidden}
-use Rattle.ppmacro.proofs.KeepLemmas.{known-append}
+use Rattle.ppmacro.proofs.PoolGrowthLemmas.{known-append}
 use Rattle.ppmacro.proofs.substituting.push_spaced.Goals as goal
 
 abbrev marked : Bool → Hidden → Hidden
 marked space h = record h { token = record h.token { space = space } }
 
--- A list with others after it, the first of them with this flag.
+-- A list after others are appended, the first of them with this leading-space flag.
 tokens-following : (s : HideSetPool) (front : List Hidden) (space : Bool) (first : Hidden) (others : List Hidden)
     → hidings s ((front ++ marked space first ∷ []) ++ others) ≡ hidings s front ++ (space_first space (hidings s (first ∷ others))).tokens
 tokens-following s front space first others =

@@ -1,7 +1,7 @@
 use Rattle.std.proofs.Common.{◌≡◌, ◌∙◌, sym, ap, subst, refl, [], ◌∷◌, ◌++◌}
 use Rattle.ppmacro.specs.Substitution.{before_variadic, variadic_of}
 use Rattle.ppmacro.specs.declared.macros.Operand.TheVariants.{Tok, Param, Str, VariadicAfterComma}
-use Rattle.ppmacro.proofs.Resting.{before-rest, rest-last, Stays, stays}
+use Rattle.ppmacro.proofs.VariadicOperands.{before-rest, rest-last, Stays, stays}
 use Rattle.ppmacro.proofs.substituting.split_variadic.Goals as goal
 
 module _ (c : goal.After-row_known-1) where

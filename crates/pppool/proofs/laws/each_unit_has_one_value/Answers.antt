@@ -1,4 +1,4 @@
-use Rattle.pppool.proofs.OneValue.{each_once, kept_once}
+use Rattle.pppool.proofs.ValueUniqueness.{each_once, kept_once}
 use Rattle.pppool.proofs.laws.each_unit_has_one_value.Goals as goal
 
 pub returns-clause-values : goal.returns-clause-values

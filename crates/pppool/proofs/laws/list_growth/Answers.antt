@@ -1,4 +1,4 @@
-use Rattle.pppool.proofs.Placing.{list_grows}
+use Rattle.pppool.proofs.SlotFilling.{list_grows}
 use Rattle.pppool.proofs.laws.list_growth.Goals as goal
 
 pub returns : goal.returns

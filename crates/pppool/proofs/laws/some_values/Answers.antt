@@ -1,4 +1,4 @@
-use Rattle.pppool.proofs.OneValue.{some_list}
+use Rattle.pppool.proofs.ValueUniqueness.{some_list}
 use Rattle.pppool.proofs.laws.some_values.Goals as goal
 
 pub returns : goal.returns

@@ -3,8 +3,8 @@ use Rattle.ppshelf.specs.Files.{Extends, PassView}
 use Rattle.ppunit.specs.declared.units.UnitOut.{UnitOut}
 use Rattle.pppool.specs.Desk.{SeatView, times}
 use Rattle.pppool.specs.code.Workers.{UnitResult, AreUnitResults, FitSlots, filled_slots}
-use Rattle.pppool.proofs.Answering.{answers_grow}
-use Rattle.pppool.proofs.Placing.{slots_grow, slots_placed, placed_stays, placed_fills, within_slots, slots_long}
+use Rattle.pppool.proofs.WorkerResults.{answers_grow}
+use Rattle.pppool.proofs.SlotFilling.{slots_grow, slots_placed, placed_stays, placed_fills, within_slots, slots_long}
 use Rattle.pppool.proofs.run_units.absorb.Goals as goal
 
 pub fill_slots-requires : goal.fill_slots-requires

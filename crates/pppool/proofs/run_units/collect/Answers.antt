@@ -1,7 +1,7 @@
 use Rattle.std.proofs.Common.{◌≡◌, List, sym, ap, subst, length, All, true}
 use Rattle.std.proofs.lemmas.List.Elements.{All-push}
 use Rattle.pppool.specs.Desk.{SeatView}
-use Rattle.pppool.proofs.Placing.{slots_empty, filled_none, filled_push, none_at, none_told, one_more}
+use Rattle.pppool.proofs.SlotFilling.{slots_empty, filled_none, filled_push, none_at, none_told, one_more}
 use Rattle.pppool.proofs.run_units.collect.Goals as goal
 
 pub loop-one-init : goal.loop-one-init

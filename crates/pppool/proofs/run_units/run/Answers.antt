@@ -1,5 +1,5 @@
-use Rattle.pppool.proofs.Retained.{all_kept}
-use Rattle.pppool.proofs.Placing.{are_within, are_capped}
+use Rattle.pppool.proofs.RetainedOutputs.{all_kept}
+use Rattle.pppool.proofs.SlotFilling.{are_within, are_capped}
 use Rattle.pppool.proofs.run_units.run.Goals as goal
 
 pub returns-clause-value : goal.returns-clause-value

@@ -5,8 +5,8 @@ use Rattle.ppunit.specs.declared.units.UnitOut.{UnitOut}
 use Rattle.pppool.specs.declared.seat_state.Plan.{Plan}
 use Rattle.pppool.specs.Desk.{claims_of}
 use Rattle.pppool.specs.code.Workers.{FitSlots}
-use Rattle.pppool.proofs.Closing.{closes}
-use Rattle.pppool.proofs.Placing.{all_full, are_kept, are_within, are_capped, if_ok_then}
+use Rattle.pppool.proofs.SeatJoining.{closes}
+use Rattle.pppool.proofs.SlotFilling.{all_full, are_kept, are_within, are_capped, if_ok_then}
 use Rattle.pppool.proofs.run_units.run_retaining.Goals as goal
 
 pub prove-unreachable-requires : goal.prove-unreachable-requires

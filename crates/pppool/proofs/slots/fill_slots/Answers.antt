@@ -1,7 +1,7 @@
 use Rattle.std.proofs.Common.{sym, ap, ◌∙◌, set, length, List, Option, Some}
 use Rattle.std.proofs.lemmas.List.{length-set}
 use Rattle.ppunit.specs.declared.units.UnitOut.{UnitOut}
-use Rattle.pppool.proofs.Placing.{placed_push}
+use Rattle.pppool.proofs.SlotFilling.{placed_push}
 use Rattle.pppool.proofs.slots.fill_slots.Goals as goal
 
 pub loop-unit_result-preserved : goal.loop-unit_result-preserved

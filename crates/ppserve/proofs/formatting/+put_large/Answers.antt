@@ -1,5 +1,5 @@
 use Rattle.std.proofs.Common.{length, refl, ap, arith, append_assoc}
-use Rattle.ppserve.proofs.AfterPrefix.{decimal_more, length_more}
+use Rattle.ppserve.proofs.BufferPrefix.{decimal_more, length_more}
 use Rattle.ppserve.proofs.formatting.+put_large.Goals as goal
 
 pub put-end-requires : goal.put-end-requires

@@ -1,7 +1,7 @@
 use Rattle.std.proofs.Common.{ℕ, leb, cond, refl}
 use Rattle.std.proofs.lemmas.Simd.{zip2_splat, length-chunk}
 use lib.Lanes.{chunk}
-use Rattle.ppserve.proofs.Lanes.{itself, joined, splat_is, run_within, run_plain}
+use Rattle.ppserve.proofs.LaneMasks.{itself, joined, splat_is, run_within, run_plain}
 use Rattle.ppserve.proofs.formatting.as_is_run.Goals as goal
 
 pub returns-clause-within : goal.returns-clause-within

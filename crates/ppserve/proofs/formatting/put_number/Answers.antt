@@ -1,5 +1,5 @@
 use Rattle.std.proofs.Common.{arith}
-use Rattle.ppserve.proofs.AfterPrefix.{length_word}
+use Rattle.ppserve.proofs.BufferPrefix.{length_word}
 use Rattle.ppserve.proofs.formatting.put_number.Goals as goal
 
 pub put_large-requires-clause-capacity : goal.put_large-requires-clause-capacity

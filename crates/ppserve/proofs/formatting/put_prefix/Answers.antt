@@ -1,5 +1,5 @@
 use Rattle.std.proofs.Common.{◌≤◌, length, arith}
-use Rattle.ppserve.proofs.AfterPrefix.{take_after}
+use Rattle.ppserve.proofs.BufferPrefix.{take_after}
 use Rattle.ppserve.proofs.formatting.put_prefix.Goals as goal
 
 pub returns-clause-text : goal.returns-clause-text

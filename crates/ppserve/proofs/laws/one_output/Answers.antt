@@ -1,4 +1,4 @@
-use Rattle.ppserve.proofs.OneOutput as output
+use Rattle.ppserve.proofs.OutputUniqueness as output
 use Rattle.ppserve.proofs.laws.one_output.Goals as goal
 
 pub returns-clause-files : goal.returns-clause-files

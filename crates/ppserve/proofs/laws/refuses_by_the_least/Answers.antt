@@ -1,4 +1,4 @@
-use Rattle.ppserve.proofs.Refusing as refusing
+use Rattle.ppserve.proofs.LeastRefusal as refusing
 use Rattle.ppserve.proofs.laws.refuses_by_the_least.Goals as goal
 
 pub returns-clause-refused : goal.returns-clause-refused

@@ -1,4 +1,4 @@
-use Rattle.ppserve.proofs.Drafted.{decides}
+use Rattle.ppserve.proofs.DraftShape.{decides}
 use Rattle.ppserve.proofs.laws.shape_decides.Goals as goal
 
 pub returns : goal.returns

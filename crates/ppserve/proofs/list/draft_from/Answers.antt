@@ -3,7 +3,7 @@ use Rattle.std.proofs.lemmas.Result.{IfOk-weaker}
 use Rattle.serde_json.specs.View.{view}
 use Rattle.ppserve.specs.Drafting as drafting
 use Rattle.ppserve.specs.Listing.{outcome_of, validated}
-use Rattle.ppserve.proofs.Validated.{outcome_of-draft}
+use Rattle.ppserve.proofs.DraftValidation.{outcome_of-draft}
 use Rattle.ppserve.proofs.list.draft_from.Goals as goal
 
 pub returns-clause-ok : goal.returns-clause-ok

@@ -1,7 +1,7 @@
 use Rattle.std.proofs.Common.{◌≡◌, ◌∙◌}
 use Rattle.std.proofs.lemmas.Result.{IfOk-weaker}
 use Rattle.ppserve.specs.Listing.{outcome_of, validated, accepted}
-use Rattle.ppserve.proofs.Validated.{validated-runnable, validated-contents}
+use Rattle.ppserve.proofs.DraftValidation.{validated-runnable, validated-contents}
 use Rattle.ppserve.proofs.list.read_list.Goals as goal
 
 pub returns-clause-ok : goal.returns-clause-ok

@@ -1,7 +1,7 @@
 use Rattle.std.proofs.Common.{refl}
 use Rattle.std.proofs.KnownBytes.{Appends-kept}
-use Rattle.ppserve.proofs.Known.{wrote_more}
-use Rattle.ppserve.proofs.Printing.{puts_broken}
+use Rattle.ppserve.proofs.KnownStreamBytes.{wrote_more}
+use Rattle.ppserve.proofs.BufferedPrinting.{puts_broken}
 use Rattle.ppserve.proofs.out_buffer.write_out.Goals as goal
 
 pub loop-done-preserved : goal.loop-done-preserved

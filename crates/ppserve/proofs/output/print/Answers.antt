@@ -1,5 +1,5 @@
 use Rattle.std.proofs.Common.{append-nil}
-use Rattle.ppserve.proofs.Printing.{puts_as, puts_then, printed_front}
+use Rattle.ppserve.proofs.BufferedPrinting.{puts_as, puts_then, printed_front}
 use Rattle.ppserve.proofs.output.print.Goals as goal
 
 pub returns-then-failed-clause-prefix : goal.returns-then-failed-clause-prefix

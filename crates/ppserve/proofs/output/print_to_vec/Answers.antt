@@ -1,6 +1,6 @@
 use Rattle.std.proofs.Common.{◌∙◌}
-use Rattle.ppserve.proofs.Records.{lines_of_all}
-use Rattle.ppserve.proofs.Known.{written_alone}
+use Rattle.ppserve.proofs.RecordLines.{lines_of_all}
+use Rattle.ppserve.proofs.KnownStreamBytes.{written_alone}
 use Rattle.ppserve.proofs.output.print_to_vec.Goals as goal
 
 pub returns : goal.returns

@@ -1,8 +1,8 @@
 use Rattle.std.proofs.Common.{[], ◌++◌, sym, ◌∙◌}
 use Rattle.std.proofs.lemmas.Grind.{flat_map-append}
 use Rattle.ppserve.specs.code.Records.{record_lines, records_of_lines}
-use Rattle.ppserve.proofs.Records.{lines_whole, one_more}
-use Rattle.ppserve.proofs.Printing.{puts_as, puts_none, puts_then, puts_failed}
+use Rattle.ppserve.proofs.RecordLines.{lines_whole, one_more}
+use Rattle.ppserve.proofs.BufferedPrinting.{puts_as, puts_none, puts_then, puts_failed}
 use Rattle.ppserve.proofs.output.put_all.Goals as goal
 
 pub loop-lines-init : goal.loop-lines-init

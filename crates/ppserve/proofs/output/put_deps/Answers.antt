@@ -1,6 +1,6 @@
 use Rattle.std.proofs.Common.{flat_map, refl}
 use Rattle.ppserve.specs.Output.{dep_line}
-use Rattle.ppserve.proofs.Printing.{more_of, puts_all, puts_none, puts_turn}
+use Rattle.ppserve.proofs.BufferedPrinting.{more_of, puts_all, puts_none, puts_turn}
 use Rattle.ppserve.proofs.output.put_deps.Goals as goal
 
 pub loop-row-init : goal.loop-row-init

@@ -1,10 +1,10 @@
 use Rattle.std.proofs.Common.{◌≡◌, ℕ, List, [], ◌∷◌, ◌++◌, take, drop, refl, sym, ap, ◌∙◌, take-append-drop, append_assoc, append-nil, length, arith, rules}
 use Rattle.std.proofs.lemmas.Grind.{flat_map-append}
 use Rattle.ppserve.specs.Output.{escaped, escaped_byte}
-use Rattle.ppserve.proofs.Printing.{puts_as, puts_none, puts_then}
+use Rattle.ppserve.proofs.BufferedPrinting.{puts_as, puts_none, puts_then}
 use Rattle.ppserve.proofs.output.put_escaped.Goals as goal
 
--- a prefix of plain bytes is printed as it is
+-- If escaping doesn't change the prefix, only the rest has to be escaped.
 as_is_prefix : (rest run others : List ℕ) (n : ℕ) → run ≡ take n rest → others ≡ drop n rest → escaped (take n rest) ≡ take n rest → escaped rest ≡ run ++ escaped others
 as_is_prefix rest run others n prefix back plain =
     ap escaped (sym (take-append-drop n rest)) ∙ (flat_map-append escaped_byte (take n rest) (drop n rest) ∙ rw (prefix, back, plain) refl)

@@ -1,6 +1,6 @@
 use Rattle.std.proofs.Common.{◌≡◌, ℕ, ◌<◌, List, [], ◌∷◌, length, refl, arith, rules}
 use Rattle.ppserve.specs.Output.{escaped, fault_text}
-use Rattle.ppserve.proofs.Printing.{puts_as, puts_then}
+use Rattle.ppserve.proofs.BufferedPrinting.{puts_as, puts_then}
 use Rattle.ppserve.proofs.output.put_fault_text.Goals as goal
 
 spaced : (words : List ℕ) → 0 < length words → 32 ∷ escaped words ≡ fault_text words

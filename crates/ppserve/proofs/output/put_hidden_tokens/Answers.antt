@@ -2,7 +2,7 @@ use Rattle.std.proofs.Common.{flat_map, refl}
 use Rattle.std.proofs.lemmas.List.{map-append}
 use Rattle.ppserve.specs.code.LinePrefix.{token_line}
 use Rattle.ppmacro.specs.Substituting.{tokens_of}
-use Rattle.ppserve.proofs.Printing.{more_of, puts_all, puts_none, puts_turn}
+use Rattle.ppserve.proofs.BufferedPrinting.{more_of, puts_all, puts_none, puts_turn}
 use Rattle.ppserve.proofs.output.put_hidden_tokens.Goals as goal
 
 pub loop-hidden-init : goal.loop-hidden-init

@@ -1,6 +1,6 @@
 use Rattle.std.proofs.Common.{sym, append-nil}
-use Rattle.ppserve.proofs.Records.{lines_of_tokens}
-use Rattle.ppserve.proofs.Printing.{puts_as}
+use Rattle.ppserve.proofs.RecordLines.{lines_of_tokens}
+use Rattle.ppserve.proofs.BufferedPrinting.{puts_as}
 use Rattle.ppserve.proofs.output.put_lines.Goals as goal
 
 pub returns-in-First : goal.returns-in-First

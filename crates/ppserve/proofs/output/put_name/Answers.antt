@@ -2,7 +2,7 @@ use Rattle.std.proofs.Common.{◌≡◌, [], sym, ap, arith}
 use Rattle.std.proofs.lemmas.Grind.{common_steps}
 use Rattle.ppshelf.specs.Names.{name_in}
 use Rattle.ppserve.specs.Output.{escaped}
-use Rattle.ppserve.proofs.Printing.{puts_as, puts_none}
+use Rattle.ppserve.proofs.BufferedPrinting.{puts_as, puts_none}
 use Rattle.ppserve.proofs.output.put_name.Goals as goal
 
 pub returns-in_default : goal.returns-in_default

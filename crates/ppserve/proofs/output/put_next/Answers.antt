@@ -1,8 +1,8 @@
 use Rattle.std.proofs.Common.{◌≡◌, [], ◌++◌, ◌-◌, length, flat_map, take, refl, sym, ap, ◌∙◌, arith}
 use Rattle.std.proofs.lemmas.Grind.{flat_map-append}
 use Rattle.ppserve.specs.code.Records.{record_lines, records_of_lines, remaining_records}
-use Rattle.ppserve.proofs.Records.{lines_whole, one_more, all_done, take_more_of, take_of_none}
-use Rattle.ppserve.proofs.Printing.{puts_as, puts_none, puts_then, puts_failed}
+use Rattle.ppserve.proofs.RecordLines.{lines_whole, one_more, all_done, take_more_of, take_of_none}
+use Rattle.ppserve.proofs.BufferedPrinting.{puts_as, puts_none, puts_then, puts_failed}
 use Rattle.ppserve.proofs.output.put_next.Goals as goal
 
 pub loop-left-init : goal.loop-left-init

@@ -1,4 +1,4 @@
-use Rattle.ppserve.proofs.Printing.{puts_then}
+use Rattle.ppserve.proofs.BufferedPrinting.{puts_then}
 use Rattle.ppserve.proofs.output.put_pragma.Goals as goal
 
 pub returns : goal.returns

@@ -1,6 +1,6 @@
 use Rattle.std.proofs.Common.{flat_map}
 use Rattle.ppserve.specs.code.LinePrefix.{token_line}
-use Rattle.ppserve.proofs.Printing.{more_of, puts_all, puts_none, puts_turn}
+use Rattle.ppserve.proofs.BufferedPrinting.{more_of, puts_all, puts_none, puts_turn}
 use Rattle.ppserve.proofs.output.put_source_tokens.Goals as goal
 
 pub loop-token-init : goal.loop-token-init

@@ -1,7 +1,7 @@
 use Rattle.std.proofs.Common.{◌≡◌, codes, ◌++◌, ◌∙◌, ◌∷◌, [], append_assoc, sym}
 use Rattle.ppserve.specs.code.LinePrefix.{before_spelling}
 use Rattle.ppserve.specs.Output.{escaped}
-use Rattle.ppserve.proofs.Printing.{puts_as, puts_here, puts_then, puts_joined}
+use Rattle.ppserve.proofs.BufferedPrinting.{puts_as, puts_here, puts_then, puts_joined}
 use Rattle.ppserve.proofs.output.put_token_line.Goals as goal
 use Rattle.ppserve.proofs.output.put_token_line.Goals.{in-Some+else-add_short_spelling, in_default}
 

@@ -1,6 +1,6 @@
 use Rattle.std.proofs.Common.{rules, ap, sym, ◌∙◌}
 use Rattle.ppserve.specs.code.Rounds.{page_records}
-use Rattle.ppserve.proofs.Pages.{same_records}
+use Rattle.ppserve.proofs.PageRecords.{same_records}
 use Rattle.ppserve.proofs.rounds.fill_all.Goals as goal
 
 pub returns-clause-records : goal.returns-clause-records

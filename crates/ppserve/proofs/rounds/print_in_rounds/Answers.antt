@@ -1,5 +1,5 @@
 use Rattle.std.proofs.Common.{refl}
-use Rattle.ppserve.proofs.Printing.{printed_front}
+use Rattle.ppserve.proofs.BufferedPrinting.{printed_front}
 use Rattle.ppserve.proofs.rounds.print_in_rounds.Goals as goal
 
 pub returns-then-failed-clause-prefix : goal.returns-then-failed-clause-prefix

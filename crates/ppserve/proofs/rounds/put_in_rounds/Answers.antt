@@ -2,8 +2,8 @@ use Rattle.std.proofs.Common.{[], ◌++◌, flat_map, sym, ap, arith}
 use Rattle.std.proofs.lemmas.Grind.{flat_map-append}
 use Rattle.ppserve.specs.code.Records.{record_lines}
 use Rattle.ppserve.specs.code.Rounds.{page_records}
-use Rattle.ppserve.proofs.Records.{one_more}
-use Rattle.ppserve.proofs.Printing.{puts_as, puts_none, puts_then}
+use Rattle.ppserve.proofs.RecordLines.{one_more}
+use Rattle.ppserve.proofs.BufferedPrinting.{puts_as, puts_none, puts_then}
 use Rattle.ppserve.proofs.rounds.put_in_rounds.Goals as goal
 
 pub loop-cursor-init : goal.loop-cursor-init

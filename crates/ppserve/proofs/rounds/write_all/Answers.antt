@@ -3,8 +3,8 @@ use Rattle.std.proofs.lemmas.List.{drop-set-lt}
 use Rattle.std.proofs.lemmas.List.Elements.{AllWithin-more_set}
 use Rattle.ppserve.specs.code.Records.{record_lines}
 use Rattle.ppserve.specs.code.Rounds.{IsEmpty, IsFilled}
-use Rattle.ppserve.proofs.Pages.{same_from, one_more_page}
-use Rattle.ppserve.proofs.Printing.{puts_as, puts_then}
+use Rattle.ppserve.proofs.PageRecords.{same_from, one_more_page}
+use Rattle.ppserve.proofs.BufferedPrinting.{puts_as, puts_then}
 use Rattle.ppserve.proofs.rounds.write_all.Goals as goal
 
 pub write_out-requires : goal.write_out-requires

@@ -1,5 +1,5 @@
 use Rattle.std.proofs.Common.{◌≡◌, ◌∙◌, ℕ, ap, sym, subst, length, None, replicate}
-use Rattle.ppserve.proofs.Giving.{filled_files}
+use Rattle.ppserve.proofs.ServedOutput.{filled_files}
 use Rattle.ppserve.proofs.run_list.filled_shelf.Goals as goal
 
 pub returns-clause-names : goal.returns-clause-names

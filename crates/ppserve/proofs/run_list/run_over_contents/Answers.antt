@@ -2,7 +2,7 @@ use Rattle.std.proofs.Common.{◌≡◌, ◌∙◌, ap, length, map}
 use Rattle.ppshelf.specs.Files.{ShelfView}
 use Rattle.pppool.specs.declared.retention.Retain.{Retain}
 use Rattle.pppool.specs.Retained.{retained}
-use Rattle.ppserve.proofs.Giving.{knows_files}
+use Rattle.ppserve.proofs.ServedOutput.{knows_files}
 use Rattle.ppserve.proofs.run_list.run_over_contents.Goals as goal
 
 pub returns : goal.returns

@@ -1,8 +1,8 @@
 use Rattle.std.proofs.Common.{◌∙◌, refl, ap}
 use Rattle.ppserve.specs.Contents.{files_of}
 use Rattle.ppserve.specs.code.NeededRetention.{needed_retention}
-use Rattle.pppool.proofs.Placing.{if_ok_then}
-use Rattle.ppserve.proofs.Giving.{prefix_served, came_of, can_run, few_units, gives_all, served}
+use Rattle.pppool.proofs.SlotFilling.{if_ok_then}
+use Rattle.ppserve.proofs.ServedOutput.{prefix_served, came_of, can_run, few_units, gives_all, served}
 use Rattle.ppserve.proofs.serving.run_with_contents.Goals as goal
 
 pub run_over_contents-requires-clause-count : goal.run_over_contents-requires-clause-count

@@ -1,6 +1,6 @@
 use Rattle.ppserve.specs.code.NeededRetention.{needed_retention}
-use Rattle.pppool.proofs.Placing.{if_ok_then}
-use Rattle.ppserve.proofs.Giving.{prefix_served, came_of, can_run, few_units, gives_from, served}
+use Rattle.pppool.proofs.SlotFilling.{if_ok_then}
+use Rattle.ppserve.proofs.ServedOutput.{prefix_served, came_of, can_run, few_units, gives_from, served}
 use Rattle.ppserve.proofs.serving.run_with_disk.Goals as goal
 
 pub run_over_disk-requires-clause-count : goal.run_over_disk-requires-clause-count

@@ -1,4 +1,4 @@
-use Rattle.pppool.proofs.Placing.{if_ok_then}
+use Rattle.pppool.proofs.SlotFilling.{if_ok_then}
 use Rattle.ppserve.proofs.serving.serve.Goals as goal
 
 pub returns-clause-ok : goal.returns-clause-ok

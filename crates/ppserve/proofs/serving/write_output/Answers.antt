@@ -1,6 +1,6 @@
 use Rattle.std.proofs.Common.{rules, take, ap}
-use Rattle.ppserve.proofs.Records.{lines_of_output}
-use Rattle.ppserve.proofs.Known.{appends_as}
+use Rattle.ppserve.proofs.RecordLines.{lines_of_output}
+use Rattle.ppserve.proofs.KnownStreamBytes.{appends_as}
 use Rattle.ppserve.proofs.serving.write_output.Goals as goal
 
 pub returns-in_err-print_output-clause-prefix : goal.returns-in_err-print_output-clause-prefix

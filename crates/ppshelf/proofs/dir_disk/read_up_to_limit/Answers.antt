@@ -2,7 +2,7 @@ use Rattle.std.proofs.Common.{◌≡◌, ◌++◌, ◌∙◌, ℕ, List, [], tak
 use Rattle.std.specs.Option.{IfSome, option_map}
 use Rattle.ppshelf.proofs.dir_disk.read_up_to_limit.Goals as goal
 
--- what a reader that stops after N bytes returns
+-- A reader with a limit returns the first bytes of the file, up to the limit.
 start_of : (left all : Option (List ℕ)) (bytes before : List ℕ) (limit most : ℕ)
     → left ≡ all
     → before ≡ []

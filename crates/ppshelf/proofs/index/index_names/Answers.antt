@@ -2,7 +2,7 @@ use Rattle.std.proofs.Common.{◌≡◌, ◌<◌, [], ℕ, List, true, map, leng
 use Rattle.std.specs.String.{string_bytes}
 use Rattle.std.proofs.lemmas.List.{get_or-map, length-map}
 use Rattle.ppshelf.specs.Names.{is_file_name, name_in}
-use Rattle.ppshelf.proofs.Naming.{next_name}
+use Rattle.ppshelf.proofs.NameRows.{next_name}
 use Rattle.ppshelf.proofs.index.index_names.Goals as goal
 
 pub loop-row-preserved : goal.loop-row-preserved

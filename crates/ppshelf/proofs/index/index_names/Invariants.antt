@@ -1,6 +1,6 @@
 use Rattle.std.proofs.Common.{◌≡◌, map}
 use Rattle.std.specs.String.{string_bytes}
-use Rattle.ppshelf.proofs.Naming.{Indexed}
+use Rattle.ppshelf.proofs.NameRows.{Indexed}
 use Rattle.ppshelf.proofs.index.index_names.Given as goal
 
 abbrev pub invariant-loop-row : goal.invariant-loop-row

@@ -1,4 +1,4 @@
-use Rattle.ppshelf.proofs.Naming.{names_from_test, test_of_names}
+use Rattle.ppshelf.proofs.NameRows.{names_from_test, test_of_names}
 use Rattle.ppshelf.proofs.laws.names_decide.Goals as goal
 
 pub returns : goal.returns

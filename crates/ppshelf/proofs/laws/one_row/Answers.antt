@@ -1,4 +1,4 @@
-use Rattle.ppshelf.proofs.Finds.{one_first}
+use Rattle.ppshelf.proofs.SearchResults.{one_first}
 use Rattle.ppshelf.proofs.laws.one_row.Goals as goal
 
 pub returns : goal.returns

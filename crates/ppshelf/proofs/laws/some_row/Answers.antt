@@ -1,4 +1,4 @@
-use Rattle.ppshelf.proofs.Finds.{some_first}
+use Rattle.ppshelf.proofs.SearchResults.{some_first}
 use Rattle.ppshelf.proofs.laws.some_row.Goals as goal
 
 pub returns : goal.returns

@@ -4,7 +4,7 @@ use Rattle.ppshelf.specs.Search.{follow}
 use Rattle.ppshelf.proofs.IncluderDirectory.{before_slash, no_slash}
 use Rattle.ppshelf.proofs.search.directory_of.Goals as goal
 
--- what the directory is cut to is the text before the last slash, in whatever way the code writes its length
+-- The returned directory is the path of the text before the last slash.
 pub returns-in-Some : goal.returns-in-Some
 returns-in-Some c =
     let h = c.in-Some.ensures.0 in

@@ -1,5 +1,5 @@
 use Rattle.std.proofs.lemmas.Result.{IfOk-weaker}
-use Rattle.ppshelf.proofs.Finds.{first_here, first_later, first_within}
+use Rattle.ppshelf.proofs.SearchResults.{first_here, first_later, first_within}
 use Rattle.ppshelf.proofs.search.resolve.Goals as goal
 
 pub returns-in-Some-clause-first : goal.returns-in-Some-clause-first

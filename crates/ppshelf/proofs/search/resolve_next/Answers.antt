@@ -1,5 +1,5 @@
 use Rattle.std.proofs.lemmas.Result.{IfOk-weaker}
-use Rattle.ppshelf.proofs.Finds.{first_within}
+use Rattle.ppshelf.proofs.SearchResults.{first_within}
 use Rattle.ppshelf.proofs.search.resolve_next.Goals as goal
 
 pub returns-clause-first : goal.returns-clause-first

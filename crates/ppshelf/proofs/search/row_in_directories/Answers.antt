@@ -1,5 +1,5 @@
 use Rattle.std.proofs.Common.{◌<◌, ◌+◌, ◌++◌, ℕ, List, length, length-append, arith}
-use Rattle.ppshelf.proofs.Finds.{pass_over, found_here}
+use Rattle.ppshelf.proofs.SearchResults.{pass_over, found_here}
 use Rattle.ppshelf.proofs.search.row_in_directories.Goals as goal
 
 within_both : {A : Type 0} (xs ys : List A) (i : ℕ) → i < length xs + length ys → i < length (xs ++ ys)

@@ -1,5 +1,5 @@
 use Rattle.std.proofs.Common.{◌++◌}
-use Rattle.ppshelf.proofs.Finds.{Passed}
+use Rattle.ppshelf.proofs.SearchResults.{Passed}
 use Rattle.ppshelf.proofs.search.row_in_directories.Given as goal
 
 abbrev pub invariant-loop-index : goal.invariant-loop-index

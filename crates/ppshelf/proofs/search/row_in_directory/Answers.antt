@@ -1,5 +1,5 @@
 use Rattle.std.proofs.Common.{sym, ◌∙◌}
-use Rattle.ppshelf.proofs.Plain.{row_joined}
+use Rattle.ppshelf.proofs.DotFreePaths.{row_joined}
 use Rattle.ppshelf.proofs.search.row_in_directory.Goals as goal
 
 pub returns-then-has_no_dot_segments : goal.returns-then-has_no_dot_segments

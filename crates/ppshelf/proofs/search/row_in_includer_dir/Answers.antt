@@ -1,7 +1,7 @@
 use Rattle.std.proofs.Common.{rules, Some, []}
 use Rattle.std.proofs.lemmas.Result.{IfOk-weaker}
 use Rattle.ppshelf.specs.Search.{follow}
-use Rattle.ppshelf.proofs.Finds.{first_alone}
+use Rattle.ppshelf.proofs.SearchResults.{first_alone}
 use Rattle.ppshelf.proofs.search.row_in_includer_dir.Goals as goal
 
 pub returns : goal.returns

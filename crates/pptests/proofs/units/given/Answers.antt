@@ -1,5 +1,5 @@
 use Rattle.std.proofs.Common.{rules, ◌≡◌, length, sym, ◌∙◌}
-use Rattle.ppunit.proofs.Tested.{unit_of}
+use Rattle.ppunit.proofs.UnitTest.{unit_of}
 use Rattle.pptests.proofs.units.given.Goals as goal
 
 pub preprocess_again-requires-clause-unit : goal.preprocess_again-requires-clause-unit

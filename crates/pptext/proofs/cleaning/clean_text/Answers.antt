@@ -1,7 +1,7 @@
 use Rattle.std.proofs.Common.{List, ap, subst, sym, ◌∙◌, Ok}
 use Rattle.pptext.specs.declared.characters.Char.{Char}
 use Rattle.pptext.specs.code.CleanedText.{HasLineNotes}
-use Rattle.pptext.proofs.Copies.{clean_err, clean_ok, own_whole}
+use Rattle.pptext.proofs.CleanedCopies.{clean_err, clean_ok, own_whole}
 use Rattle.pptext.proofs.cleaning.clean_text.Goals as goal
 
 pub new-requires-clause-made : goal.new-requires-clause-made

@@ -2,15 +2,15 @@ use Rattle.std.proofs.Common.{◌≡◌, ℕ, List, [], ◌∷◌, ◌+◌, ◌-
 use Rattle.std.proofs.lemmas.List.{take_rest}
 use Rattle.pptext.specs.code.LineNotes.{PlainRun}
 use Rattle.pptext.specs.code.Steps.{Code, Removed, lacks_newline, step_of}
-use Rattle.pptext.proofs.Copies.{code_at, copies_all, copies_code, copies_removed, removed_at, whole_closed, whole_open}
+use Rattle.pptext.proofs.CleanedCopies.{code_at, copies_all, copies_code, copies_removed, removed_at, whole_closed, whole_open}
 use Rattle.pptext.proofs.cleaning.copy_cleaned.Goals as goal
 use Rattle.pptext.proofs.cleaning.copy_cleaned.Goals.{then-supplied+in_ok-push-2, else-supplied}
 
--- the codes copied from a stretch
+-- The codes that are copied from a plain run.
 stretch_codes : (raw codes : List ℕ) (start n : ℕ) → codes ++ take (start + n - start) (drop start raw) ≡ codes ++ take n (drop start raw)
 stretch_codes raw codes start n = ap (λ k. codes ++ take k (drop start raw)) (omega arith)
 
--- after a line note less is left
+-- After a line note, fewer bytes are left.
 nearer : (start ahead len end : ℕ) → start + ahead < end → 0 < len → end - (start + ahead + len) < end - start
 nearer start ahead len end lt some = omega arith
 
@@ -60,10 +60,10 @@ loop-ahead-preserved-in-Code c =
     let start = c.loop-ahead.start in
     let n = c.in-Some.ahead in
     let ahead = simp take_rest at c.in-Some.ensures in
-    let stretch : PlainRun (lacks_newline raw) (drop start raw) n = subst (λ s. PlainRun s (drop start raw) n) c.requires.supplied ahead.1 in
+    let plain_run : PlainRun (lacks_newline raw) (drop start raw) n = subst (λ s. PlainRun s (drop start raw) n) c.requires.supplied ahead.1 in
     let is : step_of (lacks_newline raw) (drop (start + n) raw) ≡ Code c.in-Code.code c.in-Code.len = ap (λ s. step_of s (drop (start + n) raw)) (sym c.requires.supplied) ∙ sym (simp take_rest at c.in-Code.ensures) in
     let codes = c.in_ok-push-in-Code.ensures.items ∙ ap (λ z. z ++ c.in-Code.code ∷ []) (c.in_ok-extend_from_slice.ensures.items ∙ stretch_codes raw c.loop-ahead.codes.items start n) in
-    rw (codes, c.in_ok-push.ensures.items) (copies_code raw start n c.in-Code.code c.in-Code.len c.loop-ahead.codes.items c.loop-ahead.line_notes.items c.loop-ahead.invariant ahead.0 stretch is)
+    rw (codes, c.in_ok-push.ensures.items) (copies_code raw start n c.in-Code.code c.in-Code.len c.loop-ahead.codes.items c.loop-ahead.line_notes.items c.loop-ahead.invariant ahead.0 plain_run is)
 
 pub loop-ahead-preserved : goal.loop-ahead-preserved
 loop-ahead-preserved c =
@@ -71,10 +71,10 @@ loop-ahead-preserved c =
     let start = c.loop-ahead.start in
     let n = c.in-Some.ahead in
     let ahead = simp take_rest at c.in-Some.ensures in
-    let stretch : PlainRun (lacks_newline raw) (drop start raw) n = subst (λ s. PlainRun s (drop start raw) n) c.requires.supplied ahead.1 in
+    let plain_run : PlainRun (lacks_newline raw) (drop start raw) n = subst (λ s. PlainRun s (drop start raw) n) c.requires.supplied ahead.1 in
     let is : step_of (lacks_newline raw) (drop (start + n) raw) ≡ Removed c.in-Removed.len = ap (λ s. step_of s (drop (start + n) raw)) (sym c.requires.supplied) ∙ sym (simp take_rest at c.in-Removed.ensures) in
     let codes = c.in_ok-extend_from_slice.ensures.items ∙ stretch_codes raw c.loop-ahead.codes.items start n in
-    rw (codes, c.in_ok-push.ensures.items) (copies_removed raw start n c.in-Removed.len c.loop-ahead.codes.items c.loop-ahead.line_notes.items c.loop-ahead.invariant (c.requires.line_notes.ends 0) ahead.0 stretch is)
+    rw (codes, c.in_ok-push.ensures.items) (copies_removed raw start n c.in-Removed.len c.loop-ahead.codes.items c.loop-ahead.line_notes.items c.loop-ahead.invariant (c.requires.line_notes.ends 0) ahead.0 plain_run is)
 
 pub returns : goal.returns
 returns c =

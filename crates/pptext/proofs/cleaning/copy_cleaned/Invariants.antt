@@ -1,5 +1,5 @@
 use Rattle.std.proofs.Common.{◌-◌, length}
-use Rattle.pptext.proofs.Copies.{Copies}
+use Rattle.pptext.proofs.CleanedCopies.{Copies}
 use Rattle.pptext.proofs.cleaning.copy_cleaned.Given as goal
 
 abbrev pub invariant-loop-ahead : goal.invariant-loop-ahead

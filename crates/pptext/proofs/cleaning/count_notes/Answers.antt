@@ -4,16 +4,16 @@ use Rattle.pptext.specs.code.LineNotes.{PlainRun}
 use Rattle.pptext.specs.declared.characters.steps.CharStep as code
 use Rattle.pptext.specs.declared.characters.steps.CharStep.TheVariants as variant
 use Rattle.pptext.specs.code.Steps.{CharStep, Code, Removed, lacks_newline, step_of}
-use Rattle.pptext.proofs.Copies.{Counted, code_at, counted_all, counted_code, counted_last, counted_removed, removed_at}
+use Rattle.pptext.proofs.CleanedCopies.{Counted, code_at, counted_all, counted_code, counted_last, counted_removed, removed_at}
 use Rattle.pptext.proofs.cleaning.count_notes.Goals as goal
 use Rattle.pptext.proofs.cleaning.count_notes.Goals.{in-Code, in-Removed-2}
 
--- what a step of the code stands for
+-- the step that a step of the code represents
 abbrev meant : code.CharStep → CharStep
 meant (variant.Code code n) = Code code n
 meant (variant.Removed n) = Removed n
 
--- after a line note less is left
+-- After a line note, fewer bytes are left.
 nearer : (start ahead len end : ℕ) → start + ahead < end → 0 < len → end - (start + ahead + len) < end - start
 nearer start ahead len end lt some = omega arith
 
@@ -38,9 +38,9 @@ returns-in-Removed c =
     let n = c.in-Some.ahead in
     let len = c.in-Removed.len in
     let ahead = simp take_rest at c.in-Some.ensures in
-    let stretch : PlainRun (lacks_newline raw) (drop start raw) n = subst (λ s. PlainRun s (drop start raw) n) c.requires ahead.1 in
+    let plain_run : PlainRun (lacks_newline raw) (drop start raw) n = subst (λ s. PlainRun s (drop start raw) n) c.requires ahead.1 in
     let is : step_of (lacks_newline raw) (drop (start + n) raw) ≡ Removed len = ap (λ s. step_of s (drop (start + n) raw)) (sym c.requires) ∙ sym (simp take_rest at c.in-Removed.ensures) in
-    counted_last raw start c.loop-ahead.count n len c.loop-ahead.invariant ahead.0 stretch is c.if-at-len.true
+    counted_last raw start c.loop-ahead.count n len c.loop-ahead.invariant ahead.0 plain_run is c.if-at-len.true
 
 pub loop-ahead-preserved : goal.loop-ahead-preserved
 loop-ahead-preserved c =
@@ -49,13 +49,13 @@ loop-ahead-preserved c =
     let count = c.loop-ahead.count in
     let n = c.in-Some.ahead in
     let ahead = simp take_rest at c.in-Some.ensures in
-    let stretch : PlainRun (lacks_newline raw) (drop start raw) n = subst (λ s. PlainRun s (drop start raw) n) c.requires ahead.1 in
+    let plain_run : PlainRun (lacks_newline raw) (drop start raw) n = subst (λ s. PlainRun s (drop start raw) n) c.requires ahead.1 in
     let step : step_of (lacks_newline raw) (drop (start + n) raw) ≡ meant c.next_step.result = ap (λ s. step_of s (drop (start + n) raw)) (sym c.requires) ∙ sym (simp take_rest at c.next_step.ensures) in
     elim c.match-next_step.branch [
       | in-Code w ↦
-          subst (λ k. Counted raw k (count + 1)) (sym w.start-is) (counted_code raw start count n w.in-Code.field-0 w.in-Code.len c.loop-ahead.invariant ahead.0 stretch (step ∙ ap meant w.in-Code.is))
+          subst (λ k. Counted raw k (count + 1)) (sym w.start-is) (counted_code raw start count n w.in-Code.field-0 w.in-Code.len c.loop-ahead.invariant ahead.0 plain_run (step ∙ ap meant w.in-Code.is))
       | in-Removed-2 w ↦
-          subst (λ k. Counted raw k (count + 1)) (sym w.start-is) (counted_removed raw start count n w.in-Removed.len c.loop-ahead.invariant ahead.0 stretch (step ∙ ap meant w.in-Removed.is) w.if-at-len.false)
+          subst (λ k. Counted raw k (count + 1)) (sym w.start-is) (counted_removed raw start count n w.in-Removed.len c.loop-ahead.invariant ahead.0 plain_run (step ∙ ap meant w.in-Removed.is) w.if-at-len.false)
     ]
 
 pub returns : goal.returns

@@ -1,5 +1,5 @@
 use Rattle.std.proofs.Common.{◌-◌, length}
-use Rattle.pptext.proofs.Copies.{Counted}
+use Rattle.pptext.proofs.CleanedCopies.{Counted}
 use Rattle.pptext.proofs.cleaning.count_notes.Given as goal
 
 abbrev pub invariant-loop-ahead : goal.invariant-loop-ahead

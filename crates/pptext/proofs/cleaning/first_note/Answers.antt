@@ -8,11 +8,11 @@ use Rattle.pptext.proofs.cleaning.first_note.Goals as goal
 pub loop-ahead-init : goal.loop-ahead-init
 loop-ahead-init c = own_none c.args.supplied c.args.bytes.now
 
--- the bytes up to the next special one
+-- The bytes before the next special byte are characters of their own.
 up_to : (s : Bool) (bytes : List ℕ) (start ahead : ℕ) → OwnPrefix s bytes start → StopsAt (drop start bytes) ahead → (start + ahead < length bytes) × OwnPrefix s bytes (start + ahead)
 up_to s bytes start ahead own stop =
     let l = length-drop start bytes in
-    let room = stop.0 in
+    let in_bounds = stop.0 in
     (omega arith, own_plain s bytes start ahead own stop.1)
 
 pub loop-ahead-preserved : goal.loop-ahead-preserved
@@ -24,7 +24,7 @@ loop-ahead-preserved c =
     let is : step_of c.args.supplied (drop at bytes) ≡ Code code 1 = sym (simp take_rest at c.in-Code.ensures) ∙ ap (λ n. Code code n) c.if-len-ne1.false in
     own_code c.args.supplied bytes at code here.1 here.0 is
 
--- a line note there
+-- A plain run that ends at a line note.
 break_at : (s : Bool) (bytes : List ℕ) (at : ℕ) → (at < length bytes) × OwnPrefix s bytes at → IsChanged s (drop at bytes) → (at < length bytes) × PlainRun s bytes at
 break_at s bytes at here changed = (here.0, record { prefix = here.1; stops = λ lt. changed })
 

@@ -1,4 +1,4 @@
-use Rattle.pptext.proofs.Carried.{continued_token}
+use Rattle.pptext.proofs.TokenContinuation.{continued_token}
 use Rattle.pptext.proofs.laws.continued_token.Goals as goal
 
 pub returns : goal.returns

@@ -1,4 +1,4 @@
-use Rattle.pptext.proofs.LastLine.{keeps_every_token}
+use Rattle.pptext.proofs.FinalNewLine.{keeps_every_token}
 use Rattle.pptext.proofs.laws.keeps_every_token.Goals as goal
 
 pub returns : goal.returns

@@ -1,4 +1,4 @@
-use Rattle.pptext.proofs.OneLexer.{has_one_lexer}
+use Rattle.pptext.proofs.TextKinds.{has_one_lexer}
 use Rattle.pptext.proofs.laws.one_lexer.Goals as goal
 
 pub returns : goal.returns

@@ -1,4 +1,4 @@
-use Rattle.pptext.proofs.OneCut.{one_tokenization}
+use Rattle.pptext.proofs.TokenizationUniqueness.{one_tokenization}
 use Rattle.pptext.proofs.laws.one_tokenization.Goals as goal
 
 pub returns : goal.returns

@@ -1,4 +1,4 @@
-use Rattle.pptext.proofs.OneToken.{relexes_tokens}
+use Rattle.pptext.proofs.SingleTokens.{relexes_tokens}
 use Rattle.pptext.proofs.laws.relexes_tokens.Goals as goal
 
 pub returns : goal.returns

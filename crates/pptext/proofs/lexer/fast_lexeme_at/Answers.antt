@@ -1,5 +1,5 @@
 use Rattle.std.proofs.Common.{get_or, sym, ◌∙◌, arith}
-use Rattle.pptext.proofs.Light.{closed_stands, word_nondigit, word_opens_none, word_stands}
+use Rattle.pptext.proofs.FirstByteTokens.{closed_stands, word_nondigit, word_opens_none, word_stands}
 use Rattle.pptext.proofs.lexer.fast_lexeme_at.Goals as goal
 
 pub returns-then-begins_nothing_longer-clause-some : goal.returns-then-begins_nothing_longer-clause-some

@@ -7,9 +7,9 @@ use Rattle.pptext.specs.declared.lexer.LeadingLexeme.TheVariants as variant
 use Rattle.pptext.specs.Clean.{place, codes_of}
 use Rattle.pptext.specs.code.UnmatchedQuotes.{KnowsUnmatched}
 use Rattle.pptext.proofs.UnmatchedQuoteLemmas.{knows_later, knows_nothing}
-use Rattle.pptext.proofs.CutLoop.{state_start, skip_blanks, skip_comment, end_line, add_token, cut_all, left_unclosed, codes_length, head_of_drop, head_of_take, token_is}
-use Rattle.pptext.proofs.Told.{found_here}
-use Rattle.pptext.proofs.InLine.{line_start, line_over_blanks, line_over_token}
+use Rattle.pptext.proofs.TokenizationLoop.{state_start, skip_blanks, skip_comment, end_line, add_token, cut_all, left_unclosed, codes_length, head_of_drop, head_of_take, token_is}
+use Rattle.pptext.proofs.LexemeMeanings.{found_here}
+use Rattle.pptext.proofs.NewLineFreeTokens.{line_start, line_over_blanks, line_over_token}
 use Rattle.pptext.specs.Tokens.{spelled}
 use Rattle.pptext.specs.Lines.{token_of}
 use Rattle.pptext.specs.code.CleanedText.{Reading}

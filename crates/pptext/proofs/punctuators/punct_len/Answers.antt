@@ -1,6 +1,6 @@
 use Rattle.std.proofs.Common.{◌≡◌, arith}
-use Rattle.pptext.proofs.Fronts.{lacks}
-use Rattle.pptext.proofs.Table.{longest_at, none_at, above_two, above_one}
+use Rattle.pptext.proofs.LanguagePrefixes.{lacks}
+use Rattle.pptext.proofs.LongestPunctuator.{longest_at, none_at, above_two, above_one}
 use Rattle.pptext.proofs.punctuators.punct_len.Goals as goal
 
 pub returns-then-begins_with_punct : goal.returns-then-begins_with_punct

@@ -17,7 +17,7 @@ use Rattle.pptext.proofs.Spans.{same_lines}
 use Rattle.pptext.proofs.Lengths.{cleaned_length}
 use Rattle.pptext.proofs.reading.read_source.Goals as goal
 
--- what grouping answers is what reading answers
+-- The result of grouping is the result of reading.
 grouped : (profile : Profile) (file : ℕ) (bytes : List ℕ) (chars : List Char) (lexemes : List Lexeme) (lines : List LogicalLine) (r : Result Source Error)
     → cleaned file bytes ≡ Ok chars
     → Tokenizes profile chars lexemes

@@ -3,8 +3,8 @@ use Rattle.std.proofs.lemmas.Bool.{false≢true}
 use Rattle.pptext.specs.declared.lexer.LeadingLexeme.TheVariants as variant
 use Rattle.pptext.specs.declared.sources.Profile.TheVariants.{C11}
 use Rattle.pptext.specs.Lexemes.{Spelled, IsLexemeAt}
-use Rattle.pptext.proofs.OneToken.{finds_token, stands_one_token}
-use Rattle.pptext.proofs.Told.{found_here, token_meant}
+use Rattle.pptext.proofs.SingleTokens.{finds_token, stands_one_token}
+use Rattle.pptext.proofs.LexemeMeanings.{found_here, token_meant}
 use Rattle.pptext.proofs.reading.relex.Goals as goal
 
 pub returns-in_default : goal.returns-in_default

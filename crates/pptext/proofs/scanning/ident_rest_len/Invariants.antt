@@ -3,7 +3,7 @@ use Rattle.pptext.specs.Languages.{Longest, Repeated, Either, One}
 use Rattle.pptext.specs.Spellings.{IsNondigit, is_digit}
 use Rattle.pptext.proofs.scanning.ident_rest_len.Given as goal
 
--- whatever is longest from here on completes the longest
+-- The longest prefix from `at` on completes the longest prefix of the text.
 abbrev pub invariant-loop-at : goal.invariant-loop-at
 invariant-loop-at l = record {
   within : l.at ≤ length l.text;

@@ -4,6 +4,6 @@ use Rattle.pptext.specs.declared.scanning.TheConstants.{IDENT_BYTES}
 use Rattle.pptext.specs.Spellings.{is_ident_byte}
 use Rattle.pptext.proofs.scanning.is_ident_byte.Goals as goal
 
--- The table is held against the definition at each of the 256 bytes, by computing.
+-- The table is compared with the definition for each of the 256 bytes, by computation.
 pub returns : goal.returns
 returns c = agree_below_at (λ k. nat_eq (get_or IDENT_BYTES k 0) 49) is_ident_byte 256 c.args.c refl (omega arith)

@@ -1,6 +1,6 @@
 use Rattle.std.proofs.Common.{arith, sym, ◌∙◌}
 use Rattle.std.proofs.lemmas.Bool.Decides.{nat_tests}
-use Rattle.pptext.proofs.Fronts.{nondigit_here, nondigit_later}
+use Rattle.pptext.proofs.LanguagePrefixes.{nondigit_here, nondigit_later}
 use Rattle.pptext.proofs.scanning.nondigit_len.Goals as goal
 
 pub returns-then-is_nondigit : goal.returns-then-is_nondigit

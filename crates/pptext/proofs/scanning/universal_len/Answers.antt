@@ -1,6 +1,6 @@
 use Rattle.std.proofs.Common.{◌≡◌, ℕ, inl, inr, ◌⊎◌, ◌<◌, arith}
 use Rattle.std.proofs.lemmas.List.{take_rest}
-use Rattle.pptext.proofs.Fronts.{lacks, only_zero, no_universal, universal_unless, universal_of}
+use Rattle.pptext.proofs.LanguagePrefixes.{lacks, only_zero, no_universal, universal_unless, universal_of}
 use Rattle.pptext.specs.Spellings.{IsUniversal}
 use Rattle.pptext.proofs.scanning.universal_len.Goals as goal
 

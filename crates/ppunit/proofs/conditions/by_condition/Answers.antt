@@ -1,6 +1,6 @@
 use Rattle.ppunit.specs.States.{search_in_unit}
-use Rattle.ppunit.proofs.Deciding.{decides_unprobed, decides_probed}
-use Rattle.ppunit.proofs.Preprocessed.{on_settled}
+use Rattle.ppunit.proofs.LineDecisions.{decides_unprobed, decides_probed}
+use Rattle.ppunit.proofs.UnitValue.{on_settled}
 use Rattle.ppunit.proofs.conditions.by_condition.Goals as goal
 
 pub returns-then-not-is_probed-clause-is : goal.returns-then-not-is_probed-clause-is

@@ -1,7 +1,7 @@
 use Rattle.std.proofs.Common.{sym, ◌∙◌}
 use Rattle.ppunit.proofs.guards.guard_changes_nothing.Goals as goal
-use Rattle.ppunit.proofs.Guarding.{guards_leave_out}
-use Rattle.ppunit.proofs.OneUnit.{opened_once}
+use Rattle.ppunit.proofs.GuardedFiles.{guards_leave_out}
+use Rattle.ppunit.proofs.UnitUniqueness.{opened_once}
 
 pub returns-clause-leaves_out : goal.returns-clause-leaves_out
 returns-clause-leaves_out c = guards_leave_out

@@ -1,6 +1,6 @@
 use Rattle.std.proofs.Common.{rules, ◌≡◌}
 use Rattle.ppunit.specs.Conditions.{is_macro_name}
-use Rattle.ppunit.proofs.Guarding.{left_out_by, none_left_out}
+use Rattle.ppunit.proofs.GuardedFiles.{left_out_by, none_left_out}
 use Rattle.ppunit.proofs.guards.is_left_out.Goals as goal
 
 pub returns-in-Some : goal.returns-in-Some

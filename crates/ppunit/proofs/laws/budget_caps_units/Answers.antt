@@ -1,4 +1,4 @@
-use Rattle.ppunit.proofs.Capped.{unit_capped}
+use Rattle.ppunit.proofs.BudgetPrefixes.{unit_capped}
 use Rattle.ppunit.proofs.laws.budget_caps_units.Goals as goal
 
 pub returns : goal.returns

@@ -1,5 +1,5 @@
 use Rattle.ppunit.proofs.laws.growth.Goals as goal
-use Rattle.ppunit.proofs.Grows.{unit_grows}
+use Rattle.ppunit.proofs.LargerFileSets.{unit_grows}
 
 pub returns : goal.returns
 returns c = unit_grows

@@ -1,4 +1,4 @@
-use Rattle.ppunit.proofs.Capped.{unit_gives_no_less}
+use Rattle.ppunit.proofs.BudgetPrefixes.{unit_gives_no_less}
 use Rattle.ppunit.proofs.laws.larger_budgets_give_no_less.Goals as goal
 
 pub returns : goal.returns

@@ -1,4 +1,4 @@
-use Rattle.ppunit.proofs.SomeUnit.{some_unit}
+use Rattle.ppunit.proofs.UnitExistence.{some_unit}
 use Rattle.ppunit.proofs.laws.some_value.Goals as goal
 
 pub returns : goal.returns

@@ -1,7 +1,7 @@
 use Rattle.std.proofs.lemmas.Grind.{common_steps}
 use Rattle.std.proofs.Common.{◌≡◌, ◌+◌, ◌*◌, true, get_or, subst, sym, ap, ◌∙◌, arith}
 use Rattle.pptext.specs.Spellings.{is_digit}
-use Rattle.ppunit.proofs.Digits.{Reads, reads_digit, reads_on}
+use Rattle.ppunit.proofs.LineNumberDigits.{Reads, reads_digit, reads_on}
 use Rattle.ppunit.proofs.line_control.line_number.Goals as goal
 use Rattle.ppunit.proofs.line_control.line_number.Goals.{then-number-le-LAST_LINE, else-number-le-LAST_LINE}
 

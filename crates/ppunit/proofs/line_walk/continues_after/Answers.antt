@@ -1,8 +1,8 @@
 use Rattle.std.proofs.Common.{sym, ◌∙◌}
 use Rattle.ppunit.specs.States.{search_in_unit}
 use Rattle.ppunit.specs.code.Walk.{line_at}
-use Rattle.ppunit.proofs.Deciding.{enters_asked}
-use Rattle.ppunit.proofs.Preprocessed.{on_settled}
+use Rattle.ppunit.proofs.LineDecisions.{enters_asked}
+use Rattle.ppunit.proofs.UnitValue.{on_settled}
 use Rattle.ppunit.proofs.line_walk.continues_after.Goals as goal
 
 pub returns-clause-continues_after : goal.returns-clause-continues_after

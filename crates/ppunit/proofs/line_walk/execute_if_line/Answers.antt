@@ -1,11 +1,11 @@
 use Rattle.std.proofs.Common.{◌+◌, Bool, Ok, Err, refl, sym, subst}
-use Rattle.pptext.proofs.Stopping.{stopped}
+use Rattle.pptext.proofs.ErrorReturns.{stopped}
 use Rattle.ppunit.specs.States.{State, context_over, search_in_unit}
 use Rattle.ppunit.specs.Conditions.{Decides}
 use Rattle.ppunit.specs.code.Walk.{line_at, Advances}
-use Rattle.ppunit.proofs.Deciding.{decides_at}
+use Rattle.ppunit.proofs.LineDecisions.{decides_at}
 use Rattle.ppunit.proofs.EnteredSection.{enter_taken, enter_skipped, enter_refused}
-use Rattle.ppunit.proofs.Preprocessed.{on_settled}
+use Rattle.ppunit.proofs.UnitValue.{on_settled}
 use Rattle.ppunit.proofs.line_walk.execute_if_line.Goals as goal
 
 pub returns-in_err-decide-clause-advances : goal.returns-in_err-decide-clause-advances

@@ -1,6 +1,6 @@
 use Rattle.std.proofs.Common.{List, Some, None, subst}
 use Rattle.pptext.specs.declared.tokens.Token.{Token}
-use Rattle.pptext.proofs.Stopping.{stopped}
+use Rattle.pptext.proofs.ErrorReturns.{stopped}
 use Rattle.ppunit.specs.Directives.{EmitsText}
 use Rattle.ppunit.proofs.TextRuns.{run_advances}
 use Rattle.ppunit.proofs.line_walk.execute_text_lines.Goals as goal

@@ -1,10 +1,10 @@
 use Rattle.std.proofs.Common.{◌+◌, Bool, Ok, Err, ◌∙◌, sym, subst, arith}
-use Rattle.pptext.proofs.Stopping.{stopped}
+use Rattle.pptext.proofs.ErrorReturns.{stopped}
 use Rattle.ppunit.specs.States.{State, search_in_unit}
 use Rattle.ppunit.specs.code.Walk.{FindsBranch}
 use Rattle.ppunit.proofs.SectionEnds.{next_inside}
-use Rattle.ppunit.proofs.FoundBranch.{EntersAt, BranchSoFar, branch_more, branch_taken, branch_refused, branch_found}
-use Rattle.ppunit.proofs.Options.{none_of}
+use Rattle.ppunit.proofs.BranchSearch.{EntersAt, BranchSoFar, branch_more, branch_taken, branch_refused, branch_found}
+use Rattle.ppunit.proofs.OptionCases.{none_of}
 use Rattle.ppunit.proofs.line_walk.find_branch.Goals as goal
 
 pub continues_after-requires-clause-index : goal.continues_after-requires-clause-index

@@ -1,18 +1,18 @@
 use Rattle.std.proofs.Common.{◌≡◌, ◌∙◌, ap, subst}
 use Rattle.std.proofs.lemmas.Result.{IfOk-weaker}
 use Rattle.ppshelf.specs.Files.{Agree, ShelfView}
-use Rattle.ppunit.specs.States.{UnitContext, Reached, context_over, output}
+use Rattle.ppunit.specs.States.{UnitContext, Progress, context_over, output}
 use Rattle.ppunit.specs.Unit.{IsUnit, Translates, initial_state}
-use Rattle.ppunit.proofs.Preprocessed.{whole_unit}
-use Rattle.ppunit.proofs.Dependent.{unit_within}
+use Rattle.ppunit.proofs.UnitValue.{whole_unit}
+use Rattle.ppunit.proofs.DependencyIndices.{unit_within}
 use Rattle.ppunit.proofs.preprocessing.preprocess.Goals as goal
 
 pub returns-clause-is : goal.returns-clause-is
 returns-clause-is g c =
     let unit = c.args.unit.now in
-    let Of : UnitContext → Reached → Type 0 = λ l r.
+    let Of : UnitContext → Progress → Type 0 = λ l r.
     Translates (context_over l c.run_unit-output.new.pass.files) unit.defines.texts unit.file (initial_state c.args.setting.now) r in
-    IfOk-weaker c.run_unit-output.result (λ out. (r : Reached) × Of c.new-context.result r × (out ≡ output r))
+    IfOk-weaker c.run_unit-output.result (λ out. (r : Progress) × Of c.new-context.result r × (out ≡ output r))
     (IsUnit c.args.shelf.now.names c.run_unit-output.new.pass.files c.args.setting.now unit)
     (λ out gives.
     whole_unit c.args.shelf.now.names c.args.shelf.now.profile c.run_unit-output.new.pass.files c.args.setting.now unit _ _ gives.0 out

@@ -1,7 +1,7 @@
 use Rattle.std.proofs.Common.{[], ◌∙◌}
 use Rattle.ppshelf.specs.Names.{name_in}
 use Rattle.ppshelf.specs.Search.{candidates}
-use Rattle.ppunit.proofs.Finding.{found_is}
+use Rattle.ppunit.proofs.FileSearch.{found_is}
 use Rattle.ppunit.proofs.probing.has_file.Goals as goal
 
 pub returns : goal.returns

@@ -1,8 +1,8 @@
 use Rattle.std.proofs.Common.{◌∙◌, sym}
-use Rattle.ppexpr.proofs.DefinedReplaced.{same_token}
+use Rattle.ppexpr.proofs.DefinedReplacement.{same_token}
 use Rattle.ppunit.specs.States.{search_in_unit}
-use Rattle.ppunit.proofs.Options.{none_of}
-use Rattle.ppunit.proofs.Probed.{rest_behind, probes_other, probes_number, probes_open, probes_unasked}
+use Rattle.ppunit.proofs.OptionCases.{none_of}
+use Rattle.ppunit.proofs.HasIncludeNumbers.{rest_behind, probes_other, probes_number, probes_open, probes_unasked}
 use Rattle.ppunit.proofs.probing.probe.Goals as goal
 
 pub loop-first-preserved-then-not-asks : goal.loop-first-preserved-then-not-asks

@@ -1,6 +1,6 @@
 use Rattle.std.proofs.Common.{length}
 use Rattle.ppunit.specs.States.{search_in_unit}
-use Rattle.ppunit.proofs.Probed.{Probes}
+use Rattle.ppunit.proofs.HasIncludeNumbers.{Probes}
 use Rattle.ppunit.proofs.probing.probe.Given as goal
 
 abbrev pub invariant-loop-first : goal.invariant-loop-first

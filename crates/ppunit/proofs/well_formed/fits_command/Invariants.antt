@@ -4,4 +4,4 @@ use Rattle.ppunit.proofs.CommandFile.{size}
 use Rattle.ppunit.proofs.well_formed.fits_command.Given as goal
 
 abbrev pub invariant-loop-text : goal.invariant-loop-text
-invariant-loop-text l = l.room + size l.defines ≡ size (drop l.text-index l.defines) + longest
+invariant-loop-text l = l.capacity + size l.defines ≡ size (drop l.text-index l.defines) + longest

@@ -5,7 +5,7 @@ use Rattle.ppmacro.specs.Substituting.{ArgumentsKnown, arguments_in}
 use Rattle.ppmacro.specs.Substitution.{chains_replacement}
 use Rattle.ppexpand.specs.ExpansionStep.{replaced_by, finish_invocation}
 use Rattle.ppexpand.specs.code.ProgramValues.{replaced_in}
-use Rattle.ppexpand.proofs.Keeping.{arguments_known}
+use Rattle.ppexpand.proofs.GrowingHideSets.{arguments_known}
 use Rattle.ppexpand.proofs.expand_step.Replacer.finish_invocation.Goals as goal
 
 pub replace-requires-clause-arguments : goal.replace-requires-clause-arguments

@@ -10,12 +10,12 @@ use Rattle.ppmacro.specs.Substituting.{tokens_of}
 use Rattle.ppmacro.specs.declared.hidden_token.Hidden.{Hidden}
 use Rattle.ppmacro.specs.declared.macros.Macro.{Macro}
 use Rattle.ppexpand.specs.declared.env.Env.{Env}
-use Rattle.ppexpand.specs.ExpansionStep.{Refused, named_step, macro_step, macro_of, expansion_step, quote_fault}
+use Rattle.ppexpand.specs.ExpansionStep.{TokenFault, named_step, macro_step, macro_of, expansion_step, quote_fault}
 use Rattle.ppexpand.specs.Budget.{in_budget}
 use Rattle.ppexpand.specs.Expansion.{step_in_budget}
 use Rattle.ppexpand.specs.code.Lists.{next_macro}
 use Rattle.ppexpand.specs.code.ProgramValues.{step_in, ActionKnown}
-use Rattle.ppexpand.proofs.StepLemmas.{expansion_step-quote, expansion_step-hidden, expansion_step-named, expansion_step-unnamed, done-in_budget, refused-in_budget, emits-in_budget, free-in_budget, nothing_left}
+use Rattle.ppexpand.proofs.StepLemmas.{expansion_step-quote, expansion_step-hidden, expansion_step-named, expansion_step-unnamed, done-in_budget, token_fault-in_budget, emits-in_budget, free-in_budget, nothing_left}
 use Rattle.ppexpand.proofs.expand_step.Replacer.next_step.Goals as goal
 
 -- the step of a macro's name that is not hidden
@@ -23,7 +23,7 @@ named : (macros : Macros) (env : Env) (remaining : Option ℕ) (t : Hiding) (res
     → step_in_budget macros env remaining (t ∷ rest) ≡ in_budget remaining (t ∷ rest) (macro_step env t rest d d.kind)
 named macros env remaining t rest d quote free found = ap (in_budget remaining (t ∷ rest)) (expansion_step-named macros env t rest quote free ∙ ap (named_step env t rest) found)
 
--- what the next token names is what the list's next token does
+-- `next_macro` of a list is the macro that its first token names
 named_next : {named : Option Macro} (macros : Macros) (h : Hidden) (rest list : List Hidden) → list ≡ h ∷ rest → named ≡ next_macro macros (tokens_of list)
     → macro_of macros h.token ≡ named
 named_next macros h rest list is named = ap (λ l. next_macro macros (tokens_of l)) (sym is) ∙ sym named
@@ -39,8 +39,8 @@ returns-then-is_quote-clause-is c =
     let t = hiding s c.in-Some.token in
     let rest = hidings s c.next.new.self in
     let quote : is_unmatched_quote c.in-Some.token.token ≡ true = sym c.is_quote.ensures ∙ c.if-is_quote.true in
-    let whole : Refused (quote_fault t) ≡ step_in_budget c.args.context.now.table.now.macros c.args.context.now.env.now c.args.remaining (hidings s c.args.list.now) =
-    sym (ap (in_budget c.args.remaining (t ∷ rest)) (expansion_step-quote c.args.context.now.table.now.macros c.args.context.now.env.now t rest quote) ∙ refused-in_budget c.args.remaining (t ∷ rest) (quote_fault t))
+    let whole : TokenFault (quote_fault t) ≡ step_in_budget c.args.context.now.table.now.macros c.args.context.now.env.now c.args.remaining (hidings s c.args.list.now) =
+    sym (ap (in_budget c.args.remaining (t ∷ rest)) (expansion_step-quote c.args.context.now.table.now.macros c.args.context.now.env.now t rest quote) ∙ token_fault-in_budget c.args.remaining (t ∷ rest) (quote_fault t))
     ∙ ap (λ l. step_in_budget c.args.context.now.table.now.macros c.args.context.now.env.now c.args.remaining (hidings s l)) (sym c.in-Some.ensures) in
     IfOk-weaker c.refused_quote.result _ _ (λ n is. ap (step_in s c.next.new.self) is ∙ whole) c.refused_quote.ensures
 

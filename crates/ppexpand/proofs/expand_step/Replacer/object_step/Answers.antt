@@ -1,6 +1,6 @@
 use Rattle.std.proofs.Common.{◌∙◌, sym, ap}
 use Rattle.std.specs.FinSet as set
-use Rattle.ppmacro.proofs.KeepLemmas.{hidings-keeps, known-keeps}
+use Rattle.ppmacro.proofs.PoolGrowthLemmas.{hidings-keeps, known-keeps}
 use Rattle.ppmacro.specs.Substitution.{macro_replacement}
 use Rattle.ppexpand.specs.ExpansionStep.{replaced_by, no_arguments}
 use Rattle.ppexpand.specs.code.ProgramValues.{replaced_in}

@@ -1,7 +1,7 @@
 use Rattle.std.proofs.Common.{◌≡◌, ◌∙◌, ◌∷◌, IfSome, sym, ap, subst}
 use Rattle.std.specs.FinSet as set
 use Rattle.ppmacro.specs.HideSets.{IsKnown, HasSets, hide_of, hiding, hidings, AllKnown}
-use Rattle.ppmacro.proofs.KeepLemmas.{hiding-keeps, hidings-keeps, known-keeps}
+use Rattle.ppmacro.proofs.PoolGrowthLemmas.{hiding-keeps, hidings-keeps, known-keeps}
 use Rattle.ppexpand.specs.ExpansionStep.{Replaced, predefined_value}
 use Rattle.ppexpand.proofs.expand_step.Replacer.predefined_step.Goals as goal
 

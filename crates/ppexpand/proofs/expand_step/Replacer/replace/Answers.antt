@@ -6,7 +6,7 @@ use Rattle.ppmacro.specs.Patterns.{listed}
 use Rattle.ppmacro.specs.Substitution.{chains_replacement}
 use Rattle.ppmacro.specs.Substituting.{arguments_in, replacement_in}
 use Rattle.ppexpand.proofs.SpaceFlags.{hidings-spaced, known-spaced}
-use Rattle.ppmacro.proofs.KeepLemmas.{hidings-keeps, known-keeps, known-append}
+use Rattle.ppmacro.proofs.PoolGrowthLemmas.{hidings-keeps, known-keeps, known-append}
 use Rattle.ppexpand.specs.ExpansionStep.{Replaced, space_next, replaced_by}
 use Rattle.ppexpand.proofs.expand_step.Replacer.replace.Goals as goal
 

@@ -8,14 +8,14 @@ use Rattle.ppmacro.specs.Patterns.{listed}
 use Rattle.ppmacro.specs.Substitution.{argument_at}
 use Rattle.ppmacro.specs.Substituting.{lists_of, option_of}
 use Rattle.ppmacro.specs.declared.hidden_token.ArgumentExpansion.TheVariants.{Unused}
-use Rattle.ppmacro.proofs.KeepLemmas.{hidings-keeps, known-keeps, keeps-all, keeps-after}
-use Rattle.ppexpand.specs.ExpansionStep.{Failed, Replaced, finish_invocation, wanted, pre_expands}
+use Rattle.ppmacro.proofs.PoolGrowthLemmas.{hidings-keeps, known-keeps, keeps-all, keeps-after}
+use Rattle.ppexpand.specs.ExpansionStep.{ReplacementFault, Replaced, finish_invocation, arguments_to_expand, pre_expands}
 use Rattle.ppexpand.specs.Expansion.{ExpandsArguments}
-use Rattle.ppexpand.specs.code.ProgramValues.{expanded_in, owned_tokens, ExpansionsKnown, ExpandsArgument, deep, ClosedStepsTo, refuses, finishes}
-use Rattle.ppexpand.proofs.Keeping.{invocation_of, invocation_of-keeps, invocation_known-keeps, given_known-keeps, expanded_known-keeps, expanded_known-push}
+use Rattle.ppexpand.specs.code.ProgramValues.{expanded_in, owned_tokens, ExpansionsKnown, ExpandsArgument, deep, ClosedStepsTo, argument_raises, finishes}
+use Rattle.ppexpand.proofs.GrowingHideSets.{invocation_of, invocation_of-keeps, invocation_known-keeps, given_known-keeps, expanded_known-keeps, expanded_known-push}
 use Rattle.ppexpand.proofs.ArgumentLemmas.{arguments_first, argument_expands, argument_raises, argument-known, follows_unused, follows_used, follows_refused, follows_all, pre_expanded-alone}
-use Rattle.ppexpand.proofs.Skipping.{unhidden-expands, next-known, more-known, follows_skip, skip_falls}
-use Rattle.ppexpand.proofs.Follows.{more_follows, more_falls, end_follows, invocation_taken, invocation_raises, begun_raises}
+use Rattle.ppexpand.proofs.SkippedTokens.{unhidden-expands, next-known, more-known, follows_skip, skip_falls}
+use Rattle.ppexpand.proofs.LoopInvariants.{more_follows, more_falls, end_follows, invocation_taken, invocation_raises, begun_raises}
 use Rattle.ppexpand.proofs.expansion.Expander.+expansion.Goals as goal
 
 -- ---- one step
@@ -45,7 +45,7 @@ advance-returns-in_err-replace_invocation-clause-on m c =
     stopped _ _ _ _ _ c.from_residual-in_err-replace_invocation.ensures.1 c.in_err-replace_invocation.ensures.is (λ f steps.
     invocation_raises c.args.context.now.table.now.macros c.args.context.now.env.now c.args.context.now.level c.args.self.now.remaining (hidings c.args.self.now.replacer.sets c.args.list.now) invocation closed_invocation_step.0 _ _ f c.replace_invocation.new.self.remaining
     (hidings-keeps _ c.in_err-replace_invocation.ensures.keeps c.in_ok-goes.ensures.emitted_known ∙ closed_invocation_step.3)
-    (subst (λ l. ClosedStepsTo c.args.context.now.table.now.macros c.args.context.now.env.now c.args.context.now.level invocation l c.replace_invocation.new.self.remaining (Failed f)) closed_invocation_step.2 steps))
+    (subst (λ l. ClosedStepsTo c.args.context.now.table.now.macros c.args.context.now.env.now c.args.context.now.level invocation l c.replace_invocation.new.self.remaining (ReplacementFault f)) closed_invocation_step.2 steps))
 
 pub advance-returns-clause-on : goal.advance-returns-clause-on
 advance-returns-clause-on m c =
@@ -67,7 +67,7 @@ advance-returns-clause-list_known m c = λ goes. c.in_ok-replace_invocation.ensu
 
 pub replace_invocation-returns-in_err-expand_arguments-clause-is : goal.replace_invocation-returns-in_err-expand_arguments-clause-is
 replace_invocation-returns-in_err-expand_arguments-clause-is m c =
-    stopped _ _ _ _ _ c.from_residual-in_err-expand_arguments.ensures.1 c.in_err-expand_arguments.ensures.is (λ f raised. refuses (raised c.args.list.now))
+    stopped _ _ _ _ _ c.from_residual-in_err-expand_arguments.ensures.1 c.in_err-expand_arguments.ensures.is (λ f raised. argument_raises (raised c.args.list.now))
 
 pub replace_invocation-finish_invocation-requires-clause-invocation : goal.replace_invocation-finish_invocation-requires-clause-invocation
 replace_invocation-finish_invocation-requires-clause-invocation m c = invocation_known-keeps c.args.invocation.now c.in_ok-expand_arguments.ensures.keeps c.requires.invocation_known
@@ -85,7 +85,7 @@ replace_invocation-returns-clause-is m c =
     let u = c.expand_arguments.new.self.replacer.sets in
     let expanded = c.expand_arguments.new.expanded.items in
     let invocation = invocation_of c.args.self.now.replacer.sets c.args.invocation.now list in
-    let args : ExpandsArguments c.args.context.now.table.now.macros c.args.context.now.env.now c.args.context.now.level invocation c.args.self.now.remaining (wanted invocation) c.expand_arguments.new.self.remaining (Ok (expanded_in u c.args.invocation.now.arguments.items expanded)) =
+    let args : ExpandsArguments c.args.context.now.table.now.macros c.args.context.now.env.now c.args.context.now.level invocation c.args.self.now.remaining (arguments_to_expand invocation) c.expand_arguments.new.self.remaining (Ok (expanded_in u c.args.invocation.now.arguments.items expanded)) =
     c.in_ok-expand_arguments.ensures.is list in
     let same = invocation_of-keeps c.args.invocation.now list c.in_ok-expand_arguments.ensures.keeps c.requires.invocation_known c.requires.list_known in
     unless_failed-weaker c.finish_invocation.result _ _ _
@@ -177,7 +177,7 @@ expand_arguments-loop-parameter-preserved-then-not-is_pre_expanded m c =
       keeps = c.loop-parameter.invariant.keeps;
       follows = λ following.
           (let invocation = invocation_of s c.args.invocation.now following in
-          follows_unused c.args.context.now.table.now.macros c.args.context.now.env.now c.args.context.now.level c.args.self.now.remaining c.loop-parameter.self.remaining c.loop-parameter.self.remaining s u u vs cs names i done c.put.new.items.items invocation (wanted invocation)
+          follows_unused c.args.context.now.table.now.macros c.args.context.now.env.now c.args.context.now.level c.args.self.now.remaining c.loop-parameter.self.remaining c.loop-parameter.self.remaining s u u vs cs names i done c.put.new.items.items invocation (arguments_to_expand invocation)
           less c.loop-parameter.invariant.count unused appended (c.loop-parameter.invariant.follows following));
     }
 
@@ -211,7 +211,7 @@ expand_arguments-returns-in_err-expansion-clause-is m c =
     let invocation = invocation_of s c.args.invocation.now following in
     let one : ExpandsArgument c.args.context.now.table.now.macros c.args.context.now.env.now c.args.context.now.level c.args.invocation.now.name_token.token c.loop-parameter.self.remaining (hidings s (argument_at (lists_of vs) i)) c.expand_argument.new.self.remaining (Err f) =
     subst (λ l. ExpandsArgument c.args.context.now.table.now.macros c.args.context.now.env.now c.args.context.now.level c.args.invocation.now.name_token.token c.loop-parameter.self.remaining l c.expand_argument.new.self.remaining (Err f)) argument raised in
-    follows_refused c.args.context.now.table.now.macros c.args.context.now.env.now c.args.context.now.level c.args.self.now.remaining c.loop-parameter.self.remaining c.expand_argument.new.self.remaining s u u vs cs names i done done invocation (wanted invocation)
+    follows_refused c.args.context.now.table.now.macros c.args.context.now.env.now c.args.context.now.level c.args.self.now.remaining c.loop-parameter.self.remaining c.expand_argument.new.self.remaining s u u vs cs names i done done invocation (arguments_to_expand invocation)
     f less is_used one (c.loop-parameter.invariant.follows following))
 
 pub expand_arguments-loop-parameter-preserved : goal.expand_arguments-loop-parameter-preserved
@@ -248,7 +248,7 @@ expand_arguments-loop-parameter-preserved m c =
       keeps = keeps-after c.loop-parameter.invariant.keeps keeps;
       follows = λ following.
           (let invocation = invocation_of s c.args.invocation.now following in
-          follows_used c.args.context.now.table.now.macros c.args.context.now.env.now c.args.context.now.level c.args.self.now.remaining c.loop-parameter.self.remaining c.expand_argument.new.self.remaining s u w vs cs names i done c.put-in-loop-parameter.new.items.items invocation (wanted invocation)
+          follows_used c.args.context.now.table.now.macros c.args.context.now.env.now c.args.context.now.level c.args.self.now.remaining c.loop-parameter.self.remaining c.expand_argument.new.self.remaining s u w vs cs names i done c.put-in-loop-parameter.new.items.items invocation (arguments_to_expand invocation)
           e tokens less c.loop-parameter.invariant.count is_used appended keeps given_known c.loop-parameter.invariant.known here_is one (c.loop-parameter.invariant.follows following));
     }
 
@@ -265,7 +265,7 @@ expand_arguments-returns-clause-is m c =
     (λ following.
     let invocation = invocation_of s c.args.invocation.now following in
     follows_all c.args.context.now.table.now.macros c.args.context.now.env.now c.args.context.now.level c.args.self.now.remaining c.loop-parameter.self.remaining s u vs (chains_of c.args.invocation.now.definition.now) names
-    i done invocation (wanted invocation) end (c.loop-parameter.invariant.follows following))
+    i done invocation (arguments_to_expand invocation) end (c.loop-parameter.invariant.follows following))
 
 -- ---- a list
 

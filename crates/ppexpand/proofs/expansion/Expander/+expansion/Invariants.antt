@@ -2,13 +2,13 @@ use Rattle.std.proofs.Common.{◌≡◌, ◌≤◌, ◌-◌, ◌+◌, ◌*◌, L
 use Rattle.ppmacro.specs.HideSets.{hidings, AllKnown, KeepsSets}
 use Rattle.ppmacro.specs.Chains.{parameter_names, chains_of}
 use Rattle.ppmacro.specs.declared.hidden_token.Hidden.{Hidden}
-use Rattle.ppexpand.specs.ExpansionStep.{wanted, to_expand}
+use Rattle.ppexpand.specs.ExpansionStep.{arguments_to_expand, to_expand}
 use Rattle.ppexpand.specs.code.ProgramValues.{given_in, expanded_in, ExpansionsKnown}
-use Rattle.ppexpand.proofs.Keeping.{invocation_of}
-use Rattle.ppexpand.proofs.Follows.{Follows, ArgumentsFollow, turns_left}
+use Rattle.ppexpand.proofs.GrowingHideSets.{invocation_of}
+use Rattle.ppexpand.proofs.LoopInvariants.{Follows, ArgumentsFollow, turns_left}
 use Rattle.ppexpand.proofs.expansion.Expander.+expansion.Given as goal
 
--- levels left, and then the order in which the five call one another
+-- termination measures: the levels that remain, then the order in which the five functions call one another
 abbrev pub decreases-expand_list : goal.decreases-expand_list
 decreases-expand_list l = 5 * (257 - l.context.now.level) + 4
 
@@ -43,7 +43,7 @@ invariant-expand_arguments-loop-parameter l = record {
   count : length l.expanded.items ≡ l.parameter;
   keeps : KeepsSets l.fn.self.replacer.sets l.self.replacer.sets;
   follows : (following : List Hidden)
-      → ArgumentsFollow l.context.table.now.macros l.context.env.now l.context.level (invocation_of l.fn.self.replacer.sets l.invocation following) l.fn.self.remaining (wanted (invocation_of l.fn.self.replacer.sets l.invocation following))
+      → ArgumentsFollow l.context.table.now.macros l.context.env.now l.context.level (invocation_of l.fn.self.replacer.sets l.invocation following) l.fn.self.remaining (arguments_to_expand (invocation_of l.fn.self.replacer.sets l.invocation following))
       (expanded_in l.self.replacer.sets l.invocation.arguments.items l.expanded.items) l.self.remaining
       (to_expand l.parameter (chains_of l.invocation.definition.now) (drop l.parameter (parameter_names l.invocation.definition.now.kind)) (given_in l.fn.self.replacer.sets l.invocation.arguments.items));
 }

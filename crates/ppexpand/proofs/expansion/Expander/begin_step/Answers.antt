@@ -1,11 +1,11 @@
 use Rattle.std.proofs.Common.{◌≡◌, ◌∙◌, ◌∷◌, ◌++◌, [], refl, sym, ap, subst, append-nil}
 use Rattle.std.proofs.lemmas.List.{map-append}
 use Rattle.ppmacro.specs.HideSets.{hiding, hidings, AllKnown}
-use Rattle.ppmacro.proofs.KeepLemmas.{hidings-keeps, known-keeps, known-append}
-use Rattle.ppexpand.specs.ExpansionStep.{Done, Refused, Emits, Failed, Replaced, Invoked}
-use Rattle.ppexpand.specs.Expansion.{step_in_budget, Expands, done, refused, emits, failed, replaced}
+use Rattle.ppmacro.proofs.PoolGrowthLemmas.{hidings-keeps, known-keeps, known-append}
+use Rattle.ppexpand.specs.ExpansionStep.{Done, TokenFault, Emits, ReplacementFault, Replaced, Invoked}
+use Rattle.ppexpand.specs.Expansion.{step_in_budget, Expands, done, token_fault, emits, replacement_fault, replaced}
 use Rattle.ppexpand.specs.code.ProgramValues.{step_in, ActionKnown, EndsWith}
-use Rattle.ppexpand.proofs.Keeping.{invocation_of}
+use Rattle.ppexpand.proofs.GrowingHideSets.{invocation_of}
 use Rattle.ppexpand.proofs.StepLemmas.{stepped}
 use Rattle.std.proofs.Common.{Some}
 use Rattle.ppexpand.proofs.expansion.Expander.begin_step.Goals as goal
@@ -19,21 +19,21 @@ returns-in-Done-clause-on c =
 pub returns-in-Done-clause-emitted_known : goal.returns-in-Done-clause-emitted_known
 returns-in-Done-clause-emitted_known c = known-keeps _ c.in_ok-next.ensures.keeps c.requires.emitted_known
 
-pub returns-in-Refused-clause-on : goal.returns-in-Refused-clause-on
-returns-in-Refused-clause-on c =
-    let t : step_in_budget c.args.context.now.table.now.macros c.args.context.now.env.now c.args.self.now.remaining (hidings c.args.self.now.replacer.sets c.args.list.now) ≡ Refused c.in-Refused.fault =
-    sym (ap (step_in c.next_step.new.self.sets c.next_step.new.list) (sym (stepped c.next.inside c.next.view_is c.in-Refused.is)) ∙ c.in_ok-next.ensures.is) in
-    (c.in-Refused.fault, refl, λ level. (refused t, hidings-keeps _ c.in_ok-next.ensures.keeps c.requires.emitted_known))
+pub returns-in-TokenFault-clause-on : goal.returns-in-TokenFault-clause-on
+returns-in-TokenFault-clause-on c =
+    let t : step_in_budget c.args.context.now.table.now.macros c.args.context.now.env.now c.args.self.now.remaining (hidings c.args.self.now.replacer.sets c.args.list.now) ≡ TokenFault c.in-TokenFault.fault =
+    sym (ap (step_in c.next_step.new.self.sets c.next_step.new.list) (sym (stepped c.next.inside c.next.view_is c.in-TokenFault.is)) ∙ c.in_ok-next.ensures.is) in
+    (c.in-TokenFault.fault, refl, λ level. (token_fault t, hidings-keeps _ c.in_ok-next.ensures.keeps c.requires.emitted_known))
 
-pub returns-in-Failed-clause-on : goal.returns-in-Failed-clause-on
-returns-in-Failed-clause-on c =
+pub returns-in-ReplacementFault-clause-on : goal.returns-in-ReplacementFault-clause-on
+returns-in-ReplacementFault-clause-on c =
     let s = c.args.self.now.replacer.sets in
-    let t : step_in_budget c.args.context.now.table.now.macros c.args.context.now.env.now c.args.self.now.remaining (hidings s c.args.list.now) ≡ Failed c.in-Failed.fault =
-    sym (ap (step_in c.next_step.new.self.sets c.next_step.new.list) (sym (stepped c.next.inside c.next.view_is c.in-Failed.is)) ∙ c.in_ok-next.ensures.is) in (
-      c.in-Failed.fault,
+    let t : step_in_budget c.args.context.now.table.now.macros c.args.context.now.env.now c.args.self.now.remaining (hidings s c.args.list.now) ≡ ReplacementFault c.in-ReplacementFault.fault =
+    sym (ap (step_in c.next_step.new.self.sets c.next_step.new.list) (sym (stepped c.next.inside c.next.view_is c.in-ReplacementFault.is)) ∙ c.in_ok-next.ensures.is) in (
+      c.in-ReplacementFault.fault,
       refl,
       λ level. (
-        subst (EndsWith c.args.context.now.table.now.macros c.args.context.now.env.now level c.args.self.now.remaining (hidings s c.args.list.now) (Some c.in-Failed.fault)) (sym c.spend_one-self.ensures) (failed t),
+        subst (EndsWith c.args.context.now.table.now.macros c.args.context.now.env.now level c.args.self.now.remaining (hidings s c.args.list.now) (Some c.in-ReplacementFault.fault)) (sym c.spend_one-self.ensures) (replacement_fault t),
         hidings-keeps _ c.in_ok-next.ensures.keeps c.requires.emitted_known,
       ),
     )

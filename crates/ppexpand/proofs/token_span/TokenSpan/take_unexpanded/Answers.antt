@@ -1,5 +1,5 @@
 use Rattle.std.proofs.Common.{rules}
-use Rattle.ppexpand.proofs.Skipping.{unhidden-with_set}
+use Rattle.ppexpand.proofs.SkippedTokens.{unhidden-with_set}
 use Rattle.ppexpand.proofs.token_span.TokenSpan.take_unexpanded.Goals as goal
 
 pub returns-clause-unexpanded : goal.returns-clause-unexpanded

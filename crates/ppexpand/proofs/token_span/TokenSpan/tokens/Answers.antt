@@ -1,6 +1,6 @@
 use Rattle.std.proofs.Common.{◌∙◌, ap, sym}
 use Rattle.ppmacro.specs.Substituting.{tokens_of}
-use Rattle.ppexpand.proofs.Skipping.{tokens-with_set}
+use Rattle.ppexpand.proofs.SkippedTokens.{tokens-with_set}
 use Rattle.ppexpand.proofs.token_span.TokenSpan.tokens.Goals as goal
 
 pub returns : goal.returns

@@ -6,7 +6,7 @@ use Rattle.ppmacro.specs.Names.{Name}
 use Rattle.ppmacro.specs.ParsedParameters.{ParsedParameters}
 use Rattle.ppmacro.specs.Define.{after_parameter_name, with_name, parameters_from}
 use Rattle.ppmacro.specs.code.ChainParts.{with_names}
-use Rattle.ppmacro.proofs.WalkLemmas.{drop-item}
+use Rattle.ppmacro.proofs.ChainReplacementLemmas.{drop-item}
 use Rattle.ppmacro.proofs.defining.parameter_lists.parameters.Goals as goal
 
 names-more : (ns : List Name) (n : Name) (h : Option ParsedParameters) → option_map (with_names (ns ++ n ∷ [])) h ≡ option_map (with_names ns) (option_map (with_name n) h)

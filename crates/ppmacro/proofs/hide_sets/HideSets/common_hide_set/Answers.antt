@@ -1,6 +1,6 @@
 use Rattle.std.proofs.Common.{◌∙◌}
 use Rattle.std.specs.FinSet as set
-use Rattle.ppmacro.proofs.KeepLemmas.{set-keeps, hide-keeps, known-sets, keeps-after}
+use Rattle.ppmacro.proofs.PoolGrowthLemmas.{set-keeps, hide-keeps, known-sets, keeps-after}
 use Rattle.ppmacro.proofs.hide_sets.HideSets.common_hide_set.Goals as goal
 
 pub hide_set_of-requires-2 : goal.hide_set_of-requires-2

@@ -1,5 +1,5 @@
 use Rattle.std.proofs.Common.{refl, ap}
-use Rattle.ppmacro.proofs.Viewed.{empty-seen, known-seen}
+use Rattle.ppmacro.proofs.HideSetViews.{empty-seen, known-seen}
 use Rattle.ppmacro.proofs.hide_sets.HideSets.empty.Goals as goal
 
 pub returns-clause-set : goal.returns-clause-set

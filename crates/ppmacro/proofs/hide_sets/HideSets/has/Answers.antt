@@ -2,8 +2,8 @@ use Rattle.std.proofs.Common.{◌∙◌, ap, sym}
 use Rattle.std.specs.Ordering.{nat_cmp}
 use Rattle.std.specs.Cmp.Lexicographic.{slice_cmp}
 use Rattle.std.specs.FinSet as set
-use Rattle.ppmacro.proofs.Viewed.{node-known, set-seen, empty-seen}
-use Rattle.ppmacro.proofs.Hiding.{has-own, has-none}
+use Rattle.ppmacro.proofs.HideSetViews.{node-known, set-seen, empty-seen}
+use Rattle.ppmacro.proofs.NodeHideSets.{has-own, has-none}
 use Rattle.ppmacro.proofs.hide_sets.HideSets.has.Goals as goal
 
 pub has-requires-clause-known : goal.has-requires-clause-known

@@ -1,7 +1,7 @@
 use Rattle.std.proofs.Common.{◌≡◌, ◌∙◌, true, false, sym}
 use Rattle.std.specs.FinSet as set
 use Rattle.ppmacro.specs.HideSets.{set_at, hidden_names}
-use Rattle.ppmacro.proofs.Gaining.{has-first, has-second}
+use Rattle.ppmacro.proofs.AddedNames.{has-first, has-second}
 use Rattle.ppmacro.proofs.hide_sets.HideSets.hides.Goals as goal
 
 pub returns-then-has : goal.returns-then-has

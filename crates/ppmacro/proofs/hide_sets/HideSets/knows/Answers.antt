@@ -1,5 +1,5 @@
 use Rattle.std.proofs.Common.{rules, ◌<◌, ◌↔◌, IsTrue, nat_lt, length, subst, sym, ap}
-use Rattle.ppmacro.proofs.Viewed.{known-seen, node-known}
+use Rattle.ppmacro.proofs.HideSetViews.{known-seen, node-known}
 use Rattle.ppmacro.proofs.hide_sets.HideSets.knows.Goals as goal
 
 pub returns : goal.returns

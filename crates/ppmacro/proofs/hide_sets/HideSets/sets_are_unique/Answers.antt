@@ -1,5 +1,5 @@
 use Rattle.std.proofs.Common.{ap}
-use Rattle.ppmacro.proofs.Viewed.{sets_are_unique-seen}
+use Rattle.ppmacro.proofs.HideSetViews.{sets_are_unique-seen}
 use Rattle.ppmacro.proofs.hide_sets.HideSets.sets_are_unique.Goals as goal
 
 pub returns : goal.returns

@@ -1,10 +1,10 @@
 use Rattle.std.proofs.Common.{◌≡◌, ◌∙◌, refl, ap}
 use Rattle.ppmacro.specs.code.Members.{hide_sets}
 use Rattle.ppmacro.specs.code.Operations.{Union}
-use Rattle.ppmacro.proofs.KeepLemmas.{pairs-are}
-use Rattle.ppmacro.proofs.Viewed.{both-seen, node-asked, keeps-seen, made-seen, selected-made}
-use Rattle.ppmacro.proofs.Hiding.{known-at}
-use Rattle.ppmacro.proofs.Standing.{refused}
+use Rattle.ppmacro.proofs.PoolGrowthLemmas.{pairs-are}
+use Rattle.ppmacro.proofs.HideSetViews.{both-seen, node-asked, keeps-seen, made-seen, selected-made}
+use Rattle.ppmacro.proofs.NodeHideSets.{known-at}
+use Rattle.ppmacro.proofs.ExistingSets.{refused}
 use Rattle.ppmacro.proofs.hide_sets.HideSets.union.Goals as goal
 
 pub combine-requires-clause-one : goal.combine-requires-clause-one

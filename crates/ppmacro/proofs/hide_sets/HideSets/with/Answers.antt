@@ -1,7 +1,7 @@
 use Rattle.std.proofs.Common.{◌≡◌, ◌<◌, [], length, get_or, refl, ap, ◌∙◌, subst, Ok}
 use Rattle.ppmacro.specs.code.Members.{hide_sets}
-use Rattle.ppmacro.proofs.Viewed.{node-asked, more-there, more-seen, node-known, keeps-named, selected-named, with-seen}
-use Rattle.ppmacro.proofs.Hiding.{known-at, more-named}
+use Rattle.ppmacro.proofs.HideSetViews.{node-asked, more-there, more-seen, node-known, keeps-named, selected-named, with-seen}
+use Rattle.ppmacro.proofs.NodeHideSets.{known-at, more-named}
 use Rattle.ppmacro.proofs.hide_sets.HideSets.with.Goals as goal
 
 pub insert-requires-clause-known : goal.insert-requires-clause-known
@@ -40,7 +40,7 @@ returns-clause-set c =
     c.in_ok-named.named c.in_ok-number.number c.args.name.now c.in_ok-named.ensures.keeps.1 c.in_ok-named.ensures.distinct c.in_ok-named.ensures.found.0
     c.in_ok-named.ensures.found.1 sets c.self.invariant.bounded c.hide.view_is l c.in_ok-number.ensures.known c.in_ok-number.ensures.set
 
--- what is there
+-- If the resulting set exists already, the call returns its number and changes nothing.
 
 pub returns-in_err-named-clause-there : goal.returns-in_err-named-clause-there
 returns-in_err-named-clause-there c = λ n k e.

@@ -3,7 +3,7 @@ use Rattle.std.specs.Int.RustNames.{bit_or}
 use Rattle.std.proofs.lemmas.Nat.{one_shl, or_lt, mod_below}
 use Rattle.ppmacro.specs.code.Nodes.{Node, node_at, word, word_with, IsBounded}
 use Rattle.ppmacro.proofs.Tries.{insert-here, insert-left, insert-right, member-inserted, pos-of, within-at, bounded-on, bounded-insert, half-below, keeps-on, length-keeps}
-use Rattle.ppmacro.proofs.Standing.{HasMore, here-there, left-asked, left-found, right-asked, right-found}
+use Rattle.ppmacro.proofs.ExistingSets.{HasMore, here-there, left-asked, left-found, right-asked, right-found}
 use Rattle.ppmacro.proofs.hide_sets.nodes.+insert_bit.Goals as goal
 
 pub number_for-requires-clause-within : goal.number_for-requires-clause-within
@@ -71,7 +71,7 @@ returns-in_ok-even-clause-bounded t c = λ limit l b.
     (bounded-insert limit (c.args.index * 64 + c.args.bit) old new c.args.set c.in_ok-even.even l b c.requires.known
     (member-inserted old new c.args.set c.in_ok-even.even c.args.index c.args.bit c.requires.bit (returns-in_ok-even-clause-set t c)))
 
--- What is unchanged, and failures.
+-- Existing nodes keep their numbers, and bounds on members hold also after a failure.
 
 pub number_for-requires-then-rest-eq0-clause-within : goal.number_for-requires-then-rest-eq0-clause-within
 number_for-requires-then-rest-eq0-clause-within t c =
@@ -124,7 +124,7 @@ returns-in_err-even-clause-bounded t c = λ limit l b.
 pub returns-in_err-whole-clause-bounded : goal.returns-in_err-whole-clause-bounded
 returns-in_err-whole-clause-bounded t c = λ limit l b. subst (IsBounded limit) (sym c.in_err-whole.ensures.err) b
 
--- what is there
+-- If the resulting set exists already, the call returns its number and changes nothing.
 
 pub returns-then-index-eq0-clause-there : goal.returns-then-index-eq0-clause-there
 returns-then-index-eq0-clause-there t c = λ n l h.

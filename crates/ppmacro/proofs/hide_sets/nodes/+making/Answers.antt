@@ -2,8 +2,8 @@ use Rattle.std.proofs.Common.{◌∙◌, refl, sym, ap, subst, Ok}
 use Rattle.ppmacro.specs.code.Nodes.{Node, node_at, word, IsBounded}
 use Rattle.ppmacro.specs.code.Operations.{word_rule}
 use Rattle.ppmacro.proofs.Tries.{combine-set, member-member_rule, bounded-on, bounded-combine, keeps-on, length-keeps, words-sets_are_unique}
-use Rattle.ppmacro.proofs.Remembering.{trivial_result-is}
-use Rattle.ppmacro.proofs.Standing.{lefts-asked, rights-asked, member_rule-found}
+use Rattle.ppmacro.proofs.CachedResults.{trivial_result-is}
+use Rattle.ppmacro.proofs.ExistingSets.{lefts-asked, rights-asked, member_rule-found}
 use Rattle.ppmacro.proofs.hide_sets.nodes.+making.Goals as goal
 
 pub compute-returns-in-Some-clause-known : goal.compute-returns-in-Some-clause-known
@@ -41,7 +41,7 @@ compute_node-returns-clause-bounded t c = λ limit b.
     (bounded-combine c.args.operation limit start new c.args.one c.args.two c.in_ok-both.both b c.requires.one c.requires.two
     (member-member_rule c.args.operation start new c.args.one c.args.two c.in_ok-both.both (compute_node-returns-clause-set t c)))
 
--- What is unchanged, and failures.
+-- Existing nodes keep their numbers, and bounds on members hold also after a failure.
 
 pub compute_node-reuse_or_number-requires-clause-one : goal.compute_node-reuse_or_number-requires-clause-one
 compute_node-reuse_or_number-requires-clause-one t c =
@@ -68,7 +68,7 @@ pub compute_node-returns-in_err-both-clause-bounded : goal.compute_node-returns-
 compute_node-returns-in_err-both-clause-bounded t c = λ limit b.
     subst (IsBounded limit) (sym c.in_err-both.ensures.err) (c.in_ok-right.ensures.bounded limit (c.in_ok-left.ensures.bounded limit b))
 
--- what is there
+-- If the resulting set exists already, the call returns its number and changes nothing.
 
 pub compute-returns-in-Some-clause-there : goal.compute-returns-in-Some-clause-there
 compute-returns-in-Some-clause-there t c = λ n l h.

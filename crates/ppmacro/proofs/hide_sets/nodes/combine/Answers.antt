@@ -3,8 +3,8 @@ use Rattle.ppmacro.specs.PairCache.{cached_result}
 use Rattle.ppmacro.specs.code.Operations.{member_rule}
 use Rattle.ppmacro.specs.code.PoolInvariant.{AreAnswers}
 use Rattle.ppmacro.proofs.Tries.{sets_are_unique, member-member_rule}
-use Rattle.ppmacro.proofs.Remembering.{known-is, unknown, known-by, answers-keep, answers-put, answer-put, is-answer}
-use Rattle.ppmacro.proofs.Standing.{combine-words, refused}
+use Rattle.ppmacro.proofs.CachedResults.{known-is, unknown, known-by, answers-keep, answers-put, answer-put, is-answer}
+use Rattle.ppmacro.proofs.ExistingSets.{combine-words, refused}
 use Rattle.ppmacro.proofs.hide_sets.nodes.combine.Goals as goal
 
 pub returns-in-Some-clause-known : goal.returns-in-Some-clause-known

@@ -1,7 +1,7 @@
 use Rattle.std.proofs.Common.{◌≡◌, ◌∙◌, ◌||◌, ◌+◌, ◌*◌, ◌/◌, ◌%◌, nat_eq, arith, sym}
 use Rattle.ppmacro.specs.code.Nodes.{member}
 use Rattle.ppmacro.proofs.Tries.{member-inserted}
-use Rattle.ppmacro.proofs.Standing.{more-words}
+use Rattle.ppmacro.proofs.ExistingSets.{more-words}
 use Rattle.ppmacro.proofs.hide_sets.nodes.insert.Goals as goal
 
 pub returns-clause-set : goal.returns-clause-set

@@ -3,7 +3,7 @@ use Rattle.std.specs.List.{list_any}
 use Rattle.ppmacro.specs.HashOperators.{is_paste}
 use Rattle.ppmacro.specs.PasteFree.{is_object_like}
 use Rattle.ppmacro.specs.Chains.{parts_after, group_parts, lenient_parameter, with_variadic}
-use Rattle.ppmacro.proofs.Lonely.{lone_chains, object_like}
+use Rattle.ppmacro.proofs.ObjectLikeChains.{lone_chains, object_like}
 use Rattle.ppmacro.proofs.macros.Macro.lone_tokens.Goals as goal
 
 pub returns-clause-chains : goal.returns-clause-chains

@@ -4,7 +4,7 @@ use Rattle.ppmacro.specs.HideSets.{hidings, AllKnown}
 use Rattle.ppmacro.specs.Patterns.{entry_chain}
 use Rattle.ppmacro.specs.Substitution.{chains_tokens}
 use Rattle.ppmacro.specs.Substituting.{arguments_in}
-use Rattle.ppmacro.proofs.WalkLemmas.{marked_behind}
+use Rattle.ppmacro.proofs.ChainReplacementLemmas.{marked_behind}
 use Rattle.ppmacro.proofs.substituting.entries.entries_tokens.Given as goal
 
 abbrev pub invariant-loop-entry : goal.invariant-loop-entry

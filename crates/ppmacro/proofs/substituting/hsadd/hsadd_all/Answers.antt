@@ -2,8 +2,8 @@ use Rattle.std.proofs.Common.{rules, ◌≡◌, ◌∙◌, ◌<◌, ◌+◌, ref
 use Rattle.std.proofs.lemmas.List.{take_more_set, drop-set-lt, drop_more}
 use Rattle.ppmacro.specs.HideSets.{set_at, hidings, AllKnown}
 use Rattle.ppmacro.specs.Substitution.{hsadd}
-use Rattle.ppmacro.proofs.KeepLemmas.{keeps-all, known-keeps, known-append, keeps-after, known-set}
-use Rattle.ppmacro.proofs.WalkLemmas.{next-item, known-drop, hsadd-more, within-keeps}
+use Rattle.ppmacro.proofs.PoolGrowthLemmas.{keeps-all, known-keeps, known-append, keeps-after, known-set}
+use Rattle.ppmacro.proofs.ChainReplacementLemmas.{next-item, known-drop, hsadd-more, within-keeps}
 use Rattle.ppmacro.proofs.substituting.hsadd.hsadd_all.Goals as goal
 
 pub loop-hidden-init : goal.loop-hidden-init

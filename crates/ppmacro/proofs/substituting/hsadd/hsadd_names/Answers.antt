@@ -3,8 +3,8 @@ use Rattle.std.specs.FinSet as set
 use Rattle.std.proofs.lemmas.Result.{on_ok_weaker}
 use Rattle.ppmacro.specs.HideSets.{set_at, hidings}
 use Rattle.ppmacro.specs.Substitution.{hsadd}
-use Rattle.ppmacro.proofs.Hiding.{insert-hsadd}
-use Rattle.ppmacro.proofs.KeepLemmas.{set-keeps, hidings-keeps}
+use Rattle.ppmacro.proofs.NodeHideSets.{insert-hsadd}
+use Rattle.ppmacro.proofs.PoolGrowthLemmas.{set-keeps, hidings-keeps}
 use Rattle.ppmacro.proofs.substituting.hsadd.hsadd_names.Goals as goal
 
 pub hsadd_all-requires-clause-within : goal.hsadd_all-requires-clause-within

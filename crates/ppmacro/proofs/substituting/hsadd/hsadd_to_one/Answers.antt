@@ -1,8 +1,8 @@
 use Rattle.std.proofs.Common.{rules, ◌≡◌, ◌∙◌, sym, ap, None}
 use Rattle.std.specs.FinSet as set
 use Rattle.ppmacro.specs.HideSets.{set_at, hidden_names, hide_of}
-use Rattle.ppmacro.proofs.Hiding.{union-none}
-use Rattle.ppmacro.proofs.Gaining.{hsadd-set_use}
+use Rattle.ppmacro.proofs.NodeHideSets.{union-none}
+use Rattle.ppmacro.proofs.AddedNames.{hsadd-set_use}
 use Rattle.ppmacro.proofs.substituting.hsadd.hsadd_to_one.Goals as goal
 
 pub returns-then-eq-clause-is : goal.returns-then-eq-clause-is

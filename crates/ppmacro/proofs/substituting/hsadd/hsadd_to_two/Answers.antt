@@ -2,7 +2,7 @@ use Rattle.std.proofs.lemmas.Grind.{common_steps}
 use Rattle.std.proofs.Common.{◌≡◌, ◌∙◌, sym, ap, Some, arith}
 use Rattle.std.specs.FinSet as set
 use Rattle.ppmacro.specs.HideSets.{set_at, hidden_names, hide_of}
-use Rattle.ppmacro.proofs.Gaining.{hsadd-set_use, first-within, second-within}
+use Rattle.ppmacro.proofs.AddedNames.{hsadd-set_use, first-within, second-within}
 use Rattle.ppmacro.proofs.substituting.hsadd.hsadd_to_two.Goals as goal
 
 pub returns-then-is_subset-clause-is : goal.returns-then-is_subset-clause-is

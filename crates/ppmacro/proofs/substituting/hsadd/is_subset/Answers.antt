@@ -1,7 +1,7 @@
 use Rattle.std.proofs.Common.{rules, ◌≡◌, sym, subst}
 use Rattle.ppmacro.specs.HideSets.{set_at}
 use Rattle.ppmacro.specs.Substituting.{IsSubset}
-use Rattle.ppmacro.proofs.Gaining.{within-itself}
+use Rattle.ppmacro.proofs.AddedNames.{within-itself}
 use Rattle.ppmacro.proofs.substituting.hsadd.is_subset.Goals as goal
 
 pub returns-then-eq : goal.returns-then-eq

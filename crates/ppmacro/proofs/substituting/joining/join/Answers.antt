@@ -5,8 +5,8 @@ use Rattle.ppmacro.specs.Substituting.{EndsWithSpelledKind}
 use Rattle.std.proofs.lemmas.Bool.{eqb-true}
 use Rattle.std.proofs.lemmas.List.{take_rest}
 use Rattle.ppmacro.proofs.JoinLemmas.{split-first, no-first, join-nothing, join-pasted, join-refused, known-joined, known-last}
-use Rattle.pptext.proofs.Stopping.{stops}
-use Rattle.ppmacro.proofs.WholeLemmas.{ends-whole}
+use Rattle.pptext.proofs.ErrorReturns.{stops}
+use Rattle.ppmacro.proofs.SpelledKindLemmas.{ends-whole}
 use Rattle.ppmacro.proofs.substituting.joining.join.Goals as goal
 
 pub returns-in-None-clause-is : goal.returns-in-None-clause-is

@@ -2,8 +2,8 @@ use Rattle.std.proofs.Common.{◌≡◌, ◌∙◌, ◌+◌, sym, ap, subst, ◌
 use Rattle.ppmacro.specs.HideSets.{hidings}
 use Rattle.ppmacro.specs.Substitution.{join, join_all}
 use Rattle.ppmacro.specs.Substituting.{lists_of, ListsKnown}
-use Rattle.pptext.proofs.Stopping.{stops}
-use Rattle.ppmacro.proofs.KeepLemmas.{hidings-keeps, keeps-after}
+use Rattle.pptext.proofs.ErrorReturns.{stops}
+use Rattle.ppmacro.proofs.PoolGrowthLemmas.{hidings-keeps, keeps-after}
 use Rattle.ppmacro.proofs.JoinLemmas.{lists-drop, join_all-more, join_all-refused}
 use Rattle.ppmacro.proofs.substituting.joining.join_all.Goals as goal
 

@@ -1,7 +1,7 @@
 use Rattle.std.proofs.Common.{◌≡◌, ◌∙◌, refl, ap, subst, if◌then◌else◌}
 use Rattle.pptext.specs.Continuations.{ContinuesToken}
 use Rattle.ppmacro.specs.HiddenView.{extended}
-use Rattle.ppmacro.proofs.WholeLemmas.{carried-whole, carried-pasted, paste-whole}
+use Rattle.ppmacro.proofs.SpelledKindLemmas.{carried-whole, carried-pasted, paste-whole}
 use Rattle.ppmacro.proofs.substituting.joining.paste_onto.Goals as goal
 
 module _ (c : goal.After-set_use) where

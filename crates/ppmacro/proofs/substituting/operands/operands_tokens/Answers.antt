@@ -6,8 +6,8 @@ use Rattle.ppmacro.specs.HideSets.{hidings, AllKnown}
 use Rattle.ppmacro.specs.Substitution.{after_ok, operand_tokens, operands_tokens}
 use Rattle.ppmacro.specs.Substituting.{lists_of, arguments_in, ListsKnown}
 use Rattle.ppmacro.specs.declared.hidden_token.Hidden.{Hidden}
-use Rattle.pptext.proofs.Stopping.{stops}
-use Rattle.ppmacro.proofs.WalkLemmas.{following, drop-item}
+use Rattle.pptext.proofs.ErrorReturns.{stops}
+use Rattle.ppmacro.proofs.ChainReplacementLemmas.{following, drop-item}
 use Rattle.ppmacro.proofs.substituting.operands.operands_tokens.Goals as goal
 
 lists-more : (s : HideSetPool) (vs : List (Vec Hidden Global)) (v : Vec Hidden Global) → map (hidings s) (lists_of (vs ++ v ∷ [])) ≡ map (hidings s) (lists_of vs) ++ hidings s v.items ∷ []

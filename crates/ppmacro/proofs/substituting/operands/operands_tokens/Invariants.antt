@@ -2,7 +2,7 @@ use Rattle.std.proofs.Common.{◌≡◌, map, drop}
 use Rattle.ppmacro.specs.HideSets.{hidings}
 use Rattle.ppmacro.specs.Substitution.{operands_tokens}
 use Rattle.ppmacro.specs.Substituting.{lists_of, arguments_in, ListsKnown}
-use Rattle.ppmacro.proofs.WalkLemmas.{following}
+use Rattle.ppmacro.proofs.ChainReplacementLemmas.{following}
 use Rattle.ppmacro.proofs.substituting.operands.operands_tokens.Given as goal
 
 abbrev pub invariant-loop-operand : goal.invariant-loop-operand

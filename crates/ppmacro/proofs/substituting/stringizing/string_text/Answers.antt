@@ -1,7 +1,7 @@
 use Rattle.std.proofs.Common.{◌∙◌, ◌+◌, ◌++◌, sym, ap, drop, false, append_assoc}
 use Rattle.ppmacro.specs.Substitution.{spelled_space, spelled_in_string, spelled_from}
 use Rattle.ppmacro.specs.Substituting.{tokens_of}
-use Rattle.ppmacro.proofs.WalkLemmas.{drop-item}
+use Rattle.ppmacro.proofs.ChainReplacementLemmas.{drop-item}
 use Rattle.ppmacro.proofs.substituting.stringizing.string_text.Goals as goal
 
 pub loop-hidden-preserved : goal.loop-hidden-preserved

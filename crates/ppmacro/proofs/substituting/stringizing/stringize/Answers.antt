@@ -1,5 +1,5 @@
-use Rattle.pptext.proofs.Stopping.{split_memory-if_ok}
-use Rattle.ppmacro.proofs.StopLemmas.{split_memory-answers}
+use Rattle.pptext.proofs.ErrorReturns.{split_memory-if_ok}
+use Rattle.ppmacro.proofs.SplitMemoryLemmas.{split_memory-answers}
 use Rattle.ppmacro.proofs.substituting.stringizing.stringize.Goals as goal
 
 pub returns-clause-is : goal.returns-clause-is

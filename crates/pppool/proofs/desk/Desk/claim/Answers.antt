@@ -3,7 +3,7 @@ use mathlib.Core.Option.{none}
 use Rattle.atomic_table.specs.Table.{Me, Allows, step}
 use Rattle.pppool.specs.declared.seat_state.SeatState.{SeatState}
 use Rattle.pppool.specs.Desk.{DeskId, SeatView, ClaimInvariant, Claims}
-use Rattle.pppool.proofs.Steps.{claims}
+use Rattle.pppool.proofs.ClaimSteps.{claims}
 use Rattle.pppool.proofs.desk.Desk.claim.Goals as goal
 
 pub fetch_add-found-requires : goal.fetch_add-found-requires

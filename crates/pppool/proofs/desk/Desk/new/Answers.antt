@@ -2,7 +2,7 @@ use Rattle.std.proofs.Common.{◌≡◌, ◌-◌, ap, sym, arith, [], subst, ref
 use Rattle.atomic_table.specs.Table.{Splits}
 use Rattle.pppool.specs.declared.seat_state.SeatState.{SeatState}
 use Rattle.pppool.specs.Desk.{seat_state, ClaimInvariant, plan_of}
-use Rattle.pppool.proofs.Steps.{splits}
+use Rattle.pppool.proofs.ClaimSteps.{splits}
 use Rattle.pppool.proofs.desk.Desk.new.Goals as goal
 
 pub split_seat-seat-requires : goal.split_seat-seat-requires

@@ -1,8 +1,8 @@
 use Rattle.std.proofs.Common.{◌≡◌, ap, length, ◌∙◌, ◌++◌, ◌∷◌, []}
 use Rattle.pppool.specs.Desk.{SeatView}
 use Rattle.pppool.specs.code.Workers.{result_units}
-use Rattle.pppool.proofs.Answering.{all_answered_push}
-use Rattle.pppool.proofs.Closing.{nearer}
+use Rattle.pppool.proofs.WorkerResults.{all_answered_push}
+use Rattle.pppool.proofs.SeatJoining.{nearer}
 use Rattle.pppool.proofs.workers.Worker.work.Goals as goal
 
 pub loop-number-smaller : goal.loop-number-smaller

@@ -1,6 +1,6 @@
 use Rattle.std.proofs.Common.{◌≡◌, ◌-◌, length}
 use Rattle.pppool.specs.code.Workers.{AreUnitResults, AllHaveResults, result_units}
-use Rattle.pppool.proofs.Closing.{next_claim}
+use Rattle.pppool.proofs.SeatJoining.{next_claim}
 use Rattle.pppool.proofs.workers.Worker.work.Given as goal
 
 abbrev pub invariant-loop-number : goal.invariant-loop-number

@@ -1,6 +1,6 @@
 use Rattle.std.proofs.Common.{◌∙◌}
 use Rattle.pppool.specs.code.Workers.{result_units}
-use Rattle.pppool.proofs.Answering.{stays_push, covers_push}
+use Rattle.pppool.proofs.WorkerResults.{stays_push, covers_push}
 use Rattle.pppool.proofs.workers.Worker.work_block.Goals as goal
 
 pub loop-unit-preserved : goal.loop-unit-preserved

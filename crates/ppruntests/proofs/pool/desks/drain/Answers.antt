@@ -1,4 +1,4 @@
-use Rattle.pppool.proofs.Closing.{nearer}
+use Rattle.pppool.proofs.SeatJoining.{nearer}
 use Rattle.ppruntests.proofs.pool.desks.drain.Goals as goal
 
 pub loop-count-smaller : goal.loop-count-smaller

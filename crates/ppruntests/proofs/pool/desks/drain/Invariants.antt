@@ -1,5 +1,5 @@
 use Rattle.std.proofs.Common.{◌≡◌, ◌-◌}
-use Rattle.pppool.proofs.Closing.{next_claim}
+use Rattle.pppool.proofs.SeatJoining.{next_claim}
 use Rattle.ppruntests.proofs.pool.desks.drain.Given as goal
 
 abbrev pub invariant-loop-count : goal.invariant-loop-count

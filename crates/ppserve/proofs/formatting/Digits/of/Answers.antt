@@ -1,6 +1,6 @@
 use Rattle.std.proofs.Common.{◌≡◌, ◌/◌, ◌%◌, arith, refl}
 use Rattle.std.proofs.lemmas.Fmt.{decimal_digit}
-use Rattle.ppserve.proofs.AfterPrefix.{decimal_two}
+use Rattle.ppserve.proofs.BufferPrefix.{decimal_two}
 use Rattle.ppserve.proofs.formatting.Digits.of.Goals as goal
 use Rattle.ppserve.proofs.formatting.Digits.of.Goals.{then-number-lt10, else-number-lt10}
 

@@ -1,6 +1,6 @@
 use Rattle.std.proofs.Common.{◌∙◌}
 use Rattle.ppserve.specs.declared.line_cursor.LineCursor.{LineCursor}
-use Rattle.ppserve.proofs.Records.{refilled}
+use Rattle.ppserve.proofs.RecordLines.{refilled}
 use Rattle.ppserve.proofs.line_cursor.LineCursor.next.Goals as goal
 
 pub returns-in-Some-Tokens : goal.returns-in-Some-Tokens

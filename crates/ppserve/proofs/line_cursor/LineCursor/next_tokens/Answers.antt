@@ -2,7 +2,7 @@ use Rattle.std.proofs.Common.{◌≡◌, ◌<◌, ◌≤◌, ◌++◌, map, leng
 use Rattle.std.proofs.lemmas.List.{length-map, length-take-le}
 use Rattle.ppexpand.specs.Slices.{slice_tokens}
 use Rattle.ppserve.specs.code.Records.{record_of_token, records_of_slices, records_of_last, records_from}
-use Rattle.ppserve.proofs.Records.{split_tokens}
+use Rattle.ppserve.proofs.RecordLines.{split_tokens}
 use Rattle.ppserve.proofs.line_cursor.LineCursor.next_tokens.Goals as goal
 
 pub returns : goal.returns

@@ -1,6 +1,6 @@
 use Rattle.std.proofs.Common.{◌≡◌, ◌-◌, length, drop, sym, ap, ◌∙◌}
 use Rattle.ppserve.specs.code.Records.{records_of_lines, remaining_records}
-use Rattle.ppserve.proofs.Records.{drop_more_of}
+use Rattle.ppserve.proofs.RecordLines.{drop_more_of}
 use Rattle.ppserve.proofs.line_cursor.LineCursor.skip.Goals as goal
 
 pub loop-left-preserved : goal.loop-left-preserved

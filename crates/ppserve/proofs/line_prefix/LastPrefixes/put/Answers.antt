@@ -1,5 +1,5 @@
 use Rattle.std.proofs.Common.{ℕ, List, ◌++◌, ◌∙◌, codes, decimal, take}
-use Rattle.ppserve.proofs.AfterPrefix.{four_joined, places_joined}
+use Rattle.ppserve.proofs.BufferPrefix.{four_joined, places_joined}
 use Rattle.ppserve.proofs.line_prefix.LastPrefixes.put.Goals as goal
 
 pub returns-clause-text : goal.returns-clause-text

@@ -1,5 +1,5 @@
 use Rattle.std.proofs.Common.{[], ◌∷◌, ◌∙◌, decimal, refl, arith}
-use Rattle.ppserve.proofs.AfterPrefix.{front_kept, length_word}
+use Rattle.ppserve.proofs.BufferPrefix.{front_kept, length_word}
 use Rattle.ppserve.proofs.line_prefix.LocationPrefix.new.Goals as goal
 
 pub put_number-end-requires : goal.put_number-end-requires

@@ -1,5 +1,5 @@
 use Rattle.std.proofs.Common.{arith}
-use Rattle.ppserve.proofs.AfterPrefix.{length_word}
+use Rattle.ppserve.proofs.BufferPrefix.{length_word}
 use Rattle.ppserve.proofs.line_prefix.LocationPrefix.put.Goals as goal
 
 pub put_number-requires : goal.put_number-requires

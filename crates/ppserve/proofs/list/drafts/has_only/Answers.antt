@@ -3,7 +3,7 @@ use Rattle.std.proofs.lemmas.Iterator.Consumers.{YieldsList-from_rest}
 use Rattle.std.proofs.lemmas.Iterator.Search.{all_from_yields_List}
 use Rattle.std.specs.Map.{keys_of}
 use Rattle.ppserve.specs.Shape.{has_text}
-use Rattle.ppserve.proofs.Objects.{has_only-keys}
+use Rattle.ppserve.proofs.ObjectMembers.{has_only-keys}
 use Rattle.ppserve.proofs.list.drafts.has_only.Goals as goal
 use borrow.Author.Tests.{tests}
 

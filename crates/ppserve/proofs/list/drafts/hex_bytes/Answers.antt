@@ -1,5 +1,5 @@
 use Rattle.std.proofs.Common.{sym}
-use Rattle.ppserve.proofs.Hex.{hex_bytes-more}
+use Rattle.ppserve.proofs.HexPairs.{hex_bytes-more}
 use Rattle.ppserve.specs.Shape.{hex_bytes}
 use Rattle.ppserve.proofs.list.drafts.hex_bytes.Goals as goal
 

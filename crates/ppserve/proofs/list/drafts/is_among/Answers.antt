@@ -2,7 +2,7 @@ use Rattle.std.proofs.Common.{rules, ◌∙◌, sym}
 use Rattle.std.specs.Str.{bytes_eq}
 use Rattle.std.proofs.lemmas.Iterator.{YieldsList-from_slice}
 use Rattle.std.proofs.lemmas.Iterator.Search.{any_from_yields_List}
-use Rattle.ppserve.proofs.Objects.{list_any-map}
+use Rattle.ppserve.proofs.ObjectMembers.{list_any-map}
 use Rattle.ppserve.proofs.list.drafts.is_among.Goals as goal
 use borrow.Author.Tests.{tests}
 

@@ -1,6 +1,6 @@
 use Rattle.std.proofs.Common.{◌≡◌, drop}
 use Rattle.ppserve.specs.Drafting.{draft_unit}
-use Rattle.ppserve.proofs.Each.{read_from, after_prefix}
+use Rattle.ppserve.proofs.ArrayItems.{read_from, after_prefix}
 use Rattle.ppserve.proofs.list.drafts.units_from.Given as goal
 
 abbrev pub invariant-loop-item : goal.invariant-loop-item

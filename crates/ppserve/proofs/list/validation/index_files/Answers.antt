@@ -1,9 +1,9 @@
 use Rattle.std.proofs.Common.{◌≡◌, ◌∙◌, sym, ap, refl, inr, List, ℕ, length, arith}
 use Rattle.std.proofs.lemmas.List.{length-map}
-use Rattle.ppshelf.proofs.Naming.{bad_form, next_name, put_fails, test_fails, test_of_names}
+use Rattle.ppshelf.proofs.NameRows.{bad_form, next_name, put_fails, test_fails, test_of_names}
 use Rattle.ppserve.specs.Listing.{names_of}
 use Rattle.ppserve.specs.Drafts.{DraftFile}
-use Rattle.ppserve.proofs.Names.{Turn, switch_to}
+use Rattle.ppserve.proofs.NameIndexing.{Turn, switch_to}
 use Rattle.ppserve.proofs.list.validation.index_files.Goals as goal
 
 abbrev name_of : DraftFile → List ℕ

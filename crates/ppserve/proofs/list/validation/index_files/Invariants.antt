@@ -1,4 +1,4 @@
-use Rattle.ppshelf.proofs.Naming.{Indexed}
+use Rattle.ppshelf.proofs.NameRows.{Indexed}
 use Rattle.ppserve.specs.Listing.{names_of}
 use Rattle.ppserve.proofs.list.validation.index_files.Given as goal
 

@@ -8,7 +8,7 @@ use Rattle.ppserve.specs.declared.list.drafts.DraftUnit.{DraftUnit}
 use Rattle.ppserve.specs.Listing.{file_row, listed_unit, unit_in}
 use Rattle.ppserve.proofs.list.validation.listed_units.Goals as goal
 
--- The next row is that of the next unit.
+-- Row `n` is the file index of unit `n`.
 row_here : (names : List (List ℕ)) (units : List DraftUnit) (unit : DraftUnit) (rows : List ℕ) (n : ℕ)
     → rows ≡ map (file_row names) units
     → (n < length units) × (unit ≡ get_or units n unit)

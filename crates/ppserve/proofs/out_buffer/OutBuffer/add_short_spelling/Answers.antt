@@ -1,6 +1,6 @@
 use Rattle.std.proofs.Common.{◌≤◌, length, refl, arith}
 use Rattle.std.proofs.lemmas.Grind.{common_steps}
-use Rattle.ppserve.proofs.AfterPrefix.{front_left, plain_take}
+use Rattle.ppserve.proofs.BufferPrefix.{front_left, plain_take}
 use Rattle.ppserve.proofs.out_buffer.OutBuffer.add_short_spelling.Goals as goal
 
 pub returns-clause-added : goal.returns-clause-added

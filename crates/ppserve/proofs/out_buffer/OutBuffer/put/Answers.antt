@@ -1,4 +1,4 @@
-use Rattle.ppserve.proofs.Printing.{puts_here, puts_then, puts_onto}
+use Rattle.ppserve.proofs.BufferedPrinting.{puts_here, puts_then, puts_onto}
 use Rattle.ppserve.proofs.out_buffer.OutBuffer.put.Goals as goal
 
 pub returns-then-bytes-le-SIZE : goal.returns-then-bytes-le-SIZE

@@ -1,6 +1,6 @@
 use Rattle.std.proofs.Common.{take, flat_map, refl, ap}
 use Rattle.ppserve.specs.code.Records.{record_lines}
-use Rattle.ppserve.proofs.Printing.{puts_as, puts_here, puts_flushed}
+use Rattle.ppserve.proofs.BufferedPrinting.{puts_as, puts_here, puts_flushed}
 use Rattle.ppserve.proofs.rounds.Page.write_out.Goals as goal
 use Rattle.ppserve.proofs.rounds.Page.write_out.Goals.{then-not-fits, else-not-fits}
 

@@ -1,7 +1,7 @@
 use Rattle.std.proofs.Common.{List, ℕ, subst, refl, ap}
 use Rattle.ppshelf.specs.IndexView.{IndexView, keys_of}
 use Rattle.ppshelf.specs.Names.{IsAppended}
-use Rattle.ppshelf.proofs.Naming.{pushed}
+use Rattle.ppshelf.proofs.NameRows.{pushed}
 use Rattle.ppshelf.proofs.index.Index.push.Goals as goal
 
 pub returns-clause-put : goal.returns-clause-put

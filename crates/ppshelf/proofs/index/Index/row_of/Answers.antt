@@ -2,7 +2,7 @@ use Rattle.std.proofs.Common.{◌≡◌, ◌∙◌, ap, sym, subst, List, ℕ}
 use Rattle.std.specs.Str.{bytes_eq}
 use Rattle.ppshelf.specs.IndexView.{IndexView}
 use Rattle.ppshelf.specs.Names.{IsRowOf, row_among}
-use Rattle.ppshelf.proofs.Naming.{position-map, row_found}
+use Rattle.ppshelf.proofs.NameRows.{position-map, row_found}
 use Rattle.ppshelf.proofs.index.Index.row_of.Goals as goal
 
 pub returns-clause-row : goal.returns-clause-row

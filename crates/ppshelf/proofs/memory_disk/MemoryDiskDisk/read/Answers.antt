@@ -1,4 +1,4 @@
-use Rattle.ppshelf.proofs.Finding.{found, skipped}
+use Rattle.ppshelf.proofs.InitialShelf.{found, skipped}
 use Rattle.std.proofs.Common.{arith, ◌∙◌, ap, sym, subst, List, rules}
 use Rattle.std.proofs.lemmas.Bool.{false≢true}
 use Rattle.ppshelf.specs.Content.{readable}

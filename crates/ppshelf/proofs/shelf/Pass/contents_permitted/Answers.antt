@@ -1,4 +1,4 @@
-use Rattle.ppshelf.proofs.Files.{lawful_files, filled_files, content_of_sight}
+use Rattle.ppshelf.proofs.ObservedContents.{lawful_files, filled_files, content_of_sight}
 use Rattle.std.proofs.Common.{ap, ◌∙◌, sym, length}
 use Rattle.std.proofs.lemmas.List.{length-map}
 use Rattle.ppshelf.specs.Files.{PassView}

@@ -2,7 +2,7 @@ use Rattle.std.proofs.Common.{◌≡◌, ◌<◌, ap, ◌∙◌, sym, arith, len
 use Rattle.std.proofs.lemmas.List.{length-map}
 use Rattle.ppshelf.specs.Files.{PassView, Files, ShelfView}
 use Rattle.ppshelf.specs.code.ShelfRows.{RowState, files_of, names_of, shelf_view}
-use Rattle.ppshelf.proofs.Files.{placed_read, files_of-set, files_of-same, fits_at, shown_pass}
+use Rattle.ppshelf.proofs.ObservedContents.{placed_read, files_of-set, files_of-same, fits_at, shown_pass}
 use Rattle.ppshelf.proofs.shelf.Pass.look_at_row.Goals as goal
 
 pub look-requires-clause-placed : goal.look-requires-clause-placed

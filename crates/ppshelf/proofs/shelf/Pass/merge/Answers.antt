@@ -3,7 +3,7 @@ use Rattle.std.proofs.lemmas.List.{length-map}
 use Rattle.std.proofs.lemmas.Option.{same_Some}
 use Rattle.ppshelf.specs.Files.{PassView, Files, ShelfView, Agree, IsMerged}
 use Rattle.ppshelf.specs.code.ShelfRows.{RowState, IsPass, files_of, names_of, shelf_view, no_observation}
-use Rattle.ppshelf.proofs.Files.{Met, spot_is, fits_at, met_more, met_agree, met_joined, popped_last, popped_rest, fits_read}
+use Rattle.ppshelf.proofs.ObservedContents.{Met, spot_is, fits_at, met_more, met_agree, met_joined, popped_last, popped_rest, fits_read}
 use Rattle.ppshelf.proofs.shelf.Pass.merge.Goals as goal
 
 pub merge-requires-clause-theirs : goal.merge-requires-clause-theirs

@@ -1,6 +1,6 @@
 use Rattle.std.proofs.Common.{◌≡◌, ◌≤◌, length, take, vec_len}
 use Rattle.ppshelf.specs.code.ShelfRows.{shelf_view}
-use Rattle.ppshelf.proofs.Files.{Met}
+use Rattle.ppshelf.proofs.ObservedContents.{Met}
 use Rattle.ppshelf.proofs.shelf.Pass.merge.Given as goal
 
 abbrev pub invariant-loop-theirs : goal.invariant-loop-theirs

@@ -1,11 +1,11 @@
 use Rattle.std.proofs.Common.{rules, ◌<◌, ℕ, List, length, set, arith}
 use Rattle.ppshelf.specs.Content.{Content, IsPermitted}
-use Rattle.ppshelf.proofs.Filling.{Turned, shelf_kept, fills_kept, full_turned, turned_set}
+use Rattle.ppshelf.proofs.FillInvariant.{Turned, shelf_kept, fills_kept, full_turned, turned_set}
 use Rattle.ppshelf.proofs.shelf.Shelf.fill.Given.{Over}
 use Rattle.ppshelf.proofs.shelf.Shelf.fill.Goals as goal
 use Rattle.ppshelf.proofs.shelf.Shelf.fill.Goals.{After-fill}
 
--- what the fill of a row makes of the rows, whether or not it succeeds
+-- The effect of filling one row on all rows, whether or not it succeeds.
 turned : (g : Over) (c : After-fill g)
     → Turned c.self.inside.profile (λ _. IsPermitted (g.D.Disk.gives c.args.disk.now)) c.self.inside.rows.items (set c.loop-row.self-inside.rows.items c.loop-row.row c.fill.new.self)
 turned g c =

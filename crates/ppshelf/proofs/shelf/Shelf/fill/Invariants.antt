@@ -1,6 +1,6 @@
 use Rattle.std.proofs.Common.{◌≡◌}
 use Rattle.ppshelf.specs.Content.{IsPermitted}
-use Rattle.ppshelf.proofs.Filling.{Filling}
+use Rattle.ppshelf.proofs.FillInvariant.{Filling}
 use Rattle.ppshelf.proofs.shelf.Shelf.fill.Given as goal
 
 abbrev pub invariant-loop-row : goal.invariant-loop-row

@@ -6,12 +6,12 @@ use Rattle.ppshelf.specs.Content.{IsPermitted, readable}
 use Rattle.ppshelf.specs.Names.{name_in}
 use Rattle.ppshelf.specs.Files.{ShelfView, bytes_at}
 use Rattle.ppshelf.specs.code.ShelfRows.{FilledRow}
-use Rattle.ppshelf.proofs.Filling.{Turned, shelf_kept, fills_kept, rows_counted, full_turned, turned_set, filling_more, given, bytes_here, given_row, lawful_here}
+use Rattle.ppshelf.proofs.FillInvariant.{Turned, shelf_kept, fills_kept, rows_counted, full_turned, turned_set, filling_more, given, bytes_here, given_row, lawful_here}
 use Rattle.ppshelf.proofs.shelf.Shelf.fill_with.Given.{Over}
 use Rattle.ppshelf.proofs.shelf.Shelf.fill_with.Goals as goal
 use Rattle.ppshelf.proofs.shelf.Shelf.fill_with.Goals.{In-Some, After-put}
 
--- the shelf has the row whose turn it is, and the bytes are those of that row
+-- The shelf has the current row, and the bytes are those of that row.
 here : (g : Over) (c : In-Some g)
     → (c.loop-bytes.row < length c.args.self.now.names) × (c.loop-bytes.row < length c.self.inside.rows.items) × (c.in-Some.bytes ≡ bytes_at c.args.contents c.loop-bytes.row)
 here g c =
@@ -29,7 +29,7 @@ here g c =
     let rows = rows_counted c.self.inside.profile c.self.inside.index.hashing c.self.inside.rows.items c.self.view_is in
     (omega arith, omega arith, turn.1)
 
--- what the put makes of that row, and of the rows, whether or not it succeeds
+-- The effect of `put` on the current row and on all rows, whether or not it succeeds.
 module _ (g : Over) (c : After-put g) where
   put : c.into_vec.result.items ≡ bytes_at c.args.contents c.loop-bytes.row
       → FilledRow (given c.args.contents c.loop-bytes.row) c.self.inside.profile c.loop-bytes.row c.index_mut.result.now c.put.new.self

@@ -1,5 +1,5 @@
 use Rattle.std.proofs.Common.{◌≡◌, length}
-use Rattle.ppshelf.proofs.Filling.{Filling, given}
+use Rattle.ppshelf.proofs.FillInvariant.{Filling, given}
 use Rattle.ppshelf.proofs.shelf.Shelf.fill_with.Given as goal
 
 abbrev pub invariant-loop-bytes : goal.invariant-loop-bytes

@@ -1,4 +1,4 @@
-use Rattle.ppshelf.proofs.Files.{joined_theirs}
+use Rattle.ppshelf.proofs.ObservedContents.{joined_theirs}
 use Rattle.ppshelf.proofs.shelf.Shelf.meet.Goals as goal
 
 pub returns-clause-theirs : goal.returns-clause-theirs

@@ -1,4 +1,4 @@
-use Rattle.ppshelf.proofs.Files.{Unseen}
+use Rattle.ppshelf.proofs.ObservedContents.{Unseen}
 use Rattle.ppshelf.proofs.shelf.Shelf.pass.Given as goal
 
 abbrev pub invariant-loop-row : goal.invariant-loop-row

@@ -2,7 +2,7 @@ use Rattle.std.proofs.Common.{◌≤◌, ℕ, List, length, refl, ap, subst, ari
 use borrow.Author.Count.{below_more}
 use Rattle.ppshelf.specs.Content.{longest}
 use Rattle.ppshelf.specs.Files.{bytes_at}
-use Rattle.ppshelf.proofs.Filling.{bytes_here}
+use Rattle.ppshelf.proofs.FillInvariant.{bytes_here}
 use Rattle.ppshelftests.proofs.shelf.filling.are_short.Goals as goal
 
 pub loop-bytes-preserved : goal.loop-bytes-preserved

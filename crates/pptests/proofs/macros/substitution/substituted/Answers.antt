@@ -1,4 +1,4 @@
-use Rattle.ppmacro.proofs.WalkLemmas.{arguments-known}
+use Rattle.ppmacro.proofs.ChainReplacementLemmas.{arguments-known}
 use Rattle.pptests.proofs.macros.substitution.substituted.Goals as goal
 
 pub substitute-requires-in_default-clause-arguments : goal.substitute-requires-in_default-clause-arguments

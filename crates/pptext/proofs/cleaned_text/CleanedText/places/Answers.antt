@@ -6,7 +6,7 @@ use Rattle.pptext.specs.code.CleanedText.{IsChangedText, end_from}
 use Rattle.pptext.proofs.Cursors.{stands_first}
 use Rattle.pptext.proofs.cleaned_text.CleanedText.places.Goals as goal
 
--- the end and the table of what is made of a file
+-- The file does not end in a splice, and `line_notes` is its table.
 made_table : (file : ℕ) (raw line_notes : List ℕ) (cleaned : Option ChangedText)
     → MatchOption cleaned (IsChangedText raw raw []) (λ c. IsChangedText raw c.codes.items c.line_notes.items)
     → MatchOption cleaned (line_notes ≡ []) (λ c. line_notes ≡ c.line_notes.items)

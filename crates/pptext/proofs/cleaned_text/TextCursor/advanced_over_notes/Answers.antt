@@ -2,11 +2,11 @@ use Rattle.std.proofs.Common.{◌≡◌, ℕ, Bool, List, ◌+◌, ◌-◌, ◌<
 use Rattle.std.proofs.lemmas.List.{take_rest}
 use Rattle.pptext.specs.code.Steps.{CharStep, Code, Removed, lacks_newline, step_of}
 use Rattle.pptext.specs.code.CleanedText.{TextCursor, IsCursorAt, text_from}
-use Rattle.pptext.proofs.Copies.{code_at, removed_at}
+use Rattle.pptext.proofs.CleanedCopies.{code_at, removed_at}
 use Rattle.pptext.proofs.Cursors.{arrives, bounds, after_line, pass_code, pass_plain, skip_removed, stands_at_code, stands_at_end}
 use Rattle.pptext.proofs.cleaned_text.TextCursor.advanced_over_notes.Goals as goal
 
--- what the bytes after this offset begin with, as it was asked for
+-- The step at this offset is the one that the call returned.
 step_here : (raw : List ℕ) (supplied : Bool) (asked offset : ℕ) (step : CharStep) → supplied ≡ lacks_newline raw → asked ≡ offset → step ≡ step_of supplied (drop asked raw) → step_of (lacks_newline raw) (drop offset raw) ≡ step
 step_here raw supplied asked offset step end same is = ap (λ s. step_of s (drop offset raw)) (sym end) ∙ ap (λ k. step_of supplied (drop k raw)) (sym same) ∙ sym is
 

@@ -16,7 +16,7 @@ pass_along-requires-clause-offset c =
     let same = after_line c.self.inside c.args.self.now c.self.view_is in
     let cursor = c.args.self.now in
     let ahead = c.args.to - cursor.consumed in
-    let room = (pass_plain cursor.at.file c.args.raw.now c.args.line_notes.now cursor ahead c.requires.is_there (omega (arith, same.consumed, same.plain, c.if-ahead-self.false))).0 in
+    let in_bounds = (pass_plain cursor.at.file c.args.raw.now c.args.line_notes.now cursor ahead c.requires.is_there (omega (arith, same.consumed, same.plain, c.if-ahead-self.false))).0 in
     omega (arith, same.consumed, same.offset, c.requires.small)
 
 pub returns-then-line-self : goal.returns-then-line-self

@@ -5,7 +5,7 @@ use Rattle.pptext.specs.Guard.{are_parentheses, guard_name, ident_if, is_not_def
 use Rattle.pptext.proofs.grouping.guards.name_index.Goals as goal
 use Rattle.pptext.proofs.grouping.guards.name_index.Goals.{then-is_not_defined, else-is_not_defined}
 
--- a line of no other length names one
+-- A line that does not have three, five or seven tokens names no guard.
 no_name : (ts : List Token) → (¬ (length ts ≡ 3)) → (¬ (length ts ≡ 5)) → (¬ (length ts ≡ 7)) → guard_name ts ≡ None
 no_name [] three five seven = refl
 no_name (a ∷ []) three five seven = refl
@@ -17,7 +17,7 @@ no_name (a ∷ b ∷ d ∷ e ∷ f ∷ g ∷ []) three five seven = refl
 no_name (a ∷ b ∷ d ∷ e ∷ f ∷ g ∷ h ∷ []) three five seven = absurd (seven refl)
 no_name (a ∷ b ∷ d ∷ e ∷ f ∷ g ∷ h ∷ i ∷ ts) three five seven = refl
 
--- what a line of three, five or seven tokens names
+-- The guard name of a line of three, five or seven tokens.
 of_three : (ts : List Token) (d x : Token) → length ts ≡ 3 → d ≡ get_or ts 1 d → x ≡ get_or ts 2 x → guard_name ts ≡ ident_if (named d (codes "ifndef")) x
 of_three [] d x len is_d is_x = absurd (omega arith)
 of_three (a ∷ []) d x len is_d is_x = absurd (omega arith)
@@ -47,7 +47,7 @@ of_seven (t1 ∷ t2 ∷ t3 ∷ t4 ∷ t5 ∷ t6 ∷ []) d n f l x r len is_d is_
 of_seven (t1 ∷ t2 ∷ t3 ∷ t4 ∷ t5 ∷ t6 ∷ t7 ∷ []) d n f l x r len is_d is_n is_f is_l is_x is_r = rw (is_d, is_n, is_f, is_l, is_x, is_r) refl
 of_seven (t1 ∷ t2 ∷ t3 ∷ t4 ∷ t5 ∷ t6 ∷ t7 ∷ t8 ∷ ts) d n f l x r len is_d is_n is_f is_l is_x is_r = absurd (omega arith)
 
--- an index of that X, where the line is one
+-- An index that is found is that of the guard name; if none is found, the line names no guard.
 found : (ts : List Token) (r : Option ℕ) (test : Bool) (x : Token) (at : ℕ) → at < length ts → x ≡ get_or ts at x → guard_name ts ≡ ident_if test x
     → IfSome r (λ i. (i ≡ at) × (ident_if test x ≡ Some x.text))
     → IfSome r (λ i. (i < length ts) × ((d : Token) → guard_name ts ≡ Some (get_or ts i d).text))
@@ -93,7 +93,7 @@ returns-in-len5-clause-some c =
     let name = of_five c.args.line.now c.name-item-then-line-lt6.result c.not-item.result c.defined-item.result x.result (omega arith) c.name-item-then-line-lt6.is c.not-item.is c.defined-item.is x.is in
     found c.args.line.now c.ident_if-in-len5.result c.is_not_defined.result x.result 4 (omega arith) x.is (name ∙ ap (λ b. ident_if b x.result) (sym c.is_not_defined.ensures)) c.ident_if-in-len5.ensures.some
 
--- `if ! defined` and, where that is so, parentheses
+-- The test is `if ! defined` and, if that matches, the parentheses.
 both : (a b test first second : Bool) → first ≡ a → first ≡ true → second ≡ b → test ≡ second → test ≡ (a && b)
 both a b test first second is holds is_second is_test = is_test ∙ is_second ∙ ap (λ z. z && b) (sym (sym is ∙ holds))
 

@@ -1,9 +1,9 @@
 use Rattle.std.proofs.Common.{ℕ, ◌+◌, ◌-◌, ◌≤◌, length, drop}
 use Rattle.pptext.specs.Languages.{NoPrefix, IsOnly}
-use Rattle.pptext.proofs.Closing.{Inner, Closed}
+use Rattle.pptext.proofs.ClosedTexts.{Inner, Closed}
 use Rattle.pptext.proofs.scanning.headers.between_rest_len.Given as goal
 
--- what closes from here on is what closes, and nothing closes if nothing does from here on
+-- If the text is closed from `at` on, it is closed from the start; if not from `at` on, then not at all.
 abbrev pub invariant-loop-at : goal.invariant-loop-at
 invariant-loop-at l = record {
   within : l.at ≤ length l.text;

@@ -1,7 +1,7 @@
 use Rattle.std.proofs.Common.{◌≡◌, ℕ, ◌<◌, ◌≤◌, List, [], ◌∷◌, length, take, get_or, inl, inr, refl, ap, arith}
 use Rattle.std.proofs.lemmas.Bool.Decides.{nat_tests}
 use Rattle.pptext.specs.Languages.{OnlyPart}
-use Rattle.pptext.proofs.Fronts.{lacks, only_some, only_zero}
+use Rattle.pptext.proofs.LanguagePrefixes.{lacks, only_some, only_zero}
 use Rattle.pptext.proofs.Literals.{CharOpening, CharOpens, IsLetter, char_letter_opens, char_opens, letter-no_quote}
 use Rattle.pptext.proofs.scanning.literals.char_opening_len.Goals as goal
 
@@ -28,7 +28,7 @@ too_short text other short m fits (inr o) = let two = o.0 in omega arith
 pub returns-then-is_empty : goal.returns-then-is_empty
 returns-then-is_empty c = opens_none c.args.text.now (nothing_here c.args.text.now (grind (arith, nat_tests)))
 
--- the quote alone
+-- The quote alone opens a character constant.
 quote_opens : (text : List ℕ) → 0 < length text → get_or text 0 0 ≡ 39 → OnlyPart CharOpening text 1
 quote_opens text lt e = only_some CharOpening text 1 (record {
   positive = omega arith;

@@ -2,8 +2,8 @@ use Rattle.std.proofs.Common.{◌≡◌, ℕ, ◌<◌, true, false, List, [], �
 use Rattle.std.proofs.lemmas.Bool.Decides.{nat_tests}
 use Rattle.pptext.specs.Languages.{Exactly, One, OnlyPart}
 use Rattle.pptext.specs.Spellings.{IsElement}
-use Rattle.pptext.proofs.Fronts.{either_lacks, either_left, one_empty, one_here, one_lacks, only_some, only_zero}
-use Rattle.pptext.proofs.Combine.{exactly_here, exactly_lacks, one_begins, then_lacks, then_lacks_rest}
+use Rattle.pptext.proofs.LanguagePrefixes.{either_lacks, either_left, one_empty, one_here, one_lacks, only_some, only_zero}
+use Rattle.pptext.proofs.ComposedLanguages.{exactly_here, exactly_lacks, one_begins, then_lacks, then_lacks_rest}
 use Rattle.pptext.proofs.Literals.{Escape, escape_here, escape_lacks, escaped, plain, quote_lacks}
 use Rattle.pptext.proofs.scanning.literals.element_len.Goals as goal
 
@@ -33,7 +33,7 @@ plain_here quote text lt own no_backslash =
     only_some (IsElement quote) text 1
     (either_left (One (plain quote)) Escape text 1 (one_here (plain quote) text lt own) (then_lacks (Exactly (92 ∷ [])) (One escaped) text (exactly_lacks 92 [] text no_backslash)))
 
--- a backslash with nothing after it
+-- A backslash with nothing after it begins no element.
 escape_cut : (quote : ℕ) (text : List ℕ) → length text ≡ 1 → get_or text 0 0 ≡ 92 → OnlyPart (IsElement quote) text 0
 escape_cut quote text one e =
     let l = length-drop 1 text in

@@ -4,7 +4,7 @@ use Rattle.pptext.specs.code.UnmatchedQuotes.{IsQuoted}
 use Rattle.pptext.proofs.UnmatchedQuoteLemmas.{Passed}
 use Rattle.pptext.proofs.scanning.literals.quoted_rest.Given as goal
 
--- what closes from here on is what closes, and nothing closes if nothing does from here on
+-- If the text is closed from `at` on, it is closed from the start; if not from `at` on, then not at all.
 abbrev pub invariant-loop-at : goal.invariant-loop-at
 invariant-loop-at l = record {
   within : l.at ≤ length l.text;

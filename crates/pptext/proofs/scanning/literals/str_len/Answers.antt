@@ -1,5 +1,5 @@
 use Rattle.pptext.specs.code.UnmatchedQuotes.{IsQuoted}
-use Rattle.pptext.proofs.Combine.{then_none_first, then_found}
+use Rattle.pptext.proofs.ComposedLanguages.{then_none_first, then_found}
 use Rattle.pptext.proofs.Literals.{StrOpening, str_part}
 use Rattle.pptext.proofs.scanning.literals.str_len.Goals as goal
 

@@ -1,7 +1,7 @@
 use Rattle.std.proofs.Common.{◌≡◌, ℕ, ◌<◌, ◌≤◌, List, [], ◌∷◌, length, take, get_or, inl, inr, refl, ap, arith}
 use Rattle.std.proofs.lemmas.Bool.Decides.{nat_tests}
 use Rattle.pptext.specs.Languages.{OnlyPart}
-use Rattle.pptext.proofs.Fronts.{lacks, only_some, only_zero}
+use Rattle.pptext.proofs.LanguagePrefixes.{lacks, only_some, only_zero}
 use Rattle.pptext.proofs.Literals.{IsLetter, StrOpening, StrOpens, letter-no_quote, str_letter_opens, str_opens, u8_opens}
 use Rattle.pptext.proofs.scanning.literals.str_opening_len.Goals as goal
 
@@ -24,7 +24,7 @@ too_short text other short m fits (inl o) = other o.1
 too_short text other short m fits (inr (inl o)) = let two = o.0 in omega arith
 too_short text other short m fits (inr (inr o)) = let three = o.0 in omega arith
 
--- these three bytes
+-- the text begins with `u8` and a double quote
 abbrev IsU8 : List ℕ → Type 0
 IsU8 text = (3 ≤ length text) × (get_or text 0 0 ≡ 117) × (get_or text 1 0 ≡ 56) × (get_or text 2 0 ≡ 34)
 
@@ -33,7 +33,7 @@ no_quote text other second none m fits (inl o) = other o.1
 no_quote text other second none m fits (inr (inl o)) = second o.2
 no_quote text other second none m fits (inr (inr o)) = let three = o.0 in none (omega arith, o.1, o.2, o.3)
 
--- the quote alone
+-- The quote alone opens a string literal.
 quote_opens : (text : List ℕ) → 0 < length text → get_or text 0 0 ≡ 34 → OnlyPart StrOpening text 1
 quote_opens text lt e = only_some StrOpening text 1 (record {
   positive = omega arith;

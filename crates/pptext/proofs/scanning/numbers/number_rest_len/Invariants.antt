@@ -3,7 +3,7 @@ use Rattle.pptext.specs.Languages.{Longest, Repeated}
 use Rattle.pptext.specs.Spellings.{IsNumberPart}
 use Rattle.pptext.proofs.scanning.numbers.number_rest_len.Given as goal
 
--- whatever is longest from here on completes the longest
+-- The longest prefix from `at` on completes the longest prefix of the text.
 abbrev pub invariant-loop-at : goal.invariant-loop-at
 invariant-loop-at l = record {
   within : l.at ≤ length l.text;

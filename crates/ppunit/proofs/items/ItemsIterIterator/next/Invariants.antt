@@ -2,7 +2,7 @@ use Rattle.std.proofs.Common.{◌≡◌, ◌++◌, map, length}
 use Rattle.ppunit.specs.declared.units.Item.TheVariants as item
 use Rattle.ppunit.proofs.items.ItemsIterIterator.next.Given as goal
 
--- only slices that were read whole were passed over
+-- the loop skips only exhausted slices: the remaining items are those at the start
 abbrev pub invariant-loop-token : goal.invariant-loop-token
 invariant-loop-token l = map item.Token l.self-inside.tokens ++ l.self-inside.slices ≡ l.fn.self
 

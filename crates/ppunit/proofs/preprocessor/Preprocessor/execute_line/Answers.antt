@@ -3,14 +3,14 @@ use Rattle.pptext.specs.declared.directives.Class.{Class}
 use Rattle.pptext.specs.declared.directives.Class.TheVariants as class
 use Rattle.pptext.specs.declared.tokens.Fault.{Fault}
 use Rattle.pptext.specs.Classes.{class_of}
-use Rattle.pptext.proofs.Stopping.{stopped}
+use Rattle.pptext.proofs.ErrorReturns.{stopped}
 use Rattle.ppunit.specs.States.{context_over}
 use Rattle.ppunit.specs.DirectiveLines.{directed}
-use Rattle.ppunit.specs.Directives.{looks_at_quotes}
-use Rattle.ppunit.specs.Group.{Controls}
-use Rattle.ppunit.proofs.Leading.{other_control, leads_include}
-use Rattle.ppunit.proofs.ControlKinds.{other_is_control, other_looks}
-use Rattle.ppunit.proofs.Preprocessed.{on_settled}
+use Rattle.ppunit.specs.Directives.{checks_quotes}
+use Rattle.ppunit.specs.Group.{ExecutesControlLine}
+use Rattle.ppunit.proofs.ControlLineSteps.{other_control, leads_include}
+use Rattle.ppunit.proofs.ControlClasses.{other_is_control, other_looks}
+use Rattle.ppunit.proofs.UnitValue.{on_settled}
 use Rattle.ppunit.proofs.preprocessor.Preprocessor.execute_line.Goals as goal
 
 pub returns-in_ok-error-in-Error-clause-control : goal.returns-in_ok-error-in-Error-clause-control
@@ -18,36 +18,36 @@ returns-in_ok-error-in-Error-clause-control g c more grows =
     let is : class_of c.args.line.directive ≡ class.Error = sym c.class.ensures ∙ c.in-Error.is in
     let fault = c.in_ok-error-in-Error.ensures in
     let line = directed c.args.line.directive c.args.line.tokens c.args.line.number in
-    subst (λ (z : Fault). Controls (context_over c.args.self.now.context.now more) c.args.depth c.args.line.row c.args.self.now.state line
+    subst (λ (z : Fault). ExecutesControlLine (context_over c.args.self.now.context.now more) c.args.depth c.args.line.row c.args.self.now.state line
     (record { state = c.args.self.now.state; fault = Some z }))
-    (sym fault) (Controls.error (ap (λ (z : Class). Some z) is))
+    (sym fault) (ExecutesControlLine.error (ap (λ (z : Class). Some z) is))
 
 pub returns-in-Ignored-clause-control : goal.returns-in-Ignored-clause-control
 returns-in-Ignored-clause-control g c more grows =
     let is : class_of c.args.line.directive ≡ class.Ignored = sym c.class.ensures ∙ c.in-Ignored.is in
-    Controls.ignored (ap (λ (z : Class). Some z) is)
+    ExecutesControlLine.ignored (ap (λ (z : Class). Some z) is)
 
 pub returns-in_err-refuse_unmatched_quote-in-Includes-clause-control : goal.returns-in_err-refuse_unmatched_quote-in-Includes-clause-control
 returns-in_err-refuse_unmatched_quote-in-Includes-clause-control g c =
-    let is : class_of c.args.line.directive ≡ class.Includes c.in-Includes.next = sym c.class.ensures ∙ c.in-Includes.is in
+    let is : class_of c.args.line.directive ≡ class.Includes c.in-Includes.include_next = sym c.class.ensures ∙ c.in-Includes.is in
     stopped _ _ _ _ c.from_residual-in_err-refuse_unmatched_quote-in-Includes.ensures.1 c.in_err-refuse_unmatched_quote-in-Includes.ensures (λ fault quote more grows.
-    Controls.quote (ap (λ (z : Class). looks_at_quotes (Some z)) is) (sym quote))
+    ExecutesControlLine.quote_fault (ap (λ (z : Class). checks_quotes (Some z)) is) (sym quote))
 
 pub returns-in_ok-refuse_unmatched_quote-in-Includes-clause-control : goal.returns-in_ok-refuse_unmatched_quote-in-Includes-clause-control
 returns-in_ok-refuse_unmatched_quote-in-Includes-clause-control g c =
-    let is : class_of c.args.line.directive ≡ class.Includes c.in-Includes.next = sym c.class.ensures ∙ c.in-Includes.is in
+    let is : class_of c.args.line.directive ≡ class.Includes c.in-Includes.include_next = sym c.class.ensures ∙ c.in-Includes.is in
     let alone = sym c.in_ok-refuse_unmatched_quote-in-Includes.ensures in
     on_settled c.include.result
-    (λ r leads. leads_include (context_over c.args.self.now.context.now) c.include.new.self.pass.now.files c.args.depth c.args.line.row c.in-Includes.next c.search_after-directory.result
+    (λ r leads. leads_include (context_over c.args.self.now.context.now) c.include.new.self.pass.now.files c.args.depth c.args.line.row c.in-Includes.include_next c.previous_directory-directory.result
     (directed c.args.line.directive c.args.line.tokens c.args.line.number) c.args.self.now.state c.include.new.self.state r
-    c.search_after-directory.ensures (ap (λ (z : Class). Some z) is) alone (leads c.args.line.directive c.args.line.number))
+    c.previous_directory-directory.ensures (ap (λ (z : Class). Some z) is) alone (leads c.args.line.directive c.args.line.number))
     c.include.ensures.includes
 
 pub returns-in_err-refuse_unmatched_quote-in_default : goal.returns-in_err-refuse_unmatched_quote-in_default
 returns-in_err-refuse_unmatched_quote-in_default g c = record {
   continues = record { context = refl; pass = refl; grows = λ row content known. known };
   control = stopped _ _ _ _ c.from_residual-in_err-refuse_unmatched_quote-in_default.ensures.1 c.in_err-refuse_unmatched_quote-in_default.ensures (λ fault quote more grows.
-      Controls.quote
+      ExecutesControlLine.quote_fault
       (other_looks (class_of c.args.line.directive) (λ e. c.in_default.not-Error (c.class.ensures ∙ e)) (λ e. c.in_default.not-Ignored (c.class.ensures ∙ e)))
       (sym quote));
 }

@@ -1,5 +1,5 @@
 use Rattle.std.proofs.Common.{sym}
-use Rattle.pptext.proofs.Stopping.{settles}
+use Rattle.pptext.proofs.ErrorReturns.{settles}
 use Rattle.ppunit.proofs.preprocessor.Preprocessor.first_fault.Goals as goal
 
 pub returns-clause-translated : goal.returns-clause-translated

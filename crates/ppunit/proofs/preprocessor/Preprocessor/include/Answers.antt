@@ -1,14 +1,14 @@
 use Rattle.std.proofs.Common.{◌≡◌, ℕ, suc, ◌+◌, List, Some, sym, ap, ◌∙◌, subst, arith}
 use Rattle.pptext.specs.declared.tokens.Fault.{Fault}
-use Rattle.pptext.proofs.Stopping.{stopped}
+use Rattle.pptext.proofs.ErrorReturns.{stopped}
 use Rattle.ppunit.specs.States.{State, with_remaining, context_over}
 use Rattle.ppunit.specs.DirectiveLines.{directed, line_fault}
 use Rattle.ppunit.specs.Including.{IncludeName}
 use Rattle.ppunit.specs.Directives.{FindsFile}
 use Rattle.ppunit.specs.Group.{ExecutesInclude}
-use Rattle.ppunit.proofs.Options.{none_of}
-use Rattle.ppunit.proofs.Leading.{leads_included}
-use Rattle.ppunit.proofs.Preprocessed.{on_settled}
+use Rattle.ppunit.proofs.OptionCases.{none_of}
+use Rattle.ppunit.proofs.ControlLineSteps.{leads_included}
+use Rattle.ppunit.proofs.UnitValue.{on_settled}
 use Rattle.ppunit.proofs.preprocessor.Preprocessor.include.Goals as goal
 
 pub returns-in_err-include_name-clause-includes : goal.returns-in_err-include_name-clause-includes

@@ -1,9 +1,9 @@
 use Rattle.std.proofs.Common.{ap, ◌∙◌}
-use Rattle.pptext.proofs.Stopping.{stopped}
+use Rattle.pptext.proofs.ErrorReturns.{stopped}
 use Rattle.ppshelf.specs.Files.{ShelfView}
 use Rattle.ppshelf.specs.Names.{name_in}
 use Rattle.ppunit.specs.States.{context_over}
-use Rattle.ppunit.proofs.Opens.{opens_unpaid, opens_known, ready, opens_faulty, opens_begun}
+use Rattle.ppunit.proofs.FileOpening.{opens_unpaid, opens_known, ready, opens_faulty, opens_begun}
 use Rattle.ppunit.proofs.preprocessor.Preprocessor.open.Goals as goal
 
 pub returns-in_err-spend_opening-clause-opened : goal.returns-in_err-spend_opening-clause-opened

@@ -1,12 +1,12 @@
 use Rattle.std.proofs.Common.{Option, None, Some, Ok, sym, ap, ◌∙◌, subst}
 use Rattle.std.specs.Result.{result_err}
-use Rattle.pptext.proofs.Stopping.{stopped}
+use Rattle.pptext.proofs.ErrorReturns.{stopped}
 use Rattle.ppunit.specs.States.{State, context_over}
 use Rattle.ppunit.specs.code.Opening.{Entered}
 use Rattle.ppunit.specs.Group.{Opened}
 use Rattle.ppunit.specs.Unit.{first_place}
 use Rattle.ppunit.specs.code.Walk.{Leads}
-use Rattle.ppunit.proofs.Preprocessed.{entered_file, on_settled}
+use Rattle.ppunit.proofs.UnitValue.{entered_file, on_settled}
 use Rattle.ppunit.proofs.preprocessor.Preprocessor.process.Goals as goal
 
 pub returns-in_err-entered-clause-opened : goal.returns-in_err-entered-clause-opened

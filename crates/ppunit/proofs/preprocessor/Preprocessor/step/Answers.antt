@@ -1,9 +1,9 @@
 use Rattle.std.proofs.Common.{sym, ◌∙◌}
-use Rattle.pptext.proofs.Stopping.{stopped}
+use Rattle.pptext.proofs.ErrorReturns.{stopped}
 use Rattle.ppunit.specs.States.{context_over}
 use Rattle.ppunit.proofs.SectionEnds.{end_advances}
-use Rattle.ppunit.proofs.Leading.{steps_line, steps_control, stops_control}
-use Rattle.ppunit.proofs.Options.{none_of}
+use Rattle.ppunit.proofs.ControlLineSteps.{steps_line, steps_control, stops_control}
+use Rattle.ppunit.proofs.OptionCases.{none_of}
 use Rattle.ppunit.proofs.preprocessor.Preprocessor.step.Goals as goal
 
 pub returns-in_err-execute_text_lines-clause-step : goal.returns-in_err-execute_text_lines-clause-step

@@ -1,6 +1,6 @@
 use Rattle.std.specs.Result.{result_err}
-use Rattle.pptext.proofs.Stopping.{stopped}
-use Rattle.ppunit.proofs.Preprocessed.{undefined_unit, translated_unit, on_settled}
+use Rattle.pptext.proofs.ErrorReturns.{stopped}
+use Rattle.ppunit.proofs.UnitValue.{undefined_unit, translated_unit, on_settled}
 use Rattle.ppunit.proofs.preprocessor.Preprocessor.translate.Goals as goal
 
 pub returns-in_err-define_all-clause-translated : goal.returns-in_err-define_all-clause-translated

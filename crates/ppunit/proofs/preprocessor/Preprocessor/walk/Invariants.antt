@@ -1,8 +1,8 @@
 use Rattle.std.proofs.Common.{◌≤◌, length}
 use Rattle.ppunit.specs.States.{context_over}
 use Rattle.ppunit.specs.code.Preprocessor.{Continues}
-use Rattle.ppunit.proofs.OpenFiles.{StackSoFar}
-use Rattle.ppunit.proofs.Work.{work}
+use Rattle.ppunit.proofs.FileStack.{StackSoFar}
+use Rattle.ppunit.proofs.RemainingWork.{work}
 use Rattle.ppunit.proofs.preprocessor.Preprocessor.walk.Given as goal
 
 abbrev pub invariant-loop-file : goal.invariant-loop-file

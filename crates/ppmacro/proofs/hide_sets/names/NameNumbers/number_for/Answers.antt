@@ -2,7 +2,7 @@ use Rattle.std.proofs.Common.{◌≡◌, ◌∙◌, ◌++◌, sym, ap}
 use Rattle.std.specs.List.{list_any}
 use Rattle.std.specs.Str.{bytes_eq}
 use Rattle.std.proofs.lemmas.Slice.Eq.{bytes_eq-Decides}
-use Rattle.ppmacro.proofs.Naming.{distinct-names, name-got, names-keep}
+use Rattle.ppmacro.proofs.NameNumbers.{distinct-names, name-got, names-keep}
 use Rattle.ppmacro.proofs.hide_sets.names.NameNumbers.number_for.Goals as goal
 
 pub invariant_of-self-2 : goal.invariant_of-self-2

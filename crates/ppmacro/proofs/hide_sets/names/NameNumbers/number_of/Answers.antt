@@ -2,7 +2,7 @@ use Rattle.std.proofs.Common.{◌≡◌, sym, subst, ◌<◌, length, get_or, []
 use Rattle.std.specs.Option.{IfSome, IfNone}
 use Rattle.std.specs.List.{AllByRecursion}
 use Rattle.ppmacro.specs.code.Members.{same_name}
-use Rattle.ppmacro.proofs.Naming.{Found, found-at, if-found, if-none}
+use Rattle.ppmacro.proofs.NameNumbers.{Found, found-at, if-found, if-none}
 use Rattle.ppmacro.proofs.hide_sets.names.NameNumbers.number_of.Goals as goal
 
 pub returns-clause-found : goal.returns-clause-found

@@ -1,0 +1,178 @@
+-- Consecutive tokens that are emitted unchanged.
+use Rattle.std.proofs.Common.{◌≡◌, ℕ, zero, suc, ◌≤◌, Bool, true, false, not, ◌&&◌, List, [], ◌∷◌, ◌++◌, map, Option, Some, None}
+use Rattle.std.proofs.Common.{is_some, refl, sym, ap, ◌∙◌, subst, arith, append_assoc, append-nil, true≢false}
+use Rattle.std.specs.FinSet as set
+use Rattle.std.specs.List.{AllByRecursion}
+use Rattle.std.proofs.lemmas.List.{map-append}
+use Rattle.pptext.specs.declared.tokens.Token.{Token}
+use Rattle.pptext.specs.Tokens.{is_unmatched_quote}
+use Rattle.ppmacro.specs.Names.{Macros}
+use Rattle.ppmacro.specs.HideSetPool.{HideSetPool}
+use Rattle.ppmacro.specs.Hiding.{Hiding}
+use Rattle.ppmacro.specs.HideSets.{set_at, IsKnown, hiding, hidings, AllKnown}
+use Rattle.ppmacro.specs.Substitution.{unhidden}
+use Rattle.ppmacro.specs.Substituting.{tokens_of}
+use Rattle.ppmacro.proofs.PoolGrowthLemmas.{known-front, known-rest, known-append}
+use Rattle.ppmacro.specs.declared.hidden_token.Hidden.{Hidden}
+use Rattle.ppexpand.specs.declared.env.Env.{Env}
+use Rattle.ppexpand.specs.ExpansionStep.{Emits, macro_of, expansion_step}
+use Rattle.ppexpand.specs.Budget.{in_budget}
+use Rattle.ppexpand.specs.Expansion.{Outcome, step_in_budget, Expands, ExpandsTo, IsExpansion, emits, done, ended}
+use Rattle.ppexpand.specs.declared.expansion.Expanded.{Expanded}
+use Rattle.ppexpand.specs.code.Lists.{with_set, never_expands, NeverExpand}
+use Rattle.ppexpand.specs.code.Skipping.{HasSkipped}
+use Rattle.ppexpand.proofs.StepLemmas.{expansion_step-unnamed, emits-in_budget}
+use Rattle.ppexpand.proofs.OutcomeExistence.{total}
+use Rattle.ppexpand.proofs.OutcomeUniqueness.{same_outcome}
+use Rattle.ppexpand.proofs.LoopInvariants.{Follows, turns_left}
+
+pub unhidden-with_set : (macros : Macros) (n : ℕ) (ts : List Token) → AllByRecursion (λ t. never_expands macros t ≡ true) ts → NeverExpand macros (map (with_set n) ts)
+unhidden-with_set macros n [] h = record { each = tt }
+unhidden-with_set macros n (t ∷ ts) h = let rest = unhidden-with_set macros n ts h.1 in record { each = (h.0, rest.each) }
+
+both_false : (a b : Bool) → (not a && not b) ≡ true → (a ≡ false) × (b ≡ false)
+both_false true b h = absurd (true≢false (sym h))
+both_false false true h = absurd (true≢false (sym h))
+both_false false false h = (refl, refl)
+
+pub none_by : {A : Type 0} (o : Option A) → is_some o ≡ false → o ≡ None
+none_by None h = refl
+none_by (Some a) h = absurd (true≢false h)
+
+expansion_step-unhidden : (macros : Macros) (env : Env) (remaining : Option ℕ) (t : Hiding) (rest : List Hiding) → never_expands macros t.token ≡ true → step_in_budget macros env remaining (t ∷ rest) ≡ Emits t rest
+expansion_step-unhidden macros env remaining t rest h =
+    let parts = both_false (is_unmatched_quote t.token) (is_some (macro_of macros t.token)) h in
+    let none : macro_of macros t.token ≡ None = none_by (macro_of macros t.token) parts.1 in
+    ap (in_budget remaining (t ∷ rest)) (expansion_step-unnamed macros env t rest parts.0 none) ∙ emits-in_budget remaining (t ∷ rest) t rest
+
+-- the list has this outcome after at least n steps
+pub record Takes (macros : Macros) (env : Env) (level : ℕ) (remaining : Option ℕ) (n : ℕ) (list : List Hiding) (out : Outcome) : Type 0 where
+  pub steps : ℕ
+  pub more : n ≤ steps
+  pub is : Expands macros env level remaining steps list out
+
+-- ---- skipped tokens
+
+pub skipped-none : (macros : Macros) (list emitted : List Hidden) → HasSkipped macros list emitted list emitted
+skipped-none macros list emitted = record { skipped = []; laid_out = refl; emits = sym (append-nil emitted); unexpanded = record { each = tt } }
+
+unhidden-append : (macros : Macros) (gs hs : List Hidden) → NeverExpand macros gs → NeverExpand macros hs → NeverExpand macros (gs ++ hs)
+unhidden-append macros [] hs g h = h
+unhidden-append macros (x ∷ gs) hs g h = let rest = unhidden-append macros gs hs (record { each = g.each.1 }) h in record { each = (g.each.0, rest.each) }
+
+pub skipped-on : (macros : Macros) (list emitted next more last all : List Hidden) → HasSkipped macros list emitted next more → HasSkipped macros next more last all → HasSkipped macros list emitted last all
+skipped-on macros list emitted next more last all h k = record {
+  skipped = h.skipped ++ k.skipped;
+  laid_out = h.laid_out ∙ ap (λ l. h.skipped ++ l) k.laid_out ∙ sym (append_assoc h.skipped k.skipped last);
+  emits = k.emits ∙ ap (λ l. l ++ k.skipped) h.emits ∙ append_assoc emitted h.skipped k.skipped;
+  unexpanded = unhidden-append macros h.skipped k.skipped h.unexpanded k.unexpanded;
+}
+
+pub skipped-one : (macros : Macros) (h : Hidden) (list next emitted : List Hidden) → list ≡ h ∷ next → never_expands macros h.token ≡ true → HasSkipped macros list emitted next (emitted ++ h ∷ [])
+skipped-one macros h list next emitted is unhidden = record { skipped = h ∷ []; laid_out = is; emits = refl; unexpanded = record { each = (unhidden, tt) } }
+
+module _ (macros : Macros) (env : Env) (level : ℕ) (remaining : Option ℕ) (s : HideSetPool) where
+  skips : (hs rest : List Hidden) → NeverExpand macros hs → (n : ℕ) (out : Outcome) → Expands macros env level remaining n (hidings s rest) out
+      → Takes macros env level remaining n (hidings s (hs ++ rest)) (record { tokens = hidings s hs ++ out.tokens; fault = out.fault; remaining = out.remaining })
+  skips [] rest h n out d = record { steps = n; more = omega arith; is = d }
+  skips (t ∷ ts) rest h n out d =
+      let remaining_after = skips ts rest (record { each = h.each.1 }) n out d in
+      let more = remaining_after.more in
+      record { steps = suc remaining_after.steps; more = omega arith; is = emits (expansion_step-unhidden macros env remaining (hiding s t) (hidings s (ts ++ rest)) h.each.0) remaining_after.is }
+
+  pub skipped_after : (list emitted next more : List Hidden) (k : HasSkipped macros list emitted next more) → (n : ℕ) (out : Outcome) → Expands macros env level remaining n (hidings s next) out
+      → Takes macros env level remaining n (hidings s list) (record { tokens = hidings s k.skipped ++ out.tokens; fault = out.fault; remaining = out.remaining })
+  skipped_after list emitted next more k n out d =
+      subst (λ l. Takes macros env level remaining n (hidings s l) (record { tokens = hidings s k.skipped ++ out.tokens; fault = out.fault; remaining = out.remaining })) (sym k.laid_out) (skips k.skipped next k.unexpanded n out d)
+
+  -- Skipping tokens preserves `Follows`.
+  pub follows_skip : (first : Option ℕ) (start : List Hiding) (list emitted next more : List Hidden) → HasSkipped macros list emitted next more
+      → Follows macros env level first start (hidings s emitted) remaining (hidings s list)
+      → Follows macros env level first start (hidings s more) remaining (hidings s next)
+  follows_skip first start list emitted next more k so_far n out d =
+      let remaining_after = skipped_after list emitted next more k n out d in
+      let whole = so_far remaining_after.steps _ remaining_after.is in
+      let tokens : hidings s emitted ++ (hidings s k.skipped ++ out.tokens) ≡ hidings s more ++ out.tokens =
+      sym (append_assoc (hidings s emitted) (hidings s k.skipped) out.tokens) ∙ ap (λ hs. hs ++ out.tokens) (sym (ap (hidings s) k.emits ∙ map-append (hiding s) emitted k.skipped)) in
+      (whole.0, subst (λ ts. Expands macros env level first whole.0 start (record { tokens = ts; fault = out.fault; remaining = out.remaining })) tokens whole.1)
+
+  -- Skipping tokens does not increase the number of remaining steps.
+  pub skip_falls : (list emitted next more : List Hidden) → HasSkipped macros list emitted next more → turns_left macros env level remaining (hidings s next) ≤ turns_left macros env level remaining (hidings s list)
+  skip_falls list emitted next more k =
+      let here = total macros env level remaining (hidings s list) in
+      let there = total macros env level remaining (hidings s next) in
+      let remaining_after = skipped_after list emitted next more k there.0 there.1 there.2 in
+      let same = (same_outcome macros env remaining_after.is here.0 here.1 here.2).0 in
+      let more = remaining_after.more in
+      rw (← same) (omega arith)
+
+pub next-known : {macros : Macros} (s : HideSetPool) (list emitted next more : List Hidden) → HasSkipped macros list emitted next more → AllKnown s list → AllKnown s next
+next-known s list emitted next more k h = known-rest k.skipped next (subst (AllKnown s) k.laid_out h)
+
+pub more-known : {macros : Macros} (s : HideSetPool) (list emitted next more : List Hidden) → HasSkipped macros list emitted next more → AllKnown s list → AllKnown s emitted → AllKnown s more
+more-known s list emitted next more k h p = subst (AllKnown s) (sym k.emits) (known-append emitted k.skipped p (known-front k.skipped next (subst (AllKnown s) k.laid_out h)))
+
+-- tokens of a file, all with the same hide set
+pub known-with_set : (s : HideSetPool) (n : ℕ) (ts : List Token) → IsKnown s n → AllKnown s (map (with_set n) ts)
+known-with_set s n [] h = record { each = tt }
+known-with_set s n (t ∷ ts) h = let rest = known-with_set s n ts h in record { each = (record { hide = h; extra = tt }, rest.each) }
+
+pub hidings-with_set : (s : HideSetPool) (n : ℕ) (ts : List Token) → set_at s n ≡ set.empty → hidings s (map (with_set n) ts) ≡ map unhidden ts
+hidings-with_set s n [] h = refl
+hidings-with_set s n (t ∷ ts) h = λ i. record { token = t; hide = h i } ∷ hidings-with_set s n ts h i
+
+pub tokens-with_set : (n : ℕ) (ts : List Token) → tokens_of (map (with_set n) ts) ≡ ts
+tokens-with_set n [] = refl
+tokens-with_set n (t ∷ ts) = ap (λ us. t ∷ us) (tokens-with_set n ts)
+
+-- A prefix of tokens that never expand is emitted before the expansion of the rest.
+pub expands-prefix : (macros : Macros) (env : Env) (level : ℕ) (remaining : Option ℕ) (prefix : List Token) (rest : List Hiding) (out : Outcome)
+    → AllByRecursion (λ t. never_expands macros t ≡ true) prefix
+    → ExpandsTo macros env level remaining rest out
+    → ExpandsTo macros env level remaining (map unhidden prefix ++ rest) (record { tokens = map unhidden prefix ++ out.tokens; fault = out.fault; remaining = out.remaining })
+expands-prefix macros env level remaining [] rest out h d = d
+expands-prefix macros env level remaining (t ∷ ts) rest out h d =
+    let remaining_after = expands-prefix macros env level remaining ts rest out h.1 d in
+    (suc remaining_after.0, emits (expansion_step-unhidden macros env remaining (unhidden t) (map unhidden ts ++ rest) h.0) remaining_after.1)
+
+-- The empty list expands to no tokens.
+pub expands-nothing : (macros : Macros) (env : Env) (level : ℕ) (remaining : Option ℕ) → ExpandsTo macros env level remaining [] (ended remaining None)
+unfolding expansion_step
+expands-nothing macros env level None = (0, done refl)
+expands-nothing macros env level (Some zero) = (0, done refl)
+expands-nothing macros env level (Some (suc n)) = (0, done refl)
+
+pub tokens-unhidden : (ts : List Token) → map (λ t. t.token) (map unhidden ts) ≡ ts
+tokens-unhidden [] = refl
+tokens-unhidden (t ∷ ts) = ap (λ us. t ∷ us) (tokens-unhidden ts)
+
+-- the expansion of a list with a prefix of tokens that never expand, by the outcome of the rest
+pub expansion-following : (macros : Macros) (env : Env) (remaining : Option ℕ) (tokens prefix rest : List Token) (e : Expanded) (out : Outcome)
+    → tokens ≡ prefix ++ rest
+    → AllByRecursion (λ t. never_expands macros t ≡ true) prefix
+    → ExpandsTo macros env 0 remaining (map unhidden rest) out
+    → e.tokens ≡ prefix ++ map (λ t. t.token) out.tokens
+    → e.fault ≡ out.fault
+    → e.remaining ≡ out.remaining
+    → IsExpansion macros env remaining tokens e
+expansion-following macros env remaining tokens prefix rest e out laid_out h d is ends leaves =
+    let whole : Outcome = record { tokens = map unhidden prefix ++ out.tokens; fault = out.fault; remaining = out.remaining } in
+    record {
+      outcome = whole;
+      expands = subst (λ ts. ExpandsTo macros env 0 remaining ts whole) (sym (ap (map unhidden) laid_out ∙ map-append unhidden prefix rest)) (expands-prefix macros env 0 remaining prefix (map unhidden rest) out h d);
+      emitted = is ∙ (λ i. sym (tokens-unhidden prefix) i ++ map (λ t. t.token) out.tokens) ∙ sym (map-append (λ t. t.token) (map unhidden prefix) out.tokens);
+      ended = ends;
+      remains = leaves;
+    }
+
+-- Tokens that are all emitted unchanged expand to themselves.
+pub unhidden-expands : (macros : Macros) (env : Env) (level : ℕ) (remaining : Option ℕ) (s : HideSetPool) (hs : List Hidden)
+    → NeverExpand macros hs
+    → ExpandsTo macros env level remaining (hidings s hs) (record { tokens = hidings s hs; fault = None; remaining = remaining })
+unhidden-expands macros env level remaining s [] h = expands-nothing macros env level remaining
+unhidden-expands macros env level remaining s (t ∷ ts) h =
+    let remaining_after = unhidden-expands macros env level remaining s ts (record { each = h.each.1 }) in
+    (suc remaining_after.0, emits (expansion_step-unhidden macros env remaining (hiding s t) (hidings s ts) h.each.0) remaining_after.1)
+
+pub unhidden-more : (macros : Macros) (hs : List Hidden) (h : Hidden) → NeverExpand macros hs → never_expands macros h.token ≡ true → NeverExpand macros (hs ++ h ∷ [])
+unhidden-more macros hs h p k = unhidden-append macros hs (h ∷ []) p (record { each = (k, tt) })

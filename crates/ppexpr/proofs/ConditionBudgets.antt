@@ -1,0 +1,117 @@
+-- Conditions within a budget compared with conditions within a larger one or without one.
+use Rattle.std.proofs.Common.{◌≡◌, ◌≢◌, ℕ, ◌+◌, ◌<◌, List, [], ◌∷◌, Option, Some, None, Result, Ok, Err, refl, ap, ◌∙◌, subst, arith}
+use Rattle.pptext.specs.declared.tokens.Place.{Place}
+use Rattle.pptext.specs.declared.tokens.Token.{Token}
+use Rattle.pptext.specs.declared.tokens.Kind.{Kind}
+use Rattle.pptext.specs.declared.tokens.Kind.TheVariants.{Ident, Number, CharConst, Str, Punct, Header, Other}
+use Rattle.pptext.specs.declared.tokens.Fault.{Fault}
+use Rattle.pptext.specs.Tokens.{fault}
+use Rattle.ppmacro.specs.Names.{Macros}
+use Rattle.ppexpand.specs.declared.env.Env.{Env}
+use Rattle.ppexpand.specs.Expansion.{IsExpansion, count_expansion}
+use Rattle.ppexpand.specs.Laws.{plus}
+use Rattle.ppexpand.proofs.BudgetLemmas.{plus-nothing, Covers, StopsEarly, expansion_spends, expansion_enough, expansion_short}
+use Rattle.ppexpand.proofs.BudgetFaults.{expansion_never_refused}
+use Rattle.ppexpr.specs.Outcomes.{Value, Failure, ZeroDivisor, Overflow, Shift}
+use Rattle.ppexpr.specs.Symbols.{Symbol}
+use Rattle.ppexpr.specs.Tokens.{symbol_by, symbol_of, before, symbols_of, constant_or}
+use Rattle.ppexpr.specs.Conditions.{Condition, taken, EvaluatesShallow, no_expression, has_value, EvaluatesSymbols, too_nested, not_nested, EvaluatesTokens, made_defined, bad_constant, constants, IsCondition, ill_formed, not_replaced, replaced, count_condition}
+
+-- ---- the budget
+
+-- the cost of a condition and the rest of the budget add up to the budget
+pub condition_spends : {macros : Macros} {env : Env} {at : Place} {tokens : List Token} {remaining remaining_after : Option ℕ} {c : Condition} (d : IsCondition macros env at tokens remaining c remaining_after) → remaining ≡ plus (count_condition d) remaining_after
+condition_spends {remaining = remaining} (ill_formed none) = plus-nothing remaining
+condition_spends {macros} {env} (not_replaced asks x leaves faulty) = expansion_spends macros env x ∙ ap (plus (count_expansion x)) leaves
+condition_spends {macros} {env} (replaced asks x leaves whole decides) = expansion_spends macros env x ∙ ap (plus (count_expansion x)) leaves
+
+-- A budget of the cost plus n does not change the condition, except that n is left.
+pub condition_enough : {macros : Macros} {env : Env} {at : Place} {tokens : List Token} {remaining remaining_after : Option ℕ} {c : Condition} (b : ℕ) → Covers remaining b
+    → (d : IsCondition macros env at tokens remaining c remaining_after) (n : ℕ)
+    → b ≡ count_condition d + n
+    → IsCondition macros env at tokens (Some b) c (Some n)
+condition_enough {macros} {env} {at} {tokens} b is (ill_formed bad) n sum =
+    let same : b ≡ n = omega arith in
+    subst (λ x. IsCondition macros env at tokens (Some b) (Err (fault 22 at [])) (Some x)) same (ill_formed bad)
+condition_enough {macros} {env} b is (not_replaced asks x leaves faulty) n sum = not_replaced asks (expansion_enough macros env b is x n sum) refl faulty
+condition_enough {macros} {env} b is (replaced asks x leaves whole decides) n sum = replaced asks (expansion_enough macros env b is x n sum) refl whole decides
+
+-- A budget below the cost is used up, and the condition is fault 35.
+pub condition_short : {macros : Macros} {env : Env} {at : Place} {tokens : List Token} {remaining remaining_after : Option ℕ} {c : Condition} (b : ℕ) → Covers remaining b
+    → (d : IsCondition macros env at tokens remaining c remaining_after)
+    → b < count_condition d
+    → (f : Fault) × (f.number ≡ 35) × IsCondition macros env at tokens (Some b) (Err f) (Some 0)
+condition_short b is (ill_formed bad) less = absurd (omega arith)
+condition_short {macros} {env} b is (not_replaced {without_defined = without_defined} {e = e} asks x leaves faulty) less =
+    let s : StopsEarly macros env b without_defined e = expansion_short macros env b is x less in
+    (s.fault, s.number, not_replaced asks s.is s.nothing s.stopped)
+condition_short {macros} {env} b is (replaced {without_defined = without_defined} {e = e} asks x leaves whole decides) less =
+    let s : StopsEarly macros env b without_defined e = expansion_short macros env b is x less in
+    (s.fault, s.number, not_replaced asks s.is s.nothing s.stopped)
+
+-- If there is no budget before a condition, there is none after it.
+pub condition_leaves_none : {macros : Macros} {env : Env} {at : Place} {tokens : List Token} {remaining_after : Option ℕ} {c : Condition} → IsCondition macros env at tokens None c remaining_after → remaining_after ≡ None
+condition_leaves_none {remaining_after = None} d = refl
+condition_leaves_none {remaining_after = Some n} d = let e = condition_spends d in absurd (cc)
+
+-- ---- without a budget, no condition is fault 35
+
+-- a value, or a fault other than 35
+abbrev pub IsOther : {A : Type 0} → Result A Fault → Type 0
+IsOther (Ok x) = Unit {0}
+IsOther (Err f) = f.number ≢ 35
+
+constant_other : (at : Place) (n : ℕ) (s : List ℕ) (v : Option Value) → n < 35 → IsOther (constant_or (fault n at s) v)
+constant_other at n s None less = λ e. absurd (omega arith)
+constant_other at n s (Some v) less = tt
+
+symbol_other : (at : Place) (k : Kind) (s : List ℕ) → IsOther (symbol_by at k s)
+symbol_other at Ident s = tt
+symbol_other at Number s = constant_other at 24 s _ (omega arith)
+symbol_other at CharConst s = constant_other at 25 s _ (omega arith)
+symbol_other at Str s = tt
+symbol_other at Punct s = tt
+symbol_other at Header s = tt
+symbol_other at Other s = tt
+
+before_other : (s : Result Symbol Fault) (ss : Result (List Symbol) Fault) → IsOther s → IsOther ss → IsOther (before s ss)
+before_other (Ok s) (Ok ss) h k = tt
+before_other (Ok s) (Err f) h k = k
+before_other (Err f) ss h k = h
+
+symbols_other : (at : Place) (ts : List Token) → IsOther (symbols_of at ts)
+symbols_other at [] = tt
+symbols_other at (t ∷ ts) = before_other (symbol_of at t) (symbols_of at ts) (symbol_other at t.kind t.text) (symbols_other at ts)
+
+taken_other : (at : Place) (v : Result Value Failure) → IsOther (taken at v)
+taken_other at (Ok v) = tt
+taken_other at (Err (ZeroDivisor o)) = λ e. absurd (omega arith)
+taken_other at (Err (Overflow o)) = λ e. absurd (omega arith)
+taken_other at (Err (Shift o)) = λ e. absurd (omega arith)
+
+evaluates_other : (at : Place) (s : List Symbol) (c : Condition) → EvaluatesShallow at s c → IsOther c
+evaluates_other at s c (no_expression none) = λ e. absurd (omega arith)
+evaluates_other at s c (has_value {o = o} h) = taken_other at o.value
+
+judges_other : (at : Place) (s : List Symbol) (c : Condition) → EvaluatesSymbols at s c → IsOther c
+judges_other at s c (too_nested deep) = λ e. absurd (omega arith)
+judges_other at s c (not_nested shallow h) = evaluates_other at s c h
+
+decides_other : (at : Place) (ts : List Token) (c : Condition) → EvaluatesTokens at ts c → IsOther c
+decides_other at ts c (made_defined e) = λ e. absurd (omega arith)
+decides_other at ts c (bad_constant e g) = subst IsOther g (symbols_other at ts)
+decides_other at ts c (constants {symbols = s} e g h) = judges_other at s c h
+
+condition_other : {macros : Macros} {env : Env} {at : Place} {tokens : List Token} {remaining remaining_after : Option ℕ} {c : Condition}
+    → remaining ≡ None
+    → IsCondition macros env at tokens remaining c remaining_after
+    → IsOther c
+condition_other is (ill_formed none) = λ e. absurd (omega arith)
+condition_other {macros} {env} is (not_replaced {without_defined = without_defined} {e = e} asks x leaves faulty) = expansion_never_refused macros env (subst (λ l. IsExpansion macros env l without_defined e) is x) faulty
+condition_other {at = at} {c = c} is (replaced {e = e} asks x leaves whole decides) = decides_other at e.tokens c decides
+
+pub condition_never_refused : {macros : Macros} {env : Env} {at : Place} {tokens : List Token} {remaining remaining_after : Option ℕ} {f : Fault}
+    → remaining ≡ None
+    → IsCondition macros env at tokens remaining (Err f) remaining_after
+    → f.number ≢ 35
+condition_never_refused is d = condition_other is d

@@ -1,5 +1,0 @@
-use Rattle.ppmacro.proofs.LexerLemmas.{kind_of_is}
-use Rattle.ppmacro.proofs.substituting.lexing.tells_each_kind.Goals as goal
-
-pub returns : goal.returns
-returns c = kind_of_is

@@ -1,0 +1,117 @@
+-- A run's output depends only on the mode, the input bytes and the file contents.
+use Rattle.std.proofs.Common.{◌≡◌, ℕ, zero, suc, Bool, true, false, List, [], ◌∷◌, ◌++◌, Option, Some, None, refl, sym, ap, ◌∙◌, subst}
+use Rattle.std.proofs.lemmas.Option.{none-some, same_Some}
+use Rattle.ppshelf.specs.Content.{Content}
+use Rattle.ppshelf.specs.Files.{Files, file_at, Extends, Agree, or_else}
+use Rattle.ppshelf.specs.Names.{AreNames}
+use Rattle.ppshelf.proofs.NameRows.{names_from_test}
+use Rattle.ppunit.specs.Laws.{HasOneValue}
+use Rattle.ppunit.specs.Units.{AreUnits}
+use Rattle.ppunit.specs.declared.units.Setting.{Setting}
+use Rattle.ppunit.specs.declared.units.Unit.{Unit as UnitOfList}
+use Rattle.ppunit.specs.declared.units.UnitOut.{UnitOut}
+use Rattle.pppool.specs.Laws.{ListGrows}
+use Rattle.ppserve.specs.Contents.{AreInList, files_of}
+use Rattle.ppserve.specs.Laws.{wrong_names, OneOutput, OneOutputOfContents}
+use Rattle.ppserve.specs.Listing.{outcome_of, accepted, names_hold, names_of}
+use Rattle.ppserve.specs.Output.{output_text}
+use Rattle.ppserve.specs.Serving.{any_fault, ReadsList}
+use Rattle.ppserve.specs.declared.list.List.{List as CompilationList}
+use Rattle.ppserve.proofs.ReceivedBytes.{decided}
+use Rattle.ppserve.proofs.LeastRefusal.{takes_the_rest}
+
+-- ---- the union of files that agree
+
+abbrev joined : Files → Files → Files
+joined [] ys = ys
+joined (x ∷ xs) [] = x ∷ xs
+joined (x ∷ xs) (y ∷ ys) = or_else x y ∷ joined xs ys
+
+first_known : (x y : Option Content) (c : Content) → x ≡ Some c → or_else x y ≡ Some c
+first_known None y c e = absurd (none-some c e)
+first_known (Some d) y c e = e
+
+second_known : (x y : Option Content) (c : Content) → y ≡ Some c → ((d : Content) → x ≡ Some d → d ≡ c) → or_else x y ≡ Some c
+second_known None y c e same = e
+second_known (Some d) y c e same = ap (λ (k : Content). Some k) (same d refl)
+
+has_first : (xs ys : Files) → Extends (joined xs ys) xs
+has_first [] ys row c e = absurd (none-some c e)
+has_first (x ∷ xs) [] row c e = e
+has_first (x ∷ xs) (y ∷ ys) zero c e = first_known x y c e
+has_first (x ∷ xs) (y ∷ ys) (suc row) c e = has_first xs ys row c e
+
+has_second : (xs ys : Files) → Agree xs ys → Extends (joined xs ys) ys
+has_second [] ys agree row c e = e
+has_second (x ∷ xs) [] agree row c e = absurd (none-some c e)
+has_second (x ∷ xs) (y ∷ ys) agree zero c e = second_known x y c e (λ d is. agree 0 d c is e)
+has_second (x ∷ xs) (y ∷ ys) agree (suc row) c e = has_second xs ys (λ at a b p q. agree (suc at) a b p q) row c e
+
+-- ---- results
+
+same_over : HasOneValue → (names : List (List ℕ)) (files : Files) (setting : Setting) (units : List UnitOfList) (a b : List UnitOut) → AreNames names
+    → AreUnits names files setting units a
+    → AreUnits names files setting units b
+    → a ≡ b
+same_over once names files setting [] [] [] named p q = refl
+same_over once names files setting [] [] (y ∷ b) named p q = absurd q
+same_over once names files setting [] (x ∷ a) b named p q = absurd p
+same_over once names files setting (u ∷ us) [] b named p q = absurd p
+same_over once names files setting (u ∷ us) (x ∷ a) [] named p q = absurd q
+same_over once names files setting (u ∷ us) (x ∷ a) (y ∷ b) named p q =
+    ap (λ (o : UnitOut). o ∷ a) (once names files setting u x y named p.0 q.0).0 ∙ ap (λ (os : List UnitOut). y ∷ os) (same_over once names files setting us a b named p.1 q.1)
+
+same_answers : HasOneValue → ListGrows → (names : List (List ℕ)) (one two : Files) (setting : Setting) (units : List UnitOfList) (a b : List UnitOut) → AreNames names
+    → Agree one two
+    → AreUnits names one setting units a
+    → AreUnits names two setting units b
+    → a ≡ b
+same_answers once grows names one two setting units a b named agree p q =
+    let all = joined one two in
+    same_over once names all setting units a b named (grows names one all setting units a (has_first one two) p) (grows names two all setting units b (has_second one two agree) q)
+
+-- ---- lists
+
+true_or : (b : Bool) → ¬ (b ≡ false) → b ≡ true
+true_or true other = refl
+true_or false other = absurd (other refl)
+
+-- The names of an accepted list are in normal form and distinct.
+named : (inline : Bool) (bytes : List ℕ) (list : CompilationList) → outcome_of inline bytes ≡ accepted list → AreNames list.names
+named inline bytes list is =
+    let taken = (takes_the_rest inline bytes list).0 is in
+    let hold : names_hold taken.draft.files ≡ true = true_or (names_hold taken.draft.files) (λ e. taken.none 3 (wrong_names taken.holds e)) in
+    let P : CompilationList → Type 0 = λ l. AreNames l.names in
+    subst P (sym taken.is_list) (names_from_test (names_of taken.draft.files) hold)
+
+-- Two lists that are read from equal known bytes are equal.
+one_list : (inline : Bool) (known : List ℕ) (left right : Option (List ℕ)) (a b : CompilationList) → ReadsList inline (Some known) left a → ReadsList inline (Some known) right b → a ≡ b
+one_list inline known left right a b p q =
+    let one = decided inline known p.bytes left p.received in
+    let two = decided inline known q.bytes right q.received in
+    let same : accepted a ≡ accepted b = sym p.is_list ∙ (one ∙ (sym two ∙ q.is_list)) in
+    cc
+
+-- ---- the theorems
+
+pub one_output : HasOneValue → ListGrows → (Such : CompilationList → Files → Type 0) → OneOutput Such
+one_output once grows Such inline mode known with_part left right one two any other a b agree =
+    let same : a.list ≡ b.list = one_list inline known left right a.list b.list a.came.came b.came.came in
+    let P : CompilationList → Type 0 = λ l. AreUnits l.names b.came.files l.setting l.units b.outs in
+    let theirs = subst P (sym same) b.came.gives in
+    let list = a.list in
+    let outs : a.outs ≡ b.outs = same_answers once grows list.names a.came.files b.came.files list.setting list.units a.outs b.outs
+    (named inline a.came.came.bytes list a.came.came.is_list) agree a.came.gives theirs in
+    let text : output_text mode a.list a.outs ≡ output_text mode b.list b.outs = ap (λ (l : CompilationList). output_text mode l a.outs) same ∙ ap (output_text mode b.list) outs in (
+      a.went ∙ (ap (λ bytes. with_part ++ bytes) text ∙ sym b.went),
+      a.fault ∙ (ap any_fault outs ∙ sym b.fault),
+    )
+
+same_agree : (one two : Files) → one ≡ two → Agree one two
+same_agree one two e row c d p q = same_Some c d (sym p ∙ (ap (λ (f : Files). file_at f row) e ∙ q))
+
+pub one_output_of_contents : HasOneValue → ListGrows → OneOutputOfContents
+one_output_of_contents once grows mode known with_part left right one two any other a b =
+    let same : a.list ≡ b.list = one_list true known left right a.list b.list a.came.came b.came.came in
+    let files : a.came.files ≡ b.came.files = a.came.such ∙ (ap (λ (l : CompilationList). files_of l.contents) same ∙ sym b.came.such) in
+    one_output once grows AreInList true mode known with_part left right one two any other a b (same_agree a.came.files b.came.files files)

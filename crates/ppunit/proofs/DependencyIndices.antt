@@ -1,0 +1,124 @@
+-- The dependencies of a unit are indices of the file table, if the unit's own file is one.
+use Rattle.std.proofs.Common.{◌≡◌, ℕ, ◌<◌, Bool, true, false, List, [], ◌∷◌, ◌++◌, All, length, Option, Some, None, Result, Ok, Err, refl, sym, ap, ◌∙◌, subst, nat_eq, if◌then◌else◌}
+use Rattle.std.specs.List.{list_any}
+use Rattle.std.proofs.lemmas.List.Elements.{All-push, All-nil}
+use Rattle.pptext.specs.declared.tokens.Place.{Place}
+use Rattle.pptext.specs.declared.tokens.Token.{Token}
+use Rattle.pptext.specs.declared.tokens.Fault.{Fault}
+use Rattle.pptext.specs.declared.sources.Profile.{Profile}
+use Rattle.pptext.specs.declared.sources.Directive.{Directive}
+use Rattle.pptext.specs.declared.sources.Directive.TheVariants.{Define, Undef, Line, Pragma, Null, Unknown}
+use Rattle.pptext.specs.Lines.{LogicalLine}
+use Rattle.pptext.specs.Tree.{hash_place, GroupParts, Branches}
+use Rattle.ppmacro.specs.Names.{Macros}
+use Rattle.ppmacro.specs.Define.{after_define, after_undef}
+use Rattle.ppshelf.specs.Files.{Files}
+use Rattle.ppunit.specs.declared.units.Unit.{Unit as UnitOfList}
+use Rattle.ppunit.specs.declared.units.Setting.{Setting}
+use Rattle.ppunit.specs.declared.units.UnitOut.{UnitOut}
+use Rattle.ppunit.specs.declared.units.Item.TheVariants as item
+use Rattle.ppunit.specs.Dependencies.{with_row}
+use Rattle.ppunit.specs.States.{State, Context, Progress, emitted, with_once, with_remaining}
+use Rattle.ppunit.specs.DirectiveLines.{operands, text_tokens}
+use Rattle.ppunit.specs.LineControl.{Presumed, presumed}
+use Rattle.ppunit.specs.Directives.{EmitsText, renumbered_by, with_macros, is_once, ExecutesDirective}
+use Rattle.ppunit.specs.Group.{Group, Branched, ExecutesControlLine, ExecutesInclude, Opened}
+use Rattle.ppunit.specs.Unit.{IsUnit, Defines, unread, processed, Translates, definitions_fault, translated, context_of_unit}
+use Rattle.ppshelf.proofs.SearchResults.{first_within}
+
+-- ---- effects that leave the dependencies unchanged
+
+run_keeps : (s : State) (tokens : List Token) (m : Progress) → EmitsText s tokens m → m.state.deps ≡ s.deps
+run_keeps s tokens m gives = ap (λ (r : Progress). r.state.deps) gives.is
+
+renumbered_keeps : (s : State) (r : LogicalLine) (f : Option Fault) (p : Option Presumed) → (renumbered_by s r f p).state.deps ≡ s.deps
+renumbered_keeps s r (Some f) p = refl
+renumbered_keeps s r None None = refl
+renumbered_keeps s r None (Some p) = refl
+
+macros_keep : (s : State) (r : Result Macros Fault) → (with_macros s r).state.deps ≡ s.deps
+macros_keep s (Ok macros) = refl
+macros_keep s (Err f) = refl
+
+noting_keeps : (b : Bool) (s : State) (row : ℕ) → (if b then with_once s row else s).deps ≡ s.deps
+noting_keeps true s row = refl
+noting_keeps false s row = refl
+
+control_keeps : (profile : Profile) (row : ℕ) (d : Option Directive) (s : State) (r : LogicalLine) (m : Progress)
+    → ExecutesDirective profile row d s r m
+    → m.state.deps ≡ s.deps
+control_keeps profile row (Some Define) s r m does =
+    ap (λ (z : Progress). z.state.deps) does ∙ macros_keep s (after_define profile s.macros (hash_place r.tokens) (operands r.tokens))
+control_keeps profile row (Some Undef) s r m does =
+    ap (λ (z : Progress). z.state.deps) does ∙ macros_keep s (after_undef profile s.macros (hash_place r.tokens) (operands r.tokens))
+control_keeps profile row (Some Line) s r m does =
+    ap (λ (z : Progress). z.state.deps) does.is ∙ renumbered_keeps (with_remaining s does.expanded.remaining) r does.expanded.fault (presumed does.expanded.tokens)
+control_keeps profile row (Some Pragma) s r m does =
+    let t = emitted s (item.Pragma (hash_place r.tokens) (operands r.tokens) ∷ []) in
+    ap (λ (z : Progress). z.state.deps) does ∙ noting_keeps (is_once profile (operands r.tokens)) t row
+control_keeps profile row (Some Null) s r m does = ap (λ (z : Progress). z.state.deps) does
+control_keeps profile row (Some Unknown) s r m does = ap (λ (z : Progress). z.state.deps) does
+control_keeps profile row d s r m does = absurd does
+
+-- ---- files that become dependencies
+
+module _ (context : Context) where
+  abbrev pub Within : List ℕ → Type 0
+  Within rows = All (λ row. row < length context.names) rows
+
+  among_within : (row : ℕ) (rows : List ℕ) → row < length context.names → Within rows → Within (with_row row rows)
+  among_within row rows within all = cases (list_any (nat_eq row) rows)
+    where
+      cases : (b : Bool) → Within (if b then rows else rows ++ row ∷ [])
+      cases true = all
+      cases false = All-push (λ r. r < length context.names) rows row all within
+
+  mutual
+    group_within : {depth row : ℕ} {r : Progress} {ps : GroupParts} {end : Progress} → Group context depth row r ps end → Within r.state.deps → Within end.state.deps
+    group_within Group.already_stopped all = all
+    group_within Group.no_parts all = all
+    group_within (Group.text_lines {s = s} {lines = lines} {m = m} gives rest) all = group_within rest (subst Within (sym (run_keeps s (text_tokens lines) m gives)) all)
+    group_within (Group.control here rest) all = group_within rest (control_within here all)
+    group_within (Group.taken decides here rest) all = group_within rest (group_within here all)
+    group_within (Group.skipped decides here rest) all = group_within rest (branches_within here all)
+    group_within (Group.condition_fault decides) all = all
+
+    branches_within : {depth row : ℕ} {s : State} {bs : Branches} {m : Progress} → Branched context depth row s bs m → Within s.deps → Within m.state.deps
+    branches_within Branched.no_branch_taken all = all
+    branches_within (Branched.else_group is here) all = group_within here all
+    branches_within (Branched.branch_taken is decides here) all = group_within here all
+    branches_within (Branched.branch_skipped is decides rest) all = branches_within rest all
+    branches_within (Branched.branch_condition_fault is decides) all = all
+
+    control_within : {depth row : ℕ} {s : State} {line : LogicalLine} {m : Progress} → ExecutesControlLine context depth row s line m → Within s.deps → Within m.state.deps
+    control_within (ExecutesControlLine.error is) all = all
+    control_within (ExecutesControlLine.ignored is) all = all
+    control_within (ExecutesControlLine.quote_fault is q) all = all
+    control_within {row = row} {s = s} {line = line} {m = m} (ExecutesControlLine.executed q does) all =
+        subst Within (sym (control_keeps context.profile row line.directive s line m does)) all
+    control_within (ExecutesControlLine.include is q here) all = includes_within here all
+
+    includes_within : {depth row : ℕ} {following : Option ℕ} {s : State} {line : LogicalLine} {m : Progress} → ExecutesInclude context depth row following s line m → Within s.deps → Within m.state.deps
+    includes_within (ExecutesInclude.operand_fault asks) all = all
+    includes_within (ExecutesInclude.missing a asks finds) all = all
+    includes_within (ExecutesInclude.included a found asks finds opens) all = opened_within opens (first_within context.names _ (Some found) finds) all
+
+    opened_within : {depth row : ℕ} {directory : Option ℕ} {at : Place} {s : State} {m : Progress} → Opened context depth at s row directory m → row < length context.names → Within s.deps → Within m.state.deps
+    opened_within (Opened.too_deep deep) within all = all
+    opened_within (Opened.exhausted fits spent) within all = all
+    opened_within {row = row} {s = s} (Opened.not_read_again fits some known) within all = among_within row s.deps within all
+    opened_within {row = row} {s = s} (Opened.not_readable fits some new is) within all = among_within row s.deps within all
+    opened_within {row = row} {s = s} (Opened.content_fault fits some new is reads) within all = among_within row s.deps within all
+    opened_within {row = row} {s = s} (Opened.read fits some new is reads tree here) within all = group_within here (among_within row s.deps within all)
+
+  defines_within : {defines : List (List ℕ)} {s : State} {m : Progress} → Defines context defines s m → Within s.deps → Within m.state.deps
+  defines_within (unread reads) all = all
+  defines_within (processed reads tree here) all = group_within here all
+
+  translates_within : {defines : List (List ℕ)} {row : ℕ} {s : State} {m : Progress} → Translates context defines row s m → row < length context.names → Within s.deps → Within m.state.deps
+  translates_within (definitions_fault here) within all = defines_within here all
+  translates_within (translated here opens) within all = opened_within opens within (defines_within here all)
+
+pub unit_within : (names : List (List ℕ)) (files : Files) (setting : Setting) (unit : UnitOfList) (out : UnitOut) → IsUnit names files setting unit out → unit.file < length names → All (λ row. row < length names) out.deps
+unit_within names files setting unit out is within =
+    subst (λ (z : UnitOut). All (λ row. row < length names) z.deps) (sym is.gives) (translates_within (context_of_unit names files setting unit) is.translates within (All-nil (λ row. row < length names)))

@@ -1,0 +1,161 @@
+-- A walk over the lines of a file and of all files that it includes, with a stack of suspended files.
+use Rattle.std.proofs.Common.{◌≡◌, ℕ, suc, ◌≤◌, List, [], ◌∷◌, length, Option, None, Some, Err}
+use Rattle.pptext.specs.declared.tokens.Fault.{Fault}
+use Rattle.pptext.specs.Lines.{LogicalLine}
+use Rattle.pptext.specs.Tree.{GroupParts, Tree}
+use Rattle.ppshelf.specs.Files.{Files, Extends}
+use Rattle.ppunit.specs.code.Opening.{OpenFile, Entered}
+use Rattle.ppunit.specs.Group.{Group, ExecutesControlLine}
+use Rattle.ppunit.specs.States.{State, in_file_context, Context, Progress, running, stopped}
+use Rattle.ppunit.specs.code.Walk.{line_at, Outer, HasPartsAt, Ends, Advances, Passes, EntersFile, StepsTo, SuspendedFile, Walks, restored, next_file, next_suspended, contexts_restored}
+use Rattle.ppunit.proofs.FileWalk.{FileSoFar, file_start, file_more, file_stop, file_done, extends_trans}
+use Rattle.ppunit.proofs.WalkSteps.{ends_stop}
+
+-- the rest of a file: its parts, and the if-sections around them
+abbrev pub Rest : Type 0
+Rest = GroupParts × Outer
+
+-- each suspended file is at the line after its include line
+abbrev pub Waits : List SuspendedFile → List Rest → Type 0
+Waits [] [] = Unit {0}
+Waits (w ∷ ws) ((ps, k) ∷ rests) = HasPartsAt w.file.lines w.file.index ps k × Waits ws rests
+Waits ws rests = ⊥
+
+-- The goal of the current file, which ends in m: all that the last suspended file reaches from m, in its own context,
+-- meets the goal of that file. Without suspended files, the goal is `whole`.
+abbrev pub Owes : (Files → Context) → (Files → Progress → Type 0) → List SuspendedFile → List Rest → Files → Progress → Type 0
+Owes context whole (w ∷ ws) ((ps, k) ∷ rests) more m = (end : Progress) → Ends (context more) (length ws) w.file.row (restored w.file_context m) ps k end → Owes context whole ws rests more end
+Owes context whole ws rests more m = whole more m
+
+-- the walk has reached the current line of `file` in state t, and the files `ws` are suspended
+pub record StackAt (context : Files → Context) (files : Files) (whole : Files → Progress → Type 0) (ws : List SuspendedFile) (file : OpenFile) (t : State) : Type 0 where
+  pub rests : List Rest
+  pub waits : Waits ws rests
+  pub file_so_far : FileSoFar context files (Owes context whole ws rests) (length ws) file.row file.lines file.index t
+
+-- the walk has come this far, for each tree of the first file
+pub record StackSoFar (context : Files → Context) (files : Files) (row : ℕ) (lines : List LogicalLine) (s : State) (ws : List SuspendedFile) (file : OpenFile) (t : State) : Type 0 where
+  pub so_far : (parts : GroupParts) → Tree lines parts → StackAt context files (λ more m. Group (context more) 0 row (running s) parts m) ws file t
+
+pub stack_start : (context : Files → Context) (files : Files) (s : State) (file : OpenFile) → file.index ≡ 0 → StackSoFar context files file.row file.lines s [] file s
+stack_start context files s file begins = record {
+  so_far = λ parts tree. record {
+    rests = [];
+    waits = tt;
+    file_so_far = file_start context files (λ more m. Group (context more) 0 file.row (running s) parts m) 0 file.row file.lines file.index s parts begins tree (λ more grows end group. group);
+  };
+}
+
+enters_at : (context : Files → Context) (old new : Files) (whole : Files → Progress → Type 0) (next : ℕ) (t u : State) (ws : List SuspendedFile)
+    (file : OpenFile) (e : Entered)
+    → StackAt context old whole ws file t
+    → Extends new old
+    → Passes (length ws) file.row file.lines file.index t next
+    → EntersFile context new (suc (length ws)) (λ more m. ExecutesControlLine (context more) (length ws) file.row t (line_at file.lines file.index) m) u e
+    → StackAt context new whole (record { file = record file { index = next }; file_context = e.outer } ∷ ws) e.file u
+enters_at context old new whole next t u ws file e at wider passes continues_after =
+    let f = at.file_so_far in
+    let g = passes f.parts f.outer f.stands in
+    record {
+      rests = (g.0, g.1) ∷ at.rests;
+      waits = (g.2, at.waits);
+      file_so_far =
+          file_start context new (Owes context whole (record { file = record file { index = next }; file_context = e.outer } ∷ ws) ((g.0, g.1) ∷ at.rests))
+          (suc (length ws)) e.file.row e.file.lines e.file.index u continues_after.parts continues_after.begins continues_after.tree
+          (λ more grows m group end rest. f.ends more (extends_trans more new old grows wider) end
+          (g.3 (context more) (restored e.outer m) end (continues_after.group more grows m group) rest));
+    }
+
+next_at : (context : Files → Context) (old new : Files) (whole : Files → Progress → Type 0) (next : ℕ) (t u : State) (ws : List SuspendedFile)
+    (file : OpenFile) (entered : Option Entered)
+    → StackAt context old whole ws file t
+    → Extends new old
+    → StepsTo context new (length ws) file.row file.lines file.index t u next entered
+    → StackAt context new whole (next_suspended (record file { index = next }) entered ws) (next_file (record file { index = next }) entered) u
+next_at context old new whole next t u ws file None at wider step = record {
+  rests = at.rests;
+  waits = at.waits;
+  file_so_far = file_more context old new (Owes context whole ws at.rests) (length ws) file.row file.lines file.index next t u at.file_so_far wider step;
+}
+next_at context old new whole next t u ws file (Some e) at wider step = enters_at context old new whole next t u ws file e at wider step.0 step.1
+
+pub stack_next : (context : Files → Context) (old new : Files) (row : ℕ) (lines : List LogicalLine) (s t u : State) (ws : List SuspendedFile)
+    (file : OpenFile) (next : ℕ) (entered : Option Entered)
+    → StackSoFar context old row lines s ws file t
+    → Extends new old
+    → StepsTo context new (length ws) file.row file.lines file.index t u next entered
+    → StackSoFar context new row lines s (next_suspended (record file { index = next }) entered ws) (next_file (record file { index = next }) entered) u
+stack_next context old new row lines s t u ws file next entered sofar wider step = record {
+  so_far = λ parts tree. next_at context old new (λ more m. Group (context more) 0 row (running s) parts m) next t u ws file entered (sofar.so_far parts tree) wider step;
+}
+
+-- At most 200 files are suspended.
+pub next_depth : (context : Files → Context) (files : Files) (row : ℕ) (lines : List LogicalLine) (index next : ℕ) (s t : State)
+    (ws : List SuspendedFile) (file : OpenFile) (entered : Option Entered)
+    → length ws ≤ 200
+    → StepsTo context files (length ws) row lines index s t next entered
+    → length (next_suspended file entered ws) ≤ 200
+next_depth context files row lines index next s t ws file None deep step = deep
+next_depth context files row lines index next s t ws file (Some e) deep step = step.1.fits
+
+leaves_at : (context : Files → Context) (files : Files) (whole : Files → Progress → Type 0) (w : SuspendedFile) (ws : List SuspendedFile) (file : OpenFile)
+    (t : State) (rests : List Rest)
+    → Waits (w ∷ ws) rests
+    → FileSoFar context files (Owes context whole (w ∷ ws) rests) (suc (length ws)) file.row file.lines file.index t
+    → length file.lines ≤ file.index
+    → StackAt context files whole ws w.file (in_file_context w.file_context t)
+leaves_at context files whole w ws file t [] waits sofar over = absurd waits
+leaves_at context files whole w ws file t ((ps, k) ∷ rests) waits sofar over = record {
+  rests = rests;
+  waits = waits.1;
+  file_so_far =
+      record {
+        parts = ps;
+        outer = k;
+        stands = waits.0;
+        ends = λ more grows end rest. file_done context files
+            (Owes context whole (w ∷ ws) ((ps, k) ∷ rests)) (suc (length ws)) file.row file.lines file.index t sofar over more grows end rest;
+      };
+}
+
+pub stack_leaves : (context : Files → Context) (files : Files) (row : ℕ) (lines : List LogicalLine) (s t : State) (w : SuspendedFile)
+    (ws : List SuspendedFile) (file : OpenFile)
+    → StackSoFar context files row lines s (w ∷ ws) file t
+    → length file.lines ≤ file.index
+    → StackSoFar context files row lines s ws w.file (in_file_context w.file_context t)
+stack_leaves context files row lines s t w ws file sofar over = record {
+  so_far = λ parts tree.
+      let f = sofar.so_far parts tree in
+      leaves_at context files (λ more m. Group (context more) 0 row (running s) parts m) w ws file t f.rests f.waits f.file_so_far over;
+}
+
+stops_at : (context : Files → Context) (whole : Files → Progress → Type 0) (more : Files) (t : State) (fault : Fault) (ws : List SuspendedFile)
+    (rests : List Rest)
+    → Waits ws rests
+    → Owes context whole ws rests more (stopped t fault)
+    → whole more (stopped (contexts_restored ws t) fault)
+stops_at context whole more t fault [] rests waits owes = owes
+stops_at context whole more t fault (w ∷ ws) [] waits owes = absurd waits
+stops_at context whole more t fault (w ∷ ws) ((ps, k) ∷ rests) waits owes =
+    let u = in_file_context w.file_context t in
+    stops_at context whole more u fault ws rests waits.1 (owes (stopped u fault) (ends_stop (context more) (length ws) w.file.row (stopped u fault) u fault ps k Group.already_stopped))
+
+pub stack_stops : (context : Files → Context) (old new : Files) (row : ℕ) (lines : List LogicalLine) (s t u : State) (fault : Fault)
+    (ws : List SuspendedFile) (file : OpenFile)
+    → StackSoFar context old row lines s ws file t
+    → Extends new old
+    → Advances context new (length ws) file.row file.lines file.index t u (Err fault)
+    → Walks context new 0 row lines s (stopped (contexts_restored ws u) fault)
+stack_stops context old new row lines s t u fault ws file sofar wider step parts tree more grows =
+    let f = sofar.so_far parts tree in
+    let whole : Files → Progress → Type 0 = λ more m. Group (context more) 0 row (running s) parts m in
+    stops_at context whole more u fault ws f.rests f.waits (file_stop context old new (Owes context whole ws f.rests) (length ws) file.row file.lines file.index t u fault f.file_so_far wider step more grows)
+
+pub stack_done : (context : Files → Context) (files : Files) (row : ℕ) (lines : List LogicalLine) (s t : State) (file : OpenFile)
+    → StackSoFar context files row lines s [] file t
+    → length file.lines ≤ file.index
+    → Walks context files 0 row lines s (running t)
+stack_done context files row lines s t file sofar over parts tree more grows =
+    let f = sofar.so_far parts tree in
+    let whole : Files → Progress → Type 0 = λ more m. Group (context more) 0 row (running s) parts m in
+    file_done context files (Owes context whole [] f.rests) 0 file.row file.lines file.index t f.file_so_far over more grows

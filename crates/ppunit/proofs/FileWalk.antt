@@ -1,0 +1,70 @@
+-- A walk over the lines of a file, from the first line to the end.
+use Rattle.std.proofs.Common.{◌≡◌, ℕ, ◌≤◌, List, [], ◌∷◌, length, refl, sym, ◌∙◌, subst, Ok, Err}
+use Rattle.std.proofs.lemmas.List.{drop_all}
+use Rattle.pptext.specs.declared.tokens.Fault.{Fault}
+use Rattle.pptext.specs.Lines.{LogicalLine}
+use Rattle.pptext.specs.Tree.{GroupParts, Done, TextLines, Control, Section, End, Branch, AreGroupParts, Tree}
+use Rattle.ppunit.specs.States.{State, Context, Progress, running, stopped}
+use Rattle.ppunit.specs.Group.{Group}
+use Rattle.ppshelf.specs.Files.{Files, Extends}
+use Rattle.ppunit.specs.code.Walk.{Outer, lay, HasPartsAt, Ends, Advances}
+use Rattle.ppunit.proofs.FirstLineCases.{lay_run, lay_control, lay_section}
+
+-- the walk is at `index` in state t: all that the rest of the lines reaches meets the goal `whole`
+pub record FileSoFar (context : Files → Context) (files : Files) (whole : Files → Progress → Type 0) (depth row : ℕ) (lines : List LogicalLine) (index : ℕ) (t : State) : Type 0 where
+  pub parts : GroupParts
+  pub outer : Outer
+  pub stands : HasPartsAt lines index parts outer
+  pub ends : (more : Files) → Extends more files → (end : Progress) → Ends (context more) depth row (running t) parts outer end → whole more end
+
+pub file_start : (context : Files → Context) (files : Files) (whole : Files → Progress → Type 0) (depth row : ℕ) (lines : List LogicalLine)
+    (index : ℕ) (t : State) (parts : GroupParts)
+    → index ≡ 0
+    → Tree lines parts
+    → ((more : Files) → Extends more files → (end : Progress) → Group (context more) depth row (running t) parts end → whole more end)
+    → FileSoFar context files whole depth row lines index t
+file_start context files whole depth row lines index t parts begins tree ends =
+    subst (λ (z : ℕ). FileSoFar context files whole depth row lines z t) (sym begins) (record { parts = parts; outer = []; stands = record { rest = sym tree.whole; parts = tree.each; outer = tt }; ends = ends })
+
+pub extends_trans : (a b c : Files) → Extends a b → Extends b c → Extends a c
+extends_trans a b c ab bc row content at = ab row content (bc row content at)
+
+pub file_more : (context : Files → Context) (old new : Files) (whole : Files → Progress → Type 0) (depth row : ℕ) (lines : List LogicalLine)
+    (index next : ℕ) (t u : State)
+    → FileSoFar context old whole depth row lines index t
+    → Extends new old
+    → Advances context new depth row lines index t u (Ok next)
+    → FileSoFar context new whole depth row lines next u
+file_more context old new whole depth row lines index next t u sofar wider step =
+    let g = step sofar.parts sofar.outer sofar.stands in
+    record { parts = g.0; outer = g.1; stands = g.2; ends = λ more grows end rest. sofar.ends more (extends_trans more new old grows wider) end (g.3 more grows end rest) }
+
+pub file_stop : (context : Files → Context) (old new : Files) (whole : Files → Progress → Type 0) (depth row : ℕ) (lines : List LogicalLine)
+    (index : ℕ) (t u : State) (fault : Fault)
+    → FileSoFar context old whole depth row lines index t
+    → Extends new old
+    → Advances context new depth row lines index t u (Err fault)
+    → (more : Files)
+    → Extends more new
+    → whole more (stopped u fault)
+file_stop context old new whole depth row lines index t u fault sofar wider step more grows =
+    sofar.ends more (extends_trans more new old grows wider) (stopped u fault) (step sofar.parts sofar.outer sofar.stands more grows)
+
+nothing_laid : (context : Context) (depth row : ℕ) (t : State) (ps : GroupParts) (k : Outer) → lay ps k ≡ [] → AreGroupParts ps → Ends context depth row (running t) ps k (running t)
+nothing_laid context depth row t Done [] e are = Group.no_parts
+nothing_laid context depth row t Done ((End r, qs) ∷ k) e are = absurd (cc)
+nothing_laid context depth row t Done ((Branch r ps bs, qs) ∷ k) e are = absurd (cc)
+nothing_laid context depth row t (TextLines [] ps) k e are = absurd (are.0 refl)
+nothing_laid context depth row t (TextLines (r ∷ rs) ps) k e are = let whole = sym (lay_run (r ∷ rs) ps k) ∙ e in absurd (cc)
+nothing_laid context depth row t (Control r ps) k e are = let whole = sym (lay_control r ps k) ∙ e in absurd (cc)
+nothing_laid context depth row t (Section r ps bs qs) k e are = let whole = sym (lay_section r ps qs bs k) ∙ e in absurd (cc)
+
+pub file_done : (context : Files → Context) (files : Files) (whole : Files → Progress → Type 0) (depth row : ℕ) (lines : List LogicalLine)
+    (index : ℕ) (t : State)
+    → FileSoFar context files whole depth row lines index t
+    → length lines ≤ index
+    → (more : Files)
+    → Extends more files
+    → whole more (running t)
+file_done context files whole depth row lines index t sofar over more grows =
+    sofar.ends more grows (running t) (nothing_laid (context more) depth row t sofar.parts sofar.outer (sym sofar.stands.rest ∙ drop_all index lines over) sofar.stands.parts)

@@ -1,0 +1,140 @@
+-- Opening a file whose guard is defined only adds a dependency and spends one of the budget (6.10.1).
+use Rattle.std.proofs.Common.{◌≡◌, ℕ, zero, suc, ◌+◌, ◌≤◌, Bool, true, false, List, [], ◌∷◌, ◌++◌, Option, Some, None, Ok, refl, sym, ap, ◌∙◌, subst, IsTrue, ◌↔◌}
+use Rattle.std.specs.List.{AllByRecursion}
+use Rattle.std.proofs.lemmas.Bool.{false≢true}
+use Rattle.std.proofs.lemmas.List.{append-nil}
+use Rattle.pptext.specs.declared.tokens.Place.{Place}
+use Rattle.pptext.specs.declared.tokens.Token.{Token}
+use Rattle.pptext.specs.Lines.{LogicalLine}
+use Rattle.pptext.specs.Tree.{GroupParts, Done, TextLines, Control, Section, End, Branch, part_lines, AreGroupParts}
+use Rattle.pptext.specs.Guard.{IsBlankLine, AreBlank, GuardedParts, GuardedBy}
+use Rattle.pptext.proofs.Trees.{at_most_one}
+use Rattle.ppexpand.specs.ExpansionStep.{expansion_step}
+use Rattle.ppexpand.specs.Budget.{is_exhausted}
+use Rattle.ppexpand.specs.Expansion.{ended, done, step_in_budget, count_expansion}
+use Rattle.ppshelf.specs.Content.{Content, unreadable, readable, IsRead}
+use Rattle.ppshelf.specs.Files.{file_at}
+use Rattle.ppunit.specs.declared.units.Item.{Item}
+use Rattle.ppunit.specs.States.{State, Context, search_of, running, with_dependency, entering, with_one_spent}
+use Rattle.ppunit.specs.Dependencies.{has_row}
+use Rattle.ppunit.specs.DirectiveLines.{text_tokens}
+use Rattle.ppunit.specs.Conditions.{is_macro_name}
+use Rattle.ppunit.specs.Directives.{EmitsText}
+use Rattle.ppunit.specs.Group.{depth_limit, Group, Branched, Opened}
+use Rattle.ppunit.specs.Counts.{count_group, count_opened}
+use Rattle.ppunit.specs.Guarded.{GuardsLeaveOut, IsLeftOut}
+use Rattle.ppunit.proofs.FileTokens.{IsSpelledLine, source_spelled}
+use Rattle.ppexpand.specs.ExpansionStep as turns
+use Rattle.ppunit.proofs.GuardLines.{guard_line}
+
+-- ---- the file
+
+blank_tokens : (lines : List LogicalLine) → AllByRecursion IsBlankLine lines → text_tokens lines ≡ []
+blank_tokens [] all = refl
+blank_tokens (r ∷ rs) all = ap (λ (z : List Token). z ++ text_tokens rs) all.0 ∙ blank_tokens rs all.1
+
+-- the tokens emit nothing, at no cost
+abbrev GivesNothing : State → List Token → Type 0
+GivesNothing s tokens = (g : EmitsText s tokens (running s)) × (count_expansion g.expands ≡ 0)
+
+nothing_gives : (s : State) → GivesNothing s []
+unfolding expansion_step
+nothing_gives s = (
+  record {
+    expanded = record { tokens = []; fault = None; remaining = s.remaining };
+    expands = record { outcome = ended s.remaining None; expands = (0, done (unspent s.remaining)); emitted = refl; ended = refl; remains = refl };
+    is = ap (λ (items : List Item). running (record s { items = items })) (sym (append-nil s.items));
+  },
+  refl,
+)
+  where
+    unspent : (remaining : Option ℕ) → step_in_budget s.macros s.env remaining [] ≡ turns.Done
+    unspent None = refl
+    unspent (Some zero) = refl
+    unspent (Some (suc n)) = refl
+
+blank_gives : (s : State) (lines : List LogicalLine) → AllByRecursion IsBlankLine lines → GivesNothing s (text_tokens lines)
+blank_gives s lines blank = subst (λ (z : List Token). GivesNothing s z) (sym (blank_tokens lines blank)) (nothing_gives s)
+
+following : {A : Type 0} (P : A → Type 0) (xs ys : List A) → AllByRecursion P (xs ++ ys) → AllByRecursion P ys
+following P [] ys all = all
+following P (x ∷ xs) ys all = following P xs ys all.1
+
+-- The sum of two counts of 0 is 0.
+both_free : {m n : ℕ} → m ≡ 0 → n ≡ 0 → m + n ≡ 0
+both_free p q = λ i. p i + q i
+
+module _ (context : Context) (depth row : ℕ) (s : State) where
+  -- the parts change nothing, at no cost
+  abbrev Passes : GroupParts → Type 0
+  Passes ps = (d : Group context depth row (running s) ps (running s)) × (count_group d ≡ 0)
+
+  run_passes : (rs : List LogicalLine) (ps : GroupParts) → GivesNothing s (text_tokens rs) → Passes ps → Passes (TextLines rs ps)
+  run_passes rs ps (gives, free) (rest, more) = (Group.text_lines gives rest, both_free free more)
+
+  blank_group : (ps : GroupParts) → AreBlank ps → Passes ps
+  blank_group Done blank = (Group.no_parts, refl)
+  blank_group (TextLines rs ps) blank = run_passes rs ps (blank_gives s rs blank.0) (blank_group ps blank.1)
+  blank_group (Control r ps) blank = absurd blank
+  blank_group (Section r ps bs qs) blank = absurd blank
+
+  pub guarded_group : (ps : GroupParts) (x : List ℕ)
+      → AllByRecursion (IsSpelledLine context.profile) (part_lines ps)
+      → AreGroupParts ps
+      → GuardedParts ps x
+      → is_macro_name s.macros x ≡ true
+      → Passes ps
+  guarded_group Done x all are g known = absurd g
+  guarded_group (TextLines rs ps) x all are g known =
+      run_passes rs ps (blank_gives s rs g.0) (guarded_group ps x (following (IsSpelledLine context.profile) rs (part_lines ps) all) are.3 g.1 known)
+  guarded_group (Control r ps) x all are g known = absurd g
+  guarded_group (Section r ps (End e) qs) x all are g known =
+      let skips = guard_line (search_of context) row s context.profile r x all.0 are.0 g.0 known in
+      let rest = blank_group qs g.1 in
+      (Group.skipped skips.0 Branched.no_branch_taken rest.0, both_free skips.1 (both_free refl rest.1))
+  guarded_group (Section r ps (Branch e ps' bs) qs) x all are g known = absurd g
+
+pub guards_leave_out : GuardsLeaveOut
+guards_leave_out context depth row directory at s bytes lines x fits is reads (parts, tree, guarded) known some = cases (has_row row s.once) refl
+  where
+    spelled : AllByRecursion (IsSpelledLine context.profile) (part_lines parts)
+    spelled = subst (AllByRecursion (IsSpelledLine context.profile)) (sym tree.whole) (source_spelled context.profile row bytes lines reads)
+
+    cases : (b : Bool) → has_row row s.once ≡ b → (d : Opened context depth at s row directory (running (with_dependency (with_one_spent s) row))) × (count_opened d ≡ 1)
+    cases true once = (Opened.not_read_again fits some once, refl)
+    cases false new =
+        let inside = guarded_group context depth row (entering context (with_one_spent s) row directory) parts x spelled tree.each guarded known in
+        (Opened.read fits some new is reads tree inside.0, ap suc inside.1)
+
+-- ---- files that are skipped
+
+parts_guard : (ps : GroupParts) (x y : List ℕ) → GuardedParts ps x → GuardedParts ps y → x ≡ y
+parts_guard Done x y g h = absurd g
+parts_guard (TextLines rs ps) x y g h = parts_guard ps x y g.1 h.1
+parts_guard (Control r ps) x y g h = absurd g
+parts_guard (Section r ps (End e) qs) x y g h = let a : Some x ≡ Some y = sym g.0 ∙ h.0 in cc
+parts_guard (Section r ps (Branch e ps' bs) qs) x y g h = absurd g
+
+-- lines have at most one guard
+pub one_guard : (lines : List LogicalLine) (x y : List ℕ) → GuardedBy lines x → GuardedBy lines y → x ≡ y
+one_guard lines x y (parts, tree, guarded) (parts', tree', guarded') =
+    parts_guard parts x y guarded (subst (λ (z : GroupParts). GuardedParts z y) (at_most_one lines parts' parts tree' tree) guarded')
+
+pub opens_left_out : (context : Context) (depth row : ℕ) (directory : Option ℕ) (at : Place) (s a : State) (content : Content) (lines : List LogicalLine)
+    → depth ≤ depth_limit
+    → is_exhausted s.remaining ≡ false
+    → file_at context.files row ≡ Some content
+    → IsRead context.profile row content (Ok lines)
+    → a ≡ with_dependency (with_one_spent s) row
+    → IsLeftOut a lines
+    → Opened context depth at s row directory (running a)
+opens_left_out context depth row directory at s a unreadable lines fits some known reads is remaining = absurd reads
+opens_left_out context depth row directory at s a (readable bytes) lines fits some known reads is (x, guarded, defined) =
+    subst (λ (z : State). Opened context depth at s row directory (running z)) (sym is)
+    (guards_leave_out context depth row directory at s bytes lines x fits known reads guarded (subst (λ (z : State). is_macro_name z.macros x ≡ true) is defined) some).0
+
+pub left_out_by : (s : State) (lines : List LogicalLine) (name : List ℕ) (b : Bool) → GuardedBy lines name → b ≡ is_macro_name s.macros name → IsTrue b ↔ IsLeftOut s lines
+left_out_by s lines name b guarded is = (λ e. (name, guarded, sym is ∙ e), λ l. is ∙ ap (λ (z : List ℕ). is_macro_name s.macros z) (one_guard lines name l.0 guarded l.1) ∙ l.2)
+
+pub none_left_out : (s : State) (lines : List LogicalLine) → ((x : List ℕ) → ¬ GuardedBy lines x) → IsTrue false ↔ IsLeftOut s lines
+none_left_out s lines none = (λ e. absurd (false≢true e), λ l. absurd (none l.0 l.1))

@@ -1,0 +1,93 @@
+-- The value of a unit over some files is its value over any larger set of files, with the same count.
+use Rattle.std.proofs.Common.{◌≡◌, ℕ, suc, ◌+◌, List, true, false, Option, Ok, refl, ap}
+use Rattle.pptext.specs.declared.tokens.Place.{Place}
+use Rattle.pptext.specs.Lines.{LogicalLine}
+use Rattle.pptext.specs.Tree.{GroupParts, Branches}
+use Rattle.ppexpand.specs.Expansion.{count_expansion}
+use Rattle.ppshelf.specs.Content.{unreadable}
+use Rattle.ppshelf.specs.Files.{Files, Extends}
+use Rattle.ppunit.specs.States.{State, Context, Progress, search_of}
+use Rattle.ppunit.specs.Group.{Group, Branched, ExecutesControlLine, ExecutesInclude, Opened}
+use Rattle.ppunit.specs.Counts.{count_decides, count_names_header, count_group, count_branched, count_control, count_includes, count_opened}
+use Rattle.ppunit.specs.Unit.{Defines, unread, processed, Translates, definitions_fault, translated, context_of_unit, count_defines, count_translates}
+use Rattle.ppunit.specs.Laws.{Grows}
+
+module _ (context : Context) (more : Files) (grows : Extends more context.files) where
+  abbrev pub wider : Context
+  wider = record context { files = more }
+
+  -- Equal counts have equal sums.
+  both : {a b c d : ℕ} → a ≡ b → c ≡ d → a + c ≡ b + d
+  both p q = λ i. p i + q i
+
+  mutual
+    pub group_grows : {depth row : ℕ} {r : Progress} {ps : GroupParts} {end : Progress} (d : Group context depth row r ps end) → (e : Group wider depth row r ps end) × (count_group e ≡ count_group d)
+    group_grows Group.already_stopped = (Group.already_stopped, refl)
+    group_grows Group.no_parts = (Group.no_parts, refl)
+    group_grows (Group.text_lines gives rest) =
+        let r = group_grows rest in
+        (Group.text_lines gives r.0, ap (λ n. count_expansion gives.expands + n) r.1)
+    group_grows (Group.control here rest) =
+        let h = control_grows here in
+        let r = group_grows rest in
+        (Group.control h.0 r.0, both h.1 r.1)
+    group_grows {row = row} (Group.taken {s = s} {line = line} {remaining_after = remaining_after} decides here rest) =
+        let h = group_grows here in
+        let r = group_grows rest in
+        (Group.taken decides h.0 r.0, ap (λ n. count_decides (search_of context) row s line remaining_after (Ok true) decides + n) (both h.1 r.1))
+    group_grows {row = row} (Group.skipped {s = s} {line = line} {remaining_after = remaining_after} decides here rest) =
+        let h = branches_grow here in
+        let r = group_grows rest in
+        (Group.skipped decides h.0 r.0, ap (λ n. count_decides (search_of context) row s line remaining_after (Ok false) decides + n) (both h.1 r.1))
+    group_grows (Group.condition_fault decides) = (Group.condition_fault decides, refl)
+
+    branches_grow : {depth row : ℕ} {s : State} {bs : Branches} {m : Progress} (d : Branched context depth row s bs m) → (e : Branched wider depth row s bs m) × (count_branched e ≡ count_branched d)
+    branches_grow Branched.no_branch_taken = (Branched.no_branch_taken, refl)
+    branches_grow (Branched.else_group is here) = let h = group_grows here in (Branched.else_group is h.0, h.1)
+    branches_grow {row = row} (Branched.branch_taken {s = s} {line = line} {remaining_after = remaining_after} is decides here) =
+        let h = group_grows here in
+        (Branched.branch_taken is decides h.0, ap (λ n. count_decides (search_of context) row s line remaining_after (Ok true) decides + n) h.1)
+    branches_grow {row = row} (Branched.branch_skipped {s = s} {line = line} {remaining_after = remaining_after} is decides rest) =
+        let r = branches_grow rest in
+        (Branched.branch_skipped is decides r.0, ap (λ n. count_decides (search_of context) row s line remaining_after (Ok false) decides + n) r.1)
+    branches_grow (Branched.branch_condition_fault is decides) = (Branched.branch_condition_fault is decides, refl)
+
+    control_grows : {depth row : ℕ} {s : State} {line : LogicalLine} {m : Progress} (d : ExecutesControlLine context depth row s line m) → (e : ExecutesControlLine wider depth row s line m) × (count_control e ≡ count_control d)
+    control_grows (ExecutesControlLine.error is) = (ExecutesControlLine.error is, refl)
+    control_grows (ExecutesControlLine.ignored is) = (ExecutesControlLine.ignored is, refl)
+    control_grows (ExecutesControlLine.quote_fault is q) = (ExecutesControlLine.quote_fault is q, refl)
+    control_grows (ExecutesControlLine.executed q does) = (ExecutesControlLine.executed q does, refl)
+    control_grows (ExecutesControlLine.include is q here) = let h = includes_grow here in (ExecutesControlLine.include is q h.0, h.1)
+
+    includes_grow : {depth row : ℕ} {following : Option ℕ} {s : State} {line : LogicalLine} {m : Progress} (d : ExecutesInclude context depth row following s line m) → (e : ExecutesInclude wider depth row following s line m) × (count_includes e ≡ count_includes d)
+    includes_grow (ExecutesInclude.operand_fault asks) = (ExecutesInclude.operand_fault asks, refl)
+    includes_grow (ExecutesInclude.missing a asks finds) = (ExecutesInclude.missing a asks finds, refl)
+    includes_grow (ExecutesInclude.included {s = s} {line = line} {remaining_after = remaining_after} a found asks finds opens) =
+        let o = opened_grows opens in
+        (ExecutesInclude.included a found asks finds o.0, ap (λ n. count_names_header s line.tokens remaining_after (Ok a) asks + n) o.1)
+
+    pub opened_grows : {depth row : ℕ} {directory : Option ℕ} {at : Place} {s : State} {m : Progress} (d : Opened context depth at s row directory m) → (e : Opened wider depth at s row directory m) × (count_opened e ≡ count_opened d)
+    opened_grows (Opened.too_deep deep) = (Opened.too_deep deep, refl)
+    opened_grows (Opened.exhausted fits spent) = (Opened.exhausted fits spent, refl)
+    opened_grows (Opened.not_read_again fits some known) = (Opened.not_read_again fits some known, refl)
+    opened_grows {depth} {row} (Opened.not_readable fits some new is) = (Opened.not_readable fits some new (grows row unreadable is), refl)
+    opened_grows {depth} {row} (Opened.content_fault fits some new is reads) = (Opened.content_fault fits some new (grows row _ is) reads, refl)
+    opened_grows {depth} {row} (Opened.read fits some new is reads tree here) =
+        let h = group_grows here in
+        (Opened.read fits some new (grows row _ is) reads tree h.0, ap suc h.1)
+
+  defines_grow : {defines : List (List ℕ)} {s : State} {m : Progress} (d : Defines context defines s m) → (e : Defines wider defines s m) × (count_defines e ≡ count_defines d)
+  defines_grow (unread reads) = (unread reads, refl)
+  defines_grow (processed reads tree here) = let h = group_grows here in (processed reads tree h.0, h.1)
+
+  pub translates_grows : {defines : List (List ℕ)} {row : ℕ} {s : State} {m : Progress} (d : Translates context defines row s m) → (e : Translates wider defines row s m) × (count_translates e ≡ count_translates d)
+  translates_grows (definitions_fault here) = let h = defines_grow here in (definitions_fault h.0, h.1)
+  translates_grows (translated here opens) =
+      let h = defines_grow here in
+      let o = opened_grows opens in
+      (translated h.0 o.0, both h.1 o.1)
+
+pub unit_grows : Grows
+unit_grows names files more setting unit out grows is =
+    let t = translates_grows (context_of_unit names files setting unit) more grows is.translates in
+    (record { progress = is.progress; translates = t.0; gives = is.gives }, t.1)

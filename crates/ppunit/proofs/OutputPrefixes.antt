@@ -1,0 +1,113 @@
+-- Phase 4 only appends to the items and the dependencies.
+use Rattle.std.proofs.Common.{ℕ, List, [], ◌∷◌, ◌++◌, map, Bool, true, false, Option, Some, None, Result, Ok, Err, refl, sym, ap, ◌∙◌, subst, append_assoc, append-nil, if◌then◌else◌}
+use Rattle.pptext.specs.declared.tokens.Place.{Place}
+use Rattle.pptext.specs.declared.tokens.Token.{Token}
+use Rattle.pptext.specs.declared.tokens.Fault.{Fault}
+use Rattle.pptext.specs.declared.sources.Directive.{Directive}
+use Rattle.pptext.specs.declared.sources.Directive.TheVariants.{Define, Undef, Line, Pragma, Null, Unknown}
+use Rattle.pptext.specs.declared.sources.Profile.{Profile}
+use Rattle.pptext.specs.Lines.{LogicalLine}
+use Rattle.pptext.specs.Tree.{GroupParts, Branches, hash_place}
+use Rattle.ppmacro.specs.Names.{Macros}
+use Rattle.ppexpand.specs.Laws.{IsPrefix}
+use Rattle.ppunit.specs.declared.units.Item.{Item}
+use Rattle.ppunit.specs.Dependencies.{has_row}
+use Rattle.ppunit.specs.States.{State, Context, Progress, emitted, with_dependency, with_once, with_remaining}
+use Rattle.ppunit.specs.DirectiveLines.{operands, text_tokens}
+use Rattle.ppunit.specs.LineControl.{Presumed, presumed}
+use Rattle.ppunit.specs.Directives.{EmitsText, ExecutesDirective, with_macros, renumbered_by, is_once, pragma_emitted}
+use Rattle.ppunit.specs.Group.{Group, Branched, ExecutesControlLine, ExecutesInclude, Opened}
+use Rattle.ppunit.specs.declared.units.Item.TheVariants as item
+
+pub same_beginning : {A : Type 0} (xs : List A) → IsPrefix xs xs
+same_beginning xs = ([], sym (append-nil xs))
+
+beginning_of : {A : Type 0} (xs ys zs : List A) → IsPrefix xs ys → IsPrefix ys zs → IsPrefix xs zs
+beginning_of xs ys zs p q = (p.0 ++ q.0, q.1 ∙ ap (λ l. l ++ q.0) p.1 ∙ append_assoc xs p.0 q.0)
+
+-- the items and dependencies of s are prefixes of those of t
+abbrev pub Before : State → State → Type 0
+Before s t = IsPrefix s.items t.items × IsPrefix s.deps t.deps
+
+pub same_state : (s : State) → Before s s
+same_state s = (same_beginning s.items, same_beginning s.deps)
+
+pub before_then : (s t u : State) → Before s t → Before t u → Before s u
+before_then s t u p q = (beginning_of s.items t.items u.items p.0 q.0, beginning_of s.deps t.deps u.deps p.1 q.1)
+
+pub depends : (s : State) (row : ℕ) → Before s (with_dependency s row)
+depends s row = (same_beginning s.items, joined (has_row row s.deps))
+  where
+    joined : (b : Bool) → IsPrefix s.deps (if b then s.deps else s.deps ++ row ∷ [])
+    joined true = same_beginning s.deps
+    joined false = (row ∷ [], refl)
+
+renumbered_before : (s : State) (r : LogicalLine) (f : Option Fault) (p : Option Presumed) → Before s (renumbered_by s r f p).state
+renumbered_before s r (Some f) p = same_state s
+renumbered_before s r None None = same_state s
+renumbered_before s r None (Some p) = same_state s
+
+macros_before : (s : State) (m : Result Macros Fault) → Before s (with_macros s m).state
+macros_before s (Ok m) = same_state s
+macros_before s (Err f) = same_state s
+
+pragma_before : (profile : Profile) (row : ℕ) (s : State) (line : List Token) → Before s (pragma_emitted profile row s line)
+pragma_before profile row s line = noted (is_once profile (operands line))
+  where
+    probe_result : List Item
+    probe_result = item.Pragma (hash_place line) (operands line) ∷ []
+
+    noted : (b : Bool) → Before s (if b then with_once (emitted s probe_result) row else emitted s probe_result)
+    noted true = ((probe_result, refl), same_beginning s.deps)
+    noted false = ((probe_result, refl), same_beginning s.deps)
+
+pub control_by_before : (profile : Profile) (row : ℕ) (d : Option Directive) (s : State) (line : LogicalLine) (m : Progress) → ExecutesDirective profile row d s line m → Before s m.state
+control_by_before profile row (Some Null) s line m g = subst (λ x. Before s x.state) (sym g) (same_state s)
+control_by_before profile row (Some Define) s line m g = subst (λ x. Before s x.state) (sym g) (macros_before s _)
+control_by_before profile row (Some Undef) s line m g = subst (λ x. Before s x.state) (sym g) (macros_before s _)
+control_by_before profile row (Some Line) s line m g =
+    subst (λ x. Before s x.state) (sym g.is) (renumbered_before (with_remaining s g.expanded.remaining) line g.expanded.fault (presumed g.expanded.tokens))
+control_by_before profile row (Some Pragma) s line m g = subst (λ x. Before s x.state) (sym g) (pragma_before profile row s line.tokens)
+control_by_before profile row (Some Unknown) s line m g = subst (λ x. Before s x.state) (sym g) (same_state s)
+control_by_before profile row _ s line m g = absurd g
+
+run_before : (s : State) (tokens : List Token) (m : Progress) → EmitsText s tokens m → Before s m.state
+run_before s tokens m g = subst (λ x. Before s x.state) (sym g.is) ((map item.Token g.expanded.tokens, refl), same_beginning s.deps)
+
+module _ (context : Context) where
+  mutual
+    pub group_before : {depth row : ℕ} {r : Progress} {ps : GroupParts} {end : Progress} → Group context depth row r ps end → Before r.state end.state
+    group_before (Group.already_stopped {s = s}) = same_state s
+    group_before (Group.no_parts {s = s}) = same_state s
+    group_before (Group.text_lines {s = s} {lines = lines} {m = m} {end = end} gives rest) = before_then s m.state end.state (run_before s (text_tokens lines) m gives) (group_before rest)
+    group_before (Group.control {s = s} {m = m} {end = end} here rest) = before_then s m.state end.state (control_before here) (group_before rest)
+    group_before (Group.taken {s = s} {m = m} {end = end} decides here rest) = before_then s m.state end.state (group_before here) (group_before rest)
+    group_before (Group.skipped {s = s} {m = m} {end = end} decides here rest) = before_then s m.state end.state (branches_before here) (group_before rest)
+    group_before (Group.condition_fault {s = s} decides) = same_state s
+
+    pub branches_before : {depth row : ℕ} {s : State} {bs : Branches} {m : Progress} → Branched context depth row s bs m → Before s m.state
+    branches_before (Branched.no_branch_taken {s = s}) = same_state s
+    branches_before (Branched.else_group e here) = group_before here
+    branches_before (Branched.branch_taken e decides here) = group_before here
+    branches_before (Branched.branch_skipped e decides rest) = branches_before rest
+    branches_before (Branched.branch_condition_fault {s = s} e decides) = same_state s
+
+    pub control_before : {depth row : ℕ} {s : State} {line : LogicalLine} {m : Progress} → ExecutesControlLine context depth row s line m → Before s m.state
+    control_before (ExecutesControlLine.error {s = s} e) = same_state s
+    control_before (ExecutesControlLine.ignored {s = s} e) = same_state s
+    control_before (ExecutesControlLine.quote_fault {s = s} e q) = same_state s
+    control_before {row = row} (ExecutesControlLine.executed {s = s} {line = line} {m = m} q does) = control_by_before context.profile row line.directive s line m does
+    control_before (ExecutesControlLine.include e q here) = includes_before here
+
+    includes_before : {depth row : ℕ} {following : Option ℕ} {s : State} {line : LogicalLine} {m : Progress} → ExecutesInclude context depth row following s line m → Before s m.state
+    includes_before (ExecutesInclude.operand_fault {s = s} asks) = same_state s
+    includes_before (ExecutesInclude.missing {s = s} a asks finds) = same_state s
+    includes_before (ExecutesInclude.included a found asks finds opens) = opened_before opens
+
+    pub opened_before : {depth row : ℕ} {directory : Option ℕ} {at : Place} {s : State} {m : Progress} → Opened context depth at s row directory m → Before s m.state
+    opened_before (Opened.too_deep {s = s} deep) = same_state s
+    opened_before (Opened.exhausted {s = s} fits spent) = same_state s
+    opened_before {row = row} (Opened.not_read_again {s = s} fits more once) = depends s row
+    opened_before {row = row} (Opened.not_readable {s = s} fits more once file) = depends s row
+    opened_before {row = row} (Opened.content_fault {s = s} fits more once file reads) = depends s row
+    opened_before {row = row} (Opened.read {s = s} {m = m} fits more once file reads tree here) = before_then s (with_dependency s row) m.state (depends s row) (group_before here)

@@ -1,0 +1,214 @@
+-- Over the same files an if-section has one outcome, if its groups have one each.
+use Rattle.std.proofs.Common.{◌≡◌, ◌≢◌, ℕ, Bool, true, false, List, Option, Some, Result, Ok, Err, refl, sym, subst}
+use Rattle.pptext.specs.declared.tokens.Fault.{Fault}
+use Rattle.pptext.specs.declared.sources.Directive.TheVariants.{Else}
+use Rattle.pptext.specs.Lines.{LogicalLine}
+use Rattle.pptext.specs.Tree.{GroupParts, Done, TextLines, Control, Section, Branches, End, Branch}
+use Rattle.ppunit.specs.States.{State, Context, Progress, running, stopped, with_remaining, search_of}
+use Rattle.ppunit.specs.DirectiveLines.{text_tokens}
+use Rattle.ppunit.specs.Conditions.{Decides}
+use Rattle.ppunit.specs.Directives.{EmitsText}
+use Rattle.ppunit.specs.Group.{Group, Branched, ExecutesControlLine}
+use Rattle.ppunit.proofs.LineUniqueness.{OneExpansion, OneDecision, decides_once}
+
+module _ (expansions : OneExpansion) (decisions : OneDecision) (context : Context) where
+  abbrev pub AfterRun : ℕ → ℕ → State → List LogicalLine → GroupParts → Progress → Type 0
+  AfterRun depth row s rs ps end = (m : Progress) × EmitsText s (text_tokens rs) m × Group context depth row m ps end
+
+  pub at_run : {depth row : ℕ} {s : State} {rs : List LogicalLine} {ps : GroupParts} {end : Progress} → Group context depth row (running s) (TextLines rs ps) end → AfterRun depth row s rs ps end
+  at_run (Group.text_lines {m = m} gives rest) = (m, gives, rest)
+
+  abbrev pub AfterControl : ℕ → ℕ → State → LogicalLine → GroupParts → Progress → Type 0
+  AfterControl depth row s line ps end = (m : Progress) × ExecutesControlLine context depth row s line m × Group context depth row m ps end
+
+  pub at_control : {depth row : ℕ} {s : State} {line : LogicalLine} {ps : GroupParts} {end : Progress} → Group context depth row (running s) (Control line ps) end → AfterControl depth row s line ps end
+  at_control (Group.control {m = m} here rest) = (m, here, rest)
+
+  pub at_done : {depth row : ℕ} {s : State} {end : Progress} → Group context depth row (running s) Done end → running s ≡ end
+  at_done Group.no_parts = refl
+
+  pub at_stop : {depth row : ℕ} {s : State} {f : Fault} {ps : GroupParts} {end : Progress} → Group context depth row (stopped s f) ps end → stopped s f ≡ end
+  at_stop Group.already_stopped = refl
+
+  pub data AfterSection (depth row : ℕ) (s : State) (line : LogicalLine) (ps : GroupParts) (bs : Branches) (qs : GroupParts) : Progress → Type 0 where
+    is_taken : {remaining_after : Option ℕ} {m end : Progress}
+        → Decides (search_of context) row s line remaining_after (Ok true)
+        → Group context depth row (running (with_remaining s remaining_after)) ps m
+        → Group context depth row m qs end
+        → AfterSection depth row s line ps bs qs end
+    is_skipped : {remaining_after : Option ℕ} {m end : Progress}
+        → Decides (search_of context) row s line remaining_after (Ok false)
+        → Branched context depth row (with_remaining s remaining_after) bs m
+        → Group context depth row m qs end
+        → AfterSection depth row s line ps bs qs end
+    is_refused : {remaining_after : Option ℕ} {f : Fault} → Decides (search_of context) row s line remaining_after (Err f) → AfterSection depth row s line ps bs qs (stopped (with_remaining s remaining_after) f)
+
+  pub at_section : {depth row : ℕ} {s : State} {line : LogicalLine} {ps qs : GroupParts} {bs : Branches} {end : Progress} → Group context depth row (running s) (Section line ps bs qs) end → AfterSection depth row s line ps bs qs end
+  at_section (Group.taken decides here rest) = is_taken decides here rest
+  at_section (Group.skipped decides here rest) = is_skipped decides here rest
+  at_section (Group.condition_fault decides) = is_refused decides
+
+  pub at_end : {depth row : ℕ} {s : State} {line : LogicalLine} {m : Progress} → Branched context depth row s (End line) m → running s ≡ m
+  at_end Branched.no_branch_taken = refl
+
+  pub data AfterBranch (depth row : ℕ) (s : State) (line : LogicalLine) (ps : GroupParts) (bs : Branches) : Progress → Type 0 where
+    is_else : {m : Progress} → line.directive ≡ Some Else → Group context depth row (running s) ps m → AfterBranch depth row s line ps bs m
+    is_elif : {remaining_after : Option ℕ} {m : Progress}
+        → line.directive ≢ Some Else
+        → Decides (search_of context) row s line remaining_after (Ok true)
+        → Group context depth row (running (with_remaining s remaining_after)) ps m
+        → AfterBranch depth row s line ps bs m
+    is_passed : {remaining_after : Option ℕ} {m : Progress}
+        → line.directive ≢ Some Else
+        → Decides (search_of context) row s line remaining_after (Ok false)
+        → Branched context depth row (with_remaining s remaining_after) bs m
+        → AfterBranch depth row s line ps bs m
+    is_faulty : {remaining_after : Option ℕ} {f : Fault}
+        → line.directive ≢ Some Else
+        → Decides (search_of context) row s line remaining_after (Err f)
+        → AfterBranch depth row s line ps bs (stopped (with_remaining s remaining_after) f)
+
+  pub at_branch : {depth row : ℕ} {s : State} {line : LogicalLine} {ps : GroupParts} {bs : Branches} {m : Progress} → Branched context depth row s (Branch line ps bs) m → AfterBranch depth row s line ps bs m
+  at_branch (Branched.else_group is here) = is_else is here
+  at_branch (Branched.branch_taken is decides here) = is_elif is decides here
+  at_branch (Branched.branch_skipped is decides rest) = is_passed is decides rest
+  at_branch (Branched.branch_condition_fault is decides) = is_faulty is decides
+
+  -- ---- if-sections, by the decision of the first derivation
+
+  abbrev SameGroup : ℕ → ℕ → Progress → GroupParts → Progress → Type 0
+  SameGroup depth row r ps y = (z : Progress) → Group context depth row r ps z → y ≡ z
+
+  abbrev SameBranches : ℕ → ℕ → State → Branches → Progress → Type 0
+  SameBranches depth row s bs y = (z : Progress) → Branched context depth row s bs z → y ≡ z
+
+  -- Equal decisions of a line leave equal remaining budgets.
+  taken_again : (depth row : ℕ) (s : State) (line : LogicalLine) (ps : GroupParts) (remaining_after following : Option ℕ) (into_output : Result Bool Fault) (z : Progress)
+      → Decides (search_of context) row s line remaining_after into_output
+      → Decides (search_of context) row s line following into_output
+      → Group context depth row (running (with_remaining s following)) ps z
+      → Group context depth row (running (with_remaining s remaining_after)) ps z
+  taken_again depth row s line ps remaining_after following into_output z decides decides' here =
+      let remainders = sym (decides_once expansions decisions (search_of context) row s line remaining_after following into_output into_output decides decides').1 in
+      subst (λ (x : Option ℕ). Group context depth row (running (with_remaining s x)) ps z) remainders here
+
+  skipped_again : (depth row : ℕ) (s : State) (line : LogicalLine) (bs : Branches) (remaining_after following : Option ℕ) (into_output : Result Bool Fault) (z : Progress)
+      → Decides (search_of context) row s line remaining_after into_output
+      → Decides (search_of context) row s line following into_output
+      → Branched context depth row (with_remaining s following) bs z
+      → Branched context depth row (with_remaining s remaining_after) bs z
+  skipped_again depth row s line bs remaining_after following into_output z decides decides' here =
+      let remainders = sym (decides_once expansions decisions (search_of context) row s line remaining_after following into_output into_output decides decides').1 in
+      subst (λ (x : Option ℕ). Branched context depth row (with_remaining s x) bs z) remainders here
+
+  -- Equal faults with equal remaining budgets stop with equal outcomes.
+  pub stopped_again : {A : Type 0} (s : State) (remaining_after following : Option ℕ) (f g : Fault) → ◌≡◌ {A = Result A Fault} (Err f) (Err g) → remaining_after ≡ following → stopped (with_remaining s remaining_after) f ≡ stopped (with_remaining s following) g
+  stopped_again s remaining_after following f g faults remainders = let same : f ≡ g = cc in λ i. stopped (with_remaining s (remainders i)) (same i)
+
+  refused_again : (row : ℕ) (s : State) (line : LogicalLine) (remaining_after following : Option ℕ) (f g : Fault)
+      → Decides (search_of context) row s line remaining_after (Err f)
+      → Decides (search_of context) row s line following (Err g)
+      → stopped (with_remaining s remaining_after) f ≡ stopped (with_remaining s following) g
+  refused_again row s line remaining_after following f g decides decides' =
+      let one = decides_once expansions decisions (search_of context) row s line remaining_after following (Err f) (Err g) decides decides' in
+      stopped_again {A = Bool} s remaining_after following f g one.0 one.1
+
+  same_decision : (row : ℕ) (s : State) (line : LogicalLine) (remaining_after following : Option ℕ) (a b : Result Bool Fault) → Decides (search_of context) row s line remaining_after a → Decides (search_of context) row s line following b → a ≡ b
+  same_decision row s line remaining_after following a b p q = (decides_once expansions decisions (search_of context) row s line remaining_after following a b p q).0
+
+  pub after_taken : {depth row : ℕ} {s : State} {line : LogicalLine} {ps qs : GroupParts} {bs : Branches} {remaining_after : Option ℕ} {m y : Progress}
+      → Decides (search_of context) row s line remaining_after (Ok true)
+      → SameGroup depth row (running (with_remaining s remaining_after)) ps m
+      → SameGroup depth row m qs y
+      → (z : Progress)
+      → AfterSection depth row s line ps bs qs z
+      → y ≡ z
+  after_taken {depth = depth} {row = row} {s = s} {line = line} {ps = ps} {qs = qs} {remaining_after = remaining_after} decides here rest z (is_taken {remaining_after = following} {m = n} decides' here' rest') =
+      rest z (subst (λ x. Group context depth row x qs z) (sym (here n (taken_again depth row s line ps remaining_after following (Ok true) n decides decides' here'))) rest')
+  after_taken {row = row} {s = s} {line = line} {remaining_after = remaining_after} decides here rest z (is_skipped {remaining_after = following} decides' here' rest') =
+      let differs : Ok true ≡ Ok false = same_decision row s line remaining_after following (Ok true) (Ok false) decides decides' in absurd (cc)
+  after_taken {row = row} {s = s} {line = line} {remaining_after = remaining_after} decides here rest z (is_refused {remaining_after = following} {f = f} decides') =
+      let differs : Ok true ≡ Err f = same_decision row s line remaining_after following (Ok true) (Err f) decides decides' in absurd (cc)
+
+  pub after_skipped : {depth row : ℕ} {s : State} {line : LogicalLine} {ps qs : GroupParts} {bs : Branches} {remaining_after : Option ℕ} {m y : Progress}
+      → Decides (search_of context) row s line remaining_after (Ok false)
+      → SameBranches depth row (with_remaining s remaining_after) bs m
+      → SameGroup depth row m qs y
+      → (z : Progress)
+      → AfterSection depth row s line ps bs qs z
+      → y ≡ z
+  after_skipped {row = row} {s = s} {line = line} {remaining_after = remaining_after} decides here rest z (is_taken {remaining_after = following} decides' here' rest') =
+      let differs : Ok false ≡ Ok true = same_decision row s line remaining_after following (Ok false) (Ok true) decides decides' in absurd (cc)
+  after_skipped {depth = depth} {row = row} {s = s} {line = line} {qs = qs} {bs = bs} {remaining_after = remaining_after} decides here rest z (is_skipped {remaining_after = following} {m = n} decides' here' rest') =
+      rest z (subst (λ x. Group context depth row x qs z) (sym (here n (skipped_again depth row s line bs remaining_after following (Ok false) n decides decides' here'))) rest')
+  after_skipped {row = row} {s = s} {line = line} {remaining_after = remaining_after} decides here rest z (is_refused {remaining_after = following} {f = f} decides') =
+      let differs : Ok false ≡ Err f = same_decision row s line remaining_after following (Ok false) (Err f) decides decides' in absurd (cc)
+
+  pub after_refused : {depth row : ℕ} {s : State} {line : LogicalLine} {ps qs : GroupParts} {bs : Branches} {remaining_after : Option ℕ} {f : Fault}
+      → Decides (search_of context) row s line remaining_after (Err f)
+      → (z : Progress)
+      → AfterSection depth row s line ps bs qs z
+      → stopped (with_remaining s remaining_after) f ≡ z
+  after_refused {row = row} {s = s} {line = line} {remaining_after = remaining_after} {f = f} decides z (is_taken {remaining_after = following} decides' here' rest') =
+      let differs : Err f ≡ Ok true = same_decision row s line remaining_after following (Err f) (Ok true) decides decides' in absurd (cc)
+  after_refused {row = row} {s = s} {line = line} {remaining_after = remaining_after} {f = f} decides z (is_skipped {remaining_after = following} decides' here' rest') =
+      let differs : Err f ≡ Ok false = same_decision row s line remaining_after following (Err f) (Ok false) decides decides' in absurd (cc)
+  after_refused {row = row} {s = s} {line = line} {remaining_after = remaining_after} {f = f} decides z (is_refused {remaining_after = following} {f = g} decides') = refused_again row s line remaining_after following f g decides decides'
+
+  not_both : (line : LogicalLine) → line.directive ≡ Some Else → line.directive ≢ Some Else → ⊥
+  not_both line e f = f e
+
+  pub after_else : {depth row : ℕ} {s : State} {line : LogicalLine} {ps : GroupParts} {bs : Branches} {y : Progress}
+      → line.directive ≡ Some Else
+      → SameGroup depth row (running s) ps y
+      → (z : Progress)
+      → AfterBranch depth row s line ps bs z
+      → y ≡ z
+  after_else is here z (is_else is' here') = here z here'
+  after_else {line = line} is here z (is_elif is' decides here') = absurd (not_both line is is')
+  after_else {line = line} is here z (is_passed is' decides rest) = absurd (not_both line is is')
+  after_else {line = line} is here z (is_faulty is' decides) = absurd (not_both line is is')
+
+  pub after_elif : {depth row : ℕ} {s : State} {line : LogicalLine} {ps : GroupParts} {bs : Branches} {remaining_after : Option ℕ} {y : Progress}
+      → line.directive ≢ Some Else
+      → Decides (search_of context) row s line remaining_after (Ok true)
+      → SameGroup depth row (running (with_remaining s remaining_after)) ps y
+      → (z : Progress)
+      → AfterBranch depth row s line ps bs z
+      → y ≡ z
+  after_elif {line = line} is decides here z (is_else is' here') = absurd (not_both line is' is)
+  after_elif {depth = depth} {row = row} {s = s} {line = line} {ps = ps} {remaining_after = remaining_after} is decides here z (is_elif {remaining_after = following} is' decides' here') =
+      here z (taken_again depth row s line ps remaining_after following (Ok true) z decides decides' here')
+  after_elif {row = row} {s = s} {line = line} {remaining_after = remaining_after} is decides here z (is_passed {remaining_after = following} is' decides' rest) =
+      let differs : Ok true ≡ Ok false = same_decision row s line remaining_after following (Ok true) (Ok false) decides decides' in absurd (cc)
+  after_elif {row = row} {s = s} {line = line} {remaining_after = remaining_after} is decides here z (is_faulty {remaining_after = following} {f = f} is' decides') =
+      let differs : Ok true ≡ Err f = same_decision row s line remaining_after following (Ok true) (Err f) decides decides' in absurd (cc)
+
+  pub after_passed : {depth row : ℕ} {s : State} {line : LogicalLine} {ps : GroupParts} {bs : Branches} {remaining_after : Option ℕ} {y : Progress}
+      → line.directive ≢ Some Else
+      → Decides (search_of context) row s line remaining_after (Ok false)
+      → SameBranches depth row (with_remaining s remaining_after) bs y
+      → (z : Progress)
+      → AfterBranch depth row s line ps bs z
+      → y ≡ z
+  after_passed {line = line} is decides rest z (is_else is' here') = absurd (not_both line is' is)
+  after_passed {row = row} {s = s} {line = line} {remaining_after = remaining_after} is decides rest z (is_elif {remaining_after = following} is' decides' here') =
+      let differs : Ok false ≡ Ok true = same_decision row s line remaining_after following (Ok false) (Ok true) decides decides' in absurd (cc)
+  after_passed {depth = depth} {row = row} {s = s} {line = line} {bs = bs} {remaining_after = remaining_after} is decides rest z (is_passed {remaining_after = following} is' decides' rest') =
+      rest z (skipped_again depth row s line bs remaining_after following (Ok false) z decides decides' rest')
+  after_passed {row = row} {s = s} {line = line} {remaining_after = remaining_after} is decides rest z (is_faulty {remaining_after = following} {f = f} is' decides') =
+      let differs : Ok false ≡ Err f = same_decision row s line remaining_after following (Ok false) (Err f) decides decides' in absurd (cc)
+
+  pub after_faulty : {depth row : ℕ} {s : State} {line : LogicalLine} {ps : GroupParts} {bs : Branches} {remaining_after : Option ℕ} {f : Fault}
+      → line.directive ≢ Some Else
+      → Decides (search_of context) row s line remaining_after (Err f)
+      → (z : Progress)
+      → AfterBranch depth row s line ps bs z
+      → stopped (with_remaining s remaining_after) f ≡ z
+  after_faulty {line = line} is decides z (is_else is' here') = absurd (not_both line is' is)
+  after_faulty {row = row} {s = s} {line = line} {remaining_after = remaining_after} {f = f} is decides z (is_elif {remaining_after = following} is' decides' here') =
+      let differs : Err f ≡ Ok true = same_decision row s line remaining_after following (Err f) (Ok true) decides decides' in absurd (cc)
+  after_faulty {row = row} {s = s} {line = line} {remaining_after = remaining_after} {f = f} is decides z (is_passed {remaining_after = following} is' decides' rest) =
+      let differs : Err f ≡ Ok false = same_decision row s line remaining_after following (Err f) (Ok false) decides decides' in absurd (cc)
+  after_faulty {row = row} {s = s} {line = line} {remaining_after = remaining_after} {f = f} is decides z (is_faulty {remaining_after = following} {f = g} is' decides') =
+      refused_again row s line remaining_after following f g decides decides'

@@ -1,0 +1,371 @@
+-- If the content of each file is known, a unit has a value.
+use Rattle.std.proofs.Common.{◌≡◌, ◌≢◌, ℕ, zero, suc, ◌+◌, ◌<◌, ◌≤◌, ◌⊎◌, inl, inr, Bool, true, false, List, [], length, IsSome, map, Option, Some, None, Result, Ok, Err, refl, ap, ◌∙◌, arith, if◌then◌else◌}
+use Rattle.std.proofs.lemmas.Bool.{cases_lt}
+use Rattle.pptext.specs.declared.tokens.Place.{Place}
+use Rattle.pptext.specs.declared.tokens.Token.{Token}
+use Rattle.pptext.specs.declared.tokens.Fault.{Fault}
+use Rattle.pptext.specs.declared.sources.Profile.{Profile}
+use Rattle.pptext.specs.declared.sources.Directive.{Directive}
+use Rattle.pptext.specs.declared.sources.Directive.TheVariants.{Else, Define, Undef, Line, Pragma, Null, Unknown}
+use Rattle.pptext.specs.declared.directives.Question.{Question}
+use Rattle.pptext.specs.declared.directives.Question.TheVariants.{Defined, Value}
+use Rattle.pptext.specs.declared.directives.Class.{Class}
+use Rattle.pptext.specs.declared.directives.Class.TheVariants as class
+use Rattle.pptext.specs.Classes.{class_of, asked_by, class_by, question_by}
+use Rattle.pptext.specs.Lines.{LogicalLine}
+use Rattle.pptext.specs.Sources.{Reads, IsSource}
+use Rattle.pptext.specs.Tokens.{fault}
+use Rattle.pptext.specs.Tree.{hash_place, ControlLine, Opens, Elses, role, role_in, role_by, GroupParts, Done, TextLines, Control, Section, Branches, End, Branch, AreGroupParts, AreBranches, Tree, group_fault}
+use Rattle.ppmacro.specs.Names.{Macros}
+use Rattle.ppmacro.specs.Define.{after_define, after_undef}
+use Rattle.ppexpand.specs.declared.env.Env.{Env}
+use Rattle.ppexpand.specs.declared.expansion.Expanded.{Expanded}
+use Rattle.ppexpand.specs.Expansion.{IsExpansion}
+use Rattle.ppexpand.specs.Budget.{is_exhausted}
+use Rattle.ppexpr.specs.Conditions.{IsCondition}
+use Rattle.ppshelf.specs.Content.{Content, unreadable, readable}
+use Rattle.ppshelf.specs.Files.{file_at}
+use Rattle.ppshelf.specs.Names.{name_in}
+use Rattle.ppshelf.specs.Search.{Candidate, IsFirstRow}
+use Rattle.ppshelf.proofs.SearchResults.{first_within}
+use Rattle.ppunit.proofs.FirstLineCases.{else_directive, not_else}
+use Rattle.ppunit.specs.Dependencies.{has_row}
+use Rattle.ppunit.specs.declared.units.Item.TheVariants as item
+use Rattle.ppunit.specs.States.{State, Search, Context, search_of, Progress, running, stopped, output, emitted, with_remaining, with_dependency, entering, leaving, with_one_spent}
+use Rattle.ppunit.specs.DirectiveLines.{operands, line_fault, named_fault, one_identifier, text_tokens}
+use Rattle.ppunit.specs.Quotes.{unmatched_quote}
+use Rattle.ppunit.specs.LineControl.{presumed}
+use Rattle.ppunit.specs.Including.{IncludeName, begins_with_header, name_of_header, name_or, name_of_expansion_or, if_possible_name}
+use Rattle.ppunit.specs.Probing.{condition_tokens}
+use Rattle.ppunit.specs.Conditions.{Decides, DecidesFreely, DecidesOf, DecidesBy, DecidesUnless, by_name}
+use Rattle.ppunit.specs.Directives.{EmitsText, SetsLine, renumbered_by, with_macros, pragma_emitted, ExecutesDirective, NamesHeader, NamesHeaderBy, candidates_for, FindsFile, message, checks_quotes}
+use Rattle.ppunit.specs.Group.{depth_limit, Group, Branched, ExecutesControlLine, ExecutesInclude, Opened}
+use Rattle.ppunit.specs.Laws.{KnowsAll, HasSomeValue}
+use Rattle.ppunit.specs.Unit.{Defines, unread, processed, Translates, definitions_fault, translated, command_file, command_text, first_place, context_of_unit, initial_state}
+
+abbrev pub SomeExpansion : Type 0
+SomeExpansion = (macros : Macros) (env : Env) (remaining : Option ℕ) (tokens : List Token) → (e : Expanded) × IsExpansion macros env remaining tokens e
+
+abbrev pub SomeDecision : Type 0
+SomeDecision =
+    (macros : Macros) (env : Env) (at : Place) (tokens : List Token) (remaining : Option ℕ)
+    → (c : Result Bool Fault) × (remaining_after : Option ℕ) × IsCondition macros env at tokens remaining c remaining_after
+
+abbrev pub SomeReading : Type 0
+SomeReading = (profile : Profile) (file : ℕ) (bytes : List ℕ) → (r : Result (List LogicalLine) Fault) × Reads profile file bytes r
+
+abbrev pub SomeRow : Type 0
+SomeRow = (names : List (List ℕ)) (cs : List Candidate) → (found : Option (ℕ × ℕ)) × IsFirstRow names cs found
+
+abbrev pub SomeTree : Type 0
+SomeTree = (lines : List LogicalLine) → group_fault [] lines ≡ None → (parts : GroupParts) × Tree lines parts
+
+-- ---- conditions of lines, by their role
+
+abbrev HasCondition : Option Directive → Type 0
+HasCondition d = IsSome (question_by d)
+
+opens_asks : (c : Class) → role_in c ≡ Opens → IsSome (asked_by c)
+opens_asks (class.Opens q) e = refl
+opens_asks c e = absurd (cc)
+
+opens_conditional : (d : Option Directive) → role_by d ≡ Opens → HasCondition d
+opens_conditional None e = absurd (cc)
+opens_conditional (Some d) e = opens_asks (class_of d) e
+
+elif_asks : (c : Class) → role_in c ≡ Elses false → IsSome (asked_by c)
+elif_asks (class.Elifs q) e = refl
+elif_asks c e = absurd (cc)
+
+elif_conditional : (d : Option Directive) → role_by d ≡ Elses false → HasCondition d
+elif_conditional None e = absurd (cc)
+elif_conditional (Some d) e = elif_asks (class_of d) e
+
+-- ---- lines
+
+module _ (expansions : SomeExpansion) (decisions : SomeDecision) where
+  some_run : (s : State) (tokens : List Token) → (m : Progress) × EmitsText s tokens m
+  some_run s tokens =
+      let e = expansions s.macros s.env s.remaining tokens in
+      (record { state = emitted (with_remaining s e.0.remaining) (map item.Token e.0.tokens); fault = e.0.fault }, record { expanded = e.0; expands = e.1; is = refl })
+
+  some_renumbering : (s : State) (line : LogicalLine) → (m : Progress) × SetsLine s line m
+  some_renumbering s line =
+      let e = expansions s.macros s.env s.remaining (operands line.tokens) in
+      (renumbered_by (with_remaining s e.0.remaining) line e.0.fault (presumed e.0.tokens), record { expanded = e.0; expands = e.1; is = refl })
+
+  asks_by : (header : Bool) (s : State) (line : List Token) → (include_name : Result IncludeName Fault) × (remaining_after : Option ℕ) × NamesHeaderBy header s line remaining_after include_name
+  asks_by true s line = (name_or (line_fault 30 line []) (if_possible_name (name_of_header (operands line))), s.remaining, (refl, refl))
+  asks_by false s line =
+      let e = expansions s.macros s.env s.remaining (operands line) in
+      (name_of_expansion_or (line_fault 30 line []) e.0.fault e.0.tokens, e.0.remaining, record { expanded = e.0; expands = e.1; leaves = refl; is = refl })
+
+  some_asking : (s : State) (line : List Token) → (include_name : Result IncludeName Fault) × (remaining_after : Option ℕ) × NamesHeader s line remaining_after include_name
+  some_asking s line = asks_by (begins_with_header (operands line)) s line
+
+  decides_freely : (s : State) (into_output : Result Bool Fault) → (taken : Result Bool Fault) × (remaining_after : Option ℕ) × DecidesFreely s into_output remaining_after taken
+  decides_freely s into_output = (into_output, s.remaining, (refl, refl))
+
+  decides_of : (tokens : Result (List Token) Fault) (s : State) (at : Place) → (taken : Result Bool Fault) × (remaining_after : Option ℕ) × DecidesOf tokens s at remaining_after taken
+  decides_of (Err f) s at = decides_freely s (Err f)
+  decides_of (Ok tokens) s at = decisions s.macros s.env at tokens s.remaining
+
+  decides_by : (search : Search) (row : ℕ) (q : Option Question) (s : State) (line : List Token)
+      → IsSome q
+      → (taken : Result Bool Fault) × (remaining_after : Option ℕ) × DecidesBy search row q s line remaining_after taken
+  decides_by search row (Some Value) s line has = decides_of (condition_tokens search row line) s (hash_place line)
+  decides_by search row (Some (Defined wanted)) s line has = decides_freely s (by_name wanted s.macros line (one_identifier (operands line)))
+  decides_by search row None s line has = absurd (cc)
+
+  decides_unless : (search : Search) (row : ℕ) (q : Option Fault) (d : Option Directive) (s : State) (line : List Token)
+      → HasCondition d
+      → (taken : Result Bool Fault) × (remaining_after : Option ℕ) × DecidesUnless search row q d s line remaining_after taken
+  decides_unless search row None d s line has = decides_by search row (question_by d) s line has
+  decides_unless search row (Some f) d s line has = decides_freely s (Err f)
+
+  some_deciding : (search : Search) (row : ℕ) (s : State) (line : LogicalLine)
+      → HasCondition line.directive
+      → (taken : Result Bool Fault) × (remaining_after : Option ℕ) × Decides search row s line remaining_after taken
+  some_deciding search row s line has = decides_unless search row (unmatched_quote line.tokens) line.directive s line.tokens has
+
+  control_gives : (profile : Profile) (row : ℕ) (d : Directive) → class_of d ≡ class.Control → (s : State) (line : LogicalLine) → (m : Progress) × ExecutesDirective profile row (Some d) s line m
+  control_gives profile row Define e s line = (with_macros s (after_define profile s.macros (hash_place line.tokens) (operands line.tokens)), refl)
+  control_gives profile row Undef e s line = (with_macros s (after_undef profile s.macros (hash_place line.tokens) (operands line.tokens)), refl)
+  control_gives profile row Line e s line = some_renumbering s line
+  control_gives profile row Pragma e s line = (running (pragma_emitted profile row s line.tokens), refl)
+  control_gives profile row Null e s line = (running s, refl)
+  control_gives profile row Unknown e s line = (stopped s (named_fault 8 line.tokens), refl)
+  control_gives profile row d e s line = absurd (cc)
+
+  data Sort (profile : Profile) (row : ℕ) (d : Option Directive) : Type 0 where
+    refuses : class_by d ≡ Some class.Error → Sort profile row d
+    does_nothing : class_by d ≡ Some class.Ignored → Sort profile row d
+    asks : (next : Bool) → checks_quotes (class_by d) ≡ true → class_by d ≡ Some (class.Includes next) → Sort profile row d
+    does : checks_quotes (class_by d) ≡ true → ((s : State) (line : LogicalLine) → (m : Progress) × ExecutesDirective profile row d s line m) → Sort profile row d
+
+  sort_in : (profile : Profile) (row : ℕ) (d : Directive) (c : Class) → class_of d ≡ c → role_in c ≡ ControlLine → Sort profile row (Some d)
+  sort_in profile row d class.Error is e = refuses (ap Some is)
+  sort_in profile row d class.Ignored is e = does_nothing (ap Some is)
+  sort_in profile row d (class.Includes next) is e = asks next (ap (λ (c : Class). checks_quotes (Some c)) is) (ap Some is)
+  sort_in profile row d class.Control is e = does (ap (λ (c : Class). checks_quotes (Some c)) is) (control_gives profile row d is)
+  sort_in profile row d c is e = absurd (cc)
+
+  sort_of : (profile : Profile) (row : ℕ) (d : Option Directive) → role_by d ≡ ControlLine → Sort profile row d
+  sort_of profile row None e = absurd (cc)
+  sort_of profile row (Some d) e = sort_in profile row d (class_of d) refl e
+
+  module _ (readings : SomeReading) (trees : SomeTree) (rows : SomeRow) (context : Context) (known : KnowsAll context.names context.files) where
+    abbrev SomeOpened : ℕ → Type 0
+    SomeOpened depth =
+        (at : Place) (s : State) (row : ℕ) (directory : Option ℕ)
+        → row < length context.names
+        → (m : Progress) × Opened context depth at s row directory m
+
+    module _ (depth : ℕ) (deeper : SomeOpened (suc depth)) where
+      finding : (row : ℕ) (from : Option ℕ) (s : State) (line : LogicalLine) (remaining_after : Option ℕ) (a : IncludeName)
+          → NamesHeader s line.tokens remaining_after (Ok a)
+          → (found : Option (ℕ × ℕ))
+          → FindsFile context row from a found
+          → (m : Progress) × ExecutesInclude context depth row from s line m
+      finding row from s line remaining_after a asking None finds =
+          (stopped (with_remaining s remaining_after) (line_fault 31 line.tokens a.name), ExecutesInclude.missing a asking finds)
+      finding row from s line remaining_after a asking (Some found) finds =
+          let within : found.0 < length context.names = first_within context.names (candidates_for context row from a) (Some found) finds in
+          let o = deeper (hash_place line.tokens) (with_remaining s remaining_after) found.0 (Some found.1) within in
+          (o.0, ExecutesInclude.included a found asking finds o.1)
+
+      including : (row : ℕ) (from : Option ℕ) (s : State) (line : LogicalLine) (remaining_after : Option ℕ) (include_name : Result IncludeName Fault)
+          → NamesHeader s line.tokens remaining_after include_name
+          → (m : Progress) × ExecutesInclude context depth row from s line m
+      including row from s line remaining_after (Err f) asking = (stopped (with_remaining s remaining_after) f, ExecutesInclude.operand_fault asking)
+      including row from s line remaining_after (Ok a) asking =
+          let r = rows context.names (candidates_for context row from a) in
+          finding row from s line remaining_after a asking r.0 r.1
+
+      some_include : (row : ℕ) (from : Option ℕ) (s : State) (line : LogicalLine) → (m : Progress) × ExecutesInclude context depth row from s line m
+      some_include row from s line = let a = some_asking s line.tokens in including row from s line a.1 a.0 a.2
+
+      control_by : (row : ℕ) (s : State) (line : LogicalLine) (q : Option Fault)
+          → unmatched_quote line.tokens ≡ q
+          → Sort context.profile row line.directive
+          → (m : Progress) × ExecutesControlLine context depth row s line m
+      control_by row s line q e (refuses is) = (stopped s (line_fault 34 line.tokens (message (operands line.tokens))), ExecutesControlLine.error is)
+      control_by row s line q e (does_nothing is) = (running s, ExecutesControlLine.ignored is)
+      control_by row s line (Some f) e (asks next looks is) = (stopped s f, ExecutesControlLine.quote_fault looks e)
+      control_by row s line (Some f) e (does looks by) = (stopped s f, ExecutesControlLine.quote_fault looks e)
+      control_by row s line None e (asks next looks is) = let i = some_include row (if next then s.directory else None) s line in (i.0, ExecutesControlLine.include is e i.1)
+      control_by row s line None e (does looks by) = let m = by s line in (m.0, ExecutesControlLine.executed e m.1)
+
+      some_control : (row : ℕ) (s : State) (line : LogicalLine) → role line ≡ ControlLine → (m : Progress) × ExecutesControlLine context depth row s line m
+      some_control row s line is = control_by row s line (unmatched_quote line.tokens) refl (sort_of context.profile row line.directive is)
+
+      -- a group has an outcome, after a state or a fault
+      abbrev SomeGroup : ℕ → Progress → GroupParts → Type 0
+      SomeGroup row r ps = (m : Progress) × Group context depth row r ps m
+
+      abbrev SomeBranched : ℕ → State → Branches → Type 0
+      SomeBranched row s bs = (m : Progress) × Branched context depth row s bs m
+
+      goes_on_by : (row : ℕ) (ps : GroupParts) → ((s : State) → SomeGroup row (running s) ps) → (s : State) (f : Option Fault) → SomeGroup row (record { state = s; fault = f }) ps
+      goes_on_by row ps all s None = all s
+      goes_on_by row ps all s (Some f) = (stopped s f, Group.already_stopped)
+
+      goes_on : (row : ℕ) (ps : GroupParts) → ((s : State) → SomeGroup row (running s) ps) → (r : Progress) → SomeGroup row r ps
+      goes_on row ps all r = goes_on_by row ps all r.state r.fault
+
+      at_run : (row : ℕ) (s : State) (lines : List LogicalLine) (ps : GroupParts) → ((t : State) → SomeGroup row (running t) ps) → SomeGroup row (running s) (TextLines lines ps)
+      at_run row s lines ps rest =
+          let m = some_run s (text_tokens lines) in
+          let g = goes_on row ps rest m.0 in
+          (g.0, Group.text_lines m.1 g.1)
+
+      at_control : (row : ℕ) (s : State) (line : LogicalLine) (ps : GroupParts) → role line ≡ ControlLine → ((t : State) → SomeGroup row (running t) ps) → SomeGroup row (running s) (Control line ps)
+      at_control row s line ps is rest =
+          let m = some_control row s line is in
+          let g = goes_on row ps rest m.0 in
+          (g.0, Group.control m.1 g.1)
+
+      at_section : (row : ℕ) (s : State) (line : LogicalLine) (ps qs : GroupParts) (bs : Branches) (taken : Result Bool Fault) (remaining_after : Option ℕ)
+          → Decides (search_of context) row s line remaining_after taken
+          → ((t : State) → SomeGroup row (running t) ps)
+          → ((t : State) → SomeBranched row t bs)
+          → ((t : State) → SomeGroup row (running t) qs)
+          → SomeGroup row (running s) (Section line ps bs qs)
+      at_section row s line ps qs bs (Err f) remaining_after decides here branches rest = (stopped (with_remaining s remaining_after) f, Group.condition_fault decides)
+      at_section row s line ps qs bs (Ok true) remaining_after decides here branches rest =
+          let m = here (with_remaining s remaining_after) in
+          let g = goes_on row qs rest m.0 in
+          (g.0, Group.taken decides m.1 g.1)
+      at_section row s line ps qs bs (Ok false) remaining_after decides here branches rest =
+          let m = branches (with_remaining s remaining_after) in
+          let g = goes_on row qs rest m.0 in
+          (g.0, Group.skipped decides m.1 g.1)
+
+      at_elif : (row : ℕ) (s : State) (line : LogicalLine) (ps : GroupParts) (bs : Branches) (taken : Result Bool Fault) (remaining_after : Option ℕ)
+          → line.directive ≢ Some Else
+          → Decides (search_of context) row s line remaining_after taken
+          → ((t : State) → SomeGroup row (running t) ps)
+          → ((t : State) → SomeBranched row t bs)
+          → SomeBranched row s (Branch line ps bs)
+      at_elif row s line ps bs (Err f) remaining_after is decides here more = (stopped (with_remaining s remaining_after) f, Branched.branch_condition_fault is decides)
+      at_elif row s line ps bs (Ok true) remaining_after is decides here more = let m = here (with_remaining s remaining_after) in (m.0, Branched.branch_taken is decides m.1)
+      at_elif row s line ps bs (Ok false) remaining_after is decides here more = let m = more (with_remaining s remaining_after) in (m.0, Branched.branch_skipped is decides m.1)
+
+      at_branch : (row : ℕ) (s : State) (line : LogicalLine) (ps : GroupParts) (bs : Branches) (final : Bool)
+          → role line ≡ Elses final
+          → ((t : State) → SomeGroup row (running t) ps)
+          → ((t : State) → SomeBranched row t bs)
+          → SomeBranched row s (Branch line ps bs)
+      at_branch row s line ps bs true is here more = let m = here s in (m.0, Branched.else_group (else_directive line.directive is) m.1)
+      at_branch row s line ps bs false is here more =
+          let d = some_deciding (search_of context) row s line (elif_conditional line.directive is) in
+          at_elif row s line ps bs d.0 d.1 (not_else line.directive is) d.2 here more
+
+      opening_line : (row : ℕ) (s : State) (line : LogicalLine) (ps qs : GroupParts) (bs : Branches)
+          → role line ≡ Opens
+          → ((t : State) → SomeGroup row (running t) ps)
+          → ((t : State) → SomeBranched row t bs)
+          → ((t : State) → SomeGroup row (running t) qs)
+          → SomeGroup row (running s) (Section line ps bs qs)
+      opening_line row s line ps qs bs is here branches rest =
+          let d = some_deciding (search_of context) row s line (opens_conditional line.directive is) in
+          at_section row s line ps qs bs d.0 d.1 d.2 here branches rest
+
+      mutual
+        some_group : (ps : GroupParts) → AreGroupParts ps → (row : ℕ) (s : State) → SomeGroup row (running s) ps
+        some_group Done good row s = (running s, Group.no_parts)
+        some_group (TextLines lines ps) good row s = at_run row s lines ps (λ t. some_group ps good.3 row t)
+        some_group (Control line ps) good row s = at_control row s line ps good.0 (λ t. some_group ps good.1 row t)
+        some_group (Section line ps bs qs) good row s =
+            opening_line row s line ps qs bs good.0 (λ t. some_group ps good.1 row t) (λ t. some_branches bs false good.2 row t) (λ t. some_group qs good.3 row t)
+
+        some_branches : (bs : Branches) (last : Bool) → AreBranches last bs → (row : ℕ) (s : State) → SomeBranched row s bs
+        some_branches (End line) last good row s = (running s, Branched.no_branch_taken)
+        some_branches (Branch line ps bs) last (first, final, is, parts, more) row s =
+            at_branch row s line ps bs final is (λ t. some_group ps parts row t) (λ t. some_branches bs final more row t)
+
+      -- ---- a file
+
+      tree_of : (profile : Profile) (row : ℕ) (bytes : List ℕ) (lines : List LogicalLine) → IsSource profile row bytes lines → (parts : GroupParts) × Tree lines parts
+      tree_of profile row bytes lines is = trees lines (ap (λ x. group_fault [] x) is.same ∙ is.grouped)
+
+      reading_file : (at : Place) (s : State) (row : ℕ) (directory : Option ℕ) (bytes : List ℕ)
+          → depth ≤ depth_limit
+          → is_exhausted s.remaining ≡ false
+          → has_row row s.once ≡ false
+          → file_at context.files row ≡ Some (readable bytes)
+          → (r : Result (List LogicalLine) Fault)
+          → Reads context.profile row bytes r
+          → (m : Progress) × Opened context depth at s row directory m
+      reading_file at s row directory bytes fits some new is (Err f) reads = (stopped (with_dependency (with_one_spent s) row) f, Opened.content_fault fits some new is reads)
+      reading_file at s row directory bytes fits some new is (Ok lines) reads =
+          let t = tree_of context.profile row bytes lines reads in
+          let g = some_group t.0 t.1.each row (entering context (with_one_spent s) row directory) in
+          (leaving s g.0, Opened.read fits some new is reads t.1 g.1)
+
+      at_content : (at : Place) (s : State) (row : ℕ) (directory : Option ℕ)
+          → depth ≤ depth_limit
+          → is_exhausted s.remaining ≡ false
+          → has_row row s.once ≡ false
+          → (c : Option Content)
+          → file_at context.files row ≡ c
+          → IsSome c
+          → (m : Progress) × Opened context depth at s row directory m
+      at_content at s row directory fits some new None is there = absurd (cc)
+      at_content at s row directory fits some new (Some unreadable) is there =
+          (stopped (with_dependency (with_one_spent s) row) (fault 6 at (name_in context.names row)), Opened.not_readable fits some new is)
+      at_content at s row directory fits some new (Some (readable bytes)) is there =
+          let r = readings context.profile row bytes in
+          reading_file at s row directory bytes fits some new is r.0 r.1
+
+      at_once : (at : Place) (s : State) (row : ℕ) (directory : Option ℕ) → row < length context.names
+          → depth ≤ depth_limit
+          → is_exhausted s.remaining ≡ false
+          → (b : Bool)
+          → has_row row s.once ≡ b
+          → (m : Progress) × Opened context depth at s row directory m
+      at_once at s row directory within fits some true e = (running (with_dependency (with_one_spent s) row), Opened.not_read_again fits some e)
+      at_once at s row directory within fits some false e = at_content at s row directory fits some e (file_at context.files row) refl (known row within)
+
+      at_budget : (at : Place) (s : State) (row : ℕ) (directory : Option ℕ) → row < length context.names → depth ≤ depth_limit → (b : Bool) → is_exhausted s.remaining ≡ b → (m : Progress) × Opened context depth at s row directory m
+      at_budget at s row directory within fits true e = (stopped s (fault 35 at []), Opened.exhausted fits e)
+      at_budget at s row directory within fits false e = at_once at s row directory within fits e (has_row row s.once) refl
+
+      at_depth : (at : Place) (s : State) (row : ℕ) (directory : Option ℕ) → row < length context.names → (depth_limit < depth) ⊎ (depth ≤ depth_limit) → (m : Progress) × Opened context depth at s row directory m
+      at_depth at s row directory within (inl deep) = (stopped s (fault 32 at (name_in context.names row)), Opened.too_deep deep)
+      at_depth at s row directory within (inr fits) = at_budget at s row directory within fits (is_exhausted s.remaining) refl
+
+      some_opened : SomeOpened depth
+      some_opened at s row directory within = at_depth at s row directory within (cases_lt depth_limit depth)
+
+    -- by induction on the number of levels that remain
+    opening : (n depth : ℕ) → 201 ≤ n + depth → SomeOpened depth
+    opening zero depth h at s row directory within = (stopped s (fault 32 at (name_in context.names row)), Opened.too_deep (omega arith))
+    opening (suc n) depth h at s row directory within = some_opened depth (opening n (suc depth) (omega arith)) at s row directory within
+
+    -- ---- a unit
+
+    deeper_ones : SomeOpened 1
+    deeper_ones = opening 200 1 (omega arith)
+
+    defining : (defines : List (List ℕ)) (s : State) (r : Result (List LogicalLine) Fault) → Reads context.profile command_file (command_text defines) r → (m : Progress) × Defines context defines s m
+    defining defines s (Err f) reads = (stopped s f, unread reads)
+    defining defines s (Ok lines) reads =
+        let t = tree_of 0 deeper_ones context.profile command_file (command_text defines) lines reads in
+        let g = some_group 0 deeper_ones t.0 t.1.each command_file s in
+        (g.0, processed reads t.1 g.1)
+
+    after_defines : (defines : List (List ℕ)) (row : ℕ) → row < length context.names → (s t : State) (f : Option Fault) → Defines context defines s (record { state = t; fault = f }) → (m : Progress) × Translates context defines row s m
+    after_defines defines row within s t (Some f) d = (stopped t f, definitions_fault d)
+    after_defines defines row within s t None d = let o = opening 201 0 (omega arith) (first_place row) t row None within in (o.0, translated d o.1)
+
+    some_translation : (defines : List (List ℕ)) (row : ℕ) → row < length context.names → (s : State) → (m : Progress) × Translates context defines row s m
+    some_translation defines row within s =
+        let r = readings context.profile command_file (command_text defines) in
+        let d = defining defines s r.0 r.1 in
+        after_defines defines row within s d.0.state d.0.fault d.1
+
+  pub some_unit : SomeReading → SomeTree → SomeRow → HasSomeValue
+  some_unit readings trees rows names files setting unit known within =
+      let t = some_translation readings trees rows (context_of_unit names files setting unit) known unit.defines.texts unit.file within (initial_state setting) in
+      (output t.0, record { progress = t.0; translates = t.1; gives = refl })

@@ -1,0 +1,24 @@
+-- A unit that passes the test has a file of the file table and definitions with the table's profile.
+use Rattle.std.proofs.Common.{◌≡◌, ℕ, ◌<◌, true, refl, ◌∙◌, arith, nat_lt}
+use Rattle.std.proofs.lemmas.Bool.{and_parts}
+use Rattle.std.proofs.lemmas.Bool.Decides.{nat_tests}
+use Rattle.pptext.specs.declared.sources.Profile.{Profile}
+use Rattle.pptext.specs.declared.sources.Profile.TheVariants.{C11, Later, Gnu}
+use Rattle.ppunit.specs.declared.units.Unit.{Unit as UnitOfList}
+use Rattle.ppunit.specs.WellFormed.{equal_profiles, is_unit}
+use Rattle.ppunit.specs.Unit.{IsUnitOf}
+
+same_profile : (one other : Profile) → equal_profiles one other ≡ true → one ≡ other
+same_profile C11 C11 e = refl
+same_profile Later Later e = refl
+same_profile Gnu Gnu e = refl
+same_profile one other e = absurd (cc)
+
+less : (a b : ℕ) → nat_lt a b ≡ true → a < b
+less a b e = grind (arith, nat_tests)
+
+pub unit_of : (rows : ℕ) (one other : Profile) (unit : UnitOfList) → one ≡ other → is_unit rows one unit ≡ true → IsUnitOf rows other unit
+unit_of rows one other unit same e =
+    let p = and_parts (nat_lt unit.file rows) _ e in
+    let q = and_parts (equal_profiles unit.defines.profile one) _ p.1 in
+    (less unit.file rows p.0, same_profile unit.defines.profile one q.0 ∙ same)
