@@ -150,10 +150,7 @@ fn sizes_hold(draft: &Draft) -> bool
 {
     let files = draft.files.as_slice();
     let units = draft.units.as_slice();
-    files.len() <= MAX_ROWS
-        && units.len() <= MAX_ROWS
-        && contents_fit(files)
-        && commands_fit(units)
+    files.len() <= MAX_ROWS && units.len() <= MAX_ROWS && contents_fit(files) && commands_fit(units)
 }
 
 /// Returns whether no content is too large.

@@ -9,7 +9,7 @@ use crate::defining::{direct, source_of};
 use crate::showing::{assert_shown, push_fault, push_fields};
 use ppmacro::{
     ArgumentExpansion, Arguments, Chain, Hidden, HideSets, Macro, MacroName, Pattern, Set, Table,
-    paste, stringize, substitute, substitute_pattern, decides_each_kind,
+    decides_each_kind, paste, stringize, substitute, substitute_pattern,
 };
 use pptext::{Fault, Memory, Place, Profile, Source, Token};
 use std::alloc::{AllocError, Global};
