@@ -17,7 +17,7 @@ use Rattle.ppmacro.specs.declared.hidden_token.Hidden.{Hidden}
 use Rattle.ppexpand.specs.declared.env.Env.{Env}
 use Rattle.ppexpand.specs.ExpansionStep.{Emits, macro_of, expansion_step}
 use Rattle.ppexpand.specs.Budget.{in_budget}
-use Rattle.ppexpand.specs.Expansion.{Outcome, step_in_budget, Expands, ExpandsTo, IsExpansion, emits, done, ended}
+use Rattle.ppexpand.specs.Expansion.{Outcome, step_in_budget, Expands, ExpandsTo, IsExpansion, emits, done, stops_with}
 use Rattle.ppexpand.specs.declared.expansion.Expanded.{Expanded}
 use Rattle.ppexpand.specs.code.Lists.{with_set, never_expands, NeverExpand}
 use Rattle.ppexpand.specs.code.Skipping.{HasSkipped}
@@ -136,7 +136,7 @@ expands-prefix macros env level remaining (t ∷ ts) rest out h d =
     (suc remaining_after.0, emits (expansion_step-unhidden macros env remaining (unhidden t) (map unhidden ts ++ rest) h.0) remaining_after.1)
 
 -- The empty list expands to no tokens.
-pub expands-nothing : (macros : Macros) (env : Env) (level : ℕ) (remaining : Option ℕ) → ExpandsTo macros env level remaining [] (ended remaining None)
+pub expands-nothing : (macros : Macros) (env : Env) (level : ℕ) (remaining : Option ℕ) → ExpandsTo macros env level remaining [] (stops_with remaining None)
 unfolding expansion_step
 expands-nothing macros env level None = (0, done refl)
 expands-nothing macros env level (Some zero) = (0, done refl)

@@ -11,15 +11,15 @@ use Rattle.ppexpand.specs.ExpansionStep.{Invocation, ExpansionStep, Done, TokenF
 use Rattle.ppexpand.specs.ExpansionStep.{ExpandedArguments, with_expanded}
 use Rattle.ppexpand.specs.Budget.{in_budget, spend_one}
 
--- the emitted tokens, the fault that ended the list, if any, and the remaining budget
+-- the emitted tokens, the fault that stopped the expansion, if any, and the remaining budget
 pub record Outcome : Type 0 where
   pub tokens : List Hiding
   pub fault : Option Fault
   pub remaining : Option ℕ
 
--- the list ends here, with this fault or without one
-abbrev pub ended : Option ℕ → Option Fault → Outcome
-ended remaining f = record { tokens = []; fault = f; remaining = remaining }
+-- no token is emitted, and the expansion stops with this fault, or ends without one
+abbrev pub stops_with : Option ℕ → Option Fault → Outcome
+stops_with remaining f = record { tokens = []; fault = f; remaining = remaining }
 
 -- adds a token that is emitted before the others
 abbrev pub with_emitted : Hiding → Outcome → Outcome
@@ -31,22 +31,22 @@ module _ (macros : Macros) (env : Env) where
   step_in_budget remaining list = in_budget remaining list (expansion_step macros env list)
 
   mutual
-    -- at this level, with this remaining budget, a list has this outcome after this number of steps; each replacement takes
-    -- one from the budget
+    -- At this level, with this remaining budget, a list has this outcome after this number of steps. The steps of arguments and
+    -- a step that ends the list aren't counted. Each replacement takes one from the budget.
     pub data Expands : ℕ → Option ℕ → ℕ → List Hiding → Outcome → Type 0 where
       done : {level : ℕ} {remaining : Option ℕ} {list : List Hiding}
           → step_in_budget remaining list ≡ Done
-          → Expands level remaining 0 list (ended remaining None)
+          → Expands level remaining 0 list (stops_with remaining None)
       token_fault : {level : ℕ} {remaining : Option ℕ} {list : List Hiding} {f : Fault}
           → step_in_budget remaining list ≡ TokenFault f
-          → Expands level remaining 0 list (ended remaining (Some f))
+          → Expands level remaining 0 list (stops_with remaining (Some f))
       emits : {level steps : ℕ} {remaining : Option ℕ} {list : List Hiding} {t : Hiding} {rest : List Hiding} {out : Outcome}
           → step_in_budget remaining list ≡ Emits t rest
           → Expands level remaining steps rest out
           → Expands level remaining (suc steps) list (with_emitted t out)
       replacement_fault : {level : ℕ} {remaining : Option ℕ} {list : List Hiding} {f : Fault}
           → step_in_budget remaining list ≡ ReplacementFault f
-          → Expands level remaining 0 list (ended (spend_one remaining) (Some f))
+          → Expands level remaining 0 list (stops_with (spend_one remaining) (Some f))
       replaced : {level steps : ℕ} {remaining : Option ℕ} {list next : List Hiding} {out : Outcome}
           → step_in_budget remaining list ≡ Replaced next
           → Expands level (spend_one remaining) steps next out
@@ -54,12 +54,12 @@ module _ (macros : Macros) (env : Env) where
       argument_fault : {level : ℕ} {remaining remaining_after : Option ℕ} {list : List Hiding} {invocation : Invocation} {f : Fault}
           → step_in_budget remaining list ≡ Invoked invocation
           → ExpandsArguments level invocation (spend_one remaining) (arguments_to_expand invocation) remaining_after (Err f)
-          → Expands level remaining 0 list (ended remaining_after (Some f))
+          → Expands level remaining 0 list (stops_with remaining_after (Some f))
       invocation_fault : {level : ℕ} {remaining remaining_after : Option ℕ} {list : List Hiding} {invocation : Invocation} {expanded : List (Option (List Hiding))} {f : Fault}
           → step_in_budget remaining list ≡ Invoked invocation
           → ExpandsArguments level invocation (spend_one remaining) (arguments_to_expand invocation) remaining_after (Ok expanded)
           → finish_invocation invocation expanded ≡ ReplacementFault f
-          → Expands level remaining 0 list (ended remaining_after (Some f))
+          → Expands level remaining 0 list (stops_with remaining_after (Some f))
       invocation_replaced : {level steps : ℕ} {remaining remaining_after : Option ℕ} {list next : List Hiding} {invocation : Invocation}
           {expanded : List (Option (List Hiding))} {out : Outcome}
           → step_in_budget remaining list ≡ Invoked invocation
@@ -68,7 +68,7 @@ module _ (macros : Macros) (env : Env) where
           → Expands level remaining_after steps next out
           → Expands level remaining (suc steps) list out
 
-    -- The arguments of an invocation in a list at this level. Each is expanded as a list of its own, one level deeper
+    -- The arguments of an invocation in a list at this level. Each `Some` is expanded as a list of its own, one level deeper
     -- (6.10.3.1), in order, up to the first fault, within one budget. The largest level is 256.
     pub data ExpandsArguments : ℕ → Invocation → Option ℕ → List (Option (List Hiding)) → Option ℕ → ExpandedArguments → Type 0 where
       none : {level : ℕ} {invocation : Invocation} {remaining : Option ℕ}
@@ -92,7 +92,7 @@ module _ (macros : Macros) (env : Env) where
           → ExpandsArguments level invocation remaining (Some list ∷ rest) remaining_after (Err f)
 
   abbrev mutual
-    -- the number of replacements in an expansion
+    -- the number of replacements in an expansion, including one that has a fault
     pub count : {level steps : ℕ} {remaining : Option ℕ} {list : List Hiding} {out : Outcome} → Expands level remaining steps list out → ℕ
     count (done e) = 0
     count (token_fault e) = 0

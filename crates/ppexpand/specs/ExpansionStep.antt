@@ -42,7 +42,7 @@ predefined_kind Date = StringLiteral
 predefined_kind Time = StringLiteral
 predefined_kind _ = Number
 
--- the spelling of the replacement; the location is the expansion location of the name
+-- the spelling of the replacement; the location is the expansion location of the name, and `env.name` is a string literal already
 abbrev pub predefined_text : PredefinedMacro → Env → Place → List ℕ
 predefined_text File env used = env.name
 predefined_text Line env used = decimal (nat_abs (presumed_line env used))
@@ -75,11 +75,11 @@ pub record Invocation : Type 0 where
 pub data ExpansionStep : Type 0 where
   -- the list is empty
   Done : ExpansionStep
-  -- a fault before any replacement: the token is an unmatched quote, or the budget is exhausted
+  -- a fault that takes nothing from the budget: the token is an unmatched quote, or the budget is exhausted
   TokenFault : Fault → ExpansionStep
   -- the token is emitted unchanged; these tokens remain
   Emits : Hiding → List Hiding → ExpansionStep
-  -- the token is a macro's name, and its replacement has a fault
+  -- the token is a macro's name, and its replacement has a fault; it takes one from the budget
   ReplacementFault : Fault → ExpansionStep
   -- the token is a macro's name that was replaced; this is the new list
   Replaced : List Hiding → ExpansionStep
@@ -110,7 +110,7 @@ quote_fault t = fault 7 t.token.at t.token.text
 -- the names that an invocation adds to hide sets: the intersection of the hide sets of the macro name and of the `)`,
 -- plus the macro name
 abbrev pub names_to_hide_for : HideSet → HideSet → Name → HideSet
-names_to_hide_for hide close name = set.insert (set.intersection hide close) name
+names_to_hide_for hide close_hide name = set.insert (set.intersection hide close_hide) name
 
 abbrev pub closed_invocation_step : Hiding → Macro → Option (List (List Hiding)) → Hiding → List Hiding → ExpansionStep
 closed_invocation_step t d (Some as') close following =

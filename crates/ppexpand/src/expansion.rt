@@ -36,16 +36,16 @@ use std::alloc::{AllocError, Global};
 
 /// The largest level of a token list. A list given to `expand` is at level 0, an argument one level deeper than its invocation.
 ///
-/// Each level takes stack. So the functions on the way to the next level return small values and write results to their caller's variables,
-/// and the functions that do not lead there are not inlined into them.
+/// Each level takes stack. So the mutually recursive functions return small values and write results through `&mut` parameters. The
+/// functions that they call are not inlined into them.
 const DEEPEST: u32 = 256;
 
 /// The initial capacity for tokens that are emitted one by one. It suffices for most text lines.
 const CAPACITY: usize = 32;
 
 /// Emits the tokens that replacements pushed, up to the first that names a macro or is an unmatched quote. Returns the macro that this
-/// token names: `None` at a quote, or if no pushed token is left.
-fn skip_pushed<'t, 'x, 'a>(
+/// token names. Returns `None` at a quote, or if no pushed token remains.
+fn emit_pushed<'t, 'x, 'a>(
     table: &'t Table<'a>,
     list: &mut TokenStack<'x>,
     emitted: &mut Emitted<'x>,
@@ -62,9 +62,10 @@ fn skip_pushed<'t, 'x, 'a>(
     }
 }
 
-/// Emits the next tokens that name no macro. Returns the macro that the token after them names.
+/// Emits the next tokens that are emitted unchanged: all, or only some of them. Returns the macro that the token after them names, if
+/// it names one.
 #[inline(never)]
-fn skip<'t, 'x, 'a>(
+fn emit_unexpanded<'t, 'x, 'a>(
     table: &'t Table<'a>,
     list: &mut TokenStack<'x>,
     emitted: &mut Emitted<'x>,
@@ -72,7 +73,7 @@ fn skip<'t, 'x, 'a>(
     ensures skipped { OnOk result (HasSkipped table.now.macros list.old emitted.old list.new emitted.new) }
     ensures named { IfOk result (λ r. option_copied r ≡ next_macro table.now.macros (tokens_of list.new)) }
 {
-    if let Some(named) = skip_pushed(table, list, emitted)? {
+    if let Some(named) = emit_pushed(table, list, emitted)? {
         return Ok(Some(named));
     }
     let (span, named) = list.take_unexpanded(table);
@@ -93,9 +94,9 @@ fn none_expands(table: &Table, tokens: &[Hidden]) -> bool
     true
 }
 
-/// Raises fault 21 at a macro's name: the argument is nested too deep. There is no expansion.
+/// Sets `fault` to fault 21 at a macro's name, since the argument is nested too deep. Returns `Stop::Fault`.
 #[inline(never)]
-fn raise_depth<'x>(
+fn depth_fault<'x>(
     name_token: &Hidden,
     fault: &mut Option<Fault>,
 ) -> Result<ArgumentExpansion<'x>, Stop>
@@ -105,9 +106,9 @@ fn raise_depth<'x>(
     Err(Stop::Fault)
 }
 
-/// Gives the vectors of an invocation's arguments back to the pool.
+/// Returns the vectors of an invocation's arguments to the pool.
 #[inline(never)]
-fn keep_arguments<'x>(
+fn recycle_arguments<'x>(
     pool: &mut VecPool<'x>,
     invocation: &mut Option<Invocation<'_, 'x, '_>>,
 ) -> Result<(), AllocError> {
@@ -133,17 +134,17 @@ fn argument_of<'c, 'x>(arguments: &'c [Vec<Hidden<'x>>], parameter: usize) -> &'
 struct Expander<'x> {
     /// The state of replacement.
     replacer: Replacer<'x>,
-    /// The rest of the budget; `None` means no limit.
+    /// The remaining budget; `None` means no limit.
     remaining: Option<u64>,
-    /// The fault that ended a list, where a result says that one did.
+    /// The fault that stopped the expansion. It is set before a method returns `Stop::Fault`.
     fault: Option<Fault>,
 }
 
 impl<'x> Expander<'x> {
     /// Begins an expansion step of a list. `named` is the macro that the next token names, if any. Returns whether the expansion of the
-    /// list continues. `Stop::Fault` means that it ends with the fault in `self`.
+    /// list continues. `Stop::Fault` means that it stops with the fault in `self.fault`.
     ///
-    /// Appends emitted tokens to `emitted` and removes what is done from `list`. An invocation of a function-like macro is only put in
+    /// Appends emitted tokens to `emitted` and removes the processed tokens from `list`. An invocation of a function-like macro is only put in
     /// `invocation`: its arguments are still to be expanded. Otherwise `invocation` becomes `None`.
     #[inline(never)]
     fn begin_step<'t, 'a: 'x>(
@@ -164,7 +165,7 @@ impl<'x> Expander<'x> {
             (hidings self.old.replacer.sets emitted.old) (invocation_in self.new.replacer.sets c.name_token c.definition.now c.arguments.items c.base list.new)
             r self.new.remaining (hidings self.new.replacer.sets emitted.new))) }
         ensures invocation_known { OnOk result (IfSome invocation.new (λ c. InvocationKnown self.new.replacer.sets c.name_token c.arguments.items c.base × AllKnown self.new.replacer.sets list.new)) }
-        ensures list_known { IfOk result (λ goes. goes ≡ true → AllKnown self.new.replacer.sets list.new) }
+        ensures list_known { IfOk result (λ continues. continues ≡ true → AllKnown self.new.replacer.sets list.new) }
         ensures emitted_known { OnOk result (AllKnown self.new.replacer.sets emitted.new) }
         ensures keeps { KeepsSets self.old.replacer.sets self.new.replacer.sets }
     {
@@ -200,7 +201,7 @@ impl<'x> Expander<'x> {
         }
     }
 
-    /// Expands an argument, or raises its first fault: 21 if it is nested too deep.
+    /// Expands an argument. Raises fault 21 if it is nested too deep, and otherwise the first fault of its expansion.
     #[cycle(expansion)]
     fn expand_argument<'a: 'x>(
         &mut self,
@@ -216,7 +217,7 @@ impl<'x> Expander<'x> {
         ensures keeps { KeepsSets self.old.replacer.sets self.new.replacer.sets }
     {
         if context.level >= DEEPEST {
-            return raise_depth(name_token, &mut self.fault);
+            return depth_fault(name_token, &mut self.fault);
         }
         // Fast path: most arguments name no macro, and expand to themselves.
         if none_expands(context.table, argument) {
@@ -313,10 +314,10 @@ impl<'x> Expander<'x> {
     }
 
     /// Makes one expansion step of a list, including the arguments of an invocation. `named` is the macro that the next token names, if
-    /// any. Returns whether the expansion of the list continues. `Stop::Fault` means that it ends with the fault in `self`.
+    /// any. Returns whether the expansion of the list continues. `Stop::Fault` means that it stops with the fault in `self.fault`.
     ///
-    /// Appends emitted tokens to `emitted` and removes what is done from `list`. `invocation` is storage for one, so that it lies in the
-    /// caller's frame.
+    /// Appends emitted tokens to `emitted` and removes the processed tokens from `list`. `invocation` is an out-parameter, so that its value
+    /// is in the caller's frame.
     #[cycle(expansion)]
     fn advance<'t, 'a: 'x>(
         &mut self,
@@ -333,20 +334,20 @@ impl<'x> Expander<'x> {
         ensures on { UnlessFailed result self.new.fault (λ r.
             HasTaken context.now.table.now.macros context.now.env.now context.now.level self.old.remaining (hidings self.old.replacer.sets list.old)
             (hidings self.old.replacer.sets emitted.old) r self.new.remaining (hidings self.new.replacer.sets list.new) (hidings self.new.replacer.sets emitted.new)) }
-        ensures list_known { IfOk result (λ goes. goes ≡ true → AllKnown self.new.replacer.sets list.new) }
+        ensures list_known { IfOk result (λ continues. continues ≡ true → AllKnown self.new.replacer.sets list.new) }
         ensures emitted_known { OnOk result (AllKnown self.new.replacer.sets emitted.new) }
         ensures keeps { KeepsSets self.old.replacer.sets self.new.replacer.sets }
     {
-        let goes = self.begin_step(context, named, list, emitted, invocation)?;
+        let continues = self.begin_step(context, named, list, emitted, invocation)?;
         let Some(found) = &*invocation else {
-            return Ok(goes);
+            return Ok(continues);
         };
         self.replace_invocation(context, found, list)?;
-        keep_arguments(&mut self.replacer.pool, invocation)?;
+        recycle_arguments(&mut self.replacer.pool, invocation)?;
         Ok(true)
     }
 
-    /// Expands a list, and appends the emitted tokens to `emitted`, also those before a fault that ends the list.
+    /// Expands a list, and appends the emitted tokens to `emitted`, even those before a fault.
     #[cycle(expansion)]
     fn expand_list<'a: 'x>(
         &mut self,
@@ -364,33 +365,33 @@ impl<'x> Expander<'x> {
     {
         loop {
             // Fast path: most tokens name no macro.
-            let named = skip(context.table, list, emitted)?;
+            let named = emit_unexpanded(context.table, list, emitted)?;
             // The invocation is dropped at the end of the step.
-            let goes = {
+            let continues = {
                 let mut invocation = None;
                 self.advance(context, named, list, emitted, &mut invocation)
             };
-            if !goes? {
+            if !continues? {
                 return Ok(());
             }
         }
     }
 }
 
-/// The result of an expansion: the emitted tokens, and the fault that ended the list, if any.
+/// The result of an expansion: the emitted tokens, and the fault that stopped it, if any.
 #[derive(Drop)]
 pub struct Expanded<'a> {
     /// The emitted tokens.
     pub tokens: TokenRope<'a>,
-    /// The fault that ended the list, if any.
+    /// The fault that stopped the expansion, if any.
     pub fault: Option<Fault>,
-    /// The rest of the budget of replacements and file openings; `None` means no limit.
+    /// The remaining budget of the unit; `None` means no limit.
     pub remaining: Option<u64>,
 }
 
 /// Expands tokens of a file, with empty hide sets at first, and appends the emitted tokens to `emitted`.
 ///
-/// Returns the rest of the budget, and the fault that ended the list, if any.
+/// Returns the remaining budget, and the fault that stopped the expansion, if any.
 fn expand_tokens<'x, 'a: 'x>(
     alloc: Global,
     context: &Context<'_, 'a>,
@@ -448,18 +449,18 @@ fn expand_rest<'x, 'a: 'x>(
     })
 }
 
-/// Expands a list of tokens: replaces each macro name, and rescans the replacement together with the tokens after it (6.10.3.4). Names
-/// that are in the hide set of their token are not replaced.
+/// Expands a list of tokens: replaces each macro name, and rescans the replacement together with the tokens after it (6.10.3.4). A token
+/// whose name is in its own hide set is not replaced.
 ///
-/// `remaining` is a budget: the number of replacements that may be made; `None` means no limit. Each name of an object-like or predefined macro
-/// counts as one, and each invocation of a function-like macro, before its arguments are expanded. One more replacement is fault 35 at the
-/// expansion location of the name.
+/// `remaining` is the budget, the number of replacements that may be made; `None` means no limit. Each name of an object-like or predefined
+/// macro that is replaced counts as one. So does each invocation of a function-like macro, before its arguments are expanded and even if
+/// it has a fault. One more replacement is fault 35 at the expansion location of the name.
 ///
-/// The tokens emitted before a fault are kept. Fault 7, an unmatched quote, has its spelling location. The other faults have the expansion
-/// location of the macro name:
+/// The tokens emitted before a fault are kept. Fault 7, an unmatched quote, is at the spelling location of the quote. The other faults are
+/// at the expansion location of the macro name:
 ///
 /// - 17: an invocation without its `)`;
-/// - 18: a wrong number of arguments (a variable argument that may be absent need not be given);
+/// - 18: a wrong number of arguments (in GNU C the variable argument may be absent);
 /// - 19: `##` of two tokens that do not form a token;
 /// - 20: `#` of an argument that does not form a string literal;
 /// - 21: an argument to be expanded that is nested more than 256 levels deep.

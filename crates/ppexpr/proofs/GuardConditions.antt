@@ -6,7 +6,7 @@ use Rattle.pptext.specs.declared.tokens.Token.{Token}
 use Rattle.pptext.specs.declared.tokens.Kind.TheVariants.{Ident, Number, Punct}
 use Rattle.ppmacro.specs.Names.{Macros}
 use Rattle.ppexpand.specs.declared.env.Env.{Env}
-use Rattle.ppexpand.specs.Expansion.{IsExpansion, ended}
+use Rattle.ppexpand.specs.Expansion.{IsExpansion, stops_with}
 use Rattle.ppexpand.proofs.SkippedTokens.{expansion-following, expands-nothing}
 use Rattle.ppexpr.specs.Outcomes.{Signed}
 use Rattle.ppexpr.specs.Operators.{Bang}
@@ -60,7 +60,7 @@ not_one n f = punctuator (codes "!") n ∷ as_one f ∷ []
 
 not_one_expands : (macros : Macros) (env : Env) (remaining : Option ℕ) (n f : Token) → IsExpansion macros env remaining (not_one n f) (record { tokens = not_one n f; fault = None; remaining = remaining })
 not_one_expands macros env remaining n f =
-    expansion-following macros env remaining (not_one n f) (not_one n f) [] (record { tokens = not_one n f; fault = None; remaining = remaining }) (ended remaining None) refl (refl, (refl, tt)) (expands-nothing macros env 0 remaining) refl refl refl
+    expansion-following macros env remaining (not_one n f) (not_one n f) [] (record { tokens = not_one n f; fault = None; remaining = remaining }) (stops_with remaining None) refl (refl, (refl, tt)) (expands-nothing macros env 0 remaining) refl refl refl
 
 asked_false : (macros : Macros) (env : Env) (at : Place) (tokens : List Token) (remaining : Option ℕ) (n f x : Token)
     → is_some (table.get macros x.text) ≡ true

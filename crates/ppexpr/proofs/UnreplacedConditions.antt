@@ -10,7 +10,7 @@ use Rattle.pptext.specs.Tokens.{is_identifier, is_punct}
 use Rattle.ppmacro.specs.Names.{Macros}
 use Rattle.ppexpand.specs.declared.env.Env.{Env}
 use Rattle.ppexpand.specs.code.Lists.{never_expands}
-use Rattle.ppexpand.specs.Expansion.{IsExpansion, ended}
+use Rattle.ppexpand.specs.Expansion.{IsExpansion, stops_with}
 use Rattle.ppexpand.proofs.SkippedTokens.{expansion-following, expands-nothing}
 use Rattle.ppexpr.specs.Symbols.{Symbol, Constant}
 use Rattle.ppexpr.specs.Values.{truth}
@@ -52,7 +52,7 @@ unreplaced macros ts ss nothing = record { without_defined = []; asks = asks_not
 unreplaced macros ts ss (more {rest = rest} {s = s} {ss = qs} b h) = unreplaced_more macros ts rest s qs b (unreplaced macros rest qs h)
 
 expands_as_is : (macros : Macros) (env : Env) (remaining : Option ℕ) (ts : List Token) → AllByRecursion (λ t. never_expands macros t ≡ true) ts → IsExpansion macros env remaining ts (record { tokens = ts; fault = None; remaining = remaining })
-expands_as_is macros env remaining ts h = expansion-following macros env remaining ts ts [] (record { tokens = ts; fault = None; remaining = remaining }) (ended remaining None) (sym (append-nil ts)) h (expands-nothing macros env 0 remaining) (sym (append-nil ts)) refl refl
+expands_as_is macros env remaining ts h = expansion-following macros env remaining ts ts [] (record { tokens = ts; fault = None; remaining = remaining }) (stops_with remaining None) (sym (append-nil ts)) h (expands-nothing macros env 0 remaining) (sym (append-nil ts)) refl refl
 
 -- The condition of the tokens is the condition of their symbols, and no budget is spent.
 pub direct_condition : (macros : Macros) (env : Env) (at : Place) (ts : List Token) (remaining : Option ℕ) (ss : List Symbol) (c : Condition) → AllRepresent macros ts ss → EvaluatesSymbols at ss c → IsCondition macros env at ts remaining c remaining

@@ -20,16 +20,19 @@ use std::alloc::Global;
 use std::thread;
 use std::thread::Threads;
 
-/// Preprocesses the units of a batch. The file table and the units' definitions must have the setting's profile.
+/// Preprocesses the units of a batch. The file table and the units' definitions must have been read by the setting's
+/// profile.
 ///
-/// Each worker has a seat at a desk and a pass of its own, and claims blocks until none is left. It enters the gate
-/// before each unit. If no thread can be created, the workers run one after the other. In the end all workers' passes
-/// are merged into `pass`, and the outputs are the units' values over what it knows, in list order. With a budget the
-/// replacements and opened files of each unit total at most the budget. Its output is then a prefix of its value
-/// without one, over what the pass knows or any larger set of files, and the whole of it exactly if the budget
-/// suffices.
+/// Each worker claims blocks of units through its seat at a desk, until none is left. Each has a `Pass` of its own: the
+/// file contents that it has observed. It calls `enter` of the gate before each unit. If no thread can be created, the
+/// workers run one after the other. At the end all workers' passes are merged into `pass`. The outputs, in list order,
+/// are what the specification requires for the file contents in `pass`.
 ///
-/// Fails only if an allocation fails; the pass then knows at least what it knew.
+/// With a budget, the replacements and opened files of each unit total at most the budget. Its tokens and dependencies
+/// are then prefixes of those without a budget, for the file contents in `pass` or in any larger set. The outputs are
+/// equal if and only if the budget suffices.
+///
+/// Fails only if an allocation fails; the pass then still has all contents that it had.
 pub fn run<'a, R: Threads + Sync, D: Disk + Send + Sync, G: Gate + Sync>(
     threads: &R,
     alloc: Global,
@@ -51,6 +54,7 @@ pub fn run<'a, R: Threads + Sync, D: Disk + Send + Sync, G: Gate + Sync>(
     ensures filled { Agree batch.now.shelf.now.filled pass.new.files }
 {
     let outs = run_retaining(threads, alloc, pass, batch, Retain::Everything)?;
+    // For proofs only: cites a promise of the file table and the theorems about budgets.
     batch.shelf.contents_permitted();
     stays_in_budget();
     budget_caps_units();
@@ -60,7 +64,7 @@ pub fn run<'a, R: Threads + Sync, D: Disk + Send + Sync, G: Gate + Sync>(
 /// Preprocesses the units of a list as `run` does, and keeps as much of each output as `retain` says. The rest is freed
 /// as soon as the unit is done. The same budget applies as in `run`.
 ///
-/// Fails only if an allocation fails; the pass then knows at least what it knew.
+/// Fails only if an allocation fails; the pass then still has all contents that it had.
 pub fn run_retaining<'a, R: Threads + Sync, D: Disk + Send + Sync, G: Gate + Sync>(
     threads: &R,
     alloc: Global,
@@ -91,9 +95,10 @@ pub fn run_retaining<'a, R: Threads + Sync, D: Disk + Send + Sync, G: Gate + Syn
         workers,
         block,
     } = *batch;
+    // For proofs only: cites a promise of the pass.
     pass.contents_permitted();
     let (desk, seats) = Desk::new(alloc, block_count(units.len(), block), workers)?;
-    let gathered = gather(
+    let gathered = run_workers(
         threads,
         &Job {
             alloc,
@@ -109,14 +114,15 @@ pub fn run_retaining<'a, R: Threads + Sync, D: Disk + Send + Sync, G: Gate + Syn
         seats,
         pass,
     );
+    // For proofs only: cites promises of the pass and the file table.
     pass.contents_permitted();
     shelf.contents_permitted();
-    // For proofs: the theorems about budgets hold.
+    // For proofs only: cites the theorems about budgets.
     stays_in_budget();
     budget_caps_units();
     let (seats, slots) = gathered?;
-    let whole = desk.close(seats);
-    prove!(whole);
+    let all_claimed = desk.close(seats);
+    prove!(all_claimed);
     take_all(alloc, slots)
 }
 
@@ -131,7 +137,7 @@ fn block_count(units: usize, block: usize) -> u64
 }
 
 /// Runs a worker in each seat, and collects their results.
-fn gather<'a, R: Threads + Sync, D: Disk + Send + Sync, G: Gate + Sync>(
+fn run_workers<'a, R: Threads + Sync, D: Disk + Send + Sync, G: Gate + Sync>(
     threads: &R,
     job: &Job<'a, '_, D, G>,
     seats: Vec<DeskSeat>,
@@ -158,7 +164,7 @@ fn gather<'a, R: Threads + Sync, D: Disk + Send + Sync, G: Gate + Sync>(
             × All (IsUnitOf (length job.now.shelf.now.names) job.now.setting.now.profile) job.now.units.now }
         ensures { IfOk result (λ w. IsDone job.entry.now.retain job.entry.now.desk.now job.entry.now.shelf.now
             job.entry.now.setting.now job.entry.now.units.now job.entry.now.block w.seat w.pass w.results.items) }
-    { Worker::in_seat(job, seat) };
+    { Worker::run(job, seat) };
     let done = thread::map_vec(threads, seats, &task)?;
     collect(job, pass, done)
 }
@@ -182,8 +188,8 @@ fn collect<'a, D: Disk, G: Gate>(
 {
     let mut seats = Vec::new(job.alloc);
     let mut slots = empty_slots(job.alloc, job.units.len())?;
-    for one in done {
-        let worker = one?;
+    for finished in done {
+        let worker = finished?;
         let seat = absorb(job, pass, worker, &mut slots);
         seats.push(seat)?;
     }
@@ -197,7 +203,7 @@ fn absorb<'a, D: Disk, G: Gate>(
     worker: Worker<'a, D>,
     slots: &mut Vec<Option<UnitOut<'a>>>,
 ) -> DeskSeat
-    requires mine { pass.old.shelf ≡ job.now.shelf.now }
+    requires shelf { pass.old.shelf ≡ job.now.shelf.now }
     requires done { IsDone job.now.retain job.now.desk.now job.now.shelf.now job.now.setting.now
         job.now.units.now job.now.block worker.seat worker.pass worker.results.items }
     requires slots { FitSlots job.now.retain job.now.shelf.now pass.old.files job.now.setting.now job.now.units.now slots.old.items }
@@ -205,12 +211,13 @@ fn absorb<'a, D: Disk, G: Gate>(
     ensures shelf { pass.new.shelf ≡ job.now.shelf.now }
     ensures grows { Extends pass.new.files pass.old.files }
     ensures slots { FitSlots job.now.retain job.now.shelf.now pass.new.files job.now.setting.now job.now.units.now slots.new.items }
-    ensures stay { (i : ℕ) → IsSome (slice_index_or slots.old.items i None) → IsSome (slice_index_or slots.new.items i None) }
+    ensures slots_stay { (i : ℕ) → IsSome (slice_index_or slots.old.items i None) → IsSome (slice_index_or slots.new.items i None) }
     ensures fill_slot { (i : ℕ) → i < length job.now.units.now → 0 < times (i / job.now.block) result.claims
         → IsSome (slice_index_or slots.new.items i None) }
 {
     let (seat, other, results) = worker.into_parts();
     job.shelf.meet(pass, other);
+    // For proofs only: cites the theorem that units' values grow with the files.
     growth();
     fill_slots(results, slots);
     seat

@@ -148,7 +148,7 @@ impl<'a, D: Disk> Worker<'a, D> {
     }
 
     /// Runs a worker in this seat, with a pass that knows nothing. Returns the worker after its work.
-    pub(crate) fn in_seat<G: Gate>(job: &Job<'a, '_, D, G>, seat: DeskSeat) -> Result<Self, Memory>
+    pub(crate) fn run<G: Gate>(job: &Job<'a, '_, D, G>, seat: DeskSeat) -> Result<Self, Memory>
         requires seat { seat ≡ new_seat job.now.desk.now }
         requires block { (1 ≤ job.now.block) × (job.now.block ≤ 1024) }
         requires blocks { job.now.desk.now.plan.blocks ≤ max_blocks }

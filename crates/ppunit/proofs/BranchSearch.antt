@@ -8,9 +8,9 @@ use Rattle.pptext.specs.Sources.{next_branch}
 use Rattle.pptext.specs.Tree.{GroupParts, Branches, End, Branch, part_lines, branch_lines, role, role_by}
 use Rattle.pptext.proofs.NextBranchFacts.{next_of_branch}
 use Rattle.ppunit.specs.States.{Search, State, Context, search_of, Progress, running, stopped, with_remaining}
-use Rattle.ppunit.specs.Group.{Group, Branched}
+use Rattle.ppunit.specs.Group.{ExecutesGroup, ExecutesBranches}
 use Rattle.ppunit.specs.Conditions.{DecidesFreely, Decides}
-use Rattle.ppunit.specs.code.Walk.{line_at, Outer, lay, AreOuter, Ends, BranchesAt, ContinuesBy, ContinuesAfter, FindsBranch}
+use Rattle.ppunit.specs.code.Walk.{line_at, Outer, lay, AreOuter, Ends, BranchesAt, ContinuesBy, TakesBranch, FindsBranch}
 use Rattle.ppunit.proofs.IndexedLines.{at_index}
 use Rattle.ppunit.proofs.FirstLineCases.{lay_branch, endif_directive, else_directive, not_else, condition_decides}
 use Rattle.ppunit.proofs.WalkSteps.{stands_behind}
@@ -34,7 +34,7 @@ found_at lines index next ps bs qs k b found =
     ap (λ (z : ℕ). drop z lines) (sym same) ∙ known.1
 
 abbrev pub EntersAt : Search → ℕ → List LogicalLine → ℕ → State → Option ℕ → Result Bool Fault → Type 0
-EntersAt search row lines index s remaining_after taken = ContinuesAfter search row s (line_at lines index) remaining_after taken
+EntersAt search row lines index s remaining_after taken = TakesBranch search row s (line_at lines index) remaining_after taken
 
 enters_by : (search : Search) (row : ℕ) (lines : List LogicalLine) (index : ℕ) (s : State) (remaining_after : Option ℕ) (taken : Result Bool Fault) (r : LogicalLine) (d : Option Directive)
     → line_at lines index ≡ r
@@ -42,7 +42,7 @@ enters_by : (search : Search) (row : ℕ) (lines : List LogicalLine) (index : �
     → EntersAt search row lines index s remaining_after taken
     → ContinuesBy search row d s r remaining_after taken
 enters_by search row lines index s remaining_after taken r d here is e =
-    subst (λ (z : Option Directive). ContinuesBy search row z s r remaining_after taken) is (subst (λ (z : LogicalLine). ContinuesAfter search row s z remaining_after taken) here e)
+    subst (λ (z : Option Directive). ContinuesBy search row z s r remaining_after taken) is (subst (λ (z : LogicalLine). TakesBranch search row s z remaining_after taken) here e)
 
 -- A branch line with the role of `#elif` decides by its condition.
 branch_decides : (search : Search) (row : ℕ) (lines : List LogicalLine) (index : ℕ) (s : State) (remaining_after : Option ℕ) (taken : Result Bool Fault) (r : LogicalLine)
@@ -91,7 +91,7 @@ enter_branch search row lines next s remaining_after (End r) qs k e outer entere
       k,
       stands_behind lines next r qs k e outer.1 outer.2,
       λ context by depth end rest.
-          (running s, Branched.no_branch_taken, subst (λ (z : Option ℕ). Ends context depth row (running (with_remaining s z)) qs k end) same rest),
+          (running s, ExecutesBranches.no_branch_taken, subst (λ (z : Option ℕ). Ends context depth row (running (with_remaining s z)) qs k end) same rest),
     )
 enter_branch search row lines next s remaining_after (Branch r ps bs) qs k e ((last, (before, true, is, parts, more)), following, context) entered =
     let there = e ∙ lay_branch r ps qs bs k in
@@ -100,8 +100,8 @@ enter_branch search row lines next s remaining_after (Branch r ps bs) qs k e ((l
       (bs, qs) ∷ k,
       stands_behind lines next r ps ((bs, qs) ∷ k) there parts ((true, more), following, context),
       λ context by depth end rest.
-          let here = subst (λ (z : Option ℕ). Group context depth row (running (with_remaining s z)) ps rest.0) same rest.1 in
-          (rest.0, Branched.else_group (else_directive r.directive is) here, rest.2),
+          let here = subst (λ (z : Option ℕ). ExecutesGroup context depth row (running (with_remaining s z)) ps rest.0) same rest.1 in
+          (rest.0, ExecutesBranches.else_group (else_directive r.directive is) here, rest.2),
     )
 enter_branch search row lines next s remaining_after (Branch r ps bs) qs k e ((last, (before, false, is, parts, more)), following, context) entered =
     let there = e ∙ lay_branch r ps qs bs k in
@@ -110,7 +110,7 @@ enter_branch search row lines next s remaining_after (Branch r ps bs) qs k e ((l
       ps,
       (bs, qs) ∷ k,
       stands_behind lines next r ps ((bs, qs) ∷ k) there parts ((false, more), following, context),
-      λ context by depth end rest. (rest.0, Branched.branch_taken other (decides_around context search row s r remaining_after (Ok true) by decides) rest.1, rest.2),
+      λ context by depth end rest. (rest.0, ExecutesBranches.branch_taken other (decides_around context search row s r remaining_after (Ok true) by decides) rest.1, rest.2),
     )
 
 pub refuse_branch : (search : Search) (row : ℕ) (lines : List LogicalLine) (next : ℕ) (s : State) (remaining_after : Option ℕ) (f : Fault) (bs : Branches) (qs : GroupParts) (k : Outer)
@@ -128,12 +128,12 @@ refuse_branch search row lines next s remaining_after f (Branch r ps bs) qs k e 
 refuse_branch search row lines next s remaining_after f (Branch r ps bs) qs k e ((last, (before, false, is, parts, more)), following, context) entered =
     let there = e ∙ lay_branch r ps qs bs k in
     let other = not_else r.directive is in
-    λ context by depth. Branched.branch_condition_fault other
+    λ context by depth. ExecutesBranches.branch_condition_fault other
     (decides_around context search row s r remaining_after (Err f) by (branch_decides search row lines next s remaining_after (Err f) r (lay ps ((bs, qs) ∷ k)) there is entered))
 
 -- the branches from this index on: all that they reach from state t, the branches bs reach from state s
 abbrev pub Later : Search → ℕ → List LogicalLine → ℕ → State → State → Branches → GroupParts → Outer → Type 0
-Later search row lines index s t bs qs k = (ps : GroupParts) × (cs : Branches) × BranchesAt lines index ps cs qs k × ((context : Context) → search_of context ≡ search → (depth : ℕ) (m : Progress) → Branched context depth row t cs m → Branched context depth row s bs m)
+Later search row lines index s t bs qs k = (ps : GroupParts) × (cs : Branches) × BranchesAt lines index ps cs qs k × ((context : Context) → search_of context ≡ search → (depth : ℕ) (m : Progress) → ExecutesBranches context depth row t cs m → ExecutesBranches context depth row s bs m)
 
 pass_branch : (search : Search) (row : ℕ) (lines : List LogicalLine) (next : ℕ) (s : State) (remaining_after : Option ℕ) (bs : Branches) (qs : GroupParts) (k : Outer)
     → drop next lines ≡ branch_lines bs ++ lay qs k
@@ -154,7 +154,7 @@ pass_branch search row lines next s remaining_after (Branch r ps bs) qs k e ((la
       ps,
       bs,
       record { line = r; rest = there; next = next_of_branch r false is; parts = parts; outer = ((false, more), following, context) },
-      λ context by depth m rest. Branched.branch_skipped other (decides_around context search row s r remaining_after (Ok false) by decides) rest,
+      λ context by depth m rest. ExecutesBranches.branch_skipped other (decides_around context search row s r remaining_after (Ok false) by decides) rest,
     )
 
 -- loop invariant: the branches from `start` up to `index` were skipped, and the state is t

@@ -29,7 +29,7 @@ use Rattle.ppunit.specs.Including.{IncludeName, begins_with_header}
 use Rattle.ppunit.specs.Probing.{condition_tokens}
 use Rattle.ppunit.specs.Conditions.{DecidesBy, DecidesUnless, Decides, DecidesOf}
 use Rattle.ppunit.specs.Directives.{EmitsText, NamesHeaderBy, NamesHeader, ExecutesDirective, with_macros, renumbered_by, is_once, noting_pragma_once}
-use Rattle.ppunit.specs.Group.{Group, Branched, ExecutesControlLine, ExecutesInclude, Opened}
+use Rattle.ppunit.specs.Group.{ExecutesGroup, ExecutesBranches, ExecutesControlLine, ExecutesInclude, OpensFile}
 use Rattle.ppunit.specs.Counts.{count_decides_by, count_decides_unless, count_decides, count_names_header_by, count_names_header, count_control_by, count_group, count_branched, count_control, count_includes, count_opened, count_decides_of}
 use Rattle.ppunit.specs.Unit.{Defines, unread, processed, Translates, definitions_fault, translated, IsUnit, count, count_defines, count_translates}
 use Rattle.ppunit.specs.Capped.{AtMost}
@@ -123,23 +123,23 @@ run_spends s tokens m g = expansion_spends s.macros s.env g.expands ∙ ap (plus
 
 module _ (context : Context) where
   mutual
-    pub group_spends : {depth row : ℕ} {r : Progress} {ps : GroupParts} {end : Progress} (d : Group context depth row r ps end) → r.state.remaining ≡ plus (count_group d) end.state.remaining
-    group_spends (Group.already_stopped {s = s}) = plus-nothing s.remaining
-    group_spends (Group.no_parts {s = s}) = plus-nothing s.remaining
-    group_spends (Group.text_lines {s = s} {lines = lines} {m = m} gives rest) = both _ _ _ (run_spends s (text_tokens lines) m gives) (group_spends rest)
-    group_spends (Group.control here rest) = both _ _ _ (control_spends here) (group_spends rest)
-    group_spends {row = row} (Group.taken {s = s} {line = line} {remaining_after = remaining_after} decides here rest) =
+    pub group_spends : {depth row : ℕ} {r : Progress} {ps : GroupParts} {end : Progress} (d : ExecutesGroup context depth row r ps end) → r.state.remaining ≡ plus (count_group d) end.state.remaining
+    group_spends (ExecutesGroup.already_stopped {s = s}) = plus-nothing s.remaining
+    group_spends (ExecutesGroup.no_parts {s = s}) = plus-nothing s.remaining
+    group_spends (ExecutesGroup.text_lines {s = s} {lines = lines} {m = m} gives rest) = both _ _ _ (run_spends s (text_tokens lines) m gives) (group_spends rest)
+    group_spends (ExecutesGroup.control here rest) = both _ _ _ (control_spends here) (group_spends rest)
+    group_spends {row = row} (ExecutesGroup.taken {s = s} {line = line} {remaining_after = remaining_after} decides here rest) =
         both _ _ _ (decides_spends (search_of context) row s line remaining_after (Ok true) decides) (both _ _ _ (group_spends here) (group_spends rest))
-    group_spends {row = row} (Group.skipped {s = s} {line = line} {remaining_after = remaining_after} decides here rest) =
+    group_spends {row = row} (ExecutesGroup.skipped {s = s} {line = line} {remaining_after = remaining_after} decides here rest) =
         both _ _ _ (decides_spends (search_of context) row s line remaining_after (Ok false) decides) (both _ _ _ (branches_spend here) (group_spends rest))
-    group_spends {row = row} (Group.condition_fault {s = s} {line = line} {remaining_after = remaining_after} {f = f} decides) = decides_spends (search_of context) row s line remaining_after (Err f) decides
+    group_spends {row = row} (ExecutesGroup.condition_fault {s = s} {line = line} {remaining_after = remaining_after} {f = f} decides) = decides_spends (search_of context) row s line remaining_after (Err f) decides
 
-    pub branches_spend : {depth row : ℕ} {s : State} {bs : Branches} {m : Progress} (d : Branched context depth row s bs m) → s.remaining ≡ plus (count_branched d) m.state.remaining
-    branches_spend (Branched.no_branch_taken {s = s}) = plus-nothing s.remaining
-    branches_spend (Branched.else_group e here) = group_spends here
-    branches_spend {row = row} (Branched.branch_taken {s = s} {line = line} {remaining_after = remaining_after} e decides here) = both _ _ _ (decides_spends (search_of context) row s line remaining_after (Ok true) decides) (group_spends here)
-    branches_spend {row = row} (Branched.branch_skipped {s = s} {line = line} {remaining_after = remaining_after} e decides rest) = both _ _ _ (decides_spends (search_of context) row s line remaining_after (Ok false) decides) (branches_spend rest)
-    branches_spend {row = row} (Branched.branch_condition_fault {s = s} {line = line} {remaining_after = remaining_after} {f = f} e decides) = decides_spends (search_of context) row s line remaining_after (Err f) decides
+    pub branches_spend : {depth row : ℕ} {s : State} {bs : Branches} {m : Progress} (d : ExecutesBranches context depth row s bs m) → s.remaining ≡ plus (count_branched d) m.state.remaining
+    branches_spend (ExecutesBranches.no_branch_taken {s = s}) = plus-nothing s.remaining
+    branches_spend (ExecutesBranches.else_group e here) = group_spends here
+    branches_spend {row = row} (ExecutesBranches.branch_taken {s = s} {line = line} {remaining_after = remaining_after} e decides here) = both _ _ _ (decides_spends (search_of context) row s line remaining_after (Ok true) decides) (group_spends here)
+    branches_spend {row = row} (ExecutesBranches.branch_skipped {s = s} {line = line} {remaining_after = remaining_after} e decides rest) = both _ _ _ (decides_spends (search_of context) row s line remaining_after (Ok false) decides) (branches_spend rest)
+    branches_spend {row = row} (ExecutesBranches.branch_condition_fault {s = s} {line = line} {remaining_after = remaining_after} {f = f} e decides) = decides_spends (search_of context) row s line remaining_after (Err f) decides
 
     pub control_spends : {depth row : ℕ} {s : State} {line : LogicalLine} {m : Progress} (d : ExecutesControlLine context depth row s line m) → s.remaining ≡ plus (count_control d) m.state.remaining
     control_spends (ExecutesControlLine.error {s = s} e) = plus-nothing s.remaining
@@ -154,13 +154,13 @@ module _ (context : Context) where
     includes_spend (ExecutesInclude.included {s = s} {line = line} {remaining_after = remaining_after} a found asks finds opens) =
         both _ _ _ (asks_spends s line.tokens remaining_after (Ok a) asks) (opened_spends opens)
 
-    pub opened_spends : {depth row : ℕ} {directory : Option ℕ} {at : Place} {s : State} {m : Progress} (d : Opened context depth at s row directory m) → s.remaining ≡ plus (count_opened d) m.state.remaining
-    opened_spends (Opened.too_deep {s = s} deep) = plus-nothing s.remaining
-    opened_spends (Opened.exhausted {s = s} fits spent) = plus-nothing s.remaining
-    opened_spends (Opened.not_read_again {s = s} fits more once) = pays s.remaining more
-    opened_spends (Opened.not_readable {s = s} fits more once file) = pays s.remaining more
-    opened_spends (Opened.content_fault {s = s} fits more once file reads) = pays s.remaining more
-    opened_spends (Opened.read {s = s} {m = m} fits more once file reads tree here) = pays_then s.remaining m.state.remaining _ more (group_spends here)
+    pub opened_spends : {depth row : ℕ} {directory : Option ℕ} {at : Place} {s : State} {m : Progress} (d : OpensFile context depth at s row directory m) → s.remaining ≡ plus (count_opened d) m.state.remaining
+    opened_spends (OpensFile.too_deep {s = s} deep) = plus-nothing s.remaining
+    opened_spends (OpensFile.exhausted {s = s} fits spent) = plus-nothing s.remaining
+    opened_spends (OpensFile.not_read_again {s = s} fits more once) = pays s.remaining more
+    opened_spends (OpensFile.not_readable {s = s} fits more once file) = pays s.remaining more
+    opened_spends (OpensFile.content_fault {s = s} fits more once file reads) = pays s.remaining more
+    opened_spends (OpensFile.read {s = s} {m = m} fits more once file reads tree here) = pays_then s.remaining m.state.remaining _ more (group_spends here)
 
   pub defines_spends : {defines : List (List ℕ)} {s : State} {m : Progress} (d : Defines context defines s m) → s.remaining ≡ plus (count_defines d) m.state.remaining
   defines_spends (unread {s = s} reads) = plus-nothing s.remaining

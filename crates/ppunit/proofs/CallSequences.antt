@@ -2,10 +2,10 @@
 use Rattle.std.proofs.Common.{◌∙◌}
 use Rattle.ppshelf.specs.declared.disk.Disk.{Ghosts}
 use Rattle.ppunit.specs.declared.preprocessor.Preprocessor.{Preprocessor}
-use Rattle.ppunit.specs.code.Preprocessor.{Continues}
+use Rattle.ppunit.specs.code.Preprocessor.{KeepsContext}
 use Rattle.ppunit.proofs.FileWalk.{extends_trans}
 
-pub continues_on : {D : Type 0} {g : Ghosts D} (a b c : Preprocessor D g) → Continues a b → Continues b c → Continues a c
+pub continues_on : {D : Type 0} {g : Ghosts D} (a b c : Preprocessor D g) → KeepsContext a b → KeepsContext b c → KeepsContext a c
 continues_on a b c ab bc = record {
   context = bc.context ∙ ab.context;
   pass = bc.pass ∙ ab.pass;

@@ -16,7 +16,7 @@ use Rattle.ppunit.specs.Directives.{NamesHeader, FindsFile, ExecutesDirective}
 use Rattle.ppunit.specs.States.{State, Context, Progress, running, stopped, with_remaining}
 use Rattle.ppunit.specs.DirectiveLines.{directed}
 use Rattle.ppunit.specs.Quotes.{unmatched_quote}
-use Rattle.ppunit.specs.Group.{ExecutesControlLine, ExecutesInclude, Opened}
+use Rattle.ppunit.specs.Group.{ExecutesControlLine, ExecutesInclude, OpensFile}
 use Rattle.ppunit.specs.code.Walk.{line_at, Advances, Leads, StepsTo, Steps, restored}
 use Rattle.ppunit.proofs.ControlLines.{control_advances, passes}
 
@@ -68,14 +68,14 @@ pub leads_included : (context : Files → Context) (files : Files) (depth deeper
     → at ≡ hash_place line.tokens
     → NamesHeader s line.tokens remaining_after (Ok a)
     → ((more : Files) → FindsFile (context more) row following a (Some found))
-    → Leads context files deeper (λ more m. Opened (context more) deeper at (with_remaining s remaining_after) found.0 (Some found.1) m) t r
+    → Leads context files deeper (λ more m. OpensFile (context more) deeper at (with_remaining s remaining_after) found.0 (Some found.1) m) t r
     → Leads context files (suc depth) (λ more m. ExecutesInclude (context more) depth row following s line m) t r
 leads_included context files depth deeper row following found at line s t remaining_after a r one place asks finds leads =
     let u = with_remaining s remaining_after in
-    let here : Leads context files (suc depth) (λ more m. Opened (context more) (suc depth) (hash_place line.tokens) u found.0 (Some found.1) m) t r =
-    subst (λ (z : Place). Leads context files (suc depth) (λ more m. Opened (context more) (suc depth) z u found.0 (Some found.1) m) t r) place
-    (subst (λ (z : ℕ). Leads context files z (λ more m. Opened (context more) z at u found.0 (Some found.1) m) t r) one leads) in
-    leads_on context files (suc depth) (λ more m. Opened (context more) (suc depth) (hash_place line.tokens) u found.0 (Some found.1) m)
+    let here : Leads context files (suc depth) (λ more m. OpensFile (context more) (suc depth) (hash_place line.tokens) u found.0 (Some found.1) m) t r =
+    subst (λ (z : Place). Leads context files (suc depth) (λ more m. OpensFile (context more) (suc depth) z u found.0 (Some found.1) m) t r) place
+    (subst (λ (z : ℕ). Leads context files z (λ more m. OpensFile (context more) z at u found.0 (Some found.1) m) t r) one leads) in
+    leads_on context files (suc depth) (λ more m. OpensFile (context more) (suc depth) (hash_place line.tokens) u found.0 (Some found.1) m)
     (λ more m. ExecutesInclude (context more) depth row following s line m) t r (λ more m opened. ExecutesInclude.included a found asks (finds more) opened) here
 
 pub leads_include : (context : Files → Context) (files : Files) (depth row : ℕ) (next : Bool) (directory : Option ℕ) (line : LogicalLine) (s t : State)

@@ -13,7 +13,7 @@ use Rattle.ppunit.specs.States.{State, Context, Progress, running, stopped, with
 use Rattle.ppunit.specs.DirectiveLines.{operands, line_fault}
 use Rattle.ppunit.specs.Quotes.{unmatched_quote}
 use Rattle.ppunit.specs.Directives.{ExecutesDirective, message, checks_quotes, NamesHeader, FindsFile}
-use Rattle.ppunit.specs.Group.{ExecutesControlLine, ExecutesInclude, Opened}
+use Rattle.ppunit.specs.Group.{ExecutesControlLine, ExecutesInclude, OpensFile}
 use Rattle.ppunit.proofs.LineUniqueness.{OneExpansion, OneDecision, OneRow, control_by_once, asks_once}
 use Rattle.ppunit.proofs.SectionUniqueness.{stopped_again}
 use Rattle.ppunit.proofs.ControlClasses.{control_class}
@@ -129,7 +129,7 @@ module _ (expansions : OneExpansion) (decisions : OneDecision) (rows : OneRow) (
       → NamesHeader s line.tokens remaining_after (Ok a)
       → FindsFile context row start a (Some found)
       → ExecutesInclude context depth row start s line m
-      → Opened context (suc depth) (hash_place line.tokens) (with_remaining s remaining_after) found.0 (Some found.1) m
+      → OpensFile context (suc depth) (hash_place line.tokens) (with_remaining s remaining_after) found.0 (Some found.1) m
   after_included {s = s} {line = line} {remaining_after = remaining_after} a found asks finds (ExecutesInclude.operand_fault {remaining_after = following} {f = f} asks') =
       let one : Ok a ≡ Err f = (asks_once expansions decisions s line.tokens remaining_after following (Ok a) (Err f) asks asks').0 in absurd (cc)
   after_included {row = row} {start = start} {s = s} {line = line} {remaining_after = remaining_after} a found asks finds (ExecutesInclude.missing {remaining_after = following} b asks' finds') =
@@ -141,5 +141,5 @@ module _ (expansions : OneExpansion) (decisions : OneDecision) (rows : OneRow) (
       let one : Some found ≡ Some other = finds_once row start b (Some found) (Some other) (subst (λ x. FindsFile context row start x (Some found)) same finds) finds' in
       let same_row : other ≡ found = cc in
       let remainders = sym (asks_once expansions decisions s line.tokens remaining_after following (Ok a) (Ok b) asks asks').1 in
-      subst (λ (x : Option ℕ). Opened context (suc depth) (hash_place line.tokens) (with_remaining s x) found.0 (Some found.1) m) remainders
-      (subst (λ (x : ℕ × ℕ). Opened context (suc depth) (hash_place line.tokens) (with_remaining s following) x.0 (Some x.1) m) same_row opens)
+      subst (λ (x : Option ℕ). OpensFile context (suc depth) (hash_place line.tokens) (with_remaining s x) found.0 (Some found.1) m) remainders
+      (subst (λ (x : ℕ × ℕ). OpensFile context (suc depth) (hash_place line.tokens) (with_remaining s following) x.0 (Some x.1) m) same_row opens)

@@ -7,7 +7,7 @@ use Rattle.pptext.specs.Lines.{LogicalLine}
 use Rattle.pptext.specs.Tree.{GroupParts, Control, AreGroupParts, role, role_by}
 use Rattle.pptext.specs.Classes.{opens_section, ends_group}
 use Rattle.ppunit.specs.States.{State, Context, running}
-use Rattle.ppunit.specs.Group.{Group}
+use Rattle.ppunit.specs.Group.{ExecutesGroup}
 use Rattle.ppunit.specs.Group.{ExecutesControlLine}
 use Rattle.ppshelf.specs.Files.{Files, Extends}
 use Rattle.ppunit.specs.code.Walk.{line_at, Outer, lay, AreOuter, HasPartsAt, Ends, Advances, Passes, PassesFrom}
@@ -22,9 +22,9 @@ control_on : (context : Files → Context) (files : Files) (depth row : ℕ) (li
     → ((more : Files) → Extends more files → ExecutesControlLine (context more) depth row s r (record { state = t; fault = f }))
     → AdvancesFrom context files depth row lines s t (run_result (index + 1) f) (Control r qs) k
 control_on context files depth row lines index s t None r qs k there are outer controls =
-    (qs, k, stands_behind lines index r qs k there are outer, λ more grows end rest. ends_front (context more) depth row (running s) (running t) (Control r qs) qs k end (λ o g. Group.control (controls more grows) g) rest)
+    (qs, k, stands_behind lines index r qs k there are outer, λ more grows end rest. ends_front (context more) depth row (running s) (running t) (Control r qs) qs k end (λ o g. ExecutesGroup.control (controls more grows) g) rest)
 control_on context files depth row lines index s t (Some f) r qs k there are outer controls =
-    λ more grows. ends_stop (context more) depth row (running s) t f (Control r qs) k (Group.control (controls more grows) Group.already_stopped)
+    λ more grows. ends_stop (context more) depth row (running s) t f (Control r qs) k (ExecutesGroup.control (controls more grows) ExecutesGroup.already_stopped)
 
 control_by : (context : Files → Context) (files : Files) (depth row : ℕ) (lines : List LogicalLine) (index : ℕ) (s t : State) (f : Option Fault)
     (ps : GroupParts) (k : Outer)
@@ -67,7 +67,7 @@ passes_by depth row lines index s (Control x qs) k is (control same other) stand
       stands_behind lines index r qs k there stands.parts.1 stands.outer,
       λ context m end controls rest. subst
           (λ (z : LogicalLine). Ends context depth row (running s) (Control z qs) k end) (sym same)
-          (ends_front context depth row (running s) m (Control r qs) qs k end (λ o g. Group.control controls g) rest),
+          (ends_front context depth row (running s) m (Control r qs) qs k end (λ o g. ExecutesGroup.control controls g) rest),
     )
 passes_by depth row lines index s ps k is (text same) stands = absurd (cc)
 passes_by depth row lines index s ps k is (opening same other) stands = absurd (cc)

@@ -22,7 +22,7 @@ use Rattle.ppunit.specs.States.{State, Context, Progress, emitted, with_once, wi
 use Rattle.ppunit.specs.DirectiveLines.{operands, text_tokens}
 use Rattle.ppunit.specs.LineControl.{Presumed, presumed}
 use Rattle.ppunit.specs.Directives.{EmitsText, renumbered_by, with_macros, is_once, ExecutesDirective}
-use Rattle.ppunit.specs.Group.{Group, Branched, ExecutesControlLine, ExecutesInclude, Opened}
+use Rattle.ppunit.specs.Group.{ExecutesGroup, ExecutesBranches, ExecutesControlLine, ExecutesInclude, OpensFile}
 use Rattle.ppunit.specs.Unit.{IsUnit, Defines, unread, processed, Translates, definitions_fault, translated, context_of_unit}
 use Rattle.ppshelf.proofs.SearchResults.{first_within}
 
@@ -74,21 +74,21 @@ module _ (context : Context) where
       cases false = All-push (λ r. r < length context.names) rows row all within
 
   mutual
-    group_within : {depth row : ℕ} {r : Progress} {ps : GroupParts} {end : Progress} → Group context depth row r ps end → Within r.state.deps → Within end.state.deps
-    group_within Group.already_stopped all = all
-    group_within Group.no_parts all = all
-    group_within (Group.text_lines {s = s} {lines = lines} {m = m} gives rest) all = group_within rest (subst Within (sym (run_keeps s (text_tokens lines) m gives)) all)
-    group_within (Group.control here rest) all = group_within rest (control_within here all)
-    group_within (Group.taken decides here rest) all = group_within rest (group_within here all)
-    group_within (Group.skipped decides here rest) all = group_within rest (branches_within here all)
-    group_within (Group.condition_fault decides) all = all
+    group_within : {depth row : ℕ} {r : Progress} {ps : GroupParts} {end : Progress} → ExecutesGroup context depth row r ps end → Within r.state.deps → Within end.state.deps
+    group_within ExecutesGroup.already_stopped all = all
+    group_within ExecutesGroup.no_parts all = all
+    group_within (ExecutesGroup.text_lines {s = s} {lines = lines} {m = m} gives rest) all = group_within rest (subst Within (sym (run_keeps s (text_tokens lines) m gives)) all)
+    group_within (ExecutesGroup.control here rest) all = group_within rest (control_within here all)
+    group_within (ExecutesGroup.taken decides here rest) all = group_within rest (group_within here all)
+    group_within (ExecutesGroup.skipped decides here rest) all = group_within rest (branches_within here all)
+    group_within (ExecutesGroup.condition_fault decides) all = all
 
-    branches_within : {depth row : ℕ} {s : State} {bs : Branches} {m : Progress} → Branched context depth row s bs m → Within s.deps → Within m.state.deps
-    branches_within Branched.no_branch_taken all = all
-    branches_within (Branched.else_group is here) all = group_within here all
-    branches_within (Branched.branch_taken is decides here) all = group_within here all
-    branches_within (Branched.branch_skipped is decides rest) all = branches_within rest all
-    branches_within (Branched.branch_condition_fault is decides) all = all
+    branches_within : {depth row : ℕ} {s : State} {bs : Branches} {m : Progress} → ExecutesBranches context depth row s bs m → Within s.deps → Within m.state.deps
+    branches_within ExecutesBranches.no_branch_taken all = all
+    branches_within (ExecutesBranches.else_group is here) all = group_within here all
+    branches_within (ExecutesBranches.branch_taken is decides here) all = group_within here all
+    branches_within (ExecutesBranches.branch_skipped is decides rest) all = branches_within rest all
+    branches_within (ExecutesBranches.branch_condition_fault is decides) all = all
 
     control_within : {depth row : ℕ} {s : State} {line : LogicalLine} {m : Progress} → ExecutesControlLine context depth row s line m → Within s.deps → Within m.state.deps
     control_within (ExecutesControlLine.error is) all = all
@@ -103,13 +103,13 @@ module _ (context : Context) where
     includes_within (ExecutesInclude.missing a asks finds) all = all
     includes_within (ExecutesInclude.included a found asks finds opens) all = opened_within opens (first_within context.names _ (Some found) finds) all
 
-    opened_within : {depth row : ℕ} {directory : Option ℕ} {at : Place} {s : State} {m : Progress} → Opened context depth at s row directory m → row < length context.names → Within s.deps → Within m.state.deps
-    opened_within (Opened.too_deep deep) within all = all
-    opened_within (Opened.exhausted fits spent) within all = all
-    opened_within {row = row} {s = s} (Opened.not_read_again fits some known) within all = among_within row s.deps within all
-    opened_within {row = row} {s = s} (Opened.not_readable fits some new is) within all = among_within row s.deps within all
-    opened_within {row = row} {s = s} (Opened.content_fault fits some new is reads) within all = among_within row s.deps within all
-    opened_within {row = row} {s = s} (Opened.read fits some new is reads tree here) within all = group_within here (among_within row s.deps within all)
+    opened_within : {depth row : ℕ} {directory : Option ℕ} {at : Place} {s : State} {m : Progress} → OpensFile context depth at s row directory m → row < length context.names → Within s.deps → Within m.state.deps
+    opened_within (OpensFile.too_deep deep) within all = all
+    opened_within (OpensFile.exhausted fits spent) within all = all
+    opened_within {row = row} {s = s} (OpensFile.not_read_again fits some known) within all = among_within row s.deps within all
+    opened_within {row = row} {s = s} (OpensFile.not_readable fits some new is) within all = among_within row s.deps within all
+    opened_within {row = row} {s = s} (OpensFile.content_fault fits some new is reads) within all = among_within row s.deps within all
+    opened_within {row = row} {s = s} (OpensFile.read fits some new is reads tree here) within all = group_within here (among_within row s.deps within all)
 
   defines_within : {defines : List (List ℕ)} {s : State} {m : Progress} → Defines context defines s m → Within s.deps → Within m.state.deps
   defines_within (unread reads) all = all

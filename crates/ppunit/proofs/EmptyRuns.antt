@@ -5,7 +5,7 @@ use Rattle.pptext.specs.declared.tokens.Token.{Token}
 use Rattle.ppmacro.specs.Names.{Macros}
 use Rattle.ppexpand.specs.declared.env.Env.{Env}
 use Rattle.ppexpand.specs.ExpansionStep.{Done, expansion_step}
-use Rattle.ppexpand.specs.Expansion.{ended, done, step_in_budget}
+use Rattle.ppexpand.specs.Expansion.{stops_with, done, step_in_budget}
 use Rattle.ppunit.specs.States.{State}
 use Rattle.ppunit.specs.Directives.{EmitsText}
 
@@ -19,7 +19,7 @@ without_tokens : (s : State) → EmitsText s [] (record { state = s; fault = Non
 without_tokens s = record {
   expanded = record { tokens = []; fault = None; remaining = s.remaining };
   expands = record {
-    outcome = ended s.remaining None;
+    outcome = stops_with s.remaining None;
     expands = (0, done (none_next s.macros s.env s.remaining));
     emitted = refl;
     ended = refl;

@@ -8,7 +8,7 @@ use Rattle.pptext.specs.Tree.{GroupParts, Section, Branches, role, role_by}
 use Rattle.pptext.specs.Classes.{opens_section}
 use Rattle.pptext.proofs.NextBranchFacts.{next_of_opening}
 use Rattle.ppunit.specs.States.{Search, State, Context, search_of, running, with_remaining}
-use Rattle.ppunit.specs.Group.{Group}
+use Rattle.ppunit.specs.Group.{ExecutesGroup}
 use Rattle.ppunit.specs.Conditions.{Decides}
 use Rattle.ppshelf.specs.Files.{Files}
 use Rattle.ppunit.specs.code.Walk.{line_at, Outer, lay, HasPartsAt, Advances, BranchesAt, FindsBranch}
@@ -65,7 +65,7 @@ enter_taken context search files depth row lines index s remaining_after d withi
       (a.branches, a.following) ∷ k,
       a.stands,
       λ more grows end rest. ends_front (context more) depth row (running s) rest.0
-          (Section (line_at lines index) a.first a.branches a.following) a.following k end (λ o g. Group.taken (decides_around (context more) search row s (line_at lines index) remaining_after (Ok true) (by more) decides) rest.1 g) rest.2,
+          (Section (line_at lines index) a.first a.branches a.following) a.following k end (λ o g. ExecutesGroup.taken (decides_around (context more) search row s (line_at lines index) remaining_after (Ok true) (by more) decides) rest.1 g) rest.2,
     )
 
 skipped_to : (context : Files → Context) (search : Search) (files : Files) (depth row : ℕ) (lines : List LogicalLine) (index : ℕ) (s t : State)
@@ -75,9 +75,9 @@ skipped_to : (context : Files → Context) (search : Search) (files : Files) (de
     → FindsBranch search row lines (with_remaining s remaining_after) t bs qs k found
     → AdvancesFrom context files depth row lines s t found (Section r ps bs qs) k
 skipped_to context search files depth row lines index s t remaining_after r ps qs bs k (Ok next) by decides finds =
-    (finds.0, finds.1, finds.2, λ more grows end rest. let f = finds.3 (context more) (by more) depth end rest in ends_front (context more) depth row (running s) f.0 (Section r ps bs qs) qs k end (λ o g. Group.skipped (decides_around (context more) search row s r remaining_after (Ok false) (by more) decides) f.1 g) f.2)
+    (finds.0, finds.1, finds.2, λ more grows end rest. let f = finds.3 (context more) (by more) depth end rest in ends_front (context more) depth row (running s) f.0 (Section r ps bs qs) qs k end (λ o g. ExecutesGroup.skipped (decides_around (context more) search row s r remaining_after (Ok false) (by more) decides) f.1 g) f.2)
 skipped_to context search files depth row lines index s t remaining_after r ps qs bs k (Err f) by decides finds =
-    λ more grows. ends_stop (context more) depth row (running s) t f (Section r ps bs qs) k (Group.skipped (decides_around (context more) search row s r remaining_after (Ok false) (by more) decides) (finds (context more) (by more) depth) Group.already_stopped)
+    λ more grows. ends_stop (context more) depth row (running s) t f (Section r ps bs qs) k (ExecutesGroup.skipped (decides_around (context more) search row s r remaining_after (Ok false) (by more) decides) (finds (context more) (by more) depth) ExecutesGroup.already_stopped)
 
 pub enter_skipped : (context : Files → Context) (search : Search) (files : Files) (depth row : ℕ) (lines : List LogicalLine) (index : ℕ) (s t : State)
     (remaining_after : Option ℕ) (d : Directive) (found : Result ℕ Fault)
@@ -107,4 +107,4 @@ enter_refused context search files depth row lines index s remaining_after d f w
     let a = section_at lines index d ps k within is opens stands in
     subst (λ (z : GroupParts). AdvancesFrom context files depth row lines s (with_remaining s remaining_after) (Err f) z k) (sym a.whole)
     (λ more grows. ends_stop (context more) depth row (running s) (with_remaining s remaining_after) f (Section (line_at lines index) a.first a.branches a.following) k
-    (Group.condition_fault (decides_around (context more) search row s (line_at lines index) remaining_after (Err f) (by more) decides)))
+    (ExecutesGroup.condition_fault (decides_around (context more) search row s (line_at lines index) remaining_after (Err f) (by more) decides)))

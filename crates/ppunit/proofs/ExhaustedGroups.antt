@@ -8,7 +8,7 @@ use Rattle.ppexpand.specs.Expansion.{count_expansion}
 use Rattle.ppexpand.proofs.BudgetLemmas.{Covers, covers_less}
 use Rattle.ppunit.specs.States.{State, file_context, in_file_context, Context, Progress, stopped, with_dependency, with_remaining, with_one_spent, search_of}
 use Rattle.ppunit.specs.DirectiveLines.{text_tokens}
-use Rattle.ppunit.specs.Group.{depth_limit, Group, Branched, ExecutesControlLine, ExecutesInclude, Opened}
+use Rattle.ppunit.specs.Group.{depth_limit, ExecutesGroup, ExecutesBranches, ExecutesControlLine, ExecutesInclude, OpensFile}
 use Rattle.ppunit.specs.Counts.{count_decides, count_names_header, count_group, count_branched, count_control, count_includes, count_opened}
 use Rattle.ppunit.specs.Unit.{Defines, unread, processed, Translates, definitions_fault, translated, count_defines, count_translates}
 use Rattle.ppunit.proofs.OutputPrefixes.{Before, same_state, before_then, depends, group_before, branches_before, opened_before}
@@ -20,41 +20,41 @@ use Rattle.ppunit.proofs.ExhaustedLines.{Stops, over_same, over_then, run_short,
 
 module _ (context : Context) where
   -- opening a file with an exhausted budget
-  over_here : {depth row : ℕ} {directory : Option ℕ} {at : Place} (s t : State) → depth ≤ depth_limit → Before s t → Stops t (λ u f. Opened context depth at (with_remaining s (Some 0)) row directory (stopped u f))
-  over_here {at = at} s t fits h = (with_remaining s (Some 0), fault 35 at [], over_same s t (fault 35 at []) refl h, Opened.exhausted fits refl)
+  over_here : {depth row : ℕ} {directory : Option ℕ} {at : Place} (s t : State) → depth ≤ depth_limit → Before s t → Stops t (λ u f. OpensFile context depth at (with_remaining s (Some 0)) row directory (stopped u f))
+  over_here {at = at} s t fits h = (with_remaining s (Some 0), fault 35 at [], over_same s t (fault 35 at []) refl h, OpensFile.exhausted fits refl)
 
   mutual
     pub group_short : {depth row : ℕ} {r : Progress} {ps : GroupParts} {end : Progress} (b : ℕ) → Covers r.state.remaining b
-        → (d : Group context depth row r ps end)
+        → (d : ExecutesGroup context depth row r ps end)
         → b < count_group d
-        → Stops end.state (λ t f. Group context depth row (holding b r) ps (stopped t f))
-    group_short b is Group.already_stopped less = absurd (omega arith)
-    group_short b is Group.no_parts less = absurd (omega arith)
-    group_short {end = end} b is (Group.text_lines {s = s} {lines = lines} {m = m} gives rest) less =
+        → Stops end.state (λ t f. ExecutesGroup context depth row (holding b r) ps (stopped t f))
+    group_short b is ExecutesGroup.already_stopped less = absurd (omega arith)
+    group_short b is ExecutesGroup.no_parts less = absurd (omega arith)
+    group_short {end = end} b is (ExecutesGroup.text_lines {s = s} {lines = lines} {m = m} gives rest) less =
         let c = count_expansion gives.expands in
         elim (dec_lt b c) [
           | yes less ↦
               (let x = run_short s (text_tokens lines) m b is gives less in
-              (x.0, x.1, over_then x.0 m.state end.state x.1 x.2 (group_before context rest), Group.text_lines x.3 Group.already_stopped))
+              (x.0, x.1, over_then x.0 m.state end.state x.1 x.2 (group_before context rest), ExecutesGroup.text_lines x.3 ExecutesGroup.already_stopped))
           | no not_less ↦
               (let sum : b ≡ c + (b - c) = omega arith in
               let remaining = run_rest s (text_tokens lines) m b (b - c) is gives sum in
               let x = group_short (b - c) remaining rest (omega arith) in
-              (x.0, x.1, x.2, Group.text_lines {end = stopped x.0 x.1} (run_enough s (text_tokens lines) m b is gives (b - c) sum) x.3))
+              (x.0, x.1, x.2, ExecutesGroup.text_lines {end = stopped x.0 x.1} (run_enough s (text_tokens lines) m b is gives (b - c) sum) x.3))
         ]
-    group_short {end = end} b is (Group.control {s = s} {m = m} here rest) less =
+    group_short {end = end} b is (ExecutesGroup.control {s = s} {m = m} here rest) less =
         let c = count_control here in
         elim (dec_lt b c) [
           | yes less ↦
               (let x = control_short b is here less in
-              (x.0, x.1, over_then x.0 m.state end.state x.1 x.2 (group_before context rest), Group.control x.3 Group.already_stopped))
+              (x.0, x.1, over_then x.0 m.state end.state x.1 x.2 (group_before context rest), ExecutesGroup.control x.3 ExecutesGroup.already_stopped))
           | no not_less ↦
               (let sum : b ≡ c + (b - c) = omega arith in
               let remaining = control_rest context b (b - c) is here sum in
               let x = group_short (b - c) remaining rest (omega arith) in
-              (x.0, x.1, x.2, Group.control {end = stopped x.0 x.1} (control_enough context b is here (b - c) sum) x.3))
+              (x.0, x.1, x.2, ExecutesGroup.control {end = stopped x.0 x.1} (control_enough context b is here (b - c) sum) x.3))
         ]
-    group_short {row = row} {end = end} b is (Group.taken {s = s} {line = line} {remaining_after = remaining_after} {m = m} decides here rest) less =
+    group_short {row = row} {end = end} b is (ExecutesGroup.taken {s = s} {line = line} {remaining_after = remaining_after} {m = m} decides here rest) less =
         let c = count_decides (search_of context) row s line remaining_after (Ok true) decides in
         let j = count_group here in
         let k = count_group rest in
@@ -63,23 +63,23 @@ module _ (context : Context) where
         elim (dec_lt b c) [
           | yes less ↦
               (let x = decides_short (search_of context) row s line remaining_after (Ok true) b is decides less in
-              (with_remaining s (Some 0), x.0, over_same s end.state x.0 x.1 (before_then s m.state end.state one two), Group.condition_fault x.2))
+              (with_remaining s (Some 0), x.0, over_same s end.state x.0 x.1 (before_then s m.state end.state one two), ExecutesGroup.condition_fault x.2))
           | no not_less ↦
               (let sum : b ≡ c + (b - c) = omega arith in
               let remaining = decides_rest (search_of context) row s line remaining_after (Ok true) b (b - c) is decides sum in
               elim (dec_lt (b - c) j) [
                 | yes less ↦
                     (let x = group_short (b - c) remaining here less in
-                    (x.0, x.1, over_then x.0 m.state end.state x.1 x.2 two, Group.taken {end = stopped x.0 x.1} (decides_enough (search_of context) row s line remaining_after (Ok true) b is decides (b - c) sum) x.3 Group.already_stopped))
+                    (x.0, x.1, over_then x.0 m.state end.state x.1 x.2 two, ExecutesGroup.taken {end = stopped x.0 x.1} (decides_enough (search_of context) row s line remaining_after (Ok true) b is decides (b - c) sum) x.3 ExecutesGroup.already_stopped))
                 | no not_less2 ↦
                     (let n = b - c - j in
                     let sum2 : b - c ≡ j + n = omega arith in
                     let next = group_rest context (b - c) n remaining here sum2 in
                     let x = group_short n next rest (omega arith) in
-                    (x.0, x.1, x.2, Group.taken {end = stopped x.0 x.1} (decides_enough (search_of context) row s line remaining_after (Ok true) b is decides (b - c) sum) (group_enough context (b - c) remaining here n sum2) x.3))
+                    (x.0, x.1, x.2, ExecutesGroup.taken {end = stopped x.0 x.1} (decides_enough (search_of context) row s line remaining_after (Ok true) b is decides (b - c) sum) (group_enough context (b - c) remaining here n sum2) x.3))
               ])
         ]
-    group_short {row = row} {end = end} b is (Group.skipped {s = s} {line = line} {remaining_after = remaining_after} {m = m} decides here rest) less =
+    group_short {row = row} {end = end} b is (ExecutesGroup.skipped {s = s} {line = line} {remaining_after = remaining_after} {m = m} decides here rest) less =
         let c = count_decides (search_of context) row s line remaining_after (Ok false) decides in
         let j = count_branched here in
         let k = count_group rest in
@@ -88,61 +88,61 @@ module _ (context : Context) where
         elim (dec_lt b c) [
           | yes less ↦
               (let x = decides_short (search_of context) row s line remaining_after (Ok false) b is decides less in
-              (with_remaining s (Some 0), x.0, over_same s end.state x.0 x.1 (before_then s m.state end.state one two), Group.condition_fault x.2))
+              (with_remaining s (Some 0), x.0, over_same s end.state x.0 x.1 (before_then s m.state end.state one two), ExecutesGroup.condition_fault x.2))
           | no not_less ↦
               (let sum : b ≡ c + (b - c) = omega arith in
               let remaining = decides_rest (search_of context) row s line remaining_after (Ok false) b (b - c) is decides sum in
               elim (dec_lt (b - c) j) [
                 | yes less ↦
                     (let x = branches_short (b - c) remaining here less in
-                    (x.0, x.1, over_then x.0 m.state end.state x.1 x.2 two, Group.skipped {end = stopped x.0 x.1} (decides_enough (search_of context) row s line remaining_after (Ok false) b is decides (b - c) sum) x.3 Group.already_stopped))
+                    (x.0, x.1, over_then x.0 m.state end.state x.1 x.2 two, ExecutesGroup.skipped {end = stopped x.0 x.1} (decides_enough (search_of context) row s line remaining_after (Ok false) b is decides (b - c) sum) x.3 ExecutesGroup.already_stopped))
                 | no not_less2 ↦
                     (let n = b - c - j in
                     let sum2 : b - c ≡ j + n = omega arith in
                     let next = branches_rest context (b - c) n remaining here sum2 in
                     let x = group_short n next rest (omega arith) in
-                    (x.0, x.1, x.2, Group.skipped {end = stopped x.0 x.1} (decides_enough (search_of context) row s line remaining_after (Ok false) b is decides (b - c) sum) (branches_enough context (b - c) remaining here n sum2) x.3))
+                    (x.0, x.1, x.2, ExecutesGroup.skipped {end = stopped x.0 x.1} (decides_enough (search_of context) row s line remaining_after (Ok false) b is decides (b - c) sum) (branches_enough context (b - c) remaining here n sum2) x.3))
               ])
         ]
-    group_short {row = row} b is (Group.condition_fault {s = s} {line = line} {remaining_after = remaining_after} {f = f} decides) less =
+    group_short {row = row} b is (ExecutesGroup.condition_fault {s = s} {line = line} {remaining_after = remaining_after} {f = f} decides) less =
         let x = decides_short (search_of context) row s line remaining_after (Err f) b is decides less in
-        (with_remaining s (Some 0), x.0, over_same s (with_remaining s remaining_after) x.0 x.1 (same_state s), Group.condition_fault x.2)
+        (with_remaining s (Some 0), x.0, over_same s (with_remaining s remaining_after) x.0 x.1 (same_state s), ExecutesGroup.condition_fault x.2)
 
     branches_short : {depth row : ℕ} {s : State} {bs : Branches} {m : Progress} (b : ℕ) → Covers s.remaining b
-        → (d : Branched context depth row s bs m)
+        → (d : ExecutesBranches context depth row s bs m)
         → b < count_branched d
-        → Stops m.state (λ t f. Branched context depth row (with_remaining s (Some b)) bs (stopped t f))
-    branches_short b is Branched.no_branch_taken less = absurd (omega arith)
-    branches_short b is (Branched.else_group e here) less =
+        → Stops m.state (λ t f. ExecutesBranches context depth row (with_remaining s (Some b)) bs (stopped t f))
+    branches_short b is ExecutesBranches.no_branch_taken less = absurd (omega arith)
+    branches_short b is (ExecutesBranches.else_group e here) less =
         let x = group_short b is here less in
-        (x.0, x.1, x.2, Branched.else_group e x.3)
-    branches_short {row = row} {m = m} b is (Branched.branch_taken {s = s} {line = line} {remaining_after = remaining_after} e decides here) less =
+        (x.0, x.1, x.2, ExecutesBranches.else_group e x.3)
+    branches_short {row = row} {m = m} b is (ExecutesBranches.branch_taken {s = s} {line = line} {remaining_after = remaining_after} e decides here) less =
         let c = count_decides (search_of context) row s line remaining_after (Ok true) decides in
         elim (dec_lt b c) [
           | yes less ↦
               (let x = decides_short (search_of context) row s line remaining_after (Ok true) b is decides less in
-              (with_remaining s (Some 0), x.0, over_same s m.state x.0 x.1 (group_before context here), Branched.branch_condition_fault e x.2))
+              (with_remaining s (Some 0), x.0, over_same s m.state x.0 x.1 (group_before context here), ExecutesBranches.branch_condition_fault e x.2))
           | no not_less ↦
               (let sum : b ≡ c + (b - c) = omega arith in
               let remaining = decides_rest (search_of context) row s line remaining_after (Ok true) b (b - c) is decides sum in
               let x = group_short (b - c) remaining here (omega arith) in
-              (x.0, x.1, x.2, Branched.branch_taken {m = stopped x.0 x.1} e (decides_enough (search_of context) row s line remaining_after (Ok true) b is decides (b - c) sum) x.3))
+              (x.0, x.1, x.2, ExecutesBranches.branch_taken {m = stopped x.0 x.1} e (decides_enough (search_of context) row s line remaining_after (Ok true) b is decides (b - c) sum) x.3))
         ]
-    branches_short {row = row} {m = m} b is (Branched.branch_skipped {s = s} {line = line} {remaining_after = remaining_after} e decides here) less =
+    branches_short {row = row} {m = m} b is (ExecutesBranches.branch_skipped {s = s} {line = line} {remaining_after = remaining_after} e decides here) less =
         let c = count_decides (search_of context) row s line remaining_after (Ok false) decides in
         elim (dec_lt b c) [
           | yes less ↦
               (let x = decides_short (search_of context) row s line remaining_after (Ok false) b is decides less in
-              (with_remaining s (Some 0), x.0, over_same s m.state x.0 x.1 (branches_before context here), Branched.branch_condition_fault e x.2))
+              (with_remaining s (Some 0), x.0, over_same s m.state x.0 x.1 (branches_before context here), ExecutesBranches.branch_condition_fault e x.2))
           | no not_less ↦
               (let sum : b ≡ c + (b - c) = omega arith in
               let remaining = decides_rest (search_of context) row s line remaining_after (Ok false) b (b - c) is decides sum in
               let x = branches_short (b - c) remaining here (omega arith) in
-              (x.0, x.1, x.2, Branched.branch_skipped {m = stopped x.0 x.1} e (decides_enough (search_of context) row s line remaining_after (Ok false) b is decides (b - c) sum) x.3))
+              (x.0, x.1, x.2, ExecutesBranches.branch_skipped {m = stopped x.0 x.1} e (decides_enough (search_of context) row s line remaining_after (Ok false) b is decides (b - c) sum) x.3))
         ]
-    branches_short {row = row} b is (Branched.branch_condition_fault {s = s} {line = line} {remaining_after = remaining_after} {f = f} e decides) less =
+    branches_short {row = row} b is (ExecutesBranches.branch_condition_fault {s = s} {line = line} {remaining_after = remaining_after} {f = f} e decides) less =
         let x = decides_short (search_of context) row s line remaining_after (Err f) b is decides less in
-        (with_remaining s (Some 0), x.0, over_same s (with_remaining s remaining_after) x.0 x.1 (same_state s), Branched.branch_condition_fault e x.2)
+        (with_remaining s (Some 0), x.0, over_same s (with_remaining s remaining_after) x.0 x.1 (same_state s), ExecutesBranches.branch_condition_fault e x.2)
 
     control_short : {depth row : ℕ} {s : State} {line : LogicalLine} {m : Progress} (b : ℕ) → Covers s.remaining b
         → (d : ExecutesControlLine context depth row s line m)
@@ -182,22 +182,22 @@ module _ (context : Context) where
         ]
 
     pub opened_short : {depth row : ℕ} {directory : Option ℕ} {at : Place} {s : State} {m : Progress} (b : ℕ) → Covers s.remaining b
-        → (d : Opened context depth at s row directory m)
+        → (d : OpensFile context depth at s row directory m)
         → b < count_opened d
-        → Stops m.state (λ t f. Opened context depth at (with_remaining s (Some b)) row directory (stopped t f))
-    opened_short b is (Opened.too_deep deep) less = absurd (omega arith)
-    opened_short b is (Opened.exhausted fits spent) less = absurd (omega arith)
-    opened_short {depth} {row} {directory} {at} zero is (Opened.not_read_again {s = s} fits more once) less = over_here {depth = depth} {row = row} {directory = directory} {at = at} s (with_dependency (with_one_spent s) row) fits (depends s row)
-    opened_short (suc b) is (Opened.not_read_again fits more once) less = absurd (omega arith)
-    opened_short {depth} {row} {directory} {at} zero is (Opened.not_readable {s = s} fits more once file) less = over_here {depth = depth} {row = row} {directory = directory} {at = at} s (with_dependency (with_one_spent s) row) fits (depends s row)
-    opened_short (suc b) is (Opened.not_readable fits more once file) less = absurd (omega arith)
-    opened_short {depth} {row} {directory} {at} zero is (Opened.content_fault {s = s} fits more once file reads) less = over_here {depth = depth} {row = row} {directory = directory} {at = at} s (with_dependency (with_one_spent s) row) fits (depends s row)
-    opened_short (suc b) is (Opened.content_fault fits more once file reads) less = absurd (omega arith)
-    opened_short {depth} {row} {directory} {at} zero is (Opened.read {s = s} {m = m} fits more once file reads tree here) less =
+        → Stops m.state (λ t f. OpensFile context depth at (with_remaining s (Some b)) row directory (stopped t f))
+    opened_short b is (OpensFile.too_deep deep) less = absurd (omega arith)
+    opened_short b is (OpensFile.exhausted fits spent) less = absurd (omega arith)
+    opened_short {depth} {row} {directory} {at} zero is (OpensFile.not_read_again {s = s} fits more once) less = over_here {depth = depth} {row = row} {directory = directory} {at = at} s (with_dependency (with_one_spent s) row) fits (depends s row)
+    opened_short (suc b) is (OpensFile.not_read_again fits more once) less = absurd (omega arith)
+    opened_short {depth} {row} {directory} {at} zero is (OpensFile.not_readable {s = s} fits more once file) less = over_here {depth = depth} {row = row} {directory = directory} {at = at} s (with_dependency (with_one_spent s) row) fits (depends s row)
+    opened_short (suc b) is (OpensFile.not_readable fits more once file) less = absurd (omega arith)
+    opened_short {depth} {row} {directory} {at} zero is (OpensFile.content_fault {s = s} fits more once file reads) less = over_here {depth = depth} {row = row} {directory = directory} {at = at} s (with_dependency (with_one_spent s) row) fits (depends s row)
+    opened_short (suc b) is (OpensFile.content_fault fits more once file reads) less = absurd (omega arith)
+    opened_short {depth} {row} {directory} {at} zero is (OpensFile.read {s = s} {m = m} fits more once file reads tree here) less =
         over_here {depth = depth} {row = row} {directory = directory} {at = at} s (in_file_context (file_context s) m.state) fits (before_then s (with_dependency s row) m.state (depends s row) (group_before context here))
-    opened_short (suc b) is (Opened.read {s = s} {m = m} fits more once file reads tree here) less =
+    opened_short (suc b) is (OpensFile.read {s = s} {m = m} fits more once file reads tree here) less =
         let x = group_short b (covers_less is) here (omega arith) in
-        (in_file_context (file_context s) x.0, x.1, record { number = x.2.number; remaining = x.2.remaining; before = x.2.before }, Opened.read fits refl once file reads tree x.3)
+        (in_file_context (file_context s) x.0, x.1, record { number = x.2.number; remaining = x.2.remaining; before = x.2.before }, OpensFile.read fits refl once file reads tree x.3)
 
   defines_short : {defines : List (List ℕ)} {s : State} {m : Progress} (b : ℕ) → Covers s.remaining b
       → (d : Defines context defines s m)

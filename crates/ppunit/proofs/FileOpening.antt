@@ -14,7 +14,7 @@ use Rattle.ppshelf.specs.Files.{Files, Extends}
 use Rattle.ppunit.specs.declared.states.FileContext.{FileContext}
 use Rattle.ppunit.specs.States.{UnitContext, State, file_context, Progress, running, stopped, with_dependency, entering, with_one_spent, literal, context_over, Context}
 use Rattle.ppunit.specs.Dependencies.{has_row}
-use Rattle.ppunit.specs.Group.{depth_limit, Group, Opened}
+use Rattle.ppunit.specs.Group.{depth_limit, ExecutesGroup, OpensFile}
 use Rattle.ppunit.specs.code.Opening.{Entered, IsRefusedOpening, SpendsOpening, HasLines, HasFault, Begins}
 use Rattle.ppunit.specs.code.Walk.{EntersFile, Leads, restored}
 use Rattle.ppunit.proofs.GuardedFiles.{opens_left_out}
@@ -22,13 +22,13 @@ use Rattle.ppunit.proofs.GuardedFiles.{opens_left_out}
 -- an opening that fails, because it is too deep or the budget is exhausted
 pub opens_unpaid : (context : Context) (depth row : ℕ) (directory : Option ℕ) (at : Place) (s t : State) (f : Fault)
     → SpendsOpening depth at (name_in context.names row) s t (Some f)
-    → Opened context depth at s row directory (stopped t f)
+    → OpensFile context depth at s row directory (stopped t f)
 opens_unpaid context depth row directory at s t f unpaid =
-    subst (λ (z : State). Opened context depth at s row directory (stopped z f)) (sym unpaid.0) (by unpaid.1)
+    subst (λ (z : State). OpensFile context depth at s row directory (stopped z f)) (sym unpaid.0) (by unpaid.1)
   where
-    by : IsRefusedOpening depth at (name_in context.names row) s f → Opened context depth at s row directory (stopped s f)
-    by (inl (deep, is)) = subst (λ (z : Fault). Opened context depth at s row directory (stopped s z)) (sym is) (Opened.too_deep deep)
-    by (inr (fits, spent, is)) = subst (λ (z : Fault). Opened context depth at s row directory (stopped s z)) (sym is) (Opened.exhausted fits spent)
+    by : IsRefusedOpening depth at (name_in context.names row) s f → OpensFile context depth at s row directory (stopped s f)
+    by (inl (deep, is)) = subst (λ (z : Fault). OpensFile context depth at s row directory (stopped s z)) (sym is) (OpensFile.too_deep deep)
+    by (inr (fits, spent, is)) = subst (λ (z : Fault). OpensFile context depth at s row directory (stopped s z)) (sym is) (OpensFile.exhausted fits spent)
 
 -- a file that is not read again
 pub opens_known : (context : Context) (depth row : ℕ) (directory : Option ℕ) (at : Place) (name : List ℕ) (s a t : State) (known : Bool)
@@ -36,11 +36,11 @@ pub opens_known : (context : Context) (depth row : ℕ) (directory : Option ℕ)
     → t ≡ with_dependency a row
     → known ≡ has_row row a.once
     → known ≡ true
-    → Opened context depth at s row directory (running t)
+    → OpensFile context depth at s row directory (running t)
 opens_known context depth row directory at name s a t known (fits, some, pays) joins is true-is =
-    let here = Opened.not_read_again {depth = depth} {row = row} {directory = directory} {at = at} {s = s} fits some
+    let here = OpensFile.not_read_again {depth = depth} {row = row} {directory = directory} {at = at} {s = s} fits some
     (ap (λ (z : State). has_row row z.once) (sym pays) ∙ sym is ∙ true-is) in
-    subst (λ (z : State). Opened context depth at s row directory (running z)) (sym (joins ∙ ap (λ (z : State). with_dependency z row) pays)) here
+    subst (λ (z : State). OpensFile context depth at s row directory (running z)) (sym (joins ∙ ap (λ (z : State). with_dependency z row) pays)) here
 
 -- the opening is spent from the budget, and the file, which is to be read, is a dependency
 abbrev pub IsReady : ℕ → ℕ → State → State → Type 0
@@ -60,16 +60,16 @@ pub opens_faulty : (library : UnitContext) (files more : Files) (depth row : ℕ
     → IsReady depth row s t
     → HasFault library.shelf files row at f
     → Extends more files
-    → Opened (context_over library more) depth at s row directory (stopped t f)
+    → OpensFile (context_over library more) depth at s row directory (stopped t f)
 opens_faulty library files more depth row directory at s t f (fits, some, new, is) fault grows =
-    subst (λ (z : State). Opened (context_over library more) depth at s row directory (stopped z f)) (sym is) (by fault)
+    subst (λ (z : State). OpensFile (context_over library more) depth at s row directory (stopped z f)) (sym is) (by fault)
   where
-    by : HasFault library.shelf files row at f → Opened (context_over library more) depth at s row directory (stopped (with_dependency (with_one_spent s) row) f)
+    by : HasFault library.shelf files row at f → OpensFile (context_over library more) depth at s row directory (stopped (with_dependency (with_one_spent s) row) f)
     by (inl (known, probe_result)) =
-        subst (λ (z : Fault). Opened (context_over library more) depth at s row directory (stopped (with_dependency (with_one_spent s) row) z)) (sym probe_result)
-        (Opened.not_readable fits some new (grows row unreadable known))
+        subst (λ (z : Fault). OpensFile (context_over library more) depth at s row directory (stopped (with_dependency (with_one_spent s) row) z)) (sym probe_result)
+        (OpensFile.not_readable fits some new (grows row unreadable known))
     by (inr (unreadable, known, reads)) = absurd reads
-    by (inr (readable bytes, known, reads)) = Opened.content_fault fits some new (grows row (readable bytes) known) reads
+    by (inr (readable bytes, known, reads)) = OpensFile.content_fault fits some new (grows row (readable bytes) known) reads
 
 tree_of : (profile : Profile) (row : ℕ) (bytes : List ℕ) (lines : List LogicalLine)
     → IsSource profile row bytes lines
@@ -94,15 +94,15 @@ pub opens_begun : (library : UnitContext) (files : Files) (depth row : ℕ) (dir
     → HasLines library.shelf files row lines
     → name ≡ name_in library.shelf.names row
     → Begins name row directory lines t u entered
-    → Leads (context_over library) files depth (λ more m. Opened (context_over library more) depth at s row directory m) u (Ok entered)
+    → Leads (context_over library) files depth (λ more m. OpensFile (context_over library more) depth at s row directory m) u (Ok entered)
 opens_begun library files depth row directory at s t u name lines None (fits, some, new, is) (content, known, reads) named (remaining, same) =
-    λ more grows. subst (λ (z : State). Opened (context_over library more) depth at s row directory (running z)) (sym same)
+    λ more grows. subst (λ (z : State). OpensFile (context_over library more) depth at s row directory (running z)) (sym same)
     (opens_left_out (context_over library more) depth row directory at s t content lines fits some (grows row content known) reads is remaining)
 opens_begun library files depth row directory at s t u name lines (Some e) noted (unreadable, known, reads) named begins = absurd reads
 opens_begun library files depth row directory at s t u name lines (Some e) (fits, some, new, is) (readable bytes, known, reads) named
-    (file, few, continues_after) =
+    (file, few, takes_branch) =
     let tree = tree_of library.shelf.profile row bytes lines reads in
-    let whole : Files → Progress → Type 0 = λ more m. Opened (context_over library more) depth at s row directory m in
+    let whole : Files → Progress → Type 0 = λ more m. OpensFile (context_over library more) depth at s row directory m in
     subst (λ (z : Entered). EntersFile (context_over library) files depth whole u z) (sym file) (record {
       fits = fits;
       begins = refl;
@@ -110,8 +110,8 @@ opens_begun library files depth row directory at s t u name lines (Some e) (fits
       parts = tree.0;
       tree = tree.1;
       group = λ more grows m group.
-          let inside = subst (λ (z : State). Group (context_over library more) depth row (running z) tree.0 m)
-          (entering_is (context_over library more) row directory (with_one_spent s) t u name is continues_after named) group in
-          subst (λ (z : FileContext). Opened (context_over library more) depth at s row directory (restored z m)) (sym (ap file_context is))
-          (Opened.read fits some new (grows row (readable bytes) known) reads tree.1 inside);
+          let inside = subst (λ (z : State). ExecutesGroup (context_over library more) depth row (running z) tree.0 m)
+          (entering_is (context_over library more) row directory (with_one_spent s) t u name is takes_branch named) group in
+          subst (λ (z : FileContext). OpensFile (context_over library more) depth at s row directory (restored z m)) (sym (ap file_context is))
+          (OpensFile.read fits some new (grows row (readable bytes) known) reads tree.1 inside);
     })

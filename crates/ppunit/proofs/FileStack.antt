@@ -5,7 +5,7 @@ use Rattle.pptext.specs.Lines.{LogicalLine}
 use Rattle.pptext.specs.Tree.{GroupParts, Tree}
 use Rattle.ppshelf.specs.Files.{Files, Extends}
 use Rattle.ppunit.specs.code.Opening.{OpenFile, Entered}
-use Rattle.ppunit.specs.Group.{Group, ExecutesControlLine}
+use Rattle.ppunit.specs.Group.{ExecutesGroup, ExecutesControlLine}
 use Rattle.ppunit.specs.States.{State, in_file_context, Context, Progress, running, stopped}
 use Rattle.ppunit.specs.code.Walk.{line_at, Outer, HasPartsAt, Ends, Advances, Passes, EntersFile, StepsTo, SuspendedFile, Walks, restored, next_file, next_suspended, contexts_restored}
 use Rattle.ppunit.proofs.FileWalk.{FileSoFar, file_start, file_more, file_stop, file_done, extends_trans}
@@ -35,14 +35,14 @@ pub record StackAt (context : Files → Context) (files : Files) (whole : Files 
 
 -- the walk has come this far, for each tree of the first file
 pub record StackSoFar (context : Files → Context) (files : Files) (row : ℕ) (lines : List LogicalLine) (s : State) (ws : List SuspendedFile) (file : OpenFile) (t : State) : Type 0 where
-  pub so_far : (parts : GroupParts) → Tree lines parts → StackAt context files (λ more m. Group (context more) 0 row (running s) parts m) ws file t
+  pub so_far : (parts : GroupParts) → Tree lines parts → StackAt context files (λ more m. ExecutesGroup (context more) 0 row (running s) parts m) ws file t
 
 pub stack_start : (context : Files → Context) (files : Files) (s : State) (file : OpenFile) → file.index ≡ 0 → StackSoFar context files file.row file.lines s [] file s
 stack_start context files s file begins = record {
   so_far = λ parts tree. record {
     rests = [];
     waits = tt;
-    file_so_far = file_start context files (λ more m. Group (context more) 0 file.row (running s) parts m) 0 file.row file.lines file.index s parts begins tree (λ more grows end group. group);
+    file_so_far = file_start context files (λ more m. ExecutesGroup (context more) 0 file.row (running s) parts m) 0 file.row file.lines file.index s parts begins tree (λ more grows end group. group);
   };
 }
 
@@ -53,7 +53,7 @@ enters_at : (context : Files → Context) (old new : Files) (whole : Files → P
     → Passes (length ws) file.row file.lines file.index t next
     → EntersFile context new (suc (length ws)) (λ more m. ExecutesControlLine (context more) (length ws) file.row t (line_at file.lines file.index) m) u e
     → StackAt context new whole (record { file = record file { index = next }; file_context = e.outer } ∷ ws) e.file u
-enters_at context old new whole next t u ws file e at wider passes continues_after =
+enters_at context old new whole next t u ws file e at wider passes takes_branch =
     let f = at.file_so_far in
     let g = passes f.parts f.outer f.stands in
     record {
@@ -61,9 +61,9 @@ enters_at context old new whole next t u ws file e at wider passes continues_aft
       waits = (g.2, at.waits);
       file_so_far =
           file_start context new (Owes context whole (record { file = record file { index = next }; file_context = e.outer } ∷ ws) ((g.0, g.1) ∷ at.rests))
-          (suc (length ws)) e.file.row e.file.lines e.file.index u continues_after.parts continues_after.begins continues_after.tree
+          (suc (length ws)) e.file.row e.file.lines e.file.index u takes_branch.parts takes_branch.begins takes_branch.tree
           (λ more grows m group end rest. f.ends more (extends_trans more new old grows wider) end
-          (g.3 (context more) (restored e.outer m) end (continues_after.group more grows m group) rest));
+          (g.3 (context more) (restored e.outer m) end (takes_branch.group more grows m group) rest));
     }
 
 next_at : (context : Files → Context) (old new : Files) (whole : Files → Progress → Type 0) (next : ℕ) (t u : State) (ws : List SuspendedFile)
@@ -86,7 +86,7 @@ pub stack_next : (context : Files → Context) (old new : Files) (row : ℕ) (li
     → StepsTo context new (length ws) file.row file.lines file.index t u next entered
     → StackSoFar context new row lines s (next_suspended (record file { index = next }) entered ws) (next_file (record file { index = next }) entered) u
 stack_next context old new row lines s t u ws file next entered sofar wider step = record {
-  so_far = λ parts tree. next_at context old new (λ more m. Group (context more) 0 row (running s) parts m) next t u ws file entered (sofar.so_far parts tree) wider step;
+  so_far = λ parts tree. next_at context old new (λ more m. ExecutesGroup (context more) 0 row (running s) parts m) next t u ws file entered (sofar.so_far parts tree) wider step;
 }
 
 -- At most 200 files are suspended.
@@ -126,7 +126,7 @@ pub stack_leaves : (context : Files → Context) (files : Files) (row : ℕ) (li
 stack_leaves context files row lines s t w ws file sofar over = record {
   so_far = λ parts tree.
       let f = sofar.so_far parts tree in
-      leaves_at context files (λ more m. Group (context more) 0 row (running s) parts m) w ws file t f.rests f.waits f.file_so_far over;
+      leaves_at context files (λ more m. ExecutesGroup (context more) 0 row (running s) parts m) w ws file t f.rests f.waits f.file_so_far over;
 }
 
 stops_at : (context : Files → Context) (whole : Files → Progress → Type 0) (more : Files) (t : State) (fault : Fault) (ws : List SuspendedFile)
@@ -138,7 +138,7 @@ stops_at context whole more t fault [] rests waits owes = owes
 stops_at context whole more t fault (w ∷ ws) [] waits owes = absurd waits
 stops_at context whole more t fault (w ∷ ws) ((ps, k) ∷ rests) waits owes =
     let u = in_file_context w.file_context t in
-    stops_at context whole more u fault ws rests waits.1 (owes (stopped u fault) (ends_stop (context more) (length ws) w.file.row (stopped u fault) u fault ps k Group.already_stopped))
+    stops_at context whole more u fault ws rests waits.1 (owes (stopped u fault) (ends_stop (context more) (length ws) w.file.row (stopped u fault) u fault ps k ExecutesGroup.already_stopped))
 
 pub stack_stops : (context : Files → Context) (old new : Files) (row : ℕ) (lines : List LogicalLine) (s t u : State) (fault : Fault)
     (ws : List SuspendedFile) (file : OpenFile)
@@ -148,7 +148,7 @@ pub stack_stops : (context : Files → Context) (old new : Files) (row : ℕ) (l
     → Walks context new 0 row lines s (stopped (contexts_restored ws u) fault)
 stack_stops context old new row lines s t u fault ws file sofar wider step parts tree more grows =
     let f = sofar.so_far parts tree in
-    let whole : Files → Progress → Type 0 = λ more m. Group (context more) 0 row (running s) parts m in
+    let whole : Files → Progress → Type 0 = λ more m. ExecutesGroup (context more) 0 row (running s) parts m in
     stops_at context whole more u fault ws f.rests f.waits (file_stop context old new (Owes context whole ws f.rests) (length ws) file.row file.lines file.index t u fault f.file_so_far wider step more grows)
 
 pub stack_done : (context : Files → Context) (files : Files) (row : ℕ) (lines : List LogicalLine) (s t : State) (file : OpenFile)
@@ -157,5 +157,5 @@ pub stack_done : (context : Files → Context) (files : Files) (row : ℕ) (line
     → Walks context files 0 row lines s (running t)
 stack_done context files row lines s t file sofar over parts tree more grows =
     let f = sofar.so_far parts tree in
-    let whole : Files → Progress → Type 0 = λ more m. Group (context more) 0 row (running s) parts m in
+    let whole : Files → Progress → Type 0 = λ more m. ExecutesGroup (context more) 0 row (running s) parts m in
     file_done context files (Owes context whole [] f.rests) 0 file.row file.lines file.index t f.file_so_far over more grows

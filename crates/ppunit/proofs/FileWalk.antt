@@ -5,7 +5,7 @@ use Rattle.pptext.specs.declared.tokens.Fault.{Fault}
 use Rattle.pptext.specs.Lines.{LogicalLine}
 use Rattle.pptext.specs.Tree.{GroupParts, Done, TextLines, Control, Section, End, Branch, AreGroupParts, Tree}
 use Rattle.ppunit.specs.States.{State, Context, Progress, running, stopped}
-use Rattle.ppunit.specs.Group.{Group}
+use Rattle.ppunit.specs.Group.{ExecutesGroup}
 use Rattle.ppshelf.specs.Files.{Files, Extends}
 use Rattle.ppunit.specs.code.Walk.{Outer, lay, HasPartsAt, Ends, Advances}
 use Rattle.ppunit.proofs.FirstLineCases.{lay_run, lay_control, lay_section}
@@ -21,7 +21,7 @@ pub file_start : (context : Files → Context) (files : Files) (whole : Files �
     (index : ℕ) (t : State) (parts : GroupParts)
     → index ≡ 0
     → Tree lines parts
-    → ((more : Files) → Extends more files → (end : Progress) → Group (context more) depth row (running t) parts end → whole more end)
+    → ((more : Files) → Extends more files → (end : Progress) → ExecutesGroup (context more) depth row (running t) parts end → whole more end)
     → FileSoFar context files whole depth row lines index t
 file_start context files whole depth row lines index t parts begins tree ends =
     subst (λ (z : ℕ). FileSoFar context files whole depth row lines z t) (sym begins) (record { parts = parts; outer = []; stands = record { rest = sym tree.whole; parts = tree.each; outer = tt }; ends = ends })
@@ -51,7 +51,7 @@ file_stop context old new whole depth row lines index t u fault sofar wider step
     sofar.ends more (extends_trans more new old grows wider) (stopped u fault) (step sofar.parts sofar.outer sofar.stands more grows)
 
 nothing_laid : (context : Context) (depth row : ℕ) (t : State) (ps : GroupParts) (k : Outer) → lay ps k ≡ [] → AreGroupParts ps → Ends context depth row (running t) ps k (running t)
-nothing_laid context depth row t Done [] e are = Group.no_parts
+nothing_laid context depth row t Done [] e are = ExecutesGroup.no_parts
 nothing_laid context depth row t Done ((End r, qs) ∷ k) e are = absurd (cc)
 nothing_laid context depth row t Done ((Branch r ps bs, qs) ∷ k) e are = absurd (cc)
 nothing_laid context depth row t (TextLines [] ps) k e are = absurd (are.0 refl)

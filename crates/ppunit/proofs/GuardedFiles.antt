@@ -11,7 +11,7 @@ use Rattle.pptext.specs.Guard.{IsBlankLine, AreBlank, GuardedParts, GuardedBy}
 use Rattle.pptext.proofs.Trees.{at_most_one}
 use Rattle.ppexpand.specs.ExpansionStep.{expansion_step}
 use Rattle.ppexpand.specs.Budget.{is_exhausted}
-use Rattle.ppexpand.specs.Expansion.{ended, done, step_in_budget, count_expansion}
+use Rattle.ppexpand.specs.Expansion.{stops_with, done, step_in_budget, count_expansion}
 use Rattle.ppshelf.specs.Content.{Content, unreadable, readable, IsRead}
 use Rattle.ppshelf.specs.Files.{file_at}
 use Rattle.ppunit.specs.declared.units.Item.{Item}
@@ -20,7 +20,7 @@ use Rattle.ppunit.specs.Dependencies.{has_row}
 use Rattle.ppunit.specs.DirectiveLines.{text_tokens}
 use Rattle.ppunit.specs.Conditions.{is_macro_name}
 use Rattle.ppunit.specs.Directives.{EmitsText}
-use Rattle.ppunit.specs.Group.{depth_limit, Group, Branched, Opened}
+use Rattle.ppunit.specs.Group.{depth_limit, ExecutesGroup, ExecutesBranches, OpensFile}
 use Rattle.ppunit.specs.Counts.{count_group, count_opened}
 use Rattle.ppunit.specs.Guarded.{GuardsLeaveOut, IsLeftOut}
 use Rattle.ppunit.proofs.FileTokens.{IsSpelledLine, source_spelled}
@@ -42,7 +42,7 @@ unfolding expansion_step
 nothing_gives s = (
   record {
     expanded = record { tokens = []; fault = None; remaining = s.remaining };
-    expands = record { outcome = ended s.remaining None; expands = (0, done (unspent s.remaining)); emitted = refl; ended = refl; remains = refl };
+    expands = record { outcome = stops_with s.remaining None; expands = (0, done (unspent s.remaining)); emitted = refl; ended = refl; remains = refl };
     is = ap (λ (items : List Item). running (record s { items = items })) (sym (append-nil s.items));
   },
   refl,
@@ -67,13 +67,13 @@ both_free p q = λ i. p i + q i
 module _ (context : Context) (depth row : ℕ) (s : State) where
   -- the parts change nothing, at no cost
   abbrev Passes : GroupParts → Type 0
-  Passes ps = (d : Group context depth row (running s) ps (running s)) × (count_group d ≡ 0)
+  Passes ps = (d : ExecutesGroup context depth row (running s) ps (running s)) × (count_group d ≡ 0)
 
   run_passes : (rs : List LogicalLine) (ps : GroupParts) → GivesNothing s (text_tokens rs) → Passes ps → Passes (TextLines rs ps)
-  run_passes rs ps (gives, free) (rest, more) = (Group.text_lines gives rest, both_free free more)
+  run_passes rs ps (gives, free) (rest, more) = (ExecutesGroup.text_lines gives rest, both_free free more)
 
   blank_group : (ps : GroupParts) → AreBlank ps → Passes ps
-  blank_group Done blank = (Group.no_parts, refl)
+  blank_group Done blank = (ExecutesGroup.no_parts, refl)
   blank_group (TextLines rs ps) blank = run_passes rs ps (blank_gives s rs blank.0) (blank_group ps blank.1)
   blank_group (Control r ps) blank = absurd blank
   blank_group (Section r ps bs qs) blank = absurd blank
@@ -91,7 +91,7 @@ module _ (context : Context) (depth row : ℕ) (s : State) where
   guarded_group (Section r ps (End e) qs) x all are g known =
       let skips = guard_line (search_of context) row s context.profile r x all.0 are.0 g.0 known in
       let rest = blank_group qs g.1 in
-      (Group.skipped skips.0 Branched.no_branch_taken rest.0, both_free skips.1 (both_free refl rest.1))
+      (ExecutesGroup.skipped skips.0 ExecutesBranches.no_branch_taken rest.0, both_free skips.1 (both_free refl rest.1))
   guarded_group (Section r ps (Branch e ps' bs) qs) x all are g known = absurd g
 
 pub guards_leave_out : GuardsLeaveOut
@@ -100,11 +100,11 @@ guards_leave_out context depth row directory at s bytes lines x fits is reads (p
     spelled : AllByRecursion (IsSpelledLine context.profile) (part_lines parts)
     spelled = subst (AllByRecursion (IsSpelledLine context.profile)) (sym tree.whole) (source_spelled context.profile row bytes lines reads)
 
-    cases : (b : Bool) → has_row row s.once ≡ b → (d : Opened context depth at s row directory (running (with_dependency (with_one_spent s) row))) × (count_opened d ≡ 1)
-    cases true once = (Opened.not_read_again fits some once, refl)
+    cases : (b : Bool) → has_row row s.once ≡ b → (d : OpensFile context depth at s row directory (running (with_dependency (with_one_spent s) row))) × (count_opened d ≡ 1)
+    cases true once = (OpensFile.not_read_again fits some once, refl)
     cases false new =
         let inside = guarded_group context depth row (entering context (with_one_spent s) row directory) parts x spelled tree.each guarded known in
-        (Opened.read fits some new is reads tree inside.0, ap suc inside.1)
+        (OpensFile.read fits some new is reads tree inside.0, ap suc inside.1)
 
 -- ---- files that are skipped
 
@@ -127,10 +127,10 @@ pub opens_left_out : (context : Context) (depth row : ℕ) (directory : Option �
     → IsRead context.profile row content (Ok lines)
     → a ≡ with_dependency (with_one_spent s) row
     → IsLeftOut a lines
-    → Opened context depth at s row directory (running a)
+    → OpensFile context depth at s row directory (running a)
 opens_left_out context depth row directory at s a unreadable lines fits some known reads is remaining = absurd reads
 opens_left_out context depth row directory at s a (readable bytes) lines fits some known reads is (x, guarded, defined) =
-    subst (λ (z : State). Opened context depth at s row directory (running z)) (sym is)
+    subst (λ (z : State). OpensFile context depth at s row directory (running z)) (sym is)
     (guards_leave_out context depth row directory at s bytes lines x fits known reads guarded (subst (λ (z : State). is_macro_name z.macros x ≡ true) is defined) some).0
 
 pub left_out_by : (s : State) (lines : List LogicalLine) (name : List ℕ) (b : Bool) → GuardedBy lines name → b ≡ is_macro_name s.macros name → IsTrue b ↔ IsLeftOut s lines

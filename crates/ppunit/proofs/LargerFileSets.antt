@@ -7,7 +7,7 @@ use Rattle.ppexpand.specs.Expansion.{count_expansion}
 use Rattle.ppshelf.specs.Content.{unreadable}
 use Rattle.ppshelf.specs.Files.{Files, Extends}
 use Rattle.ppunit.specs.States.{State, Context, Progress, search_of}
-use Rattle.ppunit.specs.Group.{Group, Branched, ExecutesControlLine, ExecutesInclude, Opened}
+use Rattle.ppunit.specs.Group.{ExecutesGroup, ExecutesBranches, ExecutesControlLine, ExecutesInclude, OpensFile}
 use Rattle.ppunit.specs.Counts.{count_decides, count_names_header, count_group, count_branched, count_control, count_includes, count_opened}
 use Rattle.ppunit.specs.Unit.{Defines, unread, processed, Translates, definitions_fault, translated, context_of_unit, count_defines, count_translates}
 use Rattle.ppunit.specs.Laws.{Grows}
@@ -21,36 +21,36 @@ module _ (context : Context) (more : Files) (grows : Extends more context.files)
   both p q = λ i. p i + q i
 
   mutual
-    pub group_grows : {depth row : ℕ} {r : Progress} {ps : GroupParts} {end : Progress} (d : Group context depth row r ps end) → (e : Group wider depth row r ps end) × (count_group e ≡ count_group d)
-    group_grows Group.already_stopped = (Group.already_stopped, refl)
-    group_grows Group.no_parts = (Group.no_parts, refl)
-    group_grows (Group.text_lines gives rest) =
+    pub group_grows : {depth row : ℕ} {r : Progress} {ps : GroupParts} {end : Progress} (d : ExecutesGroup context depth row r ps end) → (e : ExecutesGroup wider depth row r ps end) × (count_group e ≡ count_group d)
+    group_grows ExecutesGroup.already_stopped = (ExecutesGroup.already_stopped, refl)
+    group_grows ExecutesGroup.no_parts = (ExecutesGroup.no_parts, refl)
+    group_grows (ExecutesGroup.text_lines gives rest) =
         let r = group_grows rest in
-        (Group.text_lines gives r.0, ap (λ n. count_expansion gives.expands + n) r.1)
-    group_grows (Group.control here rest) =
+        (ExecutesGroup.text_lines gives r.0, ap (λ n. count_expansion gives.expands + n) r.1)
+    group_grows (ExecutesGroup.control here rest) =
         let h = control_grows here in
         let r = group_grows rest in
-        (Group.control h.0 r.0, both h.1 r.1)
-    group_grows {row = row} (Group.taken {s = s} {line = line} {remaining_after = remaining_after} decides here rest) =
+        (ExecutesGroup.control h.0 r.0, both h.1 r.1)
+    group_grows {row = row} (ExecutesGroup.taken {s = s} {line = line} {remaining_after = remaining_after} decides here rest) =
         let h = group_grows here in
         let r = group_grows rest in
-        (Group.taken decides h.0 r.0, ap (λ n. count_decides (search_of context) row s line remaining_after (Ok true) decides + n) (both h.1 r.1))
-    group_grows {row = row} (Group.skipped {s = s} {line = line} {remaining_after = remaining_after} decides here rest) =
+        (ExecutesGroup.taken decides h.0 r.0, ap (λ n. count_decides (search_of context) row s line remaining_after (Ok true) decides + n) (both h.1 r.1))
+    group_grows {row = row} (ExecutesGroup.skipped {s = s} {line = line} {remaining_after = remaining_after} decides here rest) =
         let h = branches_grow here in
         let r = group_grows rest in
-        (Group.skipped decides h.0 r.0, ap (λ n. count_decides (search_of context) row s line remaining_after (Ok false) decides + n) (both h.1 r.1))
-    group_grows (Group.condition_fault decides) = (Group.condition_fault decides, refl)
+        (ExecutesGroup.skipped decides h.0 r.0, ap (λ n. count_decides (search_of context) row s line remaining_after (Ok false) decides + n) (both h.1 r.1))
+    group_grows (ExecutesGroup.condition_fault decides) = (ExecutesGroup.condition_fault decides, refl)
 
-    branches_grow : {depth row : ℕ} {s : State} {bs : Branches} {m : Progress} (d : Branched context depth row s bs m) → (e : Branched wider depth row s bs m) × (count_branched e ≡ count_branched d)
-    branches_grow Branched.no_branch_taken = (Branched.no_branch_taken, refl)
-    branches_grow (Branched.else_group is here) = let h = group_grows here in (Branched.else_group is h.0, h.1)
-    branches_grow {row = row} (Branched.branch_taken {s = s} {line = line} {remaining_after = remaining_after} is decides here) =
+    branches_grow : {depth row : ℕ} {s : State} {bs : Branches} {m : Progress} (d : ExecutesBranches context depth row s bs m) → (e : ExecutesBranches wider depth row s bs m) × (count_branched e ≡ count_branched d)
+    branches_grow ExecutesBranches.no_branch_taken = (ExecutesBranches.no_branch_taken, refl)
+    branches_grow (ExecutesBranches.else_group is here) = let h = group_grows here in (ExecutesBranches.else_group is h.0, h.1)
+    branches_grow {row = row} (ExecutesBranches.branch_taken {s = s} {line = line} {remaining_after = remaining_after} is decides here) =
         let h = group_grows here in
-        (Branched.branch_taken is decides h.0, ap (λ n. count_decides (search_of context) row s line remaining_after (Ok true) decides + n) h.1)
-    branches_grow {row = row} (Branched.branch_skipped {s = s} {line = line} {remaining_after = remaining_after} is decides rest) =
+        (ExecutesBranches.branch_taken is decides h.0, ap (λ n. count_decides (search_of context) row s line remaining_after (Ok true) decides + n) h.1)
+    branches_grow {row = row} (ExecutesBranches.branch_skipped {s = s} {line = line} {remaining_after = remaining_after} is decides rest) =
         let r = branches_grow rest in
-        (Branched.branch_skipped is decides r.0, ap (λ n. count_decides (search_of context) row s line remaining_after (Ok false) decides + n) r.1)
-    branches_grow (Branched.branch_condition_fault is decides) = (Branched.branch_condition_fault is decides, refl)
+        (ExecutesBranches.branch_skipped is decides r.0, ap (λ n. count_decides (search_of context) row s line remaining_after (Ok false) decides + n) r.1)
+    branches_grow (ExecutesBranches.branch_condition_fault is decides) = (ExecutesBranches.branch_condition_fault is decides, refl)
 
     control_grows : {depth row : ℕ} {s : State} {line : LogicalLine} {m : Progress} (d : ExecutesControlLine context depth row s line m) → (e : ExecutesControlLine wider depth row s line m) × (count_control e ≡ count_control d)
     control_grows (ExecutesControlLine.error is) = (ExecutesControlLine.error is, refl)
@@ -66,15 +66,15 @@ module _ (context : Context) (more : Files) (grows : Extends more context.files)
         let o = opened_grows opens in
         (ExecutesInclude.included a found asks finds o.0, ap (λ n. count_names_header s line.tokens remaining_after (Ok a) asks + n) o.1)
 
-    pub opened_grows : {depth row : ℕ} {directory : Option ℕ} {at : Place} {s : State} {m : Progress} (d : Opened context depth at s row directory m) → (e : Opened wider depth at s row directory m) × (count_opened e ≡ count_opened d)
-    opened_grows (Opened.too_deep deep) = (Opened.too_deep deep, refl)
-    opened_grows (Opened.exhausted fits spent) = (Opened.exhausted fits spent, refl)
-    opened_grows (Opened.not_read_again fits some known) = (Opened.not_read_again fits some known, refl)
-    opened_grows {depth} {row} (Opened.not_readable fits some new is) = (Opened.not_readable fits some new (grows row unreadable is), refl)
-    opened_grows {depth} {row} (Opened.content_fault fits some new is reads) = (Opened.content_fault fits some new (grows row _ is) reads, refl)
-    opened_grows {depth} {row} (Opened.read fits some new is reads tree here) =
+    pub opened_grows : {depth row : ℕ} {directory : Option ℕ} {at : Place} {s : State} {m : Progress} (d : OpensFile context depth at s row directory m) → (e : OpensFile wider depth at s row directory m) × (count_opened e ≡ count_opened d)
+    opened_grows (OpensFile.too_deep deep) = (OpensFile.too_deep deep, refl)
+    opened_grows (OpensFile.exhausted fits spent) = (OpensFile.exhausted fits spent, refl)
+    opened_grows (OpensFile.not_read_again fits some known) = (OpensFile.not_read_again fits some known, refl)
+    opened_grows {depth} {row} (OpensFile.not_readable fits some new is) = (OpensFile.not_readable fits some new (grows row unreadable is), refl)
+    opened_grows {depth} {row} (OpensFile.content_fault fits some new is reads) = (OpensFile.content_fault fits some new (grows row _ is) reads, refl)
+    opened_grows {depth} {row} (OpensFile.read fits some new is reads tree here) =
         let h = group_grows here in
-        (Opened.read fits some new (grows row _ is) reads tree h.0, ap suc h.1)
+        (OpensFile.read fits some new (grows row _ is) reads tree h.0, ap suc h.1)
 
   defines_grow : {defines : List (List ℕ)} {s : State} {m : Progress} (d : Defines context defines s m) → (e : Defines wider defines s m) × (count_defines e ≡ count_defines d)
   defines_grow (unread reads) = (unread reads, refl)

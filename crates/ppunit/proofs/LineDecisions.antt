@@ -20,7 +20,7 @@ use Rattle.ppexpr.specs.Conditions.{IsCondition}
 use Rattle.pptext.specs.Profiles.{is_gnu}
 use Rattle.pptext.specs.Tree.{hash_place}
 use Rattle.ppunit.proofs.HasIncludeNumbers.{unused}
-use Rattle.ppunit.specs.code.Walk.{ContinuesIf, ContinuesBy, ContinuesAfter}
+use Rattle.ppunit.specs.code.Walk.{ContinuesIf, ContinuesBy, TakesBranch}
 
 pub decides_at : (search : Search) (row : ℕ) (s : State) (r : LogicalLine) (d : Directive) (tokens : List Token) (remaining_after : Option ℕ) (taken : Result Bool Fault)
     → r.directive ≡ Some d
@@ -35,10 +35,10 @@ decides_at search row s r d tokens remaining_after taken is same decides =
 enters_by_directive : (search : Search) (row : ℕ) (d : Directive) (s : State) (r : LogicalLine) → begins_elif_group d ≡ false → ContinuesBy search row (Some d) s r s.remaining (Ok true)
 enters_by_directive search row d s r e = subst (λ (b : Bool). ContinuesIf search row b s r s.remaining (Ok true)) (sym e) (refl, refl)
 
-pub enters_no_directive : (search : Search) (row : ℕ) (s : State) (r : LogicalLine) → r.directive ≡ None → ContinuesAfter search row s r s.remaining (Ok true)
+pub enters_no_directive : (search : Search) (row : ℕ) (s : State) (r : LogicalLine) → r.directive ≡ None → TakesBranch search row s r s.remaining (Ok true)
 enters_no_directive search row s r is = subst (λ (z : Option Directive). ContinuesBy search row z s r s.remaining (Ok true)) (sym is) (refl, refl)
 
-pub enters_unasked : (search : Search) (row : ℕ) (s : State) (r : LogicalLine) (d : Directive) → r.directive ≡ Some d → begins_elif_group d ≡ false → ContinuesAfter search row s r s.remaining (Ok true)
+pub enters_unasked : (search : Search) (row : ℕ) (s : State) (r : LogicalLine) (d : Directive) → r.directive ≡ Some d → begins_elif_group d ≡ false → TakesBranch search row s r s.remaining (Ok true)
 enters_unasked search row s r d is e = subst (λ (z : Option Directive). ContinuesBy search row z s r s.remaining (Ok true)) (sym is) (enters_by_directive search row d s r e)
 
 enters_by_condition : (search : Search) (row : ℕ) (d : Directive) (s : State) (r : LogicalLine) (remaining_after : Option ℕ) (taken : Result Bool Fault)
@@ -52,7 +52,7 @@ pub enters_asked : (search : Search) (row : ℕ) (s : State) (r : LogicalLine) (
     → tokens ≡ r.tokens
     → begins_elif_group d ≡ true
     → ((number : ℕ) → Decides search row s (directed d tokens number) remaining_after taken)
-    → ContinuesAfter search row s r remaining_after taken
+    → TakesBranch search row s r remaining_after taken
 enters_asked search row s r d tokens remaining_after taken is same e decides =
     subst (λ (z : Option Directive). ContinuesBy search row z s r remaining_after taken) (sym is)
     (enters_by_condition search row d s r remaining_after taken e (decides_at search row s r d tokens remaining_after taken is same decides))

@@ -12,20 +12,20 @@ use Rattle.ppshelf.specs.Files.{file_at}
 use Rattle.ppshelf.specs.Names.{name_in}
 use Rattle.ppunit.specs.Dependencies.{has_row}
 use Rattle.ppunit.specs.States.{State, Context, Progress, running, stopped, with_dependency, entering, leaving, with_one_spent}
-use Rattle.ppunit.specs.Group.{depth_limit, Group, Opened}
+use Rattle.ppunit.specs.Group.{depth_limit, ExecutesGroup, OpensFile}
 use Rattle.ppunit.proofs.LineUniqueness.{OneReading, OneTree}
 
 module _ (readings : OneReading) (trees : OneTree) (context : Context) where
   pub at_deep : {depth row : ℕ} {directory : Option ℕ} {at : Place} {s : State} {m : Progress}
       → depth_limit < depth
-      → Opened context depth at s row directory m
+      → OpensFile context depth at s row directory m
       → stopped s (fault 32 at (name_in context.names row)) ≡ m
-  at_deep deep (Opened.too_deep d) = refl
-  at_deep deep (Opened.exhausted fits spent) = absurd (omega arith)
-  at_deep deep (Opened.not_read_again fits some known) = absurd (omega arith)
-  at_deep deep (Opened.not_readable fits some new is) = absurd (omega arith)
-  at_deep deep (Opened.content_fault fits some new is reads) = absurd (omega arith)
-  at_deep deep (Opened.read fits some new is reads tree here) = absurd (omega arith)
+  at_deep deep (OpensFile.too_deep d) = refl
+  at_deep deep (OpensFile.exhausted fits spent) = absurd (omega arith)
+  at_deep deep (OpensFile.not_read_again fits some known) = absurd (omega arith)
+  at_deep deep (OpensFile.not_readable fits some new is) = absurd (omega arith)
+  at_deep deep (OpensFile.content_fault fits some new is reads) = absurd (omega arith)
+  at_deep deep (OpensFile.read fits some new is reads tree here) = absurd (omega arith)
 
   -- A test has one result, for example whether the budget is exhausted.
   one_way : (b : Bool) → b ≡ true → b ≡ false → ⊥
@@ -34,42 +34,42 @@ module _ (readings : OneReading) (trees : OneTree) (context : Context) where
   pub at_over : {depth row : ℕ} {directory : Option ℕ} {at : Place} {s : State} {m : Progress}
       → depth ≤ depth_limit
       → is_exhausted s.remaining ≡ true
-      → Opened context depth at s row directory m
+      → OpensFile context depth at s row directory m
       → stopped s (fault 35 at []) ≡ m
-  at_over fits e (Opened.too_deep d) = absurd (omega arith)
-  at_over fits e (Opened.exhausted f spent) = refl
-  at_over {s = s} fits e (Opened.not_read_again f some known) = absurd (one_way (is_exhausted s.remaining) e some)
-  at_over {s = s} fits e (Opened.not_readable f some new is) = absurd (one_way (is_exhausted s.remaining) e some)
-  at_over {s = s} fits e (Opened.content_fault f some new is reads) = absurd (one_way (is_exhausted s.remaining) e some)
-  at_over {s = s} fits e (Opened.read f some new is reads tree here) = absurd (one_way (is_exhausted s.remaining) e some)
+  at_over fits e (OpensFile.too_deep d) = absurd (omega arith)
+  at_over fits e (OpensFile.exhausted f spent) = refl
+  at_over {s = s} fits e (OpensFile.not_read_again f some known) = absurd (one_way (is_exhausted s.remaining) e some)
+  at_over {s = s} fits e (OpensFile.not_readable f some new is) = absurd (one_way (is_exhausted s.remaining) e some)
+  at_over {s = s} fits e (OpensFile.content_fault f some new is reads) = absurd (one_way (is_exhausted s.remaining) e some)
+  at_over {s = s} fits e (OpensFile.read f some new is reads tree here) = absurd (one_way (is_exhausted s.remaining) e some)
 
   pub at_known : {depth row : ℕ} {directory : Option ℕ} {at : Place} {s : State} {m : Progress}
       → depth ≤ depth_limit
       → is_exhausted s.remaining ≡ false
       → has_row row s.once ≡ true
-      → Opened context depth at s row directory m
+      → OpensFile context depth at s row directory m
       → running (with_dependency (with_one_spent s) row) ≡ m
-  at_known fits some e (Opened.too_deep d) = absurd (omega arith)
-  at_known {s = s} fits some e (Opened.exhausted f spent) = absurd (one_way (is_exhausted s.remaining) spent some)
-  at_known fits some e (Opened.not_read_again f more known) = refl
-  at_known {row = row} {s = s} fits some e (Opened.not_readable f more new is) = absurd (one_way (has_row row s.once) e new)
-  at_known {row = row} {s = s} fits some e (Opened.content_fault f more new is reads) = absurd (one_way (has_row row s.once) e new)
-  at_known {row = row} {s = s} fits some e (Opened.read f more new is reads tree here) = absurd (one_way (has_row row s.once) e new)
+  at_known fits some e (OpensFile.too_deep d) = absurd (omega arith)
+  at_known {s = s} fits some e (OpensFile.exhausted f spent) = absurd (one_way (is_exhausted s.remaining) spent some)
+  at_known fits some e (OpensFile.not_read_again f more known) = refl
+  at_known {row = row} {s = s} fits some e (OpensFile.not_readable f more new is) = absurd (one_way (has_row row s.once) e new)
+  at_known {row = row} {s = s} fits some e (OpensFile.content_fault f more new is reads) = absurd (one_way (has_row row s.once) e new)
+  at_known {row = row} {s = s} fits some e (OpensFile.read f more new is reads tree here) = absurd (one_way (has_row row s.once) e new)
 
   pub at_unreadable : {depth row : ℕ} {directory : Option ℕ} {at : Place} {s : State} {m : Progress}
       → depth ≤ depth_limit
       → is_exhausted s.remaining ≡ false
       → has_row row s.once ≡ false
       → file_at context.files row ≡ Some unreadable
-      → Opened context depth at s row directory m
+      → OpensFile context depth at s row directory m
       → stopped (with_dependency (with_one_spent s) row) (fault 6 at (name_in context.names row)) ≡ m
-  at_unreadable fits some new e (Opened.too_deep d) = absurd (omega arith)
-  at_unreadable {s = s} fits some new e (Opened.exhausted f spent) = absurd (one_way (is_exhausted s.remaining) spent some)
-  at_unreadable {row = row} {s = s} fits some new e (Opened.not_read_again f more known) = absurd (one_way (has_row row s.once) known new)
-  at_unreadable fits some new e (Opened.not_readable f more n is) = refl
-  at_unreadable fits some new e (Opened.content_fault {bytes = bytes} f more n is reads) =
+  at_unreadable fits some new e (OpensFile.too_deep d) = absurd (omega arith)
+  at_unreadable {s = s} fits some new e (OpensFile.exhausted f spent) = absurd (one_way (is_exhausted s.remaining) spent some)
+  at_unreadable {row = row} {s = s} fits some new e (OpensFile.not_read_again f more known) = absurd (one_way (has_row row s.once) known new)
+  at_unreadable fits some new e (OpensFile.not_readable f more n is) = refl
+  at_unreadable fits some new e (OpensFile.content_fault {bytes = bytes} f more n is reads) =
       let differs : Some unreadable ≡ Some (readable bytes) = sym e ∙ is in absurd (cc)
-  at_unreadable fits some new e (Opened.read {bytes = bytes} f more n is reads tree here) =
+  at_unreadable fits some new e (OpensFile.read {bytes = bytes} f more n is reads tree here) =
       let differs : Some unreadable ≡ Some (readable bytes) = sym e ∙ is in absurd (cc)
 
   same_reading : (row : ℕ) (b c : List ℕ) (x y : Result (List LogicalLine) Fault)
@@ -87,7 +87,7 @@ module _ (readings : OneReading) (trees : OneTree) (context : Context) where
     by_fault : {f : Fault} → AfterReading depth at s row directory (Err f) (stopped (with_dependency (with_one_spent s) row) f)
     by_lines : {lines : List LogicalLine} {parts : GroupParts} {m : Progress}
         → Tree lines parts
-        → Group context depth row (running (entering context (with_one_spent s) row directory)) parts m
+        → ExecutesGroup context depth row (running (entering context (with_one_spent s) row directory)) parts m
         → AfterReading depth at s row directory (Ok lines) (leaving s m)
 
   pub at_reading : {depth row : ℕ} {directory : Option ℕ} {at : Place} {s : State} {m : Progress} (bytes : List ℕ) (x : Result (List LogicalLine) Fault)
@@ -96,17 +96,17 @@ module _ (readings : OneReading) (trees : OneTree) (context : Context) where
       → has_row row s.once ≡ false
       → file_at context.files row ≡ Some (readable bytes)
       → Reads context.profile row bytes x
-      → Opened context depth at s row directory m
+      → OpensFile context depth at s row directory m
       → AfterReading depth at s row directory x m
-  at_reading bytes x fits some new e p (Opened.too_deep d) = absurd (omega arith)
-  at_reading {s = s} bytes x fits some new e p (Opened.exhausted f spent) = absurd (one_way (is_exhausted s.remaining) spent some)
-  at_reading {row = row} {s = s} bytes x fits some new e p (Opened.not_read_again f more known) = absurd (one_way (has_row row s.once) known new)
-  at_reading bytes x fits some new e p (Opened.not_readable f more n is) =
+  at_reading bytes x fits some new e p (OpensFile.too_deep d) = absurd (omega arith)
+  at_reading {s = s} bytes x fits some new e p (OpensFile.exhausted f spent) = absurd (one_way (is_exhausted s.remaining) spent some)
+  at_reading {row = row} {s = s} bytes x fits some new e p (OpensFile.not_read_again f more known) = absurd (one_way (has_row row s.once) known new)
+  at_reading bytes x fits some new e p (OpensFile.not_readable f more n is) =
       let differs : Some unreadable ≡ Some (readable bytes) = sym is ∙ e in absurd (cc)
-  at_reading {depth = depth} {row = row} {directory = directory} {at = at} {s = s} bytes x fits some new e p (Opened.content_fault {bytes = c} {f = g} f more n is reads) =
+  at_reading {depth = depth} {row = row} {directory = directory} {at = at} {s = s} bytes x fits some new e p (OpensFile.content_fault {bytes = c} {f = g} f more n is reads) =
       subst (λ z. AfterReading depth at s row directory z (stopped (with_dependency (with_one_spent s) row) g)) (same_reading row c bytes (Err g) x is reads e p) by_fault
   at_reading {depth = depth} {row = row} {directory = directory} {at = at} {s = s} bytes x fits some new e p
-      (Opened.read {bytes = c} {lines = lines} {m = m} f more n is reads tree here) =
+      (OpensFile.read {bytes = c} {lines = lines} {m = m} f more n is reads tree here) =
       subst (λ z. AfterReading depth at s row directory z (leaving s m)) (same_reading row c bytes (Ok lines) x is reads e p) (by_lines tree here)
 
   pub after_fault : {depth row : ℕ} {directory : Option ℕ} {at : Place} {s : State} {f : Fault} {x : Result (List LogicalLine) Fault} {m : Progress} → Err f ≡ x → AfterReading depth at s row directory x m → stopped (with_dependency (with_one_spent s) row) f ≡ m
@@ -114,7 +114,7 @@ module _ (readings : OneReading) (trees : OneTree) (context : Context) where
   after_fault e (by_lines tree here) = absurd (cc)
 
   abbrev pub AfterLines : ℕ → State → ℕ → Option ℕ → GroupParts → Progress → Type 0
-  AfterLines depth s row directory parts m = (n : Progress) × (m ≡ leaving s n) × Group context depth row (running (entering context (with_one_spent s) row directory)) parts n
+  AfterLines depth s row directory parts m = (n : Progress) × (m ≡ leaving s n) × ExecutesGroup context depth row (running (entering context (with_one_spent s) row directory)) parts n
 
   pub after_lines : {depth row : ℕ} {directory : Option ℕ} {at : Place} {s : State} {lines : List LogicalLine} {parts : GroupParts} {x : Result (List LogicalLine) Fault}
       {m : Progress}
@@ -125,4 +125,4 @@ module _ (readings : OneReading) (trees : OneTree) (context : Context) where
   after_lines e tree by_fault = absurd (cc)
   after_lines {depth = depth} {row = row} {directory = directory} {s = s} {lines = lines} {parts = parts} e tree (by_lines {lines = lines'} {parts = parts'} {m = n} tree' here) =
       let same : lines' ≡ lines = cc in
-      (n, refl, subst (λ z. Group context depth row (running (entering context (with_one_spent s) row directory)) z n) (trees lines parts' parts (subst (λ z. Tree z parts') same tree') tree) here)
+      (n, refl, subst (λ z. ExecutesGroup context depth row (running (entering context (with_one_spent s) row directory)) z n) (trees lines parts' parts (subst (λ z. Tree z parts') same tree') tree) here)

@@ -16,7 +16,7 @@ use Rattle.ppunit.specs.States.{State, Context, Progress, emitted, with_dependen
 use Rattle.ppunit.specs.DirectiveLines.{operands, text_tokens}
 use Rattle.ppunit.specs.LineControl.{Presumed, presumed}
 use Rattle.ppunit.specs.Directives.{EmitsText, ExecutesDirective, with_macros, renumbered_by, is_once, pragma_emitted}
-use Rattle.ppunit.specs.Group.{Group, Branched, ExecutesControlLine, ExecutesInclude, Opened}
+use Rattle.ppunit.specs.Group.{ExecutesGroup, ExecutesBranches, ExecutesControlLine, ExecutesInclude, OpensFile}
 use Rattle.ppunit.specs.declared.units.Item.TheVariants as item
 
 pub same_beginning : {A : Type 0} (xs : List A) → IsPrefix xs xs
@@ -76,21 +76,21 @@ run_before s tokens m g = subst (λ x. Before s x.state) (sym g.is) ((map item.T
 
 module _ (context : Context) where
   mutual
-    pub group_before : {depth row : ℕ} {r : Progress} {ps : GroupParts} {end : Progress} → Group context depth row r ps end → Before r.state end.state
-    group_before (Group.already_stopped {s = s}) = same_state s
-    group_before (Group.no_parts {s = s}) = same_state s
-    group_before (Group.text_lines {s = s} {lines = lines} {m = m} {end = end} gives rest) = before_then s m.state end.state (run_before s (text_tokens lines) m gives) (group_before rest)
-    group_before (Group.control {s = s} {m = m} {end = end} here rest) = before_then s m.state end.state (control_before here) (group_before rest)
-    group_before (Group.taken {s = s} {m = m} {end = end} decides here rest) = before_then s m.state end.state (group_before here) (group_before rest)
-    group_before (Group.skipped {s = s} {m = m} {end = end} decides here rest) = before_then s m.state end.state (branches_before here) (group_before rest)
-    group_before (Group.condition_fault {s = s} decides) = same_state s
+    pub group_before : {depth row : ℕ} {r : Progress} {ps : GroupParts} {end : Progress} → ExecutesGroup context depth row r ps end → Before r.state end.state
+    group_before (ExecutesGroup.already_stopped {s = s}) = same_state s
+    group_before (ExecutesGroup.no_parts {s = s}) = same_state s
+    group_before (ExecutesGroup.text_lines {s = s} {lines = lines} {m = m} {end = end} gives rest) = before_then s m.state end.state (run_before s (text_tokens lines) m gives) (group_before rest)
+    group_before (ExecutesGroup.control {s = s} {m = m} {end = end} here rest) = before_then s m.state end.state (control_before here) (group_before rest)
+    group_before (ExecutesGroup.taken {s = s} {m = m} {end = end} decides here rest) = before_then s m.state end.state (group_before here) (group_before rest)
+    group_before (ExecutesGroup.skipped {s = s} {m = m} {end = end} decides here rest) = before_then s m.state end.state (branches_before here) (group_before rest)
+    group_before (ExecutesGroup.condition_fault {s = s} decides) = same_state s
 
-    pub branches_before : {depth row : ℕ} {s : State} {bs : Branches} {m : Progress} → Branched context depth row s bs m → Before s m.state
-    branches_before (Branched.no_branch_taken {s = s}) = same_state s
-    branches_before (Branched.else_group e here) = group_before here
-    branches_before (Branched.branch_taken e decides here) = group_before here
-    branches_before (Branched.branch_skipped e decides rest) = branches_before rest
-    branches_before (Branched.branch_condition_fault {s = s} e decides) = same_state s
+    pub branches_before : {depth row : ℕ} {s : State} {bs : Branches} {m : Progress} → ExecutesBranches context depth row s bs m → Before s m.state
+    branches_before (ExecutesBranches.no_branch_taken {s = s}) = same_state s
+    branches_before (ExecutesBranches.else_group e here) = group_before here
+    branches_before (ExecutesBranches.branch_taken e decides here) = group_before here
+    branches_before (ExecutesBranches.branch_skipped e decides rest) = branches_before rest
+    branches_before (ExecutesBranches.branch_condition_fault {s = s} e decides) = same_state s
 
     pub control_before : {depth row : ℕ} {s : State} {line : LogicalLine} {m : Progress} → ExecutesControlLine context depth row s line m → Before s m.state
     control_before (ExecutesControlLine.error {s = s} e) = same_state s
@@ -104,10 +104,10 @@ module _ (context : Context) where
     includes_before (ExecutesInclude.missing {s = s} a asks finds) = same_state s
     includes_before (ExecutesInclude.included a found asks finds opens) = opened_before opens
 
-    pub opened_before : {depth row : ℕ} {directory : Option ℕ} {at : Place} {s : State} {m : Progress} → Opened context depth at s row directory m → Before s m.state
-    opened_before (Opened.too_deep {s = s} deep) = same_state s
-    opened_before (Opened.exhausted {s = s} fits spent) = same_state s
-    opened_before {row = row} (Opened.not_read_again {s = s} fits more once) = depends s row
-    opened_before {row = row} (Opened.not_readable {s = s} fits more once file) = depends s row
-    opened_before {row = row} (Opened.content_fault {s = s} fits more once file reads) = depends s row
-    opened_before {row = row} (Opened.read {s = s} {m = m} fits more once file reads tree here) = before_then s (with_dependency s row) m.state (depends s row) (group_before here)
+    pub opened_before : {depth row : ℕ} {directory : Option ℕ} {at : Place} {s : State} {m : Progress} → OpensFile context depth at s row directory m → Before s m.state
+    opened_before (OpensFile.too_deep {s = s} deep) = same_state s
+    opened_before (OpensFile.exhausted {s = s} fits spent) = same_state s
+    opened_before {row = row} (OpensFile.not_read_again {s = s} fits more once) = depends s row
+    opened_before {row = row} (OpensFile.not_readable {s = s} fits more once file) = depends s row
+    opened_before {row = row} (OpensFile.content_fault {s = s} fits more once file reads) = depends s row
+    opened_before {row = row} (OpensFile.read {s = s} {m = m} fits more once file reads tree here) = before_then s (with_dependency s row) m.state (depends s row) (group_before here)

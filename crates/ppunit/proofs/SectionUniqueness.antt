@@ -8,98 +8,98 @@ use Rattle.ppunit.specs.States.{State, Context, Progress, running, stopped, with
 use Rattle.ppunit.specs.DirectiveLines.{text_tokens}
 use Rattle.ppunit.specs.Conditions.{Decides}
 use Rattle.ppunit.specs.Directives.{EmitsText}
-use Rattle.ppunit.specs.Group.{Group, Branched, ExecutesControlLine}
+use Rattle.ppunit.specs.Group.{ExecutesGroup, ExecutesBranches, ExecutesControlLine}
 use Rattle.ppunit.proofs.LineUniqueness.{OneExpansion, OneDecision, decides_once}
 
 module _ (expansions : OneExpansion) (decisions : OneDecision) (context : Context) where
   abbrev pub AfterRun : ℕ → ℕ → State → List LogicalLine → GroupParts → Progress → Type 0
-  AfterRun depth row s rs ps end = (m : Progress) × EmitsText s (text_tokens rs) m × Group context depth row m ps end
+  AfterRun depth row s rs ps end = (m : Progress) × EmitsText s (text_tokens rs) m × ExecutesGroup context depth row m ps end
 
-  pub at_run : {depth row : ℕ} {s : State} {rs : List LogicalLine} {ps : GroupParts} {end : Progress} → Group context depth row (running s) (TextLines rs ps) end → AfterRun depth row s rs ps end
-  at_run (Group.text_lines {m = m} gives rest) = (m, gives, rest)
+  pub at_run : {depth row : ℕ} {s : State} {rs : List LogicalLine} {ps : GroupParts} {end : Progress} → ExecutesGroup context depth row (running s) (TextLines rs ps) end → AfterRun depth row s rs ps end
+  at_run (ExecutesGroup.text_lines {m = m} gives rest) = (m, gives, rest)
 
   abbrev pub AfterControl : ℕ → ℕ → State → LogicalLine → GroupParts → Progress → Type 0
-  AfterControl depth row s line ps end = (m : Progress) × ExecutesControlLine context depth row s line m × Group context depth row m ps end
+  AfterControl depth row s line ps end = (m : Progress) × ExecutesControlLine context depth row s line m × ExecutesGroup context depth row m ps end
 
-  pub at_control : {depth row : ℕ} {s : State} {line : LogicalLine} {ps : GroupParts} {end : Progress} → Group context depth row (running s) (Control line ps) end → AfterControl depth row s line ps end
-  at_control (Group.control {m = m} here rest) = (m, here, rest)
+  pub at_control : {depth row : ℕ} {s : State} {line : LogicalLine} {ps : GroupParts} {end : Progress} → ExecutesGroup context depth row (running s) (Control line ps) end → AfterControl depth row s line ps end
+  at_control (ExecutesGroup.control {m = m} here rest) = (m, here, rest)
 
-  pub at_done : {depth row : ℕ} {s : State} {end : Progress} → Group context depth row (running s) Done end → running s ≡ end
-  at_done Group.no_parts = refl
+  pub at_done : {depth row : ℕ} {s : State} {end : Progress} → ExecutesGroup context depth row (running s) Done end → running s ≡ end
+  at_done ExecutesGroup.no_parts = refl
 
-  pub at_stop : {depth row : ℕ} {s : State} {f : Fault} {ps : GroupParts} {end : Progress} → Group context depth row (stopped s f) ps end → stopped s f ≡ end
-  at_stop Group.already_stopped = refl
+  pub at_stop : {depth row : ℕ} {s : State} {f : Fault} {ps : GroupParts} {end : Progress} → ExecutesGroup context depth row (stopped s f) ps end → stopped s f ≡ end
+  at_stop ExecutesGroup.already_stopped = refl
 
   pub data AfterSection (depth row : ℕ) (s : State) (line : LogicalLine) (ps : GroupParts) (bs : Branches) (qs : GroupParts) : Progress → Type 0 where
     is_taken : {remaining_after : Option ℕ} {m end : Progress}
         → Decides (search_of context) row s line remaining_after (Ok true)
-        → Group context depth row (running (with_remaining s remaining_after)) ps m
-        → Group context depth row m qs end
+        → ExecutesGroup context depth row (running (with_remaining s remaining_after)) ps m
+        → ExecutesGroup context depth row m qs end
         → AfterSection depth row s line ps bs qs end
     is_skipped : {remaining_after : Option ℕ} {m end : Progress}
         → Decides (search_of context) row s line remaining_after (Ok false)
-        → Branched context depth row (with_remaining s remaining_after) bs m
-        → Group context depth row m qs end
+        → ExecutesBranches context depth row (with_remaining s remaining_after) bs m
+        → ExecutesGroup context depth row m qs end
         → AfterSection depth row s line ps bs qs end
     is_refused : {remaining_after : Option ℕ} {f : Fault} → Decides (search_of context) row s line remaining_after (Err f) → AfterSection depth row s line ps bs qs (stopped (with_remaining s remaining_after) f)
 
-  pub at_section : {depth row : ℕ} {s : State} {line : LogicalLine} {ps qs : GroupParts} {bs : Branches} {end : Progress} → Group context depth row (running s) (Section line ps bs qs) end → AfterSection depth row s line ps bs qs end
-  at_section (Group.taken decides here rest) = is_taken decides here rest
-  at_section (Group.skipped decides here rest) = is_skipped decides here rest
-  at_section (Group.condition_fault decides) = is_refused decides
+  pub at_section : {depth row : ℕ} {s : State} {line : LogicalLine} {ps qs : GroupParts} {bs : Branches} {end : Progress} → ExecutesGroup context depth row (running s) (Section line ps bs qs) end → AfterSection depth row s line ps bs qs end
+  at_section (ExecutesGroup.taken decides here rest) = is_taken decides here rest
+  at_section (ExecutesGroup.skipped decides here rest) = is_skipped decides here rest
+  at_section (ExecutesGroup.condition_fault decides) = is_refused decides
 
-  pub at_end : {depth row : ℕ} {s : State} {line : LogicalLine} {m : Progress} → Branched context depth row s (End line) m → running s ≡ m
-  at_end Branched.no_branch_taken = refl
+  pub at_end : {depth row : ℕ} {s : State} {line : LogicalLine} {m : Progress} → ExecutesBranches context depth row s (End line) m → running s ≡ m
+  at_end ExecutesBranches.no_branch_taken = refl
 
   pub data AfterBranch (depth row : ℕ) (s : State) (line : LogicalLine) (ps : GroupParts) (bs : Branches) : Progress → Type 0 where
-    is_else : {m : Progress} → line.directive ≡ Some Else → Group context depth row (running s) ps m → AfterBranch depth row s line ps bs m
+    is_else : {m : Progress} → line.directive ≡ Some Else → ExecutesGroup context depth row (running s) ps m → AfterBranch depth row s line ps bs m
     is_elif : {remaining_after : Option ℕ} {m : Progress}
         → line.directive ≢ Some Else
         → Decides (search_of context) row s line remaining_after (Ok true)
-        → Group context depth row (running (with_remaining s remaining_after)) ps m
+        → ExecutesGroup context depth row (running (with_remaining s remaining_after)) ps m
         → AfterBranch depth row s line ps bs m
     is_passed : {remaining_after : Option ℕ} {m : Progress}
         → line.directive ≢ Some Else
         → Decides (search_of context) row s line remaining_after (Ok false)
-        → Branched context depth row (with_remaining s remaining_after) bs m
+        → ExecutesBranches context depth row (with_remaining s remaining_after) bs m
         → AfterBranch depth row s line ps bs m
     is_faulty : {remaining_after : Option ℕ} {f : Fault}
         → line.directive ≢ Some Else
         → Decides (search_of context) row s line remaining_after (Err f)
         → AfterBranch depth row s line ps bs (stopped (with_remaining s remaining_after) f)
 
-  pub at_branch : {depth row : ℕ} {s : State} {line : LogicalLine} {ps : GroupParts} {bs : Branches} {m : Progress} → Branched context depth row s (Branch line ps bs) m → AfterBranch depth row s line ps bs m
-  at_branch (Branched.else_group is here) = is_else is here
-  at_branch (Branched.branch_taken is decides here) = is_elif is decides here
-  at_branch (Branched.branch_skipped is decides rest) = is_passed is decides rest
-  at_branch (Branched.branch_condition_fault is decides) = is_faulty is decides
+  pub at_branch : {depth row : ℕ} {s : State} {line : LogicalLine} {ps : GroupParts} {bs : Branches} {m : Progress} → ExecutesBranches context depth row s (Branch line ps bs) m → AfterBranch depth row s line ps bs m
+  at_branch (ExecutesBranches.else_group is here) = is_else is here
+  at_branch (ExecutesBranches.branch_taken is decides here) = is_elif is decides here
+  at_branch (ExecutesBranches.branch_skipped is decides rest) = is_passed is decides rest
+  at_branch (ExecutesBranches.branch_condition_fault is decides) = is_faulty is decides
 
   -- ---- if-sections, by the decision of the first derivation
 
   abbrev SameGroup : ℕ → ℕ → Progress → GroupParts → Progress → Type 0
-  SameGroup depth row r ps y = (z : Progress) → Group context depth row r ps z → y ≡ z
+  SameGroup depth row r ps y = (z : Progress) → ExecutesGroup context depth row r ps z → y ≡ z
 
   abbrev SameBranches : ℕ → ℕ → State → Branches → Progress → Type 0
-  SameBranches depth row s bs y = (z : Progress) → Branched context depth row s bs z → y ≡ z
+  SameBranches depth row s bs y = (z : Progress) → ExecutesBranches context depth row s bs z → y ≡ z
 
   -- Equal decisions of a line leave equal remaining budgets.
   taken_again : (depth row : ℕ) (s : State) (line : LogicalLine) (ps : GroupParts) (remaining_after following : Option ℕ) (into_output : Result Bool Fault) (z : Progress)
       → Decides (search_of context) row s line remaining_after into_output
       → Decides (search_of context) row s line following into_output
-      → Group context depth row (running (with_remaining s following)) ps z
-      → Group context depth row (running (with_remaining s remaining_after)) ps z
+      → ExecutesGroup context depth row (running (with_remaining s following)) ps z
+      → ExecutesGroup context depth row (running (with_remaining s remaining_after)) ps z
   taken_again depth row s line ps remaining_after following into_output z decides decides' here =
       let remainders = sym (decides_once expansions decisions (search_of context) row s line remaining_after following into_output into_output decides decides').1 in
-      subst (λ (x : Option ℕ). Group context depth row (running (with_remaining s x)) ps z) remainders here
+      subst (λ (x : Option ℕ). ExecutesGroup context depth row (running (with_remaining s x)) ps z) remainders here
 
   skipped_again : (depth row : ℕ) (s : State) (line : LogicalLine) (bs : Branches) (remaining_after following : Option ℕ) (into_output : Result Bool Fault) (z : Progress)
       → Decides (search_of context) row s line remaining_after into_output
       → Decides (search_of context) row s line following into_output
-      → Branched context depth row (with_remaining s following) bs z
-      → Branched context depth row (with_remaining s remaining_after) bs z
+      → ExecutesBranches context depth row (with_remaining s following) bs z
+      → ExecutesBranches context depth row (with_remaining s remaining_after) bs z
   skipped_again depth row s line bs remaining_after following into_output z decides decides' here =
       let remainders = sym (decides_once expansions decisions (search_of context) row s line remaining_after following into_output into_output decides decides').1 in
-      subst (λ (x : Option ℕ). Branched context depth row (with_remaining s x) bs z) remainders here
+      subst (λ (x : Option ℕ). ExecutesBranches context depth row (with_remaining s x) bs z) remainders here
 
   -- Equal faults with equal remaining budgets stop with equal outcomes.
   pub stopped_again : {A : Type 0} (s : State) (remaining_after following : Option ℕ) (f g : Fault) → ◌≡◌ {A = Result A Fault} (Err f) (Err g) → remaining_after ≡ following → stopped (with_remaining s remaining_after) f ≡ stopped (with_remaining s following) g
@@ -124,7 +124,7 @@ module _ (expansions : OneExpansion) (decisions : OneDecision) (context : Contex
       → AfterSection depth row s line ps bs qs z
       → y ≡ z
   after_taken {depth = depth} {row = row} {s = s} {line = line} {ps = ps} {qs = qs} {remaining_after = remaining_after} decides here rest z (is_taken {remaining_after = following} {m = n} decides' here' rest') =
-      rest z (subst (λ x. Group context depth row x qs z) (sym (here n (taken_again depth row s line ps remaining_after following (Ok true) n decides decides' here'))) rest')
+      rest z (subst (λ x. ExecutesGroup context depth row x qs z) (sym (here n (taken_again depth row s line ps remaining_after following (Ok true) n decides decides' here'))) rest')
   after_taken {row = row} {s = s} {line = line} {remaining_after = remaining_after} decides here rest z (is_skipped {remaining_after = following} decides' here' rest') =
       let differs : Ok true ≡ Ok false = same_decision row s line remaining_after following (Ok true) (Ok false) decides decides' in absurd (cc)
   after_taken {row = row} {s = s} {line = line} {remaining_after = remaining_after} decides here rest z (is_refused {remaining_after = following} {f = f} decides') =
@@ -140,7 +140,7 @@ module _ (expansions : OneExpansion) (decisions : OneDecision) (context : Contex
   after_skipped {row = row} {s = s} {line = line} {remaining_after = remaining_after} decides here rest z (is_taken {remaining_after = following} decides' here' rest') =
       let differs : Ok false ≡ Ok true = same_decision row s line remaining_after following (Ok false) (Ok true) decides decides' in absurd (cc)
   after_skipped {depth = depth} {row = row} {s = s} {line = line} {qs = qs} {bs = bs} {remaining_after = remaining_after} decides here rest z (is_skipped {remaining_after = following} {m = n} decides' here' rest') =
-      rest z (subst (λ x. Group context depth row x qs z) (sym (here n (skipped_again depth row s line bs remaining_after following (Ok false) n decides decides' here'))) rest')
+      rest z (subst (λ x. ExecutesGroup context depth row x qs z) (sym (here n (skipped_again depth row s line bs remaining_after following (Ok false) n decides decides' here'))) rest')
   after_skipped {row = row} {s = s} {line = line} {remaining_after = remaining_after} decides here rest z (is_refused {remaining_after = following} {f = f} decides') =
       let differs : Ok false ≡ Err f = same_decision row s line remaining_after following (Ok false) (Err f) decides decides' in absurd (cc)
 

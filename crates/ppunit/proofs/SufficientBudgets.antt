@@ -7,7 +7,7 @@ use Rattle.pptext.specs.Tokens.{fault}
 use Rattle.ppexpand.proofs.BudgetLemmas.{Covers, without, covers_less, covers_rest}
 use Rattle.ppunit.specs.States.{State, Context, Progress, running, stopped, with_remaining, search_of}
 use Rattle.ppunit.specs.DirectiveLines.{text_tokens}
-use Rattle.ppunit.specs.Group.{Group, Branched, ExecutesControlLine, ExecutesInclude, Opened}
+use Rattle.ppunit.specs.Group.{ExecutesGroup, ExecutesBranches, ExecutesControlLine, ExecutesInclude, OpensFile}
 use Rattle.ppunit.specs.Counts.{count_group, count_branched, count_control, count_includes, count_opened}
 use Rattle.ppunit.specs.Unit.{Defines, unread, processed, Translates, definitions_fault, translated, count_defines, count_translates}
 use Rattle.ppunit.proofs.BudgetSums.{group_spends, branches_spend, control_spends, defines_spends}
@@ -15,13 +15,13 @@ use Rattle.ppunit.proofs.SufficientLineBudgets.{holding, run_enough, asks_enough
 
 module _ (context : Context) where
   pub group_rest : {depth row : ℕ} {r : Progress} {ps : GroupParts} {end : Progress} (b m : ℕ) → Covers r.state.remaining b
-      → (d : Group context depth row r ps end)
+      → (d : ExecutesGroup context depth row r ps end)
       → b ≡ count_group d + m
       → Covers end.state.remaining m
   group_rest {end = end} b m is d sum = covers_rest end.state.remaining (count_group d) m is (group_spends context d) sum
 
   pub branches_rest : {depth row : ℕ} {s : State} {bs : Branches} {r : Progress} (b m : ℕ) → Covers s.remaining b
-      → (d : Branched context depth row s bs r)
+      → (d : ExecutesBranches context depth row s bs r)
       → b ≡ count_branched d + m
       → Covers r.state.remaining m
   branches_rest {r = r} b m is d sum = covers_rest r.state.remaining (count_branched d) m is (branches_spend context d) sum
@@ -40,50 +40,50 @@ module _ (context : Context) where
 
   mutual
     pub group_enough : {depth row : ℕ} {r : Progress} {ps : GroupParts} {end : Progress} (b : ℕ) → Covers r.state.remaining b
-        → (d : Group context depth row r ps end) (n : ℕ)
+        → (d : ExecutesGroup context depth row r ps end) (n : ℕ)
         → b ≡ count_group d + n
-        → Group context depth row (holding b r) ps (holding n end)
-    group_enough {depth} {row} {r} {ps} b is (Group.already_stopped {s = s} {f = f}) n sum =
+        → ExecutesGroup context depth row (holding b r) ps (holding n end)
+    group_enough {depth} {row} {r} {ps} b is (ExecutesGroup.already_stopped {s = s} {f = f}) n sum =
         let same : b ≡ n = omega arith in
-        subst (λ x. Group context depth row (holding b (stopped s f)) ps (holding x (stopped s f))) same Group.already_stopped
-    group_enough {depth} {row} b is (Group.no_parts {s = s}) n sum =
+        subst (λ x. ExecutesGroup context depth row (holding b (stopped s f)) ps (holding x (stopped s f))) same ExecutesGroup.already_stopped
+    group_enough {depth} {row} b is (ExecutesGroup.no_parts {s = s}) n sum =
         let same : b ≡ n = omega arith in
-        subst (λ x. Group context depth row (holding b (running s)) Done (holding x (running s))) same Group.no_parts
-    group_enough b is (Group.text_lines {s = s} {lines = lines} {m = m} gives rest) n sum =
+        subst (λ x. ExecutesGroup context depth row (holding b (running s)) Done (holding x (running s))) same ExecutesGroup.no_parts
+    group_enough b is (ExecutesGroup.text_lines {s = s} {lines = lines} {m = m} gives rest) n sum =
         let k = count_group rest in
-        Group.text_lines (run_enough s (text_tokens lines) m b is gives (k + n) (omega arith)) (group_enough (k + n) (run_rest s (text_tokens lines) m b (k + n) is gives (omega arith)) rest n refl)
-    group_enough b is (Group.control here rest) n sum =
+        ExecutesGroup.text_lines (run_enough s (text_tokens lines) m b is gives (k + n) (omega arith)) (group_enough (k + n) (run_rest s (text_tokens lines) m b (k + n) is gives (omega arith)) rest n refl)
+    group_enough b is (ExecutesGroup.control here rest) n sum =
         let k = count_group rest in
-        Group.control (control_enough b is here (k + n) (omega arith)) (group_enough (k + n) (control_rest b (k + n) is here (omega arith)) rest n refl)
-    group_enough {row = row} b is (Group.taken {s = s} {line = line} {remaining_after = remaining_after} decides here rest) n sum =
+        ExecutesGroup.control (control_enough b is here (k + n) (omega arith)) (group_enough (k + n) (control_rest b (k + n) is here (omega arith)) rest n refl)
+    group_enough {row = row} b is (ExecutesGroup.taken {s = s} {line = line} {remaining_after = remaining_after} decides here rest) n sum =
         let j = count_group here in
         let k = count_group rest in
         let remaining = decides_rest (search_of context) row s line remaining_after (Ok true) b (j + (k + n)) is decides (omega arith) in
-        Group.taken (decides_enough (search_of context) row s line remaining_after (Ok true) b is decides (j + (k + n)) (omega arith)) (group_enough (j + (k + n)) remaining here (k + n) refl) (group_enough (k + n) (group_rest (j + (k + n)) (k + n) remaining here refl) rest n refl)
-    group_enough {row = row} b is (Group.skipped {s = s} {line = line} {remaining_after = remaining_after} decides here rest) n sum =
+        ExecutesGroup.taken (decides_enough (search_of context) row s line remaining_after (Ok true) b is decides (j + (k + n)) (omega arith)) (group_enough (j + (k + n)) remaining here (k + n) refl) (group_enough (k + n) (group_rest (j + (k + n)) (k + n) remaining here refl) rest n refl)
+    group_enough {row = row} b is (ExecutesGroup.skipped {s = s} {line = line} {remaining_after = remaining_after} decides here rest) n sum =
         let j = count_branched here in
         let k = count_group rest in
         let remaining = decides_rest (search_of context) row s line remaining_after (Ok false) b (j + (k + n)) is decides (omega arith) in
-        Group.skipped (decides_enough (search_of context) row s line remaining_after (Ok false) b is decides (j + (k + n)) (omega arith))
+        ExecutesGroup.skipped (decides_enough (search_of context) row s line remaining_after (Ok false) b is decides (j + (k + n)) (omega arith))
         (branches_enough (j + (k + n)) remaining here (k + n) refl) (group_enough (k + n) (branches_rest (j + (k + n)) (k + n) remaining here refl) rest n refl)
-    group_enough {row = row} b is (Group.condition_fault {s = s} {line = line} {remaining_after = remaining_after} {f = f} decides) n sum = Group.condition_fault (decides_enough (search_of context) row s line remaining_after (Err f) b is decides n sum)
+    group_enough {row = row} b is (ExecutesGroup.condition_fault {s = s} {line = line} {remaining_after = remaining_after} {f = f} decides) n sum = ExecutesGroup.condition_fault (decides_enough (search_of context) row s line remaining_after (Err f) b is decides n sum)
 
     pub branches_enough : {depth row : ℕ} {s : State} {bs : Branches} {m : Progress} (b : ℕ) → Covers s.remaining b
-        → (d : Branched context depth row s bs m) (n : ℕ)
+        → (d : ExecutesBranches context depth row s bs m) (n : ℕ)
         → b ≡ count_branched d + n
-        → Branched context depth row (with_remaining s (Some b)) bs (holding n m)
-    branches_enough {depth} {row} b is (Branched.no_branch_taken {s = s} {line = line}) n sum =
+        → ExecutesBranches context depth row (with_remaining s (Some b)) bs (holding n m)
+    branches_enough {depth} {row} b is (ExecutesBranches.no_branch_taken {s = s} {line = line}) n sum =
         let same : b ≡ n = omega arith in
-        subst (λ x. Branched context depth row (with_remaining s (Some b)) (End line) (holding x (running s))) same Branched.no_branch_taken
-    branches_enough b is (Branched.else_group e here) n sum = Branched.else_group e (group_enough b is here n sum)
-    branches_enough {row = row} b is (Branched.branch_taken {s = s} {line = line} {remaining_after = remaining_after} e decides here) n sum =
+        subst (λ x. ExecutesBranches context depth row (with_remaining s (Some b)) (End line) (holding x (running s))) same ExecutesBranches.no_branch_taken
+    branches_enough b is (ExecutesBranches.else_group e here) n sum = ExecutesBranches.else_group e (group_enough b is here n sum)
+    branches_enough {row = row} b is (ExecutesBranches.branch_taken {s = s} {line = line} {remaining_after = remaining_after} e decides here) n sum =
         let j = count_group here in
-        Branched.branch_taken e (decides_enough (search_of context) row s line remaining_after (Ok true) b is decides (j + n) (omega arith)) (group_enough (j + n) (decides_rest (search_of context) row s line remaining_after (Ok true) b (j + n) is decides (omega arith)) here n refl)
-    branches_enough {row = row} b is (Branched.branch_skipped {s = s} {line = line} {remaining_after = remaining_after} e decides rest) n sum =
+        ExecutesBranches.branch_taken e (decides_enough (search_of context) row s line remaining_after (Ok true) b is decides (j + n) (omega arith)) (group_enough (j + n) (decides_rest (search_of context) row s line remaining_after (Ok true) b (j + n) is decides (omega arith)) here n refl)
+    branches_enough {row = row} b is (ExecutesBranches.branch_skipped {s = s} {line = line} {remaining_after = remaining_after} e decides rest) n sum =
         let j = count_branched rest in
-        Branched.branch_skipped e (decides_enough (search_of context) row s line remaining_after (Ok false) b is decides (j + n) (omega arith)) (branches_enough (j + n) (decides_rest (search_of context) row s line remaining_after (Ok false) b (j + n) is decides (omega arith)) rest n refl)
-    branches_enough {row = row} b is (Branched.branch_condition_fault {s = s} {line = line} {remaining_after = remaining_after} {f = f} e decides) n sum =
-        Branched.branch_condition_fault e (decides_enough (search_of context) row s line remaining_after (Err f) b is decides n sum)
+        ExecutesBranches.branch_skipped e (decides_enough (search_of context) row s line remaining_after (Ok false) b is decides (j + n) (omega arith)) (branches_enough (j + n) (decides_rest (search_of context) row s line remaining_after (Ok false) b (j + n) is decides (omega arith)) rest n refl)
+    branches_enough {row = row} b is (ExecutesBranches.branch_condition_fault {s = s} {line = line} {remaining_after = remaining_after} {f = f} e decides) n sum =
+        ExecutesBranches.branch_condition_fault e (decides_enough (search_of context) row s line remaining_after (Err f) b is decides n sum)
 
     pub control_enough : {depth row : ℕ} {s : State} {line : LogicalLine} {m : Progress} (b : ℕ) → Covers s.remaining b
         → (d : ExecutesControlLine context depth row s line m) (n : ℕ)
@@ -116,31 +116,31 @@ module _ (context : Context) where
         (opened_enough (j + n) (asks_rest s line.tokens remaining_after (Ok a) b (j + n) is asks (omega arith)) opens n refl)
 
     pub opened_enough : {depth row : ℕ} {directory : Option ℕ} {at : Place} {s : State} {m : Progress} (b : ℕ) → Covers s.remaining b
-        → (d : Opened context depth at s row directory m) (n : ℕ)
+        → (d : OpensFile context depth at s row directory m) (n : ℕ)
         → b ≡ count_opened d + n
-        → Opened context depth at (with_remaining s (Some b)) row directory (holding n m)
-    opened_enough {depth} {row} {directory} {at} {s} {m} b is (Opened.too_deep deep) n sum =
+        → OpensFile context depth at (with_remaining s (Some b)) row directory (holding n m)
+    opened_enough {depth} {row} {directory} {at} {s} {m} b is (OpensFile.too_deep deep) n sum =
         let same : b ≡ n = omega arith in
-        subst (λ x. Opened context depth at (with_remaining s (Some b)) row directory (holding x m)) same (Opened.too_deep deep)
-    opened_enough {depth} {row} {directory} {at} {s} zero is (Opened.exhausted fits spent) n sum =
+        subst (λ x. OpensFile context depth at (with_remaining s (Some b)) row directory (holding x m)) same (OpensFile.too_deep deep)
+    opened_enough {depth} {row} {directory} {at} {s} zero is (OpensFile.exhausted fits spent) n sum =
         let same : 0 ≡ n = omega arith in
-        subst (λ x. Opened context depth at (with_remaining s (Some 0)) row directory (holding x (stopped s (fault 35 at [])))) same (Opened.exhausted fits refl)
-    opened_enough (suc b) is (Opened.exhausted {s = s} fits spent) n sum = absurd (covered s.remaining b is spent)
-    opened_enough zero is (Opened.not_read_again fits more once) n sum = absurd (omega arith)
-    opened_enough {depth} {row} {directory} {at} {s} {m} (suc b) is (Opened.not_read_again fits more once) n sum =
+        subst (λ x. OpensFile context depth at (with_remaining s (Some 0)) row directory (holding x (stopped s (fault 35 at [])))) same (OpensFile.exhausted fits refl)
+    opened_enough (suc b) is (OpensFile.exhausted {s = s} fits spent) n sum = absurd (covered s.remaining b is spent)
+    opened_enough zero is (OpensFile.not_read_again fits more once) n sum = absurd (omega arith)
+    opened_enough {depth} {row} {directory} {at} {s} {m} (suc b) is (OpensFile.not_read_again fits more once) n sum =
         let same : b ≡ n = omega arith in
-        subst (λ x. Opened context depth at (with_remaining s (Some (suc b))) row directory (holding x m)) same (Opened.not_read_again fits refl once)
-    opened_enough zero is (Opened.not_readable fits more once file) n sum = absurd (omega arith)
-    opened_enough {depth} {row} {directory} {at} {s} {m} (suc b) is (Opened.not_readable fits more once file) n sum =
+        subst (λ x. OpensFile context depth at (with_remaining s (Some (suc b))) row directory (holding x m)) same (OpensFile.not_read_again fits refl once)
+    opened_enough zero is (OpensFile.not_readable fits more once file) n sum = absurd (omega arith)
+    opened_enough {depth} {row} {directory} {at} {s} {m} (suc b) is (OpensFile.not_readable fits more once file) n sum =
         let same : b ≡ n = omega arith in
-        subst (λ x. Opened context depth at (with_remaining s (Some (suc b))) row directory (holding x m)) same (Opened.not_readable fits refl once file)
-    opened_enough zero is (Opened.content_fault fits more once file reads) n sum = absurd (omega arith)
-    opened_enough {depth} {row} {directory} {at} {s} {m} (suc b) is (Opened.content_fault fits more once file reads) n sum =
+        subst (λ x. OpensFile context depth at (with_remaining s (Some (suc b))) row directory (holding x m)) same (OpensFile.not_readable fits refl once file)
+    opened_enough zero is (OpensFile.content_fault fits more once file reads) n sum = absurd (omega arith)
+    opened_enough {depth} {row} {directory} {at} {s} {m} (suc b) is (OpensFile.content_fault fits more once file reads) n sum =
         let same : b ≡ n = omega arith in
-        subst (λ x. Opened context depth at (with_remaining s (Some (suc b))) row directory (holding x m)) same (Opened.content_fault fits refl once file reads)
-    opened_enough zero is (Opened.read fits more once file reads tree here) n sum = absurd (omega arith)
-    opened_enough (suc b) is (Opened.read {s = s} fits more once file reads tree here) n sum =
-        Opened.read fits refl once file reads tree (group_enough b (covers_less is) here n (omega arith))
+        subst (λ x. OpensFile context depth at (with_remaining s (Some (suc b))) row directory (holding x m)) same (OpensFile.content_fault fits refl once file reads)
+    opened_enough zero is (OpensFile.read fits more once file reads tree here) n sum = absurd (omega arith)
+    opened_enough (suc b) is (OpensFile.read {s = s} fits more once file reads tree here) n sum =
+        OpensFile.read fits refl once file reads tree (group_enough b (covers_less is) here n (omega arith))
 
   pub defines_enough : {defines : List (List ℕ)} {s : State} {m : Progress} (b : ℕ) → Covers s.remaining b
       → (d : Defines context defines s m) (n : ℕ)

@@ -6,7 +6,7 @@ use Rattle.pptext.specs.declared.tokens.Fault.{Fault}
 use Rattle.pptext.specs.Lines.{LogicalLine}
 use Rattle.pptext.specs.Tree.{GroupParts, Done, TextLines, Control, Section, End, Branch, part_lines, branch_lines, BeginsTextLines, AreGroupParts, role, role_by}
 use Rattle.ppunit.specs.States.{State, Context, running}
-use Rattle.ppunit.specs.Group.{Group}
+use Rattle.ppunit.specs.Group.{ExecutesGroup}
 use Rattle.ppunit.specs.Directives.{EmitsText}
 use Rattle.ppunit.specs.DirectiveLines.{text_tokens}
 use Rattle.ppshelf.specs.Files.{Files}
@@ -67,9 +67,9 @@ run_on : (context : Files → Context) (files : Files) (depth row : ℕ) (lines 
     → EmitsText s (text_tokens rs) (record { state = t; fault = f })
     → AdvancesFrom context files depth row lines s t (run_result end f) (TextLines rs qs) k
 run_on context files depth row lines index end s t None rs qs k are outer there gives =
-    (qs, k, record { rest = there; parts = are; outer = outer }, λ more grows last rest. ends_front (context more) depth row (running s) (running t) (TextLines rs qs) qs k last (λ o g. Group.text_lines gives g) rest)
+    (qs, k, record { rest = there; parts = are; outer = outer }, λ more grows last rest. ends_front (context more) depth row (running s) (running t) (TextLines rs qs) qs k last (λ o g. ExecutesGroup.text_lines gives g) rest)
 run_on context files depth row lines index end s t (Some f) rs qs k are outer there gives =
-    λ more grows. ends_stop (context more) depth row (running s) t f (TextLines rs qs) k (Group.text_lines gives Group.already_stopped)
+    λ more grows. ends_stop (context more) depth row (running s) t f (TextLines rs qs) k (ExecutesGroup.text_lines gives ExecutesGroup.already_stopped)
 
 pub run_advances : (context : Files → Context) (files : Files) (depth row : ℕ) (lines : List LogicalLine) (index end : ℕ) (s t : State)
     (f : Option Fault)

@@ -39,7 +39,7 @@ use Rattle.ppunit.specs.Including.{IncludeName, begins_with_header, name_of_head
 use Rattle.ppunit.specs.Probing.{condition_tokens}
 use Rattle.ppunit.specs.Conditions.{Decides, DecidesFreely, DecidesOf, DecidesBy, DecidesUnless, by_name}
 use Rattle.ppunit.specs.Directives.{EmitsText, SetsLine, renumbered_by, with_macros, pragma_emitted, ExecutesDirective, NamesHeader, NamesHeaderBy, candidates_for, FindsFile, message, checks_quotes}
-use Rattle.ppunit.specs.Group.{depth_limit, Group, Branched, ExecutesControlLine, ExecutesInclude, Opened}
+use Rattle.ppunit.specs.Group.{depth_limit, ExecutesGroup, ExecutesBranches, ExecutesControlLine, ExecutesInclude, OpensFile}
 use Rattle.ppunit.specs.Laws.{KnowsAll, HasSomeValue}
 use Rattle.ppunit.specs.Unit.{Defines, unread, processed, Translates, definitions_fault, translated, command_file, command_text, first_place, context_of_unit, initial_state}
 
@@ -159,7 +159,7 @@ module _ (expansions : SomeExpansion) (decisions : SomeDecision) where
     SomeOpened depth =
         (at : Place) (s : State) (row : ℕ) (directory : Option ℕ)
         → row < length context.names
-        → (m : Progress) × Opened context depth at s row directory m
+        → (m : Progress) × OpensFile context depth at s row directory m
 
     module _ (depth : ℕ) (deeper : SomeOpened (suc depth)) where
       finding : (row : ℕ) (from : Option ℕ) (s : State) (line : LogicalLine) (remaining_after : Option ℕ) (a : IncludeName)
@@ -201,14 +201,14 @@ module _ (expansions : SomeExpansion) (decisions : SomeDecision) where
 
       -- a group has an outcome, after a state or a fault
       abbrev SomeGroup : ℕ → Progress → GroupParts → Type 0
-      SomeGroup row r ps = (m : Progress) × Group context depth row r ps m
+      SomeGroup row r ps = (m : Progress) × ExecutesGroup context depth row r ps m
 
       abbrev SomeBranched : ℕ → State → Branches → Type 0
-      SomeBranched row s bs = (m : Progress) × Branched context depth row s bs m
+      SomeBranched row s bs = (m : Progress) × ExecutesBranches context depth row s bs m
 
       goes_on_by : (row : ℕ) (ps : GroupParts) → ((s : State) → SomeGroup row (running s) ps) → (s : State) (f : Option Fault) → SomeGroup row (record { state = s; fault = f }) ps
       goes_on_by row ps all s None = all s
-      goes_on_by row ps all s (Some f) = (stopped s f, Group.already_stopped)
+      goes_on_by row ps all s (Some f) = (stopped s f, ExecutesGroup.already_stopped)
 
       goes_on : (row : ℕ) (ps : GroupParts) → ((s : State) → SomeGroup row (running s) ps) → (r : Progress) → SomeGroup row r ps
       goes_on row ps all r = goes_on_by row ps all r.state r.fault
@@ -217,13 +217,13 @@ module _ (expansions : SomeExpansion) (decisions : SomeDecision) where
       at_run row s lines ps rest =
           let m = some_run s (text_tokens lines) in
           let g = goes_on row ps rest m.0 in
-          (g.0, Group.text_lines m.1 g.1)
+          (g.0, ExecutesGroup.text_lines m.1 g.1)
 
       at_control : (row : ℕ) (s : State) (line : LogicalLine) (ps : GroupParts) → role line ≡ ControlLine → ((t : State) → SomeGroup row (running t) ps) → SomeGroup row (running s) (Control line ps)
       at_control row s line ps is rest =
           let m = some_control row s line is in
           let g = goes_on row ps rest m.0 in
-          (g.0, Group.control m.1 g.1)
+          (g.0, ExecutesGroup.control m.1 g.1)
 
       at_section : (row : ℕ) (s : State) (line : LogicalLine) (ps qs : GroupParts) (bs : Branches) (taken : Result Bool Fault) (remaining_after : Option ℕ)
           → Decides (search_of context) row s line remaining_after taken
@@ -231,15 +231,15 @@ module _ (expansions : SomeExpansion) (decisions : SomeDecision) where
           → ((t : State) → SomeBranched row t bs)
           → ((t : State) → SomeGroup row (running t) qs)
           → SomeGroup row (running s) (Section line ps bs qs)
-      at_section row s line ps qs bs (Err f) remaining_after decides here branches rest = (stopped (with_remaining s remaining_after) f, Group.condition_fault decides)
+      at_section row s line ps qs bs (Err f) remaining_after decides here branches rest = (stopped (with_remaining s remaining_after) f, ExecutesGroup.condition_fault decides)
       at_section row s line ps qs bs (Ok true) remaining_after decides here branches rest =
           let m = here (with_remaining s remaining_after) in
           let g = goes_on row qs rest m.0 in
-          (g.0, Group.taken decides m.1 g.1)
+          (g.0, ExecutesGroup.taken decides m.1 g.1)
       at_section row s line ps qs bs (Ok false) remaining_after decides here branches rest =
           let m = branches (with_remaining s remaining_after) in
           let g = goes_on row qs rest m.0 in
-          (g.0, Group.skipped decides m.1 g.1)
+          (g.0, ExecutesGroup.skipped decides m.1 g.1)
 
       at_elif : (row : ℕ) (s : State) (line : LogicalLine) (ps : GroupParts) (bs : Branches) (taken : Result Bool Fault) (remaining_after : Option ℕ)
           → line.directive ≢ Some Else
@@ -247,16 +247,16 @@ module _ (expansions : SomeExpansion) (decisions : SomeDecision) where
           → ((t : State) → SomeGroup row (running t) ps)
           → ((t : State) → SomeBranched row t bs)
           → SomeBranched row s (Branch line ps bs)
-      at_elif row s line ps bs (Err f) remaining_after is decides here more = (stopped (with_remaining s remaining_after) f, Branched.branch_condition_fault is decides)
-      at_elif row s line ps bs (Ok true) remaining_after is decides here more = let m = here (with_remaining s remaining_after) in (m.0, Branched.branch_taken is decides m.1)
-      at_elif row s line ps bs (Ok false) remaining_after is decides here more = let m = more (with_remaining s remaining_after) in (m.0, Branched.branch_skipped is decides m.1)
+      at_elif row s line ps bs (Err f) remaining_after is decides here more = (stopped (with_remaining s remaining_after) f, ExecutesBranches.branch_condition_fault is decides)
+      at_elif row s line ps bs (Ok true) remaining_after is decides here more = let m = here (with_remaining s remaining_after) in (m.0, ExecutesBranches.branch_taken is decides m.1)
+      at_elif row s line ps bs (Ok false) remaining_after is decides here more = let m = more (with_remaining s remaining_after) in (m.0, ExecutesBranches.branch_skipped is decides m.1)
 
       at_branch : (row : ℕ) (s : State) (line : LogicalLine) (ps : GroupParts) (bs : Branches) (final : Bool)
           → role line ≡ Elses final
           → ((t : State) → SomeGroup row (running t) ps)
           → ((t : State) → SomeBranched row t bs)
           → SomeBranched row s (Branch line ps bs)
-      at_branch row s line ps bs true is here more = let m = here s in (m.0, Branched.else_group (else_directive line.directive is) m.1)
+      at_branch row s line ps bs true is here more = let m = here s in (m.0, ExecutesBranches.else_group (else_directive line.directive is) m.1)
       at_branch row s line ps bs false is here more =
           let d = some_deciding (search_of context) row s line (elif_conditional line.directive is) in
           at_elif row s line ps bs d.0 d.1 (not_else line.directive is) d.2 here more
@@ -273,14 +273,14 @@ module _ (expansions : SomeExpansion) (decisions : SomeDecision) where
 
       mutual
         some_group : (ps : GroupParts) → AreGroupParts ps → (row : ℕ) (s : State) → SomeGroup row (running s) ps
-        some_group Done good row s = (running s, Group.no_parts)
+        some_group Done good row s = (running s, ExecutesGroup.no_parts)
         some_group (TextLines lines ps) good row s = at_run row s lines ps (λ t. some_group ps good.3 row t)
         some_group (Control line ps) good row s = at_control row s line ps good.0 (λ t. some_group ps good.1 row t)
         some_group (Section line ps bs qs) good row s =
             opening_line row s line ps qs bs good.0 (λ t. some_group ps good.1 row t) (λ t. some_branches bs false good.2 row t) (λ t. some_group qs good.3 row t)
 
         some_branches : (bs : Branches) (last : Bool) → AreBranches last bs → (row : ℕ) (s : State) → SomeBranched row s bs
-        some_branches (End line) last good row s = (running s, Branched.no_branch_taken)
+        some_branches (End line) last good row s = (running s, ExecutesBranches.no_branch_taken)
         some_branches (Branch line ps bs) last (first, final, is, parts, more) row s =
             at_branch row s line ps bs final is (λ t. some_group ps parts row t) (λ t. some_branches bs final more row t)
 
@@ -296,12 +296,12 @@ module _ (expansions : SomeExpansion) (decisions : SomeDecision) where
           → file_at context.files row ≡ Some (readable bytes)
           → (r : Result (List LogicalLine) Fault)
           → Reads context.profile row bytes r
-          → (m : Progress) × Opened context depth at s row directory m
-      reading_file at s row directory bytes fits some new is (Err f) reads = (stopped (with_dependency (with_one_spent s) row) f, Opened.content_fault fits some new is reads)
+          → (m : Progress) × OpensFile context depth at s row directory m
+      reading_file at s row directory bytes fits some new is (Err f) reads = (stopped (with_dependency (with_one_spent s) row) f, OpensFile.content_fault fits some new is reads)
       reading_file at s row directory bytes fits some new is (Ok lines) reads =
           let t = tree_of context.profile row bytes lines reads in
           let g = some_group t.0 t.1.each row (entering context (with_one_spent s) row directory) in
-          (leaving s g.0, Opened.read fits some new is reads t.1 g.1)
+          (leaving s g.0, OpensFile.read fits some new is reads t.1 g.1)
 
       at_content : (at : Place) (s : State) (row : ℕ) (directory : Option ℕ)
           → depth ≤ depth_limit
@@ -310,10 +310,10 @@ module _ (expansions : SomeExpansion) (decisions : SomeDecision) where
           → (c : Option Content)
           → file_at context.files row ≡ c
           → IsSome c
-          → (m : Progress) × Opened context depth at s row directory m
+          → (m : Progress) × OpensFile context depth at s row directory m
       at_content at s row directory fits some new None is there = absurd (cc)
       at_content at s row directory fits some new (Some unreadable) is there =
-          (stopped (with_dependency (with_one_spent s) row) (fault 6 at (name_in context.names row)), Opened.not_readable fits some new is)
+          (stopped (with_dependency (with_one_spent s) row) (fault 6 at (name_in context.names row)), OpensFile.not_readable fits some new is)
       at_content at s row directory fits some new (Some (readable bytes)) is there =
           let r = readings context.profile row bytes in
           reading_file at s row directory bytes fits some new is r.0 r.1
@@ -323,16 +323,16 @@ module _ (expansions : SomeExpansion) (decisions : SomeDecision) where
           → is_exhausted s.remaining ≡ false
           → (b : Bool)
           → has_row row s.once ≡ b
-          → (m : Progress) × Opened context depth at s row directory m
-      at_once at s row directory within fits some true e = (running (with_dependency (with_one_spent s) row), Opened.not_read_again fits some e)
+          → (m : Progress) × OpensFile context depth at s row directory m
+      at_once at s row directory within fits some true e = (running (with_dependency (with_one_spent s) row), OpensFile.not_read_again fits some e)
       at_once at s row directory within fits some false e = at_content at s row directory fits some e (file_at context.files row) refl (known row within)
 
-      at_budget : (at : Place) (s : State) (row : ℕ) (directory : Option ℕ) → row < length context.names → depth ≤ depth_limit → (b : Bool) → is_exhausted s.remaining ≡ b → (m : Progress) × Opened context depth at s row directory m
-      at_budget at s row directory within fits true e = (stopped s (fault 35 at []), Opened.exhausted fits e)
+      at_budget : (at : Place) (s : State) (row : ℕ) (directory : Option ℕ) → row < length context.names → depth ≤ depth_limit → (b : Bool) → is_exhausted s.remaining ≡ b → (m : Progress) × OpensFile context depth at s row directory m
+      at_budget at s row directory within fits true e = (stopped s (fault 35 at []), OpensFile.exhausted fits e)
       at_budget at s row directory within fits false e = at_once at s row directory within fits e (has_row row s.once) refl
 
-      at_depth : (at : Place) (s : State) (row : ℕ) (directory : Option ℕ) → row < length context.names → (depth_limit < depth) ⊎ (depth ≤ depth_limit) → (m : Progress) × Opened context depth at s row directory m
-      at_depth at s row directory within (inl deep) = (stopped s (fault 32 at (name_in context.names row)), Opened.too_deep deep)
+      at_depth : (at : Place) (s : State) (row : ℕ) (directory : Option ℕ) → row < length context.names → (depth_limit < depth) ⊎ (depth ≤ depth_limit) → (m : Progress) × OpensFile context depth at s row directory m
+      at_depth at s row directory within (inl deep) = (stopped s (fault 32 at (name_in context.names row)), OpensFile.too_deep deep)
       at_depth at s row directory within (inr fits) = at_budget at s row directory within fits (is_exhausted s.remaining) refl
 
       some_opened : SomeOpened depth
@@ -340,7 +340,7 @@ module _ (expansions : SomeExpansion) (decisions : SomeDecision) where
 
     -- by induction on the number of levels that remain
     opening : (n depth : ℕ) → 201 ≤ n + depth → SomeOpened depth
-    opening zero depth h at s row directory within = (stopped s (fault 32 at (name_in context.names row)), Opened.too_deep (omega arith))
+    opening zero depth h at s row directory within = (stopped s (fault 32 at (name_in context.names row)), OpensFile.too_deep (omega arith))
     opening (suc n) depth h at s row directory within = some_opened depth (opening n (suc depth) (omega arith)) at s row directory within
 
     -- ---- a unit

@@ -8,7 +8,7 @@ use Rattle.pptext.specs.Tree.{GroupParts, Branches, Tree}
 use Rattle.ppshelf.specs.Names.{AreNames}
 use Rattle.ppunit.specs.States.{State, Context, Progress, running, stopped, leaving}
 use Rattle.ppunit.specs.DirectiveLines.{text_tokens}
-use Rattle.ppunit.specs.Group.{Group, Branched, ExecutesControlLine, ExecutesInclude, Opened}
+use Rattle.ppunit.specs.Group.{ExecutesGroup, ExecutesBranches, ExecutesControlLine, ExecutesInclude, OpensFile}
 use Rattle.ppunit.specs.Unit.{Defines, unread, processed, Translates, definitions_fault, translated, command_file, command_text, first_place}
 use Rattle.ppunit.proofs.LineUniqueness.{OneExpansion, OneDecision, OneReading, OneTree, OneRow, run_once}
 use Rattle.ppunit.proofs.SectionUniqueness.{AfterRun, at_run, AfterControl, at_control, at_done, at_stop, at_section, at_end, at_branch, after_taken, after_skipped, after_refused, after_else, after_elif, after_passed, after_faulty}
@@ -18,25 +18,25 @@ use Rattle.ppunit.proofs.OpeningUniqueness.{at_deep, at_over, at_known, at_unrea
 module _ (expansions : OneExpansion) (decisions : OneDecision) (readings : OneReading) (trees : OneTree) (rows : OneRow) where
   module _ (context : Context) (once : AreNames context.names) where
     mutual
-      pub group_once : {depth row : ℕ} {r : Progress} {ps : GroupParts} {y : Progress} → Group context depth row r ps y → (z : Progress) → Group context depth row r ps z → y ≡ z
-      group_once Group.already_stopped z d = at_stop expansions decisions context d
-      group_once Group.no_parts z d = at_done expansions decisions context d
-      group_once {depth} {row} (Group.text_lines {s = s} {lines = rs} {ps = ps} {m = m} gives rest) z d =
+      pub group_once : {depth row : ℕ} {r : Progress} {ps : GroupParts} {y : Progress} → ExecutesGroup context depth row r ps y → (z : Progress) → ExecutesGroup context depth row r ps z → y ≡ z
+      group_once ExecutesGroup.already_stopped z d = at_stop expansions decisions context d
+      group_once ExecutesGroup.no_parts z d = at_done expansions decisions context d
+      group_once {depth} {row} (ExecutesGroup.text_lines {s = s} {lines = rs} {ps = ps} {m = m} gives rest) z d =
           let h : AfterRun expansions decisions context depth row s rs ps z = at_run expansions decisions context d in
-          group_once rest z (subst (λ x. Group context depth row x ps z) (run_once expansions decisions s (text_tokens rs) h.0 m h.1 gives) h.2)
-      group_once {depth} {row} (Group.control {s = s} {line = line} {ps = ps} {m = m} here rest) z d =
+          group_once rest z (subst (λ x. ExecutesGroup context depth row x ps z) (run_once expansions decisions s (text_tokens rs) h.0 m h.1 gives) h.2)
+      group_once {depth} {row} (ExecutesGroup.control {s = s} {line = line} {ps = ps} {m = m} here rest) z d =
           let h : AfterControl expansions decisions context depth row s line ps z = at_control expansions decisions context d in
-          group_once rest z (subst (λ x. Group context depth row x ps z) (sym (control_once here h.0 h.1)) h.2)
-      group_once (Group.taken decides here rest) z d = after_taken expansions decisions context decides (λ n g. group_once here n g) (λ n g. group_once rest n g) z (at_section expansions decisions context d)
-      group_once (Group.skipped decides here rest) z d = after_skipped expansions decisions context decides (λ n g. branches_once here n g) (λ n g. group_once rest n g) z (at_section expansions decisions context d)
-      group_once (Group.condition_fault decides) z d = after_refused expansions decisions context decides z (at_section expansions decisions context d)
+          group_once rest z (subst (λ x. ExecutesGroup context depth row x ps z) (sym (control_once here h.0 h.1)) h.2)
+      group_once (ExecutesGroup.taken decides here rest) z d = after_taken expansions decisions context decides (λ n g. group_once here n g) (λ n g. group_once rest n g) z (at_section expansions decisions context d)
+      group_once (ExecutesGroup.skipped decides here rest) z d = after_skipped expansions decisions context decides (λ n g. branches_once here n g) (λ n g. group_once rest n g) z (at_section expansions decisions context d)
+      group_once (ExecutesGroup.condition_fault decides) z d = after_refused expansions decisions context decides z (at_section expansions decisions context d)
 
-      branches_once : {depth row : ℕ} {s : State} {bs : Branches} {y : Progress} → Branched context depth row s bs y → (z : Progress) → Branched context depth row s bs z → y ≡ z
-      branches_once Branched.no_branch_taken z d = at_end expansions decisions context d
-      branches_once (Branched.else_group is here) z d = after_else expansions decisions context is (λ n g. group_once here n g) z (at_branch expansions decisions context d)
-      branches_once (Branched.branch_taken is decides here) z d = after_elif expansions decisions context is decides (λ n g. group_once here n g) z (at_branch expansions decisions context d)
-      branches_once (Branched.branch_skipped is decides rest) z d = after_passed expansions decisions context is decides (λ n g. branches_once rest n g) z (at_branch expansions decisions context d)
-      branches_once (Branched.branch_condition_fault is decides) z d = after_faulty expansions decisions context is decides z (at_branch expansions decisions context d)
+      branches_once : {depth row : ℕ} {s : State} {bs : Branches} {y : Progress} → ExecutesBranches context depth row s bs y → (z : Progress) → ExecutesBranches context depth row s bs z → y ≡ z
+      branches_once ExecutesBranches.no_branch_taken z d = at_end expansions decisions context d
+      branches_once (ExecutesBranches.else_group is here) z d = after_else expansions decisions context is (λ n g. group_once here n g) z (at_branch expansions decisions context d)
+      branches_once (ExecutesBranches.branch_taken is decides here) z d = after_elif expansions decisions context is decides (λ n g. group_once here n g) z (at_branch expansions decisions context d)
+      branches_once (ExecutesBranches.branch_skipped is decides rest) z d = after_passed expansions decisions context is decides (λ n g. branches_once rest n g) z (at_branch expansions decisions context d)
+      branches_once (ExecutesBranches.branch_condition_fault is decides) z d = after_faulty expansions decisions context is decides z (at_branch expansions decisions context d)
 
       control_once : {depth row : ℕ} {s : State} {line : LogicalLine} {y : Progress} → ExecutesControlLine context depth row s line y → (z : Progress) → ExecutesControlLine context depth row s line z → y ≡ z
       control_once (ExecutesControlLine.error is) z d = at_error expansions decisions rows context once is d
@@ -50,13 +50,13 @@ module _ (expansions : OneExpansion) (decisions : OneDecision) (readings : OneRe
       includes_once (ExecutesInclude.missing a asks finds) z d = after_missing expansions decisions rows context once a asks finds d
       includes_once (ExecutesInclude.included a found asks finds opens) z d = opened_once opens z (after_included expansions decisions rows context once a found asks finds d)
 
-      pub opened_once : {depth row : ℕ} {directory : Option ℕ} {at : Place} {s : State} {y : Progress} → Opened context depth at s row directory y → (z : Progress) → Opened context depth at s row directory z → y ≡ z
-      opened_once (Opened.too_deep deep) z d = at_deep readings trees context deep d
-      opened_once (Opened.exhausted fits spent) z d = at_over readings trees context fits spent d
-      opened_once (Opened.not_read_again fits some known) z d = at_known readings trees context fits some known d
-      opened_once (Opened.not_readable fits some new is) z d = at_unreadable readings trees context fits some new is d
-      opened_once (Opened.content_fault {bytes = bytes} {f = f} fits some new is reads) z d = after_fault readings trees context refl (at_reading readings trees context bytes (Err f) fits some new is reads d)
-      opened_once {depth} {row} {directory} {at} {s} (Opened.read {bytes = bytes} {lines = lines} {parts = parts} {m = m} fits some new is reads tree here) z d =
+      pub opened_once : {depth row : ℕ} {directory : Option ℕ} {at : Place} {s : State} {y : Progress} → OpensFile context depth at s row directory y → (z : Progress) → OpensFile context depth at s row directory z → y ≡ z
+      opened_once (OpensFile.too_deep deep) z d = at_deep readings trees context deep d
+      opened_once (OpensFile.exhausted fits spent) z d = at_over readings trees context fits spent d
+      opened_once (OpensFile.not_read_again fits some known) z d = at_known readings trees context fits some known d
+      opened_once (OpensFile.not_readable fits some new is) z d = at_unreadable readings trees context fits some new is d
+      opened_once (OpensFile.content_fault {bytes = bytes} {f = f} fits some new is reads) z d = after_fault readings trees context refl (at_reading readings trees context bytes (Err f) fits some new is reads d)
+      opened_once {depth} {row} {directory} {at} {s} (OpensFile.read {bytes = bytes} {lines = lines} {parts = parts} {m = m} fits some new is reads tree here) z d =
           let h : AfterLines readings trees context depth s row directory parts z = after_lines readings trees context refl tree (at_reading readings trees context bytes (Ok lines) fits some new is reads d) in
           ap (λ x. leaving s x) (group_once here h.0 h.2) ∙ sym h.1
 
@@ -68,7 +68,7 @@ module _ (expansions : OneExpansion) (decisions : OneDecision) (readings : OneRe
 
     data AfterCommands (s : State) : Result (List LogicalLine) Fault → Progress → Type 0 where
       is_unread : {f : Fault} → AfterCommands s (Err f) (stopped s f)
-      is_processed : {lines : List LogicalLine} {parts : GroupParts} {m : Progress} → Tree lines parts → Group context 0 command_file (running s) parts m → AfterCommands s (Ok lines) m
+      is_processed : {lines : List LogicalLine} {parts : GroupParts} {m : Progress} → Tree lines parts → ExecutesGroup context 0 command_file (running s) parts m → AfterCommands s (Ok lines) m
 
     at_commands : {defines : List (List ℕ)} {s : State} {m : Progress} (x : Result (List LogicalLine) Fault)
         → Reads context.profile command_file (command_text defines) x
@@ -83,13 +83,13 @@ module _ (expansions : OneExpansion) (decisions : OneDecision) (readings : OneRe
     processed_once : {s : State} {lines : List LogicalLine} {parts : GroupParts} {y : Progress} {x : Result (List LogicalLine) Fault} {m : Progress}
         → Ok lines ≡ x
         → Tree lines parts
-        → Group context 0 command_file (running s) parts y
+        → ExecutesGroup context 0 command_file (running s) parts y
         → AfterCommands s x m
         → y ≡ m
     processed_once e tree here is_unread = absurd (cc)
     processed_once {s = s} {lines = lines} {parts = parts} {m = m} e tree here (is_processed {lines = lines'} {parts = parts'} tree' here') =
         let same : lines' ≡ lines = cc in
-        group_once here m (subst (λ z. Group context 0 command_file (running s) z m) (trees lines parts' parts (subst (λ z. Tree z parts') same tree') tree) here')
+        group_once here m (subst (λ z. ExecutesGroup context 0 command_file (running s) z m) (trees lines parts' parts (subst (λ z. Tree z parts') same tree') tree) here')
 
     defines_once : {defines : List (List ℕ)} {s : State} {y : Progress} → Defines context defines s y → (z : Progress) → Defines context defines s z → y ≡ z
     defines_once (unread {f = f} reads) z d = unread_once refl (at_commands (Err f) reads d)
@@ -101,14 +101,14 @@ module _ (expansions : OneExpansion) (decisions : OneDecision) (readings : OneRe
         let one = defines_once here (running t') here' in
         let no_fault : Some f ≡ None = λ i. (one i).fault in absurd (cc)
 
-    translated_once : {defines : List (List ℕ)} {row : ℕ} {s t : State} {y m : Progress} → Defines context defines s (running t) → Opened context 0 (first_place row) t row None y → Translates context defines row s m → y ≡ m
+    translated_once : {defines : List (List ℕ)} {row : ℕ} {s t : State} {y m : Progress} → Defines context defines s (running t) → OpensFile context 0 (first_place row) t row None y → Translates context defines row s m → y ≡ m
     translated_once {t = t} here opens (definitions_fault {t = t'} {f = f'} here') =
         let one = defines_once here (stopped t' f') here' in
         let no_fault : None ≡ Some f' = λ i. (one i).fault in absurd (cc)
     translated_once {row = row} {t = t} {m = m} here opens (translated {t = t'} here' opens') =
         let one = defines_once here (running t') here' in
         let states : t' ≡ t = λ i. ((sym one) i).state in
-        opened_once opens m (subst (λ z. Opened context 0 (first_place row) z row None m) states opens')
+        opened_once opens m (subst (λ z. OpensFile context 0 (first_place row) z row None m) states opens')
 
     pub translates_once : {defines : List (List ℕ)} {row : ℕ} {s : State} {y : Progress} → Translates context defines row s y → (z : Progress) → Translates context defines row s z → y ≡ z
     translates_once (definitions_fault here) z d = undefined_once here d

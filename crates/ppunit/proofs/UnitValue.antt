@@ -13,7 +13,7 @@ use Rattle.ppunit.specs.States.{State, in_file_context, Context, Progress, runni
 use Rattle.ppunit.specs.declared.units.Unit.{Unit as UnitOfList}
 use Rattle.ppunit.specs.declared.units.Setting.{Setting}
 use Rattle.ppunit.specs.declared.units.UnitOut.{UnitOut}
-use Rattle.ppunit.specs.Group.{Opened}
+use Rattle.ppunit.specs.Group.{OpensFile}
 use Rattle.ppunit.specs.Unit.{IsUnit, initial_state, command_file, command_text, unread, processed, Translates, definitions_fault, translated, first_place}
 use Rattle.ppunit.specs.code.Opening.{Entered}
 use Rattle.ppunit.specs.code.Walk.{EntersFile, Walks, DefinesOver}
@@ -71,8 +71,8 @@ pub entered_file : (context : Files → Context) (files new : Files) (depth : �
     → (more : Files)
     → Extends more new
     → whole more (record { state = in_file_context e.outer u; fault = fault })
-entered_file context files new depth whole t u e fault wider continues_after walks more grows =
-    continues_after.group more (extends_trans more new files grows wider) (record { state = u; fault = fault }) (walks continues_after.parts continues_after.tree more grows)
+entered_file context files new depth whole t u e fault wider takes_branch walks more grows =
+    takes_branch.group more (extends_trans more new files grows wider) (record { state = u; fault = fault }) (walks takes_branch.parts takes_branch.tree more grows)
 
 pub undefined_unit : (context : Files → Context) (files : Files) (defines : List (List ℕ)) (row : ℕ) (s t : State) (f : Fault)
     → DefinesOver context files defines s (stopped t f)
@@ -82,7 +82,7 @@ undefined_unit context files defines row s t f over = definitions_fault (over fi
 pub translated_unit : (context : Files → Context) (files more : Files) (defines : List (List ℕ)) (row : ℕ) (s t u : State) (g : Option Fault)
     → DefinesOver context files defines s (running t)
     → Extends more files
-    → ((most : Files) → Extends most more → Opened (context most) 0 (first_place row) t row None (record { state = u; fault = g }))
+    → ((most : Files) → Extends most more → OpensFile (context most) 0 (first_place row) t row None (record { state = u; fault = g }))
     → Translates (context more) defines row s (record { state = u; fault = g })
 translated_unit context files more defines row s t u g over grows opens = translated (over more grows) (opens more (extends_itself more))
 

@@ -30,7 +30,7 @@ use Rattle.ppunit.specs.Including.{IncludeName, begins_with_header, name_of_head
 use Rattle.ppunit.specs.Probing.{probed, tokens_or, condition_tokens}
 use Rattle.ppunit.specs.Conditions.{by_name, DecidesBy, DecidesUnless, Decides, DecidesOf}
 use Rattle.ppunit.specs.Directives.{EmitsText, with_macros, renumbered_by, NamesHeaderBy, NamesHeader, ExecutesDirective}
-use Rattle.ppunit.specs.Group.{Group, Branched, ExecutesControlLine}
+use Rattle.ppunit.specs.Group.{ExecutesGroup, ExecutesBranches, ExecutesControlLine}
 use Rattle.ppunit.specs.Unit.{count_defines, Defines}
 use Rattle.ppexpand.specs.Expansion.{count_expansion}
 use Rattle.ppunit.specs.Counts.{count_decides, count_names_header, count_group, count_branched, count_control}
@@ -48,10 +48,10 @@ pub run_none : (s : State) (tokens : List Token) (m : Progress) → s.remaining 
 run_none s tokens m is g = still_none (count_expansion g.expands) is (run_spends s tokens m g)
 
 module _ (context : Context) where
-  pub group_none : {depth row : ℕ} {r : Progress} {ps : GroupParts} {end : Progress} → r.state.remaining ≡ None → Group context depth row r ps end → end.state.remaining ≡ None
+  pub group_none : {depth row : ℕ} {r : Progress} {ps : GroupParts} {end : Progress} → r.state.remaining ≡ None → ExecutesGroup context depth row r ps end → end.state.remaining ≡ None
   group_none is d = still_none (count_group d) is (group_spends context d)
 
-  pub branches_none : {depth row : ℕ} {s : State} {bs : Branches} {m : Progress} → s.remaining ≡ None → Branched context depth row s bs m → m.state.remaining ≡ None
+  pub branches_none : {depth row : ℕ} {s : State} {bs : Branches} {m : Progress} → s.remaining ≡ None → ExecutesBranches context depth row s bs m → m.state.remaining ≡ None
   branches_none is d = still_none (count_branched d) is (branches_spend context d)
 
   pub control_none : {depth row : ℕ} {s : State} {line : LogicalLine} {m : Progress} → s.remaining ≡ None → ExecutesControlLine context depth row s line m → m.state.remaining ≡ None

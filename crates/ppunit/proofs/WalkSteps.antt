@@ -5,7 +5,7 @@ use Rattle.pptext.specs.declared.sources.Directive.{Directive}
 use Rattle.pptext.specs.Lines.{LogicalLine}
 use Rattle.pptext.specs.Tree.{GroupParts, AreGroupParts, role, role_by}
 use Rattle.ppunit.specs.States.{State, Context, Progress, running, stopped}
-use Rattle.ppunit.specs.Group.{Group}
+use Rattle.ppunit.specs.Group.{ExecutesGroup}
 use Rattle.ppshelf.specs.Files.{Files, Extends}
 use Rattle.ppunit.specs.code.Walk.{line_at, Outer, lay, AreOuter, HasPartsAt, Ends, Advances}
 use Rattle.ppunit.proofs.IndexedLines.{at_index, from_index}
@@ -14,15 +14,15 @@ use Rattle.ppunit.proofs.FirstLineCases.{First, first_of}
 -- ---- from the end of the rest to the end of the whole
 
 pub ends_front : (context : Context) (depth row : ℕ) (m n : Progress) (ps qs : GroupParts) (k : Outer) (end : Progress)
-    → ((o : Progress) → Group context depth row n qs o → Group context depth row m ps o)
+    → ((o : Progress) → ExecutesGroup context depth row n qs o → ExecutesGroup context depth row m ps o)
     → Ends context depth row n qs k end
     → Ends context depth row m ps k end
 ends_front context depth row m n ps qs [] end front e = front end e
 ends_front context depth row m n ps qs ((bs, rs) ∷ k) end front e = (e.0, front e.0 e.1, e.2)
 
-pub ends_stop : (context : Context) (depth row : ℕ) (m : Progress) (s : State) (f : Fault) (ps : GroupParts) (k : Outer) → Group context depth row m ps (stopped s f) → Ends context depth row m ps k (stopped s f)
+pub ends_stop : (context : Context) (depth row : ℕ) (m : Progress) (s : State) (f : Fault) (ps : GroupParts) (k : Outer) → ExecutesGroup context depth row m ps (stopped s f) → Ends context depth row m ps k (stopped s f)
 ends_stop context depth row m s f ps [] g = g
-ends_stop context depth row m s f ps ((bs, qs) ∷ k) g = (stopped s f, g, ends_stop context depth row (stopped s f) s f qs k Group.already_stopped)
+ends_stop context depth row m s f ps ((bs, qs) ∷ k) g = (stopped s f, g, ends_stop context depth row (stopped s f) s f qs k ExecutesGroup.already_stopped)
 
 pub stands_behind : (lines : List LogicalLine) (index : ℕ) (r : LogicalLine) (ps : GroupParts) (k : Outer) → drop index lines ≡ r ∷ lay ps k → AreGroupParts ps → AreOuter k → HasPartsAt lines (index + 1) ps k
 stands_behind lines index r ps k e are outer = record { rest = rw add-one (at_index lines index r (lay ps k) e).following; parts = are; outer = outer }

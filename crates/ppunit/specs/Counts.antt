@@ -20,7 +20,7 @@ use Rattle.ppunit.specs.Probing.{condition_tokens}
 use Rattle.ppunit.specs.Including.{IncludeName, begins_with_header}
 use Rattle.ppunit.specs.Conditions.{DecidesOf, DecidesBy, DecidesUnless, Decides}
 use Rattle.ppunit.specs.Directives.{NamesHeaderBy, NamesHeader, ExecutesDirective}
-use Rattle.ppunit.specs.Group.{Group, Branched, ExecutesControlLine, ExecutesInclude, Opened}
+use Rattle.ppunit.specs.Group.{ExecutesGroup, ExecutesBranches, ExecutesControlLine, ExecutesInclude, OpensFile}
 
 -- ---- lines: the replacements in their operands
 
@@ -68,27 +68,27 @@ count_control_by profile row _ s line m h = 0
 -- ---- groups: their lines, and the files that they include
 
 abbrev mutual
-  pub count_group : {context : Context} {depth row : ℕ} {r : Progress} {ps : GroupParts} {end : Progress} → Group context depth row r ps end → ℕ
-  count_group Group.already_stopped = 0
-  count_group Group.no_parts = 0
-  count_group (Group.text_lines gives rest) = count_expansion gives.expands + count_group rest
-  count_group (Group.control here rest) = count_control here + count_group rest
-  count_group {context} {depth} {row} (Group.taken {s = s} {line = line} {remaining_after = remaining_after} decides here rest) =
+  pub count_group : {context : Context} {depth row : ℕ} {r : Progress} {ps : GroupParts} {end : Progress} → ExecutesGroup context depth row r ps end → ℕ
+  count_group ExecutesGroup.already_stopped = 0
+  count_group ExecutesGroup.no_parts = 0
+  count_group (ExecutesGroup.text_lines gives rest) = count_expansion gives.expands + count_group rest
+  count_group (ExecutesGroup.control here rest) = count_control here + count_group rest
+  count_group {context} {depth} {row} (ExecutesGroup.taken {s = s} {line = line} {remaining_after = remaining_after} decides here rest) =
       count_decides (search_of context) row s line remaining_after (Ok true) decides + (count_group here + count_group rest)
-  count_group {context} {depth} {row} (Group.skipped {s = s} {line = line} {remaining_after = remaining_after} decides here rest) =
+  count_group {context} {depth} {row} (ExecutesGroup.skipped {s = s} {line = line} {remaining_after = remaining_after} decides here rest) =
       count_decides (search_of context) row s line remaining_after (Ok false) decides + (count_branched here + count_group rest)
-  count_group {context} {depth} {row} (Group.condition_fault {s = s} {line = line} {remaining_after = remaining_after} {f = f} decides) = count_decides (search_of context) row s line remaining_after (Err f) decides
+  count_group {context} {depth} {row} (ExecutesGroup.condition_fault {s = s} {line = line} {remaining_after = remaining_after} {f = f} decides) = count_decides (search_of context) row s line remaining_after (Err f) decides
 
   pub count_branched : {context : Context} {depth row : ℕ} {s : State} {bs : Branches} {m : Progress}
-      → Branched context depth row s bs m
+      → ExecutesBranches context depth row s bs m
       → ℕ
-  count_branched Branched.no_branch_taken = 0
-  count_branched (Branched.else_group is here) = count_group here
-  count_branched {context} {depth} {row} (Branched.branch_taken {s = s} {line = line} {remaining_after = remaining_after} is decides here) =
+  count_branched ExecutesBranches.no_branch_taken = 0
+  count_branched (ExecutesBranches.else_group is here) = count_group here
+  count_branched {context} {depth} {row} (ExecutesBranches.branch_taken {s = s} {line = line} {remaining_after = remaining_after} is decides here) =
       count_decides (search_of context) row s line remaining_after (Ok true) decides + count_group here
-  count_branched {context} {depth} {row} (Branched.branch_skipped {s = s} {line = line} {remaining_after = remaining_after} is decides rest) =
+  count_branched {context} {depth} {row} (ExecutesBranches.branch_skipped {s = s} {line = line} {remaining_after = remaining_after} is decides rest) =
       count_decides (search_of context) row s line remaining_after (Ok false) decides + count_branched rest
-  count_branched {context} {depth} {row} (Branched.branch_condition_fault {s = s} {line = line} {remaining_after = remaining_after} {f = f} is decides) = count_decides (search_of context) row s line remaining_after (Err f) decides
+  count_branched {context} {depth} {row} (ExecutesBranches.branch_condition_fault {s = s} {line = line} {remaining_after = remaining_after} {f = f} is decides) = count_decides (search_of context) row s line remaining_after (Err f) decides
 
   pub count_control : {context : Context} {depth row : ℕ} {s : State} {line : LogicalLine} {m : Progress}
       → ExecutesControlLine context depth row s line m
@@ -109,11 +109,11 @@ abbrev mutual
       count_names_header s line.tokens remaining_after (Ok a) asks + count_opened opens
 
   pub count_opened : {context : Context} {depth row : ℕ} {directory : Option ℕ} {at : Place} {s : State} {m : Progress}
-      → Opened context depth at s row directory m
+      → OpensFile context depth at s row directory m
       → ℕ
-  count_opened (Opened.too_deep deep) = 0
-  count_opened (Opened.exhausted fits spent) = 0
-  count_opened (Opened.not_read_again fits more once) = 1
-  count_opened (Opened.not_readable fits more once is) = 1
-  count_opened (Opened.content_fault fits more once is reads) = 1
-  count_opened (Opened.read fits more once is reads tree here) = suc (count_group here)
+  count_opened (OpensFile.too_deep deep) = 0
+  count_opened (OpensFile.exhausted fits spent) = 0
+  count_opened (OpensFile.not_read_again fits more once) = 1
+  count_opened (OpensFile.not_readable fits more once is) = 1
+  count_opened (OpensFile.content_fault fits more once is reads) = 1
+  count_opened (OpensFile.read fits more once is reads tree here) = suc (count_group here)

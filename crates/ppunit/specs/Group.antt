@@ -27,56 +27,56 @@ abbrev pub depth_limit : ℕ
 depth_limit = 200
 
 mutual
-  -- A group in the file at index `row`, at an include depth. After its first fault a unit does nothing more.
-  pub data Group (context : Context) : ℕ → ℕ → Progress → GroupParts → Progress → Type 0 where
-    already_stopped : {depth row : ℕ} {s : State} {f : Fault} {ps : GroupParts} → Group context depth row (stopped s f) ps (stopped s f)
-    no_parts : {depth row : ℕ} {s : State} → Group context depth row (running s) Done (running s)
+  -- A group in the file at index `row` of the file table, at an include depth. After its first fault a unit does nothing more.
+  pub data ExecutesGroup (context : Context) : ℕ → ℕ → Progress → GroupParts → Progress → Type 0 where
+    already_stopped : {depth row : ℕ} {s : State} {f : Fault} {ps : GroupParts} → ExecutesGroup context depth row (stopped s f) ps (stopped s f)
+    no_parts : {depth row : ℕ} {s : State} → ExecutesGroup context depth row (running s) Done (running s)
     text_lines : {depth row : ℕ} {s : State} {lines : List LogicalLine} {ps : GroupParts} {m end : Progress}
         → EmitsText s (text_tokens lines) m
-        → Group context depth row m ps end
-        → Group context depth row (running s) (TextLines lines ps) end
+        → ExecutesGroup context depth row m ps end
+        → ExecutesGroup context depth row (running s) (TextLines lines ps) end
     control : {depth row : ℕ} {s : State} {line : LogicalLine} {ps : GroupParts} {m end : Progress}
         → ExecutesControlLine context depth row s line m
-        → Group context depth row m ps end
-        → Group context depth row (running s) (Control line ps) end
+        → ExecutesGroup context depth row m ps end
+        → ExecutesGroup context depth row (running s) (Control line ps) end
     taken : {depth row : ℕ} {s : State} {line : LogicalLine} {ps qs : GroupParts} {bs : Branches} {remaining_after : Option ℕ} {m end : Progress}
         → Decides (search_of context) row s line remaining_after (Ok true)
-        → Group context depth row (running (with_remaining s remaining_after)) ps m
-        → Group context depth row m qs end
-        → Group context depth row (running s) (Section line ps bs qs) end
+        → ExecutesGroup context depth row (running (with_remaining s remaining_after)) ps m
+        → ExecutesGroup context depth row m qs end
+        → ExecutesGroup context depth row (running s) (Section line ps bs qs) end
     skipped : {depth row : ℕ} {s : State} {line : LogicalLine} {ps qs : GroupParts} {bs : Branches} {remaining_after : Option ℕ} {m end : Progress}
         → Decides (search_of context) row s line remaining_after (Ok false)
-        → Branched context depth row (with_remaining s remaining_after) bs m
-        → Group context depth row m qs end
-        → Group context depth row (running s) (Section line ps bs qs) end
+        → ExecutesBranches context depth row (with_remaining s remaining_after) bs m
+        → ExecutesGroup context depth row m qs end
+        → ExecutesGroup context depth row (running s) (Section line ps bs qs) end
     condition_fault : {depth row : ℕ} {s : State} {line : LogicalLine} {ps qs : GroupParts} {bs : Branches} {remaining_after : Option ℕ} {f : Fault}
         → Decides (search_of context) row s line remaining_after (Err f)
-        → Group context depth row (running s) (Section line ps bs qs) (stopped (with_remaining s remaining_after) f)
+        → ExecutesGroup context depth row (running s) (Section line ps bs qs) (stopped (with_remaining s remaining_after) f)
 
   -- the branches of an if-section, up to the first that is taken (6.10.1)
-  pub data Branched (context : Context) : ℕ → ℕ → State → Branches → Progress → Type 0 where
-    no_branch_taken : {depth row : ℕ} {s : State} {line : LogicalLine} → Branched context depth row s (End line) (running s)
+  pub data ExecutesBranches (context : Context) : ℕ → ℕ → State → Branches → Progress → Type 0 where
+    no_branch_taken : {depth row : ℕ} {s : State} {line : LogicalLine} → ExecutesBranches context depth row s (End line) (running s)
     else_group : {depth row : ℕ} {s : State} {line : LogicalLine} {ps : GroupParts} {bs : Branches} {m : Progress}
         → line.directive ≡ Some Else
-        → Group context depth row (running s) ps m
-        → Branched context depth row s (Branch line ps bs) m
+        → ExecutesGroup context depth row (running s) ps m
+        → ExecutesBranches context depth row s (Branch line ps bs) m
     branch_taken : {depth row : ℕ} {s : State} {line : LogicalLine} {ps : GroupParts} {bs : Branches} {remaining_after : Option ℕ} {m : Progress}
         → line.directive ≢ Some Else
         → Decides (search_of context) row s line remaining_after (Ok true)
-        → Group context depth row (running (with_remaining s remaining_after)) ps m
-        → Branched context depth row s (Branch line ps bs) m
+        → ExecutesGroup context depth row (running (with_remaining s remaining_after)) ps m
+        → ExecutesBranches context depth row s (Branch line ps bs) m
     branch_skipped : {depth row : ℕ} {s : State} {line : LogicalLine} {ps : GroupParts} {bs : Branches} {remaining_after : Option ℕ} {m : Progress}
         → line.directive ≢ Some Else
         → Decides (search_of context) row s line remaining_after (Ok false)
-        → Branched context depth row (with_remaining s remaining_after) bs m
-        → Branched context depth row s (Branch line ps bs) m
+        → ExecutesBranches context depth row (with_remaining s remaining_after) bs m
+        → ExecutesBranches context depth row s (Branch line ps bs) m
     branch_condition_fault : {depth row : ℕ} {s : State} {line : LogicalLine} {ps : GroupParts} {bs : Branches} {remaining_after : Option ℕ} {f : Fault}
         → line.directive ≢ Some Else
         → Decides (search_of context) row s line remaining_after (Err f)
-        → Branched context depth row s (Branch line ps bs) (stopped (with_remaining s remaining_after) f)
+        → ExecutesBranches context depth row s (Branch line ps bs) (stopped (with_remaining s remaining_after) f)
 
-  -- A control line. `#include_next` searches the directories after the one in which the file of this line was found. In the
-  -- main file it searches as `#include` does.
+  -- A control line. `#include_next` searches the directories after the one in which the file of this line was found. All of
+  -- them are searched if that file was found next to its includer. In the main file it searches as `#include` does.
   pub data ExecutesControlLine (context : Context) : ℕ → ℕ → State → LogicalLine → Progress → Type 0 where
     error : {depth row : ℕ} {s : State} {line : LogicalLine}
         → class_by line.directive ≡ Some class.Error
@@ -100,7 +100,8 @@ mutual
 
   -- An include line without unmatched quotes (6.10.2). Its operands name no header or their expansion has a fault, or no file
   -- is found for the header, or the file that is found is opened one level deeper. The search begins after the directory
-  -- with the number `previous_directory`, or at the first directory if that is `None`.
+  -- with the number `previous_directory`, or at the first directory if that is `None`. `found` is the index of the file and
+  -- the number of its directory.
   pub data ExecutesInclude (context : Context) : ℕ → ℕ → Option ℕ → State → LogicalLine → Progress → Type 0 where
     operand_fault : {depth row : ℕ} {previous_directory : Option ℕ} {s : State} {line : LogicalLine} {remaining_after : Option ℕ} {f : Fault}
         → NamesHeader s line.tokens remaining_after (Err f)
@@ -112,39 +113,39 @@ mutual
     included : {depth row : ℕ} {previous_directory : Option ℕ} {s : State} {line : LogicalLine} {remaining_after : Option ℕ} (a : IncludeName) (found : ℕ × ℕ) {m : Progress}
         → NamesHeader s line.tokens remaining_after (Ok a)
         → FindsFile context row previous_directory a (Some found)
-        → Opened context (suc depth) (hash_place line.tokens) (with_remaining s remaining_after) found.0 (Some found.1) m
+        → OpensFile context (suc depth) (hash_place line.tokens) (with_remaining s remaining_after) found.0 (Some found.1) m
         → ExecutesInclude context depth row previous_directory s line m
 
-  -- Opening the file at index `row`, for the line at location `at`. `directory` is the number of the directory in which
-  -- it was found; the main file has none. The opening fails if it is too deep or the budget is exhausted. Otherwise it
-  -- takes one from the budget, and the file is a dependency. If `#pragma once` was executed in this file before, nothing
+  -- Opening the file at index `row`. `at` is the location of the `#` of the include line, or 1:1 of the main file.
+  -- `directory` is the number of the directory in which the file was found; the main file has none. The opening fails if
+  -- it is too deep or the budget is exhausted. Otherwise it takes one from the budget, and the file is a dependency. If `#pragma once` was executed in this file before, nothing
   -- else happens. Otherwise its content is needed: if the content is unknown, no rule applies.
-  pub data Opened (context : Context) : ℕ → Place → State → ℕ → Option ℕ → Progress → Type 0 where
+  pub data OpensFile (context : Context) : ℕ → Place → State → ℕ → Option ℕ → Progress → Type 0 where
     too_deep : {depth row : ℕ} {directory : Option ℕ} {at : Place} {s : State}
         → depth_limit < depth
-        → Opened context depth at s row directory (stopped s (fault 32 at (name_in context.names row)))
+        → OpensFile context depth at s row directory (stopped s (fault 32 at (name_in context.names row)))
     exhausted : {depth row : ℕ} {directory : Option ℕ} {at : Place} {s : State}
         → depth ≤ depth_limit
         → is_exhausted s.remaining ≡ true
-        → Opened context depth at s row directory (stopped s (fault 35 at []))
+        → OpensFile context depth at s row directory (stopped s (fault 35 at []))
     not_read_again : {depth row : ℕ} {directory : Option ℕ} {at : Place} {s : State}
         → depth ≤ depth_limit
         → is_exhausted s.remaining ≡ false
         → has_row row s.once ≡ true
-        → Opened context depth at s row directory (running (with_dependency (with_one_spent s) row))
+        → OpensFile context depth at s row directory (running (with_dependency (with_one_spent s) row))
     not_readable : {depth row : ℕ} {directory : Option ℕ} {at : Place} {s : State}
         → depth ≤ depth_limit
         → is_exhausted s.remaining ≡ false
         → has_row row s.once ≡ false
         → file_at context.files row ≡ Some unreadable
-        → Opened context depth at s row directory (stopped (with_dependency (with_one_spent s) row) (fault 6 at (name_in context.names row)))
+        → OpensFile context depth at s row directory (stopped (with_dependency (with_one_spent s) row) (fault 6 at (name_in context.names row)))
     content_fault : {depth row : ℕ} {directory : Option ℕ} {at : Place} {s : State} {bytes : List ℕ} {f : Fault}
         → depth ≤ depth_limit
         → is_exhausted s.remaining ≡ false
         → has_row row s.once ≡ false
         → file_at context.files row ≡ Some (readable bytes)
         → Reads context.profile row bytes (Err f)
-        → Opened context depth at s row directory (stopped (with_dependency (with_one_spent s) row) f)
+        → OpensFile context depth at s row directory (stopped (with_dependency (with_one_spent s) row) f)
     read : {depth row : ℕ} {directory : Option ℕ} {at : Place} {s : State} {bytes : List ℕ} {lines : List LogicalLine} {parts : GroupParts} {m : Progress}
         → depth ≤ depth_limit
         → is_exhausted s.remaining ≡ false
@@ -152,5 +153,5 @@ mutual
         → file_at context.files row ≡ Some (readable bytes)
         → Reads context.profile row bytes (Ok lines)
         → Tree lines parts
-        → Group context depth row (running (entering context (with_one_spent s) row directory)) parts m
-        → Opened context depth at s row directory (leaving s m)
+        → ExecutesGroup context depth row (running (entering context (with_one_spent s) row directory)) parts m
+        → OpensFile context depth at s row directory (leaving s m)

@@ -10,7 +10,7 @@ use Rattle.ppshelf.specs.Content.{readable}
 use Rattle.ppshelf.specs.Files.{file_at}
 use Rattle.ppunit.specs.States.{State, Context, Progress, running, with_dependency, with_one_spent}
 use Rattle.ppunit.specs.Conditions.{is_macro_name}
-use Rattle.ppunit.specs.Group.{depth_limit, Opened}
+use Rattle.ppunit.specs.Group.{depth_limit, OpensFile}
 use Rattle.ppunit.specs.Counts.{count_opened}
 
 -- opening a file whose guard is defined adds a dependency and spends one of the budget, and does nothing else, if the
@@ -24,7 +24,7 @@ GuardsLeaveOut =
     → GuardedBy lines x
     → is_macro_name s.macros x ≡ true
     → is_exhausted s.remaining ≡ false
-    → (d : Opened context depth at s row directory (running (with_dependency (with_one_spent s) row))) × (count_opened d ≡ 1)
+    → (d : OpensFile context depth at s row directory (running (with_dependency (with_one_spent s) row))) × (count_opened d ≡ 1)
 
 -- and if file names are distinct, it has no other outcome
 abbrev pub GuardsOnlyLeaveOut : Type 0
@@ -38,7 +38,7 @@ GuardsOnlyLeaveOut =
     → GuardedBy lines x
     → is_macro_name s.macros x ≡ true
     → is_exhausted s.remaining ≡ false
-    → Opened context depth at s row directory end
+    → OpensFile context depth at s row directory end
     → end ≡ running (with_dependency (with_one_spent s) row)
 
 -- the lines are one if-section under a guard, and the guard is defined

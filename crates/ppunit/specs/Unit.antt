@@ -13,7 +13,7 @@ use Rattle.ppunit.specs.declared.units.Unit.{Unit as UnitOfList}
 use Rattle.ppunit.specs.declared.units.Setting.{Setting}
 use Rattle.ppunit.specs.declared.units.UnitOut.{UnitOut}
 use Rattle.ppunit.specs.States.{State, Context, Progress, running, stopped, output}
-use Rattle.ppunit.specs.Group.{Group, Opened}
+use Rattle.ppunit.specs.Group.{ExecutesGroup, OpensFile}
 use Rattle.ppunit.specs.Counts.{count_group, count_opened}
 
 -- a unit begins with the predefined names (6.10.8.1) and nothing else
@@ -42,7 +42,7 @@ pub data Defines (context : Context) (defines : List (List ℕ)) : State → Pro
   processed : {s : State} {lines : List LogicalLine} {parts : GroupParts} {m : Progress}
       → Reads context.profile command_file (command_text defines) (Ok lines)
       → Tree lines parts
-      → Group context 0 command_file (running s) parts m
+      → ExecutesGroup context 0 command_file (running s) parts m
       → Defines context defines s m
 
 -- the definitions, and then the unit's file
@@ -52,7 +52,7 @@ pub data Translates (context : Context) (defines : List (List ℕ)) (row : ℕ) 
       → Translates context defines row s (stopped t f)
   translated : {s t : State} {m : Progress}
       → Defines context defines s (running t)
-      → Opened context 0 (first_place row) t row None m
+      → OpensFile context 0 (first_place row) t row None m
       → Translates context defines row s m
 
 abbrev pub context_of_unit : List (List ℕ) → Files → Setting → UnitOfList → Context

@@ -77,7 +77,7 @@ impl<'a> Stack<'a> {
     }
 
     /// Drops all files, and restores the context of each, from the last one on.
-    pub(crate) fn stop(self, state: &mut State)
+    pub(crate) fn unwind(self, state: &mut State)
         ensures { state.new ≡ contexts_restored self.entry state.old }
     {
         let mut files = self;

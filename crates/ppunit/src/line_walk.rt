@@ -13,8 +13,8 @@ ghost use Rattle.ppshelf.specs.Files.{Files};
 ghost use Rattle.ppunit.specs.Group.{ExecutesControlLine, ExecutesInclude};
 ghost use Rattle.ppunit.specs.States.{Context, Progress, context_over, search_in_unit, with_remaining};
 ghost use Rattle.ppunit.specs.DirectiveLines.{directed};
-ghost use Rattle.ppunit.specs.code.Preprocessor.{Continues};
-ghost use Rattle.ppunit.specs.code.Walk.{line_at, IsTextLine, IsRest, Outer, BranchesAt, ContinuesAfter, FindsBranch, Advances, Leads, Steps, Walks};
+ghost use Rattle.ppunit.specs.code.Preprocessor.{KeepsContext};
+ghost use Rattle.ppunit.specs.code.Walk.{line_at, IsTextLine, IsRest, Outer, BranchesAt, TakesBranch, FindsBranch, Advances, Leads, Steps, Walks};
 
 use crate::conditions::decide;
 use crate::directive_line::{DirectiveLine, DirectiveTokens, line_fault, refuse_unmatched_quote};
@@ -50,9 +50,9 @@ fn text_end(source: &Source, start: usize) -> usize
     end
 }
 
-/// Returns whether execution continues after the branch line or `#endif` at `index` of the file at index `row`: its
-/// group is taken, or the if-section ends. Changes nothing in `state` but the remaining budget.
-fn continues_after<D: Disk>(
+/// Returns whether the group after the branch line at `index` is taken, in the file at index `row`. Returns true at
+/// `#else` and `#endif`. Changes nothing in `state` but the remaining budget.
+fn takes_branch<D: Disk>(
     context: &UnitContext<'_, '_, D>,
     state: &mut State,
     row: usize,
@@ -62,7 +62,7 @@ fn continues_after<D: Disk>(
     requires rows { 0 < length context.now.shelf.names }
     requires index { index < length source.now }
     ensures rest { state.new ≡ with_remaining state.old state.new.remaining }
-    ensures continues_after { UnlessOutOfMemory result (λ taken. ContinuesAfter (search_in_unit context.now) row state.old (line_at source.now index) state.new.remaining taken) }
+    ensures takes_branch { UnlessOutOfMemory result (λ taken. TakesBranch (search_in_unit context.now) row state.old (line_at source.now index) state.new.remaining taken) }
 {
     let Some(directive) = line(source, index).directive else {
         return Ok(true);
@@ -92,7 +92,7 @@ fn find_branch<D: Disk>(
 {
     let mut index = start;
     while let Some(next) = line(source, index).next_branch {
-        if continues_after(context, state, row, source, next)? {
+        if takes_branch(context, state, row, source, next)? {
             return Ok(next + 1);
         }
         index = next;
@@ -166,8 +166,8 @@ fn previous_directory(include_next: bool, state: &State) -> Option<usize>
     if include_next { state.directory } else { None }
 }
 
-/// Where execution continues: in the file `entered`, if a line opened one, and after it at the line at `index` of the
-/// current file.
+/// Where execution continues: in the file `entered`, if there is one, and after it at the line at `index` of the current
+/// file.
 #[derive(Drop)]
 struct NextLine<'a> {
     index: usize,
@@ -183,8 +183,8 @@ impl<'a> Model for NextLine<'a> {
     ghost view = { λ n. (n.index, n.entered) };
 }
 
-/// Returns that execution continues at the line at `index`: no file was opened.
-fn next_line<'a>(index: usize) -> NextLine<'a>
+/// Returns that execution continues at the line at `index` of the current file.
+fn in_same_file<'a>(index: usize) -> NextLine<'a>
     ensures { result ≡ (index, None) }
 {
     NextLine {
@@ -203,7 +203,7 @@ impl<'x, 'a: 'x, D: Disk> Preprocessor<'_, 'x, 'a, D> {
         tokens: &DirectiveTokens<'x>,
     ) -> Result<Option<Entered<'a>>, Error>
         requires depth { depth ≤ 200 }
-        ensures continues { Continues self.old self.new }
+        ensures continues { KeepsContext self.old self.new }
         ensures includes { UnlessOutOfMemory result (λ leads.
             (directive : Directive) (number : ℕ)
             → Leads (context_over self.old.context.now) self.new.pass.now.files (suc depth)
@@ -223,8 +223,8 @@ impl<'x, 'a: 'x, D: Disk> Preprocessor<'_, 'x, 'a, D> {
         self.open(depth + 1, tokens.hash_place(), opening)
     }
 
-    /// Executes a control line. Returns the file that it opens, if it opens one.
-    fn execute_line(
+    /// Executes a control line. Returns the file that it enters, if it enters one.
+    fn execute_control_line(
         &mut self,
         depth: u32,
         line: DirectiveLine<'x>,
@@ -232,7 +232,7 @@ impl<'x, 'a: 'x, D: Disk> Preprocessor<'_, 'x, 'a, D> {
         requires depth { depth ≤ 200 }
         requires opens { opens_section line.directive ≡ false }
         requires ends { ends_group line.directive ≡ false }
-        ensures continues { Continues self.old self.new }
+        ensures continues { KeepsContext self.old self.new }
         ensures control { UnlessOutOfMemory result (λ leads.
             Leads (context_over self.old.context.now) self.new.pass.now.files (suc depth)
             (λ (more : Files) (m : Progress). ExecutesControlLine (context_over self.old.context.now more) depth line.entry.row self.old.state (directed line.entry.directive line.entry.tokens line.entry.number) m)
@@ -260,7 +260,7 @@ impl<'x, 'a: 'x, D: Disk> Preprocessor<'_, 'x, 'a, D> {
     fn step(&mut self, depth: u32, file: &OpenFile<'x>) -> Result<NextLine<'a>, Error>
         requires depth { depth ≤ 200 }
         requires index { file.now.index < length file.now.lines }
-        ensures continues { Continues self.old self.new }
+        ensures continues { KeepsContext self.old self.new }
         ensures further { IfOk result (λ next. file.now.index < next.0) }
         ensures step { UnlessOutOfMemory result (λ found.
             Steps (context_over self.old.context.now) self.new.pass.now.files depth file.now.row file.now.lines file.now.index self.old.state self.new.state found) }
@@ -268,7 +268,7 @@ impl<'x, 'a: 'x, D: Disk> Preprocessor<'_, 'x, 'a, D> {
         let OpenFile { row, source, index } = *file;
         let context = self.context;
         let Some(directive) = line(source, index).directive else {
-            return Ok(next_line(execute_text_lines(
+            return Ok(in_same_file(execute_text_lines(
                 context.alloc,
                 &mut self.state,
                 source,
@@ -277,10 +277,10 @@ impl<'x, 'a: 'x, D: Disk> Preprocessor<'_, 'x, 'a, D> {
         };
         if directive.opens_section() {
             let next = execute_if_line(context, &mut self.state, row, source, directive, index)?;
-            return Ok(next_line(next));
+            return Ok(in_same_file(next));
         }
         if directive.ends_group() {
-            return Ok(next_line(section_end(source, index)));
+            return Ok(in_same_file(section_end(source, index)));
         }
         let tokens = tokens_at(source, index);
         let number = line(source, index).number;
@@ -290,7 +290,7 @@ impl<'x, 'a: 'x, D: Disk> Preprocessor<'_, 'x, 'a, D> {
             tokens,
             number,
         };
-        let entered = self.execute_line(depth, directive_line)?;
+        let entered = self.execute_control_line(depth, directive_line)?;
         Ok(NextLine {
             index: index + 1,
             entered,
@@ -300,7 +300,7 @@ impl<'x, 'a: 'x, D: Disk> Preprocessor<'_, 'x, 'a, D> {
     /// Executes phase 4 on the lines of a file and of all files that they include, up to the first fault.
     pub(crate) fn walk(&mut self, first: OpenFile<'x>) -> Result<(), Error>
         requires begins { first.index ≡ 0 }
-        ensures continues { Continues self.old self.new }
+        ensures continues { KeepsContext self.old self.new }
         ensures walk { UnlessOutOfMemory result (λ r.
             Walks (context_over self.old.context.now) self.new.pass.now.files 0 first.entry.row first.entry.lines self.old.state
             (record { state = self.new.state; fault = result_err r })) }
@@ -314,13 +314,13 @@ impl<'x, 'a: 'x, D: Disk> Preprocessor<'_, 'x, 'a, D> {
                     Ok(next) => {
                         let NextLine { index, entered } = next;
                         file.index = index;
-                        // Fast path: most lines open no file.
+                        // Most lines enter no file.
                         if let Some(entered) = entered {
                             file = suspended.enter(file, entered)?;
                         }
                     }
                     Err(error) => {
-                        suspended.stop(&mut self.state);
+                        suspended.unwind(&mut self.state);
                         return Err(error);
                     }
                 }

@@ -6,8 +6,8 @@ ghost use Rattle.ppshelf.specs.Files.{Files};
 ghost use Rattle.ppshelf.specs.Names.{name_in};
 ghost use Rattle.ppunit.specs.Dependencies.{has_row};
 ghost use Rattle.ppunit.specs.Directives.{FindsFile};
-ghost use Rattle.ppunit.specs.Group.{Opened};
-ghost use Rattle.ppunit.specs.code.Preprocessor.{Continues};
+ghost use Rattle.ppunit.specs.Group.{OpensFile};
+ghost use Rattle.ppunit.specs.code.Preprocessor.{KeepsContext};
 ghost use Rattle.ppunit.specs.code.Opening.{SpendsOpening, HasLines, HasFault, Begins};
 ghost use Rattle.ppunit.specs.States.{Progress, with_dependency, literal, context_over};
 ghost use Rattle.ppunit.specs.code.Walk.{Leads};
@@ -260,7 +260,7 @@ impl<'a, D: Disk> Preprocessor<'_, '_, 'a, D> {
     /// Returns the lines of the file at index `row`. Fault 6 if it can't be read, or the fault of its own lines.
     fn source_of(&mut self, at: Place, row: usize) -> Result<&'a Source, Error>
         requires { row < length self.old.context.now.shelf.names }
-        ensures continues { Continues self.old self.new }
+        ensures continues { KeepsContext self.old self.new }
         ensures state { self.new.state ≡ self.old.state }
         ensures lines { IfOk result (λ source. HasLines self.old.context.now.shelf self.new.pass.now.files row source.now) }
         ensures fault { UnlessOutOfMemory result (λ r. IfErr r (λ f. HasFault self.old.context.now.shelf self.new.pass.now.files row at f)) }
@@ -290,10 +290,10 @@ impl<'a, D: Disk> Preprocessor<'_, '_, 'a, D> {
         opening: Opening,
     ) -> Result<Option<Entered<'a>>, Error>
         requires { opening.row < length self.old.context.now.shelf.names }
-        ensures continues { Continues self.old self.new }
+        ensures continues { KeepsContext self.old self.new }
         ensures opened { UnlessOutOfMemory result (λ leads.
             Leads (context_over self.old.context.now) self.new.pass.now.files depth
-            (λ (more : Files) (m : Progress). Opened (context_over self.old.context.now more) depth at self.old.state opening.row opening.directory m)
+            (λ (more : Files) (m : Progress). OpensFile (context_over self.old.context.now more) depth at self.old.state opening.row opening.directory m)
             self.new.state leads) }
     {
         let context = self.context;

@@ -5,10 +5,10 @@ ghost use Rattle.pptext.specs.Errors.{UnlessOutOfMemory};
 ghost use Rattle.pptext.specs.declared.tokens.Fault.{Fault};
 ghost use Rattle.ppshelf.specs.Files.{Files, Extends, Agree, AllPermitted};
 ghost use Rattle.ppunit.specs.States.{Progress, context_over, output};
-ghost use Rattle.ppunit.specs.Group.{Opened};
+ghost use Rattle.ppunit.specs.Group.{OpensFile};
 ghost use Rattle.ppunit.specs.Unit.{IsUnit, IsUnitOf, Translates, initial_state, first_place};
 ghost use Rattle.ppunit.specs.Capped.{IsInBudget, IsCappedOver};
-ghost use Rattle.ppunit.specs.code.Preprocessor.{Continues};
+ghost use Rattle.ppunit.specs.code.Preprocessor.{KeepsContext};
 ghost use Rattle.ppunit.specs.code.Walk.{DefinesOver};
 
 use crate::collections::{Items, Rows};
@@ -26,7 +26,7 @@ impl<'x, 'a: 'x, D: Disk> Preprocessor<'_, 'x, 'a, D> {
     /// Executes the unit's definitions.
     fn define_all(&mut self, defines: &'x CommandMacros) -> Result<(), Error>
         requires profile { defines.now.profile ≡ self.old.context.now.shelf.profile }
-        ensures continues { Continues self.old self.new }
+        ensures continues { KeepsContext self.old self.new }
         ensures defined { UnlessOutOfMemory result (λ r.
             DefinesOver (context_over self.old.context.now) self.new.pass.now.files defines.now.texts self.old.state
             (record { state = self.new.state; fault = result_err r })) }
@@ -43,11 +43,11 @@ impl<'x, 'a: 'x, D: Disk> Preprocessor<'_, 'x, 'a, D> {
     /// Processes the file at index `row`, with all that it includes.
     fn process(&mut self, row: usize) -> Result<(), Error>
         requires row { row < length self.old.context.now.shelf.names }
-        ensures continues { Continues self.old self.new }
+        ensures continues { KeepsContext self.old self.new }
         ensures opened { UnlessOutOfMemory result (λ r.
             (more : Files)
             → Extends more self.new.pass.now.files
-            → Opened (context_over self.old.context.now more) 0 (first_place row) self.old.state row None (record { state = self.new.state; fault = result_err r })) }
+            → OpensFile (context_over self.old.context.now more) 0 (first_place row) self.old.state row None (record { state = self.new.state; fault = result_err r })) }
     {
         // A file index fits into a location, since a file table has at most `MAX_ROWS` files.
         let _count = self.context.shelf().len();
@@ -72,7 +72,7 @@ impl<'x, 'a: 'x, D: Disk> Preprocessor<'_, 'x, 'a, D> {
     fn translate(&mut self, defines: &'x CommandMacros, row: usize) -> Result<(), Error>
         requires row { row < length self.old.context.now.shelf.names }
         requires profile { defines.now.profile ≡ self.old.context.now.shelf.profile }
-        ensures continues { Continues self.old self.new }
+        ensures continues { KeepsContext self.old self.new }
         ensures translated { UnlessOutOfMemory result (λ r.
             Translates (context_over self.old.context.now self.new.pass.now.files) defines.now.texts row self.old.state
             (record { state = self.new.state; fault = result_err r })) }
@@ -85,7 +85,7 @@ impl<'x, 'a: 'x, D: Disk> Preprocessor<'_, 'x, 'a, D> {
     fn first_fault(&mut self, unit: &'x Unit) -> Result<Option<Fault>, Memory>
         requires row { unit.now.file < length self.old.context.now.shelf.names }
         requires profile { unit.now.defines.profile ≡ self.old.context.now.shelf.profile }
-        ensures continues { Continues self.old self.new }
+        ensures continues { KeepsContext self.old self.new }
         ensures translated { IfOk result (λ fault.
             Translates (context_over self.old.context.now self.new.pass.now.files) unit.now.defines.texts unit.now.file self.old.state
             (record { state = self.new.state; fault = fault })) }

@@ -12,7 +12,7 @@ use Rattle.ppshelf.specs.Files.{Files, Extends}
 use Rattle.ppunit.specs.declared.states.FileContext.{FileContext}
 use Rattle.ppunit.specs.States.{Search, State, in_file_context, Context, search_of, Progress, running, stopped}
 use Rattle.ppunit.specs.Conditions.{DecidesFreely, Decides}
-use Rattle.ppunit.specs.Group.{depth_limit, Group, Branched, ExecutesControlLine}
+use Rattle.ppunit.specs.Group.{depth_limit, ExecutesGroup, ExecutesBranches, ExecutesControlLine}
 use Rattle.ppunit.specs.code.Opening.{OpenFile, Entered}
 use Rattle.ppunit.specs.Unit.{Defines}
 
@@ -43,8 +43,8 @@ pub record HasPartsAt (lines : List LogicalLine) (index : ℕ) (ps : GroupParts)
 
 -- phase 4 of the parts and of what is after them in these sections
 abbrev pub Ends : Context → ℕ → ℕ → Progress → GroupParts → Outer → Progress → Type 0
-Ends context depth row m ps [] end = Group context depth row m ps end
-Ends context depth row m ps ((bs, qs) ∷ k) end = (n : Progress) × Group context depth row m ps n × Ends context depth row n qs k end
+Ends context depth row m ps [] end = ExecutesGroup context depth row m ps end
+Ends context depth row m ps ((bs, qs) ∷ k) end = (n : Progress) × ExecutesGroup context depth row m ps n × Ends context depth row n qs k end
 
 -- From the line at an index to the line at another, or to a fault: what the rest of the lines reaches from the new
 -- state, all of them reach from the old one.
@@ -81,7 +81,7 @@ pub record EntersFile (context : Files → Context) (files : Files) (depth : ℕ
   pub group : (more : Files)
       → Extends more files
       → (m : Progress)
-      → Group (context more) depth e.file.row (running t) parts m
+      → ExecutesGroup (context more) depth e.file.row (running t) parts m
       → whole more (restored e.outer m)
 
 -- the goal is reached, with or without a fault, or a file was entered whose lines lead to it
@@ -144,7 +144,7 @@ Walks context files depth row lines s end =
     → Tree lines parts
     → (more : Files)
     → Extends more files
-    → Group (context more) depth row (running s) parts end
+    → ExecutesGroup (context more) depth row (running s) parts end
 
 -- At the index is a line that opens an if-section or a branch with a condition, then the parts of its group, and then
 -- these branches.
@@ -165,8 +165,8 @@ abbrev pub ContinuesBy : Search → ℕ → Option Directive → State → Logic
 ContinuesBy search row None s line remaining_after taken = ContinuesIf search row false s line remaining_after taken
 ContinuesBy search row (Some d) s line remaining_after taken = ContinuesIf search row (begins_elif_group d) s line remaining_after taken
 
-abbrev pub ContinuesAfter : Search → ℕ → State → LogicalLine → Option ℕ → Result Bool Fault → Type 0
-ContinuesAfter search row s line remaining_after taken = ContinuesBy search row line.directive s line remaining_after taken
+abbrev pub TakesBranch : Search → ℕ → State → LogicalLine → Option ℕ → Result Bool Fault → Type 0
+TakesBranch search row s line remaining_after taken = ContinuesBy search row line.directive s line remaining_after taken
 
 -- the line at which processing continues after a group that isn't taken, and the state then
 abbrev pub FindsBranch : Search → ℕ → List LogicalLine → State → State → Branches → GroupParts → Outer → Result ℕ Fault → Type 0
@@ -176,12 +176,12 @@ FindsBranch search row lines s t bs qs k (Ok next) =
     → search_of context ≡ search
     → (depth : ℕ) (end : Progress)
     → Ends context depth row (running t) ps k' end
-    → (m : Progress) × Branched context depth row s bs m × Ends context depth row m qs k end)
+    → (m : Progress) × ExecutesBranches context depth row s bs m × Ends context depth row m qs k end)
 FindsBranch search row lines s t bs qs k (Err f) =
     (context : Context)
     → search_of context ≡ search
     → (depth : ℕ)
-    → Branched context depth row s bs (stopped t f)
+    → ExecutesBranches context depth row s bs (stopped t f)
 
 abbrev pub IsTextLine : LogicalLine → Type 0
 IsTextLine line = line.directive ≡ None

@@ -3,7 +3,7 @@ use Rattle.std.proofs.lemmas.List.{nil_from_length}
 use Rattle.ppmacro.specs.Substitution.{unhidden}
 use Rattle.ppmacro.specs.Substituting.{tokens_of}
 use Rattle.std.specs.Prelude.{IfOk}
-use Rattle.ppexpand.specs.Expansion.{ExpandsTo, IsExpansion, ended}
+use Rattle.ppexpand.specs.Expansion.{ExpandsTo, IsExpansion, stops_with}
 use Rattle.ppexpand.proofs.SkippedTokens.{expands-nothing, expansion-following}
 use Rattle.ppexpand.proofs.expansion.expand.Goals as goal
 

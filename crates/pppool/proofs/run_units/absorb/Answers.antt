@@ -30,8 +30,8 @@ returns-clause-slots g c =
     let e : c.fill_slots.new.slots.items ≡ filled_slots c.args.slots.now.items c.args.worker.results.items = c.fill_slots.ensures ∙ ap (λ v. filled_slots c.args.slots.now.items v.items) c.into_parts-seat.ensures.2 in
     subst P (sym e) (slots_placed job.retain shelf new setting units c.args.slots.now.items c.args.worker.results.items old all)
 
-pub returns-clause-stay : goal.returns-clause-stay
-returns-clause-stay g c i h =
+pub returns-clause-slots_stay : goal.returns-clause-slots_stay
+returns-clause-slots_stay g c i h =
     let P : List (Option UnitOut) → Type 0 = λ l. IsSome (get_or l i None) in
     subst P (sym c.fill_slots.ensures) (placed_stays c.args.slots.now.items c.into_parts-seat.result.2.items i h)
 

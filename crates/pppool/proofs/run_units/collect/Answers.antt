@@ -4,8 +4,8 @@ use Rattle.pppool.specs.Desk.{SeatView}
 use Rattle.pppool.proofs.SlotFilling.{slots_empty, filled_none, filled_push, none_at, none_told, one_more}
 use Rattle.pppool.proofs.run_units.collect.Goals as goal
 
-pub loop-one-init : goal.loop-one-init
-loop-one-init g c =
+pub loop-finished-init : goal.loop-finished-init
+loop-finished-init g c =
     let job = c.args.job.now in
     let none = c.new-seats.ensures.items in
     let slots = c.in_ok-slots.slots.items in (
@@ -18,10 +18,10 @@ loop-one-init g c =
       ap length none,
     )
 
-pub loop-one-preserved : goal.loop-one-preserved
-loop-one-preserved g c =
+pub loop-finished-preserved : goal.loop-finished-preserved
+loop-finished-preserved g c =
     let job = c.args.job.now in
-    let k = c.loop-one.invariant in
+    let k = c.loop-finished.invariant in
     let e = c.absorb-seat.ensures in
     let pushed = c.in_ok-push.ensures.items in
     let At : SeatView → Type 0 = λ s. s.desk ≡ job.desk.now in
@@ -30,9 +30,9 @@ loop-one-preserved g c =
     let P : List SeatView → Type 0 = All At in (
       e.shelf,
       (λ row x h. e.grows row x (k.1 row x h)),
-      subst P (sym pushed) (All-push At c.loop-one.seats.items c.absorb-seat.result k.2 e.seat.0),
+      subst P (sym pushed) (All-push At c.loop-finished.seats.items c.absorb-seat.result k.2 e.seat.0),
       e.slots,
-      filled_push (length job.units.now) job.block c.loop-one.seats.items c.push.new.self.items c.absorb-seat.result c.loop-one.slots.items c.absorb-seat.new.slots.items pushed k.4 e.stay e.fill_slot,
-      subst Q (sym pushed) (All-push Told c.loop-one.seats.items c.absorb-seat.result k.5 e.seat.1),
+      filled_push (length job.units.now) job.block c.loop-finished.seats.items c.push.new.self.items c.absorb-seat.result c.loop-finished.slots.items c.absorb-seat.new.slots.items pushed k.4 e.slots_stay e.fill_slot,
+      subst Q (sym pushed) (All-push Told c.loop-finished.seats.items c.absorb-seat.result k.5 e.seat.1),
       one_more _ _ _ _ _ pushed k.6,
     )

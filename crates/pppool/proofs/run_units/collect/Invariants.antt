@@ -4,8 +4,8 @@ use Rattle.pppool.specs.Desk.{claims_of}
 use Rattle.pppool.specs.code.Workers.{AllFilled, FitSlots}
 use Rattle.pppool.proofs.run_units.collect.Given as goal
 
-abbrev pub invariant-loop-one : goal.invariant-loop-one
-invariant-loop-one g l =
+abbrev pub invariant-loop-finished : goal.invariant-loop-finished
+invariant-loop-finished g l =
     (l.pass.shelf ≡ l.job.shelf.now)
     × Extends l.pass.files l.initial.pass.files
     × All (λ s. s.desk ≡ l.job.desk.now) l.seats.items

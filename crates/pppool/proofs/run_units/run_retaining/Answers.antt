@@ -15,25 +15,25 @@ prove-unreachable-requires g c =
     let plan = ap (λ (p : Plan). p.seats) c.in_ok-desk.ensures.plan in
     let same : length seats ≡ c.in_ok-desk.desk.plan.seats = c.in_ok-seats.ensures.count ∙ (c.in_ok-desk.ensures.count ∙ sym plan) in
     let closed = closes seats c.in_ok-desk.desk.plan.seats same (omega (arith, plan, c.requires.workers.0)) c.in_ok-seats.ensures.drained in
-    false≢true (sym c.if-prove.true ∙ (c.close-whole.ensures.answer ∙ closed))
+    false≢true (sym c.if-prove.true ∙ (c.close-all_claimed.ensures.answer ∙ closed))
 
 pub take_all-requires : goal.take_all-requires
 take_all-requires g c =
     let e = c.in_ok-seats.ensures in
     let Q : ℕ → Type 0 = λ n. (i : ℕ) → i < length c.args.batch.now.units.now → i / c.args.batch.now.block < n in
     let blocks = ap (λ (p : Plan). p.blocks) c.in_ok-desk.ensures.plan in
-    all_full c.args.retain c.args.batch.now.shelf.now c.gather-gathered.new.pass.files c.args.batch.now.setting.now c.args.batch.now.units.now c.args.batch.now.block c.in_ok-desk.desk.plan.blocks (claims_of c.in_ok-seats.seats.items) c.in_ok-seats.slots.items
-    e.slots e.full (c.close-whole.ensures.whole c.if-prove.false) (subst Q (sym blocks) c.block_count.ensures.all)
+    all_full c.args.retain c.args.batch.now.shelf.now c.run_workers-gathered.new.pass.files c.args.batch.now.setting.now c.args.batch.now.units.now c.args.batch.now.block c.in_ok-desk.desk.plan.blocks (claims_of c.in_ok-seats.seats.items) c.in_ok-seats.slots.items
+    e.slots e.full (c.close-all_claimed.ensures.whole c.if-prove.false) (subst Q (sym blocks) c.block_count.ensures.all)
 
 pub returns-clause-retained : goal.returns-clause-retained
 returns-clause-retained g c =
-    let files = c.gather-gathered.new.pass.files in
+    let files = c.run_workers-gathered.new.pass.files in
     let P : List (Option UnitOut) → Type 0 = FitSlots c.args.retain c.args.batch.now.shelf.now files c.args.batch.now.setting.now c.args.batch.now.units.now in
     if_ok_then c.take_all.result c.take_all.ensures (λ v is. are_kept c.args.retain c.args.batch.now.shelf.now files c.args.batch.now.setting.now c.args.batch.now.units.now v.items (subst P is c.in_ok-seats.ensures.slots))
 
 pub returns-clause-within : goal.returns-clause-within
 returns-clause-within g c =
-    let files = c.gather-gathered.new.pass.files in
+    let files = c.run_workers-gathered.new.pass.files in
     let names = c.args.batch.now.shelf.now.names in
     if_ok_then c.take_all.result (returns-clause-retained g c) (λ v retained. record {
       retained = retained;
@@ -42,7 +42,7 @@ returns-clause-within g c =
 
 pub returns-clause-capped : goal.returns-clause-capped
 returns-clause-capped g c =
-    let files = c.gather-gathered.new.pass.files in
+    let files = c.run_workers-gathered.new.pass.files in
     let names = c.args.batch.now.shelf.now.names in
     if_ok_then c.take_all.result (returns-clause-retained g c) (λ v retained. record {
       retained = retained;
@@ -51,5 +51,5 @@ returns-clause-capped g c =
 
 pub returns-clause-filled : goal.returns-clause-filled
 returns-clause-filled g c =
-    let P : ShelfView → Type 0 = λ s. Agree (s.filled) c.gather-gathered.new.pass.files in
-    subst P c.gather-gathered.ensures.shelf c.contents_permitted-2.ensures.filled
+    let P : ShelfView → Type 0 = λ s. Agree (s.filled) c.run_workers-gathered.new.pass.files in
+    subst P c.run_workers-gathered.ensures.shelf c.contents_permitted-2.ensures.filled

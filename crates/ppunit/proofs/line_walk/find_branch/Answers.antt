@@ -7,14 +7,14 @@ use Rattle.ppunit.proofs.BranchSearch.{EntersAt, BranchSoFar, branch_more, branc
 use Rattle.ppunit.proofs.OptionCases.{none_of}
 use Rattle.ppunit.proofs.line_walk.find_branch.Goals as goal
 
-pub continues_after-requires-clause-index : goal.continues_after-requires-clause-index
-continues_after-requires-clause-index g c = (next_inside c.args.source.now c.loop-next.index c.in-Some.next c.loop-next.invariant.within (sym c.line.ensures.next ∙ c.in-Some.is)).1
+pub takes_branch-requires-clause-index : goal.takes_branch-requires-clause-index
+takes_branch-requires-clause-index g c = (next_inside c.args.source.now c.loop-next.index c.in-Some.next c.loop-next.invariant.within (sym c.line.ensures.next ∙ c.in-Some.is)).1
 
-pub returns-in_err-continues_after-clause-found : goal.returns-in_err-continues_after-clause-found
-returns-in_err-continues_after-clause-found g c =
-    stopped _ _ _ _ c.from_residual.ensures.1 c.in_err-continues_after.ensures.continues_after (λ fault entered ps bs qs k b.
-    subst (λ (z : State). FindsBranch (search_in_unit c.args.context.now) c.args.row c.args.source.now c.args.state.now z bs qs k (Err fault)) (sym c.in_err-continues_after.ensures.rest)
-    (branch_refused (search_in_unit c.args.context.now) c.args.row c.args.source.now c.args.start c.in-Some.next c.loop-next.index c.args.state.now c.loop-next.state c.continues_after.new.state.remaining
+pub returns-in_err-takes_branch-clause-found : goal.returns-in_err-takes_branch-clause-found
+returns-in_err-takes_branch-clause-found g c =
+    stopped _ _ _ _ c.from_residual.ensures.1 c.in_err-takes_branch.ensures.takes_branch (λ fault entered ps bs qs k b.
+    subst (λ (z : State). FindsBranch (search_in_unit c.args.context.now) c.args.row c.args.source.now c.args.state.now z bs qs k (Err fault)) (sym c.in_err-takes_branch.ensures.rest)
+    (branch_refused (search_in_unit c.args.context.now) c.args.row c.args.source.now c.args.start c.in-Some.next c.loop-next.index c.args.state.now c.loop-next.state c.takes_branch.new.state.remaining
     fault c.loop-next.invariant (sym c.line.ensures.next ∙ c.in-Some.is) entered ps bs qs k b))
 
 pub overflow_add-result : goal.overflow_add-result
@@ -25,22 +25,22 @@ returns-then-branch-clause-further g c = omega (arith, (next_inside c.args.sourc
 
 pub returns-then-branch-clause-found : goal.returns-then-branch-clause-found
 returns-then-branch-clause-found g c ps bs qs k b =
-    subst (λ (z : State). FindsBranch (search_in_unit c.args.context.now) c.args.row c.args.source.now c.args.state.now z bs qs k (Ok (c.in-Some.next + 1))) (sym c.in_ok-continues_after.ensures.rest)
-    (branch_taken (search_in_unit c.args.context.now) c.args.row c.args.source.now c.args.start c.in-Some.next c.loop-next.index c.args.state.now c.loop-next.state c.continues_after.new.state.remaining
+    subst (λ (z : State). FindsBranch (search_in_unit c.args.context.now) c.args.row c.args.source.now c.args.state.now z bs qs k (Ok (c.in-Some.next + 1))) (sym c.in_ok-takes_branch.ensures.rest)
+    (branch_taken (search_in_unit c.args.context.now) c.args.row c.args.source.now c.args.start c.in-Some.next c.loop-next.index c.args.state.now c.loop-next.state c.takes_branch.new.state.remaining
     c.loop-next.invariant (sym c.line.ensures.next ∙ c.in-Some.is)
-    (subst (λ (z : Bool). EntersAt (search_in_unit c.args.context.now) c.args.row c.args.source.now c.in-Some.next c.loop-next.state c.continues_after.new.state.remaining (Ok z)) c.if-branch.true
-    c.in_ok-continues_after.ensures.continues_after) ps bs qs k b)
+    (subst (λ (z : Bool). EntersAt (search_in_unit c.args.context.now) c.args.row c.args.source.now c.in-Some.next c.loop-next.state c.takes_branch.new.state.remaining (Ok z)) c.if-branch.true
+    c.in_ok-takes_branch.ensures.takes_branch) ps bs qs k b)
 
 pub loop-next-smaller : goal.loop-next-smaller
 loop-next-smaller g c = let h = next_inside c.args.source.now c.loop-next.index c.in-Some.next c.loop-next.invariant.within (sym c.line.ensures.next ∙ c.in-Some.is) in omega (arith, h.0, h.1, c.loop-next.invariant.within)
 
 pub loop-next-preserved : goal.loop-next-preserved
 loop-next-preserved g c =
-    subst (λ (z : State). BranchSoFar (search_in_unit c.args.context.now) c.args.row c.args.source.now c.args.start c.args.state.now z c.in-Some.next) (sym c.in_ok-continues_after.ensures.rest)
-    (branch_more (search_in_unit c.args.context.now) c.args.row c.args.source.now c.args.start c.in-Some.next c.loop-next.index c.args.state.now c.loop-next.state c.continues_after.new.state.remaining
+    subst (λ (z : State). BranchSoFar (search_in_unit c.args.context.now) c.args.row c.args.source.now c.args.start c.args.state.now z c.in-Some.next) (sym c.in_ok-takes_branch.ensures.rest)
+    (branch_more (search_in_unit c.args.context.now) c.args.row c.args.source.now c.args.start c.in-Some.next c.loop-next.index c.args.state.now c.loop-next.state c.takes_branch.new.state.remaining
     c.loop-next.invariant (sym c.line.ensures.next ∙ c.in-Some.is)
-    (subst (λ (z : Bool). EntersAt (search_in_unit c.args.context.now) c.args.row c.args.source.now c.in-Some.next c.loop-next.state c.continues_after.new.state.remaining (Ok z)) c.if-branch.false
-    c.in_ok-continues_after.ensures.continues_after))
+    (subst (λ (z : Bool). EntersAt (search_in_unit c.args.context.now) c.args.row c.args.source.now c.in-Some.next c.loop-next.state c.takes_branch.new.state.remaining (Ok z)) c.if-branch.false
+    c.in_ok-takes_branch.ensures.takes_branch))
 
 pub returns-clause-found : goal.returns-clause-found
 returns-clause-found g c ps bs qs k b =

@@ -14,25 +14,25 @@ use Rattle.ppexpand.specs.Expansion.{ExpandsArguments}
 use Rattle.ppexpand.specs.code.ProgramValues.{expanded_in, owned_tokens, ExpansionsKnown, ExpandsArgument, deep, ClosedStepsTo, argument_raises, finishes}
 use Rattle.ppexpand.proofs.GrowingHideSets.{invocation_of, invocation_of-keeps, invocation_known-keeps, given_known-keeps, expanded_known-keeps, expanded_known-push}
 use Rattle.ppexpand.proofs.ArgumentLemmas.{arguments_first, argument_expands, argument_raises, argument-known, follows_unused, follows_used, follows_refused, follows_all, pre_expanded-alone}
-use Rattle.ppexpand.proofs.SkippedTokens.{unhidden-expands, next-known, more-known, follows_skip, skip_falls}
+use Rattle.ppexpand.proofs.SkippedTokens.{unhidden-expands, next-known, more-known, follows_emit_unexpanded, skip_falls}
 use Rattle.ppexpand.proofs.LoopInvariants.{more_follows, more_falls, end_follows, invocation_taken, invocation_raises, begun_raises}
 use Rattle.ppexpand.proofs.expansion.Expander.+expansion.Goals as goal
 
 -- ---- one step
 
 pub advance-returns-in_default-clause-on : goal.advance-returns-in_default-clause-on
-advance-returns-in_default-clause-on m c = (rw c.in_default.is at c.in_ok-goes.ensures.on) c.args.context.now.level
+advance-returns-in_default-clause-on m c = (rw c.in_default.is at c.in_ok-continues.ensures.on) c.args.context.now.level
 
-pub advance-returns-in_err-goes-clause-on : goal.advance-returns-in_err-goes-clause-on
-advance-returns-in_err-goes-clause-on m c =
+pub advance-returns-in_err-continues-clause-on : goal.advance-returns-in_err-continues-clause-on
+advance-returns-in_err-continues-clause-on m c =
     let s = c.begin_step.new.self.replacer.sets in
-    stopped _ _ _ _ _ c.from_residual.ensures.1 c.in_err-goes.ensures.on (λ f begun.
+    stopped _ _ _ _ _ c.from_residual.ensures.1 c.in_err-continues.ensures.on (λ f begun.
     begun_raises c.args.context.now.table.now.macros c.args.context.now.env.now c.args.context.now.level c.args.self.now.remaining (hidings c.args.self.now.replacer.sets c.args.list.now) (hidings c.args.self.now.replacer.sets c.args.emitted.now)
     c.begin_step.new.invocation (λ found. invocation_of s found c.begin_step.new.list) f c.begin_step.new.self.remaining (hidings s c.begin_step.new.list) (hidings s c.begin_step.new.emitted) begun)
 
 pub advance-replace_invocation-requires : goal.advance-replace_invocation-requires
 advance-replace_invocation-requires m c =
-    let known = rw c.in-Some.is at c.in_ok-goes.ensures.invocation_known in (
+    let known = rw c.in-Some.is at c.in_ok-continues.ensures.invocation_known in (
       omega arith,
       (c.requires.level, known),
     )
@@ -40,28 +40,28 @@ advance-replace_invocation-requires m c =
 pub advance-returns-in_err-replace_invocation-clause-on : goal.advance-returns-in_err-replace_invocation-clause-on
 advance-returns-in_err-replace_invocation-clause-on m c =
     let s = c.begin_step.new.self.replacer.sets in
-    let closed_invocation_step = rw c.in-Some.is at c.in_ok-goes.ensures.on in
+    let closed_invocation_step = rw c.in-Some.is at c.in_ok-continues.ensures.on in
     let invocation = invocation_of s c.in-Some.found c.begin_step.new.list in
     stopped _ _ _ _ _ c.from_residual-in_err-replace_invocation.ensures.1 c.in_err-replace_invocation.ensures.is (λ f steps.
     invocation_raises c.args.context.now.table.now.macros c.args.context.now.env.now c.args.context.now.level c.args.self.now.remaining (hidings c.args.self.now.replacer.sets c.args.list.now) invocation closed_invocation_step.0 _ _ f c.replace_invocation.new.self.remaining
-    (hidings-keeps _ c.in_err-replace_invocation.ensures.keeps c.in_ok-goes.ensures.emitted_known ∙ closed_invocation_step.3)
+    (hidings-keeps _ c.in_err-replace_invocation.ensures.keeps c.in_ok-continues.ensures.emitted_known ∙ closed_invocation_step.3)
     (subst (λ l. ClosedStepsTo c.args.context.now.table.now.macros c.args.context.now.env.now c.args.context.now.level invocation l c.replace_invocation.new.self.remaining (ReplacementFault f)) closed_invocation_step.2 steps))
 
 pub advance-returns-clause-on : goal.advance-returns-clause-on
 advance-returns-clause-on m c =
     let s = c.begin_step.new.self.replacer.sets in
     let t = c.replace_invocation.new.self.replacer.sets in
-    let closed_invocation_step = rw c.in-Some.is at c.in_ok-goes.ensures.on in
+    let closed_invocation_step = rw c.in-Some.is at c.in_ok-continues.ensures.on in
     let invocation = invocation_of s c.in-Some.found c.begin_step.new.list in
     invocation_taken c.args.context.now.table.now.macros c.args.context.now.env.now c.args.context.now.level c.args.self.now.remaining (hidings c.args.self.now.replacer.sets c.args.list.now) invocation closed_invocation_step.0 t c.replace_invocation.new.list _ _ c.replace_invocation.new.self.remaining
-    (hidings-keeps _ c.in_ok-replace_invocation.ensures.keeps c.in_ok-goes.ensures.emitted_known ∙ closed_invocation_step.3)
+    (hidings-keeps _ c.in_ok-replace_invocation.ensures.keeps c.in_ok-continues.ensures.emitted_known ∙ closed_invocation_step.3)
     (subst (λ l. ClosedStepsTo c.args.context.now.table.now.macros c.args.context.now.env.now c.args.context.now.level invocation l c.replace_invocation.new.self.remaining (Replaced (hidings t c.replace_invocation.new.list))) closed_invocation_step.2 c.in_ok-replace_invocation.ensures.is)
 
 pub advance-returns-clause-emitted_known : goal.advance-returns-clause-emitted_known
-advance-returns-clause-emitted_known m c = known-keeps _ c.in_ok-replace_invocation.ensures.keeps c.in_ok-goes.ensures.emitted_known
+advance-returns-clause-emitted_known m c = known-keeps _ c.in_ok-replace_invocation.ensures.keeps c.in_ok-continues.ensures.emitted_known
 
 pub advance-returns-clause-list_known : goal.advance-returns-clause-list_known
-advance-returns-clause-list_known m c = λ goes. c.in_ok-replace_invocation.ensures.known
+advance-returns-clause-list_known m c = λ continues. c.in_ok-replace_invocation.ensures.known
 
 -- ---- an invocation
 
@@ -101,10 +101,10 @@ replace_invocation-returns-clause-keeps m c = keeps-after c.in_ok-expand_argumen
 
 pub expand_argument-returns-then-context-ge-DEEPEST-clause-is : goal.expand_argument-returns-then-context-ge-DEEPEST-clause-is
 expand_argument-returns-then-context-ge-DEEPEST-clause-is m c =
-    unless_failed-weaker c.raise_depth.result _ _ _ (λ r raised. rw raised (deep (omega (arith, c.if-context-ge-DEEPEST.true)))) c.raise_depth.ensures
+    unless_failed-weaker c.depth_fault.result _ _ _ (λ r raised. rw raised (deep (omega (arith, c.if-context-ge-DEEPEST.true)))) c.depth_fault.ensures
 
 pub expand_argument-returns-then-context-ge-DEEPEST-clause-known : goal.expand_argument-returns-then-context-ge-DEEPEST-clause-known
-expand_argument-returns-then-context-ge-DEEPEST-clause-known m c = no_value c.raise_depth.result _ _ _ c.raise_depth.ensures
+expand_argument-returns-then-context-ge-DEEPEST-clause-known m c = no_value c.depth_fault.result _ _ _ c.depth_fault.ensures
 
 pub expand_argument-returns-then-none_expands-clause-is : goal.expand_argument-returns-then-none_expands-clause-is
 expand_argument-returns-then-none_expands-clause-is m c =
@@ -278,8 +278,8 @@ expand_list-loop-named-init m c = record {
   follows = λ n out d. rw c.requires.none (n, d);
 }
 
-pub expand_list-advance-goes-requires : goal.expand_list-advance-goes-requires
-expand_list-advance-goes-requires m c =
+pub expand_list-advance-continues-requires : goal.expand_list-advance-continues-requires
+expand_list-advance-continues-requires m c =
     let sets = c.loop-named.self.replacer.sets in
     let skipped = c.in_ok-named.ensures.skipped in
     let list_known = next-known sets _ _ _ _ skipped c.loop-named.invariant.list_known in
@@ -292,45 +292,45 @@ pub expand_list-returns-then-not-branch-clause-outcome : goal.expand_list-return
 expand_list-returns-then-not-branch-clause-outcome m c =
     let sets = c.loop-named.self.replacer.sets in
     let start = hidings c.args.self.now.replacer.sets c.args.list.now in
-    let list = c.skip.new.list in
-    let emitted = c.skip.new.emitted in
-    let here = follows_skip c.args.context.now.table.now.macros c.args.context.now.env.now c.args.context.now.level c.loop-named.self.remaining sets c.args.self.now.remaining start c.loop-named.list c.loop-named.emitted list emitted c.in_ok-named.ensures.skipped c.loop-named.invariant.follows in
-    end_follows c.args.context.now.table.now.macros c.args.context.now.env.now c.args.context.now.level c.args.self.now.remaining start (hidings sets emitted) c.loop-named.self.remaining (hidings sets list) None c.advance-goes.new.self.remaining
-    (hidings c.advance-goes.new.self.replacer.sets c.advance-goes.new.emitted) here (rw c.if-not-branch.true at c.in_ok-goes.ensures.on)
+    let list = c.emit_unexpanded.new.list in
+    let emitted = c.emit_unexpanded.new.emitted in
+    let here = follows_emit_unexpanded c.args.context.now.table.now.macros c.args.context.now.env.now c.args.context.now.level c.loop-named.self.remaining sets c.args.self.now.remaining start c.loop-named.list c.loop-named.emitted list emitted c.in_ok-named.ensures.skipped c.loop-named.invariant.follows in
+    end_follows c.args.context.now.table.now.macros c.args.context.now.env.now c.args.context.now.level c.args.self.now.remaining start (hidings sets emitted) c.loop-named.self.remaining (hidings sets list) None c.advance-continues.new.self.remaining
+    (hidings c.advance-continues.new.self.replacer.sets c.advance-continues.new.emitted) here (rw c.if-not-branch.true at c.in_ok-continues.ensures.on)
 
-pub expand_list-returns-in_err-goes-clause-outcome : goal.expand_list-returns-in_err-goes-clause-outcome
-expand_list-returns-in_err-goes-clause-outcome m c =
+pub expand_list-returns-in_err-continues-clause-outcome : goal.expand_list-returns-in_err-continues-clause-outcome
+expand_list-returns-in_err-continues-clause-outcome m c =
     let sets = c.loop-named.self.replacer.sets in
     let start = hidings c.args.self.now.replacer.sets c.args.list.now in
-    let list = c.skip.new.list in
-    let emitted = c.skip.new.emitted in
-    let here = follows_skip c.args.context.now.table.now.macros c.args.context.now.env.now c.args.context.now.level c.loop-named.self.remaining sets c.args.self.now.remaining start c.loop-named.list c.loop-named.emitted list emitted c.in_ok-named.ensures.skipped c.loop-named.invariant.follows in
-    stopped _ _ _ _ _ c.from_residual-in_err-goes.ensures.1 c.in_err-goes.ensures.on (λ f ended.
-    end_follows c.args.context.now.table.now.macros c.args.context.now.env.now c.args.context.now.level c.args.self.now.remaining start (hidings sets emitted) c.loop-named.self.remaining (hidings sets list) (Some f) c.advance-goes.new.self.remaining
-    (hidings c.advance-goes.new.self.replacer.sets c.advance-goes.new.emitted) here ended)
+    let list = c.emit_unexpanded.new.list in
+    let emitted = c.emit_unexpanded.new.emitted in
+    let here = follows_emit_unexpanded c.args.context.now.table.now.macros c.args.context.now.env.now c.args.context.now.level c.loop-named.self.remaining sets c.args.self.now.remaining start c.loop-named.list c.loop-named.emitted list emitted c.in_ok-named.ensures.skipped c.loop-named.invariant.follows in
+    stopped _ _ _ _ _ c.from_residual-in_err-continues.ensures.1 c.in_err-continues.ensures.on (λ f ended.
+    end_follows c.args.context.now.table.now.macros c.args.context.now.env.now c.args.context.now.level c.args.self.now.remaining start (hidings sets emitted) c.loop-named.self.remaining (hidings sets list) (Some f) c.advance-continues.new.self.remaining
+    (hidings c.advance-continues.new.self.replacer.sets c.advance-continues.new.emitted) here ended)
 
 pub expand_list-loop-named-preserved : goal.expand_list-loop-named-preserved
 expand_list-loop-named-preserved m c =
     let sets = c.loop-named.self.replacer.sets in
     let start = hidings c.args.self.now.replacer.sets c.args.list.now in
-    let list = c.skip.new.list in
-    let emitted = c.skip.new.emitted in
-    let here = follows_skip c.args.context.now.table.now.macros c.args.context.now.env.now c.args.context.now.level c.loop-named.self.remaining sets c.args.self.now.remaining start c.loop-named.list c.loop-named.emitted list emitted c.in_ok-named.ensures.skipped c.loop-named.invariant.follows in
+    let list = c.emit_unexpanded.new.list in
+    let emitted = c.emit_unexpanded.new.emitted in
+    let here = follows_emit_unexpanded c.args.context.now.table.now.macros c.args.context.now.env.now c.args.context.now.level c.loop-named.self.remaining sets c.args.self.now.remaining start c.loop-named.list c.loop-named.emitted list emitted c.in_ok-named.ensures.skipped c.loop-named.invariant.follows in
     record {
       low = c.loop-named.invariant.low;
-      list_known = c.in_ok-goes.ensures.list_known c.if-not-branch.false;
-      emitted_known = c.in_ok-goes.ensures.emitted_known;
-      keeps = keeps-after c.loop-named.invariant.keeps c.in_ok-goes.ensures.keeps;
-      follows = more_follows c.args.context.now.table.now.macros c.args.context.now.env.now c.args.context.now.level c.args.self.now.remaining start (hidings sets emitted) c.loop-named.self.remaining (hidings sets list) c.advance-goes.new.self.remaining
-          (hidings c.advance-goes.new.self.replacer.sets c.advance-goes.new.list) (hidings c.advance-goes.new.self.replacer.sets c.advance-goes.new.emitted) here (rw c.if-not-branch.false at c.in_ok-goes.ensures.on);
+      list_known = c.in_ok-continues.ensures.list_known c.if-not-branch.false;
+      emitted_known = c.in_ok-continues.ensures.emitted_known;
+      keeps = keeps-after c.loop-named.invariant.keeps c.in_ok-continues.ensures.keeps;
+      follows = more_follows c.args.context.now.table.now.macros c.args.context.now.env.now c.args.context.now.level c.args.self.now.remaining start (hidings sets emitted) c.loop-named.self.remaining (hidings sets list) c.advance-continues.new.self.remaining
+          (hidings c.advance-continues.new.self.replacer.sets c.advance-continues.new.list) (hidings c.advance-continues.new.self.replacer.sets c.advance-continues.new.emitted) here (rw c.if-not-branch.false at c.in_ok-continues.ensures.on);
     }
 
 pub expand_list-loop-named-smaller : goal.expand_list-loop-named-smaller
 expand_list-loop-named-smaller m c =
     let sets = c.loop-named.self.replacer.sets in
-    let list = c.skip.new.list in
-    let emitted = c.skip.new.emitted in
-    let remaining_after = more_falls c.args.context.now.table.now.macros c.args.context.now.env.now c.args.context.now.level c.loop-named.self.remaining (hidings sets list) (hidings sets emitted) c.advance-goes.new.self.remaining
-    (hidings c.advance-goes.new.self.replacer.sets c.advance-goes.new.list) (hidings c.advance-goes.new.self.replacer.sets c.advance-goes.new.emitted) (rw c.if-not-branch.false at c.in_ok-goes.ensures.on) in
+    let list = c.emit_unexpanded.new.list in
+    let emitted = c.emit_unexpanded.new.emitted in
+    let remaining_after = more_falls c.args.context.now.table.now.macros c.args.context.now.env.now c.args.context.now.level c.loop-named.self.remaining (hidings sets list) (hidings sets emitted) c.advance-continues.new.self.remaining
+    (hidings c.advance-continues.new.self.replacer.sets c.advance-continues.new.list) (hidings c.advance-continues.new.self.replacer.sets c.advance-continues.new.emitted) (rw c.if-not-branch.false at c.in_ok-continues.ensures.on) in
     let skipped = skip_falls c.args.context.now.table.now.macros c.args.context.now.env.now c.args.context.now.level c.loop-named.self.remaining sets c.loop-named.list c.loop-named.emitted list emitted c.in_ok-named.ensures.skipped in
     omega (arith, remaining_after, skipped)

@@ -3,7 +3,7 @@ use Rattle.std.specs.Result.{result_err}
 use Rattle.pptext.proofs.ErrorReturns.{stopped}
 use Rattle.ppunit.specs.States.{State, context_over}
 use Rattle.ppunit.specs.code.Opening.{Entered}
-use Rattle.ppunit.specs.Group.{Opened}
+use Rattle.ppunit.specs.Group.{OpensFile}
 use Rattle.ppunit.specs.Unit.{first_place}
 use Rattle.ppunit.specs.code.Walk.{Leads}
 use Rattle.ppunit.proofs.UnitValue.{entered_file, on_settled}
@@ -15,15 +15,15 @@ returns-in_err-entered-clause-opened g c =
 
 pub returns-clause-opened : goal.returns-clause-opened
 returns-clause-opened g c =
-    let continues_after = subst
+    let takes_branch = subst
     (λ (z : Option Entered). Leads (context_over c.args.self.now.context.now) c.open.new.self.pass.now.files 0
-    (λ more m. Opened (context_over c.args.self.now.context.now more) 0 (first_place c.args.row) c.args.self.now.state c.args.row None m) c.open.new.self.state (Ok z))
+    (λ more m. OpensFile (context_over c.args.self.now.context.now more) 0 (first_place c.args.row) c.args.self.now.state c.args.row None m) c.open.new.self.state (Ok z))
     (c.in-Some.is ∙ ap (λ (e : Entered). Some e) (sym c.entered.view_is)) c.in_ok-entered.ensures.opened in
     on_settled c.walk-walked.result
     (λ r walks more grows.
-    subst (λ (z : State). Opened (context_over c.args.self.now.context.now more) 0 (first_place c.args.row) c.args.self.now.state c.args.row None
+    subst (λ (z : State). OpensFile (context_over c.args.self.now.context.now more) 0 (first_place c.args.row) c.args.self.now.state c.args.row None
     (record { state = z; fault = result_err r })) (sym c.restore_context.ensures)
     (entered_file (context_over c.args.self.now.context.now) c.open.new.self.pass.now.files c.walk-walked.new.self.pass.now.files 0
-    (λ more m. Opened (context_over c.args.self.now.context.now more) 0 (first_place c.args.row) c.args.self.now.state c.args.row None m) c.open.new.self.state
-    c.walk-walked.new.self.state _ (result_err r) c.walk-walked.ensures.continues.grows continues_after walks more grows))
+    (λ more m. OpensFile (context_over c.args.self.now.context.now more) 0 (first_place c.args.row) c.args.self.now.state c.args.row None m) c.open.new.self.state
+    c.walk-walked.new.self.state _ (result_err r) c.walk-walked.ensures.continues.grows takes_branch walks more grows))
     (rw c.open.ensures.continues.context at c.walk-walked.ensures.walk)

@@ -15,7 +15,7 @@ returns-in_err-execute_text_lines-clause-step g c =
 pub returns-in_default-clause-step : goal.returns-in_default-clause-step
 returns-in_default-clause-step g c =
     rw (← c.file.view_is) (steps_line (context_over c.args.self.now.context.now) c.args.self.now.pass.now.files c.args.depth c.file.inside.row c.file.inside.source.now
-    c.file.inside.index c.args.self.now.state c.execute_text_lines.new.state c.in_ok-execute_text_lines.field-0 c.next_line.result c.next_line.ensures
+    c.file.inside.index c.args.self.now.state c.execute_text_lines.new.state c.in_ok-execute_text_lines.field-0 c.in_same_file.result c.in_same_file.ensures
     (c.in_ok-execute_text_lines.ensures.text_lines (context_over c.args.self.now.context.now) c.args.self.now.pass.now.files c.args.depth c.file.inside.row))
 
 pub returns-in_err-next-clause-step : goal.returns-in_err-next-clause-step
@@ -27,15 +27,15 @@ returns-in_err-next-clause-step g c =
 pub returns-then-opens_section-clause-step : goal.returns-then-opens_section-clause-step
 returns-then-opens_section-clause-step g c =
     rw (← c.file.view_is) (steps_line (context_over c.args.self.now.context.now) c.args.self.now.pass.now.files c.args.depth c.file.inside.row c.file.inside.source.now
-    c.file.inside.index c.args.self.now.state c.execute_if_line.new.state c.in_ok-next.next c.next_line-then-opens_section.result
-    c.next_line-then-opens_section.ensures
+    c.file.inside.index c.args.self.now.state c.execute_if_line.new.state c.in_ok-next.next c.in_same_file-then-opens_section.result
+    c.in_same_file-then-opens_section.ensures
     (c.in_ok-next.ensures.advances c.args.self.now.pass.now.files c.args.depth))
 
 pub returns-then-ends_group-clause-step : goal.returns-then-ends_group-clause-step
 returns-then-ends_group-clause-step g c =
     rw (← c.file.view_is) (steps_line (context_over c.args.self.now.context.now) c.args.self.now.pass.now.files c.args.depth c.file.inside.row c.file.inside.source.now
-    c.file.inside.index c.args.self.now.state c.args.self.now.state c.section_end.result c.next_line-then-ends_group.result
-    c.next_line-then-ends_group.ensures
+    c.file.inside.index c.args.self.now.state c.args.self.now.state c.section_end.result c.in_same_file-then-ends_group.result
+    c.in_same_file-then-ends_group.ensures
     (end_advances (context_over c.args.self.now.context.now) c.args.self.now.pass.now.files c.args.depth c.file.inside.row c.file.inside.source.now
     c.file.inside.index c.section_end.result c.args.self.now.state c.in-Some.directive (rw (← c.file.view_is) at c.requires.index) (sym c.line.ensures.directive ∙ c.in-Some.is)
     (sym c.ends_group.ensures ∙ c.if-ends_group.true) c.section_end.ensures.end))
@@ -43,15 +43,15 @@ returns-then-ends_group-clause-step g c =
 pub returns-in_err-entered-clause-step : goal.returns-in_err-entered-clause-step
 returns-in_err-entered-clause-step g c =
     rw (← c.file.view_is) (stopped _ _ _ _ c.from_residual-in_err-entered.ensures.1 c.in_err-entered.ensures.control
-    (stops_control (context_over c.args.self.now.context.now) c.execute_line.new.self.pass.now.files c.args.depth c.file.inside.row c.file.inside.source.now
-    c.file.inside.index c.args.self.now.state c.execute_line.new.self.state c.in-Some.directive c.tokens_at-tokens.result c.line-2.result.now.number
+    (stops_control (context_over c.args.self.now.context.now) c.execute_control_line.new.self.pass.now.files c.args.depth c.file.inside.row c.file.inside.source.now
+    c.file.inside.index c.args.self.now.state c.execute_control_line.new.self.state c.in-Some.directive c.tokens_at-tokens.result c.line-2.result.now.number
     (rw (← c.file.view_is) at c.requires.index) (sym c.line.ensures.directive ∙ c.in-Some.is) (sym c.opens_section.ensures ∙ c.if-opens_section.false)
     (sym c.ends_group.ensures ∙ c.if-ends_group.false) c.tokens_at-tokens.ensures.tokens c.line-2.ensures.number))
 
 pub returns-clause-step : goal.returns-clause-step
 returns-clause-step g c =
-    rw (← c.file.view_is) (steps_control (context_over c.args.self.now.context.now) c.execute_line.new.self.pass.now.files c.args.depth c.file.inside.row c.file.inside.source.now
-    c.file.inside.index c.args.self.now.state c.execute_line.new.self.state c.in-Some.directive c.tokens_at-tokens.result c.line-2.result.now.number
+    rw (← c.file.view_is) (steps_control (context_over c.args.self.now.context.now) c.execute_control_line.new.self.pass.now.files c.args.depth c.file.inside.row c.file.inside.source.now
+    c.file.inside.index c.args.self.now.state c.execute_control_line.new.self.state c.in-Some.directive c.tokens_at-tokens.result c.line-2.result.now.number
     (rw (← c.file.view_is) at c.requires.index) (sym c.line.ensures.directive ∙ c.in-Some.is) (sym c.opens_section.ensures ∙ c.if-opens_section.false)
     (sym c.ends_group.ensures ∙ c.if-ends_group.false) c.tokens_at-tokens.ensures.tokens c.line-2.ensures.number c.in_ok-entered.entered
     c.in_ok-entered.ensures.control)
@@ -83,8 +83,8 @@ execute_if_line-requires-clause-line g c = sym c.line.ensures.directive ∙ c.in
 pub execute_if_line-requires-clause-opens : goal.execute_if_line-requires-clause-opens
 execute_if_line-requires-clause-opens g c = sym c.opens_section.ensures ∙ c.if-opens_section.true
 
-pub execute_line-requires-clause-opens : goal.execute_line-requires-clause-opens
-execute_line-requires-clause-opens g c = sym c.opens_section.ensures ∙ c.if-opens_section.false
+pub execute_control_line-requires-clause-opens : goal.execute_control_line-requires-clause-opens
+execute_control_line-requires-clause-opens g c = sym c.opens_section.ensures ∙ c.if-opens_section.false
 
-pub execute_line-requires-clause-ends : goal.execute_line-requires-clause-ends
-execute_line-requires-clause-ends g c = sym c.ends_group.ensures ∙ c.if-ends_group.false
+pub execute_control_line-requires-clause-ends : goal.execute_control_line-requires-clause-ends
+execute_control_line-requires-clause-ends g c = sym c.ends_group.ensures ∙ c.if-ends_group.false

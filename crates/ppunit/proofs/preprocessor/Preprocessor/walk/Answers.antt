@@ -119,7 +119,7 @@ returns-in-Err-clause-walk g c =
     let step = rw (c.in-Err.is, c.depth.ensures, c.loop-file.invariant.continues.context) at c.step.ensures.step in
     halted (Err c.in-Err.error) c.in-Err.error _ _ refl step (λ fault steps.
     subst (λ (z : State). Walks (context_over c.args.self.now.context.now) c.step.new.self.pass.now.files 0 c.args.first.row c.args.first.lines c.args.self.now.state
-    (stopped z fault)) (sym c.stop.ensures)
+    (stopped z fault)) (sym c.unwind.ensures)
     (stack_stops (context_over c.args.self.now.context.now) c.loop-file.self.pass.now.files c.step.new.self.pass.now.files c.args.first.row c.args.first.lines
     c.args.self.now.state c.loop-file.self.state c.step.new.self.state fault c.loop-file.suspended c.loop-file.file c.loop-file.invariant.walked
     c.step.ensures.continues.grows steps))

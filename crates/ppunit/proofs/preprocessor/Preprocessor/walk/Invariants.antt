@@ -1,13 +1,13 @@
 use Rattle.std.proofs.Common.{◌≤◌, length}
 use Rattle.ppunit.specs.States.{context_over}
-use Rattle.ppunit.specs.code.Preprocessor.{Continues}
+use Rattle.ppunit.specs.code.Preprocessor.{KeepsContext}
 use Rattle.ppunit.proofs.FileStack.{StackSoFar}
 use Rattle.ppunit.proofs.RemainingWork.{work}
 use Rattle.ppunit.proofs.preprocessor.Preprocessor.walk.Given as goal
 
 abbrev pub invariant-loop-file : goal.invariant-loop-file
 invariant-loop-file g l = record {
-  continues : Continues l.fn.self l.self;
+  continues : KeepsContext l.fn.self l.self;
   depth : length l.suspended ≤ 200;
   walked : StackSoFar (context_over l.fn.self.context.now) l.self.pass.now.files l.fn.first.row l.fn.first.lines l.fn.self.state l.suspended l.file l.self.state;
 }

@@ -1,7 +1,7 @@
 use Rattle.std.proofs.Common.{sym, subst}
 use Rattle.ppexpand.specs.code.Skipping.{HasSkipped}
 use Rattle.ppexpand.proofs.SkippedTokens.{skipped-none, skipped-on, skipped-one}
-use Rattle.ppexpand.proofs.expansion.skip_pushed.Goals as goal
+use Rattle.ppexpand.proofs.expansion.emit_pushed.Goals as goal
 
 pub loop-hidden-init : goal.loop-hidden-init
 loop-hidden-init c = skipped-none c.args.table.now.macros c.args.list.now c.args.emitted.now

@@ -3,10 +3,10 @@ use Rattle.ppunit.specs.States.{search_in_unit}
 use Rattle.ppunit.specs.code.Walk.{line_at}
 use Rattle.ppunit.proofs.LineDecisions.{enters_asked}
 use Rattle.ppunit.proofs.UnitValue.{on_settled}
-use Rattle.ppunit.proofs.line_walk.continues_after.Goals as goal
+use Rattle.ppunit.proofs.line_walk.takes_branch.Goals as goal
 
-pub returns-clause-continues_after : goal.returns-clause-continues_after
-returns-clause-continues_after g c =
+pub returns-clause-takes_branch : goal.returns-clause-takes_branch
+returns-clause-takes_branch g c =
     on_settled c.decide.result
     (λ taken. enters_asked (search_in_unit c.args.context.now) c.args.row c.args.state.now (line_at c.args.source.now c.args.index) c.in-Some.directive c.tokens_at.result
     c.decide.new.state.remaining taken (sym c.line.ensures.directive ∙ c.in-Some.is) c.tokens_at.ensures.tokens

@@ -11,7 +11,7 @@ use Rattle.ppunit.specs.Group.{ExecutesControlLine}
 use Rattle.ppunit.proofs.ControlLineSteps.{other_control, leads_include}
 use Rattle.ppunit.proofs.ControlClasses.{other_is_control, other_looks}
 use Rattle.ppunit.proofs.UnitValue.{on_settled}
-use Rattle.ppunit.proofs.preprocessor.Preprocessor.execute_line.Goals as goal
+use Rattle.ppunit.proofs.preprocessor.Preprocessor.execute_control_line.Goals as goal
 
 pub returns-in_ok-error-in-Error-clause-control : goal.returns-in_ok-error-in-Error-clause-control
 returns-in_ok-error-in-Error-clause-control g c more grows =

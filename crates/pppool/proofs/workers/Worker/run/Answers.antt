@@ -1,5 +1,5 @@
 use Rattle.std.proofs.Common.{rules}
-use Rattle.pppool.proofs.workers.Worker.in_seat.Goals as goal
+use Rattle.pppool.proofs.workers.Worker.run.Goals as goal
 
 pub returns : goal.returns
 returns g c = search rules
