@@ -31,6 +31,10 @@ fn exit_with(rt: &impl Eprint, outcome: &Result<bool, RunFault>) -> ExitCode {
     ExitCode::from(status(outcome))
 }
 
+/// Runs the program.
+///
+/// It calls `serve_from` itself. A function with the runtime as a parameter can't: it would need a bound that the runtime
+/// may be sent to a thread, and the kit's borrow checker doesn't accept that bound.
 fn main(rt: HostRuntime) -> ExitCode {
     if reserve(rt.alloc()).is_err() {
         return exit_with(&rt, &Err(RunFault::Memory));

@@ -81,6 +81,9 @@ fn print_to_vec(alloc: Global, mode: Mode, list: &List, outs: &[UnitOut]) -> Res
 
 /// Prints the output of units through an empty buffer, without allocating. Fails only if a write fails; then a prefix of
 /// the output has been written.
+///
+/// The buffer and the writer are separate parameters. If one struct held both, this couldn't be proved: after the struct
+/// is dropped, the last value of a generic writer isn't known.
 pub(crate) fn print<W: Sink>(
     buf: &mut OutBuffer,
     writer: &mut W,
