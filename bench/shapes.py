@@ -185,7 +185,7 @@ SHAPES = [
     Shape("uses of an empty list", (4_000, 8_000, 16_000), lambda size: empty_list(1_000, size), quick=1),
     Shape("length of an empty list", (4_000, 8_000, 16_000), lambda size: empty_list(size, 1_000), quick=1),
     Shape("include lines", (10_000, 20_000, 40_000), listed=lambda size: searched(100, size), quick=1),
-    Shape("folders searched", (100, 200, 400), listed=lambda size: searched(size, 10_000), quick=1),
+    Shape("directories searched", (100, 200, 400), listed=lambda size: searched(size, 10_000), quick=1),
     repeated("(", "(", lambda size: size),
     repeated("?", "?", lambda size: size),
     repeated("'", "'", lambda size: size, status=1),

@@ -244,7 +244,7 @@ def folders_of(printed):
     found = re.search(r"^#include <\.\.\.> search starts here:\n(.*?)^End of search list", printed, re.MULTILINE | re.DOTALL)
     if found is None:
         lines = printed.strip().split("\n")
-        raise NoAnswer("it names no folders; it says: %s" % (next((line for line in lines if "error" in line), lines[-1])[:200] or "nothing"))
+        raise NoAnswer("it names no directories; it says: %s" % (next((line for line in lines if "error" in line), lines[-1])[:200] or "nothing"))
     folders = [line[1:] for line in found[1].split("\n") if line.startswith(" /") and not line.endswith("(framework directory)")]
     return unique(os.path.realpath(folder) if ".." in folder else os.path.normpath(folder) for folder in folders if os.path.isdir(folder))
 

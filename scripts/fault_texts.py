@@ -57,7 +57,7 @@ FAULTS = {
     30: ("one name in quotes or angle brackets is expected", None,
          "Write one name. A list has no absolute names: give the directory by `search`, and the name relative to it."),
     31: ("no such file: %s", "no such file",
-         "Give the folder that has it: by `-I` in a build's command, by `search` in a list, whose `files` name it."),
+         "Give the directory that has it: by `-I` in a build's command, by `search` in a list, whose `files` name it."),
     32: ("includes nested over 200 levels: %s", "includes nested over 200 levels", "Guard headers by `#ifndef`."),
     33: ("#line needs a number from 1 to 2147483647, and optionally a name in quotes", None,
          "Write decimal digits without a suffix."),

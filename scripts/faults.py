@@ -16,7 +16,7 @@ Print the faults of an output of `cppunits deps` (or `dump`) as compilers do, on
   lib/low.h:7:1: error: no such file: word.h [fault 31]
       7 | #include "word.h"
         | ^
-  note: Give the folder that has it: by `-I` in a build's command, by `search` in a list, whose `files` name it.
+  note: Give the directory that has it: by `-I` in a build's command, by `search` in a list, whose `files` name it.
 
 LIST is the input of cppunits.  The include lines above a fault are printed if the unit's dependencies and the sources
 allow only one way; otherwise the unit is named.  The source line is printed if it fits the fault.  Columns count bytes,
@@ -54,7 +54,7 @@ class Sources:
         texts = self.names + [word for words in lists for word in (words if isinstance(words, list) else [None])]
         texts += [unit.get("file") if isinstance(unit, dict) else None for unit in self.units]
         if not all(isinstance(text, str) for text in texts):
-            raise Refused("the list isn't as docs/FORMAT.md says: a name, a folder or a definition is no text")
+            raise Refused("the list isn't as docs/FORMAT.md says: a name, a directory or a definition is no text")
         self.rows, self.finders = {name: row for row, name in enumerate(self.names)}, {}
 
     def path(self, name):

@@ -143,7 +143,7 @@ class Files:
 
     def say_shadow(self, path, name, found):
         """Reports a name in angle brackets that is found in an -iquote directory, since a list has one kind of directory."""
-        self.said.add("%s: <%s> is found in an -iquote folder, as %s" % (path, name, found))
+        self.said.add("%s: <%s> is found in an -iquote directory, as %s" % (path, name, found))
 
     def say_shadows(self, members):
         """Reports each such file that is on the list and comes before the right one."""
@@ -192,7 +192,7 @@ class Looked:
         for folder in unique((own, *self.search)):
             yield from self.files.headers(folder)
         if self.quotes:
-            self.said.add("%s: a name that a macro makes is also searched in -iquote folders" % path)
+            self.said.add("%s: a name that a macro makes is also searched in -iquote directories" % path)
 
     def named(self, path, own, form, name):
         if name.startswith("/"):

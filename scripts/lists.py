@@ -160,7 +160,7 @@ class Builder:
     def folder(self, path):
         name = self.below(path)
         if name is None or (name != "." and not is_name(name)):
-            self.said.add("%s: no folder below the root %s" % (path, self.root))
+            self.said.add("%s: no directory below the root %s" % (path, self.root))
             return None
         return name
 

@@ -190,8 +190,8 @@ class Compilers(Builds):
 
     def test_compilers_that_answer_nonsense(self):
         folders = "printf '#include <...> search starts here:\\n /none\\n relative\\nEnd of search list.\\n\\377' >&2; "
-        for text, reason in (("echo nonsense", "it names no folders"), ("exit 3", "it says: nothing"), ("kill -9 $$", "it names no folders"),
-                             ("echo '#define 1' >&2; echo '#define 1'", "it names no folders"), (folders + "echo '#define 1'", "it names no macros"),
+        for text, reason in (("echo nonsense", "it names no directories"), ("exit 3", "it says: nothing"), ("kill -9 $$", "it names no directories"),
+                             ("echo '#define 1' >&2; echo '#define 1'", "it names no directories"), (folders + "echo '#define 1'", "it names no macros"),
                              ("cat /dev/zero; cat /dev/zero >&2", "no answer: it ")):
             self.compiler("bin/gcc", "#!/bin/sh\n%s\n" % text)
             tokens, said = self.tokens(["gcc -Isys -c a.c"], "--seconds", "3", status=1)
@@ -241,7 +241,7 @@ class Lists(Builds):
         write(self.top, {"a.c": "#include <h.h>\n", "b/b.c": '#include "h.h"\n', "q/h.h": "q\n", "i/h.h": "i\n"})
         self.check(["gcc -iquote q -Ii -c a.c"], [["i"]], ["a.c", "i/h.h"])
         said = self.names(["gcc -iquote q -Ii -c a.c", ("gcc -iquote q -c b/b.c", "b/b.c")], status=1)[2]
-        self.assertEqual(said[0], "build.py: %s/a.c: <h.h> is found in an -iquote folder, as %s/q/h.h" % (self.top, self.top))
+        self.assertEqual(said[0], "build.py: %s/a.c: <h.h> is found in an -iquote directory, as %s/q/h.h" % (self.top, self.top))
 
     def test_whether_there_is_a_next_file(self):
         """Tests the way in which clang's headers ask: a definition has the answer if it is the same for all files that a unit opens."""

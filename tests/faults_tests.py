@@ -62,7 +62,7 @@ In file included from src/a.c:2:
 inc/low.h:2:3: error: no such file: gone.h [fault 31]
     2 |   # include "gone.h"
       |   ^
-note: Give the folder that has it: by `-I` in a build's command, by `search` in a list, whose `files` name it.
+note: Give the directory that has it: by `-I` in a build's command, by `search` in a list, whose `files` name it.
 """)
 
     def test_first_lines_are_read_as_those_of_gcc(self):

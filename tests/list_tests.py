@@ -263,13 +263,13 @@ class Commands(Lists):
     def test_a_folder_for_names_in_quotes_alone(self):
         files = {"a.c": "#include <h.h>\n", "q/h.h": "", "i/h.h": ""}
         _, _, said = self.unit("cc -iquote q -Ii -c a.c", files, status=1)
-        self.assertIn("is found in an -iquote folder", said[0])
+        self.assertIn("is found in an -iquote directory", said[0])
         self.unit("cc -iquote q -Ii -c a.c", {**files, "a.c": '#include "h.h"\n'})
 
     def test_what_is_outside_the_root(self):
         write(self.top, {"out/h.h": ""})
         _, _, said = self.unit("cc -I../out -c a.c", {"a.c": "#include <h.h>\n"}, status=1)
-        self.assertEqual(["not below the root" in said[0], "no folder below the root" in said[1]], [True, True])
+        self.assertEqual(["not below the root" in said[0], "no directory below the root" in said[1]], [True, True])
 
     def test_what_each_unit_is_compiled_to(self):
         targets = os.path.join(self.top, "targets")

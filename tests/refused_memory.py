@@ -67,7 +67,7 @@ ROWS = {
         "unit 0 a.c\ntok 1:3:1 1:3:1 i+ int\ntok 1:3:5 1:3:5 i+ a\ntok 1:3:6 1:3:6 p- ;\ndep 0 a.c\ndep 1 h.h\nok\n"
         "unit 1 a.c\ndep 0 a.c\ndep 1 h.h\nok\n", 5,
     ),
-    "searched folders": (
+    "searched directories": (
         SEARCHED, [{"file": "src/a.c"}], ["inc"],
         "unit 0 src/a.c\ntok 1:1:1 1:1:1 n+ 1\ntok 2:1:1 2:1:1 n+ 2\ntok 2:1:1 2:1:1 n+ 2\ndep 0 src/a.c\ndep 1 src/x.h\ndep 2 inc/x.h\n"
         "fault 31 0:4:1 y.h\n", 7,
@@ -98,7 +98,7 @@ def written(name):
 WAYS = {
     "one worker": (["--workers", "1", "dump"], LISTS),
     "four workers": (["--workers", "4", "--block", "1", "deps"], LISTS),
-    "four workers over a folder": (
+    "four workers over a directory": (
         ["--workers", "4", "--block", "1", "--root", os.path.join(EXAMPLES, "files"), "dump"],
         {"names alone": example("names.json")},
     ),
@@ -144,7 +144,7 @@ def cases(program, malloc):
             yield "--workers %s: %s" % (workers, name), problems([*words, "dump"], row(name, True), malloc, wanted, most)
             with written(name) as folder:
                 over = problems([*words, "--root", folder, "dump"], row(name, False), malloc, wanted, most)
-                yield "--workers %s over a folder: %s" % (workers, name), over
+                yield "--workers %s over a directory: %s" % (workers, name), over
 
 
 def main(words):

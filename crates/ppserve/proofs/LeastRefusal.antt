@@ -5,7 +5,7 @@ use Rattle.std.proofs.lemmas.Option.{none-some, same_Some}
 use Rattle.serde_json.specs.Data.{Data}
 use Rattle.ppserve.specs.Drafting.{draft}
 use Rattle.ppserve.specs.Drafts.{Draft}
-use Rattle.ppserve.specs.Laws.{HoldsDraft, Applies, too_long, no_json, no_shape, wrong_names, wrong_sizes, unknown_file, wrong_times, wrong_lines, wrong_folders, wrong_profile, wrong_budget}
+use Rattle.ppserve.specs.Laws.{HoldsDraft, Applies, too_long, no_json, no_shape, wrong_names, wrong_sizes, unknown_file, wrong_times, wrong_lines, wrong_directories, wrong_profile, wrong_budget}
 use Rattle.ppserve.specs.Laws.{IsLeast, IsTaken, RefusesByTheLeast, TakesTheRest}
 use Rattle.ppserve.specs.Listing.{Outcome, accepted, refused, json_value, outcome_of, validated, listed, names_of, names_hold, sizes_hold, are_known, times_hold, lines_hold}
 use Rattle.ppserve.specs.Listing.{directories_hold, profile_holds, budget_holds, max_input}
@@ -68,7 +68,7 @@ applies_of inline bytes d m h (there (here e)) = wrong_sizes h e
 applies_of inline bytes d m h (there (there (here e))) = unknown_file h e
 applies_of inline bytes d m h (there (there (there (here e)))) = wrong_times h e
 applies_of inline bytes d m h (there (there (there (there (here e))))) = wrong_lines h e
-applies_of inline bytes d m h (there (there (there (there (there (here e)))))) = wrong_folders h e
+applies_of inline bytes d m h (there (there (there (there (there (here e)))))) = wrong_directories h e
 applies_of inline bytes d m h (there (there (there (there (there (there (here e))))))) = wrong_profile h e
 applies_of inline bytes d m h (there (there (there (there (there (there (there (here e)))))))) = wrong_budget h e
 applies_of inline bytes d m h (there (there (there (there (there (there (there (there f)))))))) = elim f [ ]
@@ -92,7 +92,7 @@ fails_of inline bytes d m fits h (wrong_sizes {x = x} k e) = there (here (ap (λ
 fails_of inline bytes d m fits h (unknown_file {x = x} k e) = there (there (here (ap (λ (y : Draft). are_known (names_of y.files) y.units) (one_draft inline bytes d x h k) ∙ e)))
 fails_of inline bytes d m fits h (wrong_times {x = x} k e) = there (there (there (here (ap (λ (y : Draft). times_hold y.setting) (one_draft inline bytes d x h k) ∙ e))))
 fails_of inline bytes d m fits h (wrong_lines {x = x} k e) = there (there (there (there (here (ap (λ (y : Draft). lines_hold y.units) (one_draft inline bytes d x h k) ∙ e)))))
-fails_of inline bytes d m fits h (wrong_folders {x = x} k e) = there (there (there (there (there (here (ap (λ (y : Draft). directories_hold y) (one_draft inline bytes d x h k) ∙ e))))))
+fails_of inline bytes d m fits h (wrong_directories {x = x} k e) = there (there (there (there (there (here (ap (λ (y : Draft). directories_hold y) (one_draft inline bytes d x h k) ∙ e))))))
 fails_of inline bytes d m fits h (wrong_profile {x = x} k e) =
     there (there (there (there (there (there (here (ap (λ (y : Draft). profile_holds y.setting) (one_draft inline bytes d x h k) ∙ e)))))))
 fails_of inline bytes d m fits h (wrong_budget {x = x} k e) =
@@ -123,7 +123,7 @@ from_one inline bytes m (wrong_sizes h e) = omega arith
 from_one inline bytes m (unknown_file h e) = omega arith
 from_one inline bytes m (wrong_times h e) = omega arith
 from_one inline bytes m (wrong_lines h e) = omega arith
-from_one inline bytes m (wrong_folders h e) = omega arith
+from_one inline bytes m (wrong_directories h e) = omega arith
 from_one inline bytes m (wrong_profile h e) = omega arith
 from_one inline bytes m (wrong_budget h e) = omega arith
 
@@ -137,7 +137,7 @@ from_two inline bytes value m fits is (wrong_sizes h e) = omega arith
 from_two inline bytes value m fits is (unknown_file h e) = omega arith
 from_two inline bytes value m fits is (wrong_times h e) = omega arith
 from_two inline bytes value m fits is (wrong_lines h e) = omega arith
-from_two inline bytes value m fits is (wrong_folders h e) = omega arith
+from_two inline bytes value m fits is (wrong_directories h e) = omega arith
 from_two inline bytes value m fits is (wrong_profile h e) = omega arith
 from_two inline bytes value m fits is (wrong_budget h e) = omega arith
 

@@ -32,7 +32,7 @@ pub data Applies (inline : Bool) (bytes : List ℕ) : ℕ → Type 0 where
   unknown_file : {x : Draft} → HoldsDraft inline bytes x → are_known (names_of x.files) x.units ≡ false → Applies inline bytes 5
   wrong_times : {x : Draft} → HoldsDraft inline bytes x → times_hold x.setting ≡ false → Applies inline bytes 6
   wrong_lines : {x : Draft} → HoldsDraft inline bytes x → lines_hold x.units ≡ false → Applies inline bytes 7
-  wrong_folders : {x : Draft} → HoldsDraft inline bytes x → directories_hold x ≡ false → Applies inline bytes 8
+  wrong_directories : {x : Draft} → HoldsDraft inline bytes x → directories_hold x ≡ false → Applies inline bytes 8
   wrong_profile : {x : Draft} → HoldsDraft inline bytes x → profile_holds x.setting ≡ false → Applies inline bytes 9
   wrong_budget : {x : Draft} → HoldsDraft inline bytes x → budget_holds x.setting ≡ false → Applies inline bytes 10
 
