@@ -75,7 +75,7 @@ def ordinary(dice):
 
 def comments(dice):
     return "/*%s */ %s; // %s\n" % (" it is said at length what the next line does\n *" * (2 + dice.below(6)), expression(dice, 2),
-                                    "and once more behind it " * 2)
+                                    "and once more beyond it " * 2)
 
 
 def splices(dice):

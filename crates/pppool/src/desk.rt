@@ -109,7 +109,7 @@ impl Desk {
         requires { All (λ s. s.desk ≡ self) seats.items }
         ensures apart { (x : ℕ) → times x (claims_of seats.items) ≤ 1 }
         ensures blocks { All (λ b. b < self.plan.blocks) (claims_of seats.items) }
-        ensures answer { result ≡ ((length seats.items == self.plan.seats) && any_empty seats.items) }
+        ensures value { result ≡ ((length seats.items == self.plan.seats) && any_empty seats.items) }
         ensures whole { IsTrue result → (x : ℕ) → times x (claims_of seats.items) ≡ once_below x self.plan.blocks }
     {
         let count = seats.len();

@@ -90,7 +90,7 @@ impl<'a, D: Disk> Worker<'a, D> {
         ensures result_units { OnOk result (result_units self.new.results.items ≡ result_units self.old.results.items ++ unit ∷ []) }
     {
         job.gate.enter(unit);
-        let given = preprocess(
+        let outcome = preprocess(
             job.alloc,
             job.shelf,
             &mut self.pass,
@@ -99,7 +99,7 @@ impl<'a, D: Disk> Worker<'a, D> {
             &job.units[unit],
         );
         growth();
-        let out = retained(job.alloc, job.retain, given?);
+        let out = retained(job.alloc, job.retain, outcome?);
         self.results.push(UnitResult { unit, out })?;
         Ok(())
     }

@@ -15,8 +15,8 @@ puts_here {written = written} {w = w} {p = p} {q = q} {text = text} e = record {
   prefix = [];
   rest = p ++ text;
   parts = refl;
-  went = Appends-nil (written w);
-  waits = λ _. sym e;
+  appends = Appends-nil (written w);
+  unwritten = λ _. sym e;
   stays = λ f. (refl, f);
 }
 
@@ -36,13 +36,13 @@ puts_then {written = written} {has_failed = has_failed} {w = w} {v = v} {u = u} 
 
     by_case : (f : Bool) → has_failed v ≡ f → Puts written has_failed w u p r (s ++ t)
     by_case false e =
-        let waits = a.waits e in
+        let unwritten = a.unwritten e in
         record {
           prefix = a.prefix ++ b.prefix;
           rest = b.rest;
-          parts = first ∙ (ap (λ l. a.prefix ++ l) (ap (λ l. l ++ t) waits ∙ b.parts) ∙ sym (append_assoc a.prefix b.prefix b.rest));
-          went = Appends-trans _ _ _ _ _ a.went b.went;
-          waits = b.waits;
+          parts = first ∙ (ap (λ l. a.prefix ++ l) (ap (λ l. l ++ t) unwritten ∙ b.parts) ∙ sym (append_assoc a.prefix b.prefix b.rest));
+          appends = Appends-trans _ _ _ _ _ a.appends b.appends;
+          unwritten = b.unwritten;
           stays = λ f. absurd (false≢true (sym e ∙ (a.stays f).1));
         }
     by_case true e =
@@ -51,8 +51,8 @@ puts_then {written = written} {has_failed = has_failed} {w = w} {v = v} {u = u} 
           prefix = a.prefix ++ b.prefix;
           rest = a.rest ++ t;
           parts = first ∙ ap (λ l. l ++ (a.rest ++ t)) (sym (ap (λ l. a.prefix ++ l) none ∙ append-nil a.prefix));
-          went = Appends-trans _ _ _ _ _ a.went b.went;
-          waits = λ f. absurd (false≢true (sym f ∙ (b.stays e).1));
+          appends = Appends-trans _ _ _ _ _ a.appends b.appends;
+          unwritten = λ f. absurd (false≢true (sym f ∙ (b.stays e).1));
           stays = λ f. (rw ((a.stays f).0, none) refl, (b.stays e).1);
         }
 
@@ -62,8 +62,8 @@ puts_failed {written = written} {w = w} {p = p} {text = text} failed = record {
   prefix = [];
   rest = p ++ text;
   parts = refl;
-  went = Appends-nil (written w);
-  waits = λ f. absurd (false≢true (sym f ∙ failed));
+  appends = Appends-nil (written w);
+  unwritten = λ f. absurd (false≢true (sym f ∙ failed));
   stays = λ _. (refl, failed);
 }
 
@@ -102,8 +102,8 @@ pub printed_all : {V : Type 0} {written : V → Option (List ℕ)} {has_failed :
     → p ≡ [] → q ≡ [] → has_failed v ≡ false → Puts written has_failed w v p q text → Appends (written w) (written v) text
 printed_all {written = written} {w = w} {v = v} {p = p} {q = q} {text = text} none empty e a =
     let whole : text ≡ a.prefix ++ a.rest = ap (λ bs. bs ++ text) (sym none) ∙ a.parts in
-    let all : a.prefix ≡ text = sym (whole ∙ ap (λ bs. a.prefix ++ bs) (a.waits e ∙ empty) ∙ append-nil a.prefix) in
-    appends_as _ _ _ _ all a.went
+    let all : a.prefix ≡ text = sym (whole ∙ ap (λ bs. a.prefix ++ bs) (a.unwritten e ∙ empty) ∙ append-nil a.prefix) in
+    appends_as _ _ _ _ all a.appends
 
 -- If the buffer was empty at the start, a prefix of the text was written.
 pub printed_front : {V : Type 0} {written : V → Option (List ℕ)} {has_failed : V → Bool} {w v : V} {p q text : List ℕ}
@@ -111,7 +111,7 @@ pub printed_front : {V : Type 0} {written : V → Option (List ℕ)} {has_failed
 printed_front {written = written} {w = w} {v = v} {p = p} {q = q} {text = text} none a =
     let whole : text ≡ a.prefix ++ a.rest = ap (λ bs. bs ++ text) (sym none) ∙ a.parts in
     let prefix : a.prefix ≡ take (length a.prefix) text = sym (ap (take (length a.prefix)) whole ∙ take-append_seam a.prefix a.rest) in
-    (length a.prefix, appends_as _ _ _ _ prefix a.went)
+    (length a.prefix, appends_as _ _ _ _ prefix a.appends)
 
 -- `Puts` from empty buffer to empty buffer, restated for a `p` that is empty
 pub puts_onto : {V : Type 0} {written : V → Option (List ℕ)} {has_failed : V → Bool} {w v : V} {p text : List ℕ}
@@ -121,12 +121,12 @@ puts_onto {written = written} {has_failed = has_failed} {w = w} {v = v} {text = 
 -- If a write fails after `n` bytes, `Puts` holds: a prefix of the text was written.
 pub puts_broken : {V : Type 0} {written : V → Option (List ℕ)} {has_failed : V → Bool} {w v : V} {bytes : List ℕ} (n : ℕ)
     → has_failed w ≡ false → has_failed v ≡ true → Appends (written w) (written v) (take n bytes) → Puts written has_failed w v [] [] bytes
-puts_broken {bytes = bytes} n was now went = record {
+puts_broken {bytes = bytes} n was now appends = record {
   prefix = take n bytes;
   rest = drop n bytes;
   parts = sym (take-append-drop n bytes);
-  went = went;
-  waits = λ f. absurd (false≢true (sym f ∙ now));
+  appends = appends;
+  unwritten = λ f. absurd (false≢true (sym f ∙ now));
   stays = λ f. absurd (false≢true (sym was ∙ f));
 }
 

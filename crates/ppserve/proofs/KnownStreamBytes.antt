@@ -32,4 +32,4 @@ appends_as a b xs ys e h = let P : List ℕ → Type 0 = λ zs. Appends a b zs i
 
 -- If a text is appended to a writer that had no bytes, its bytes are the text.
 pub written_alone : (a b : Option (List ℕ)) (bytes text : List ℕ) → a ≡ Some [] → b ≡ Some bytes → Appends a b text → bytes ≡ text
-written_alone a b bytes text none some went = rw (none, some) at went
+written_alone a b bytes text none some appends = rw (none, some) at appends

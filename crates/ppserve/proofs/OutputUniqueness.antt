@@ -94,16 +94,16 @@ one_list inline known left right a b p q =
 
 -- ---- the theorems
 
-pub one_output : HasOneValue → ListGrows → (Such : CompilationList → Files → Type 0) → OneOutput Such
-one_output once grows Such inline mode known with_part left right one two any other a b agree =
-    let same : a.list ≡ b.list = one_list inline known left right a.list b.list a.came.came b.came.came in
-    let P : CompilationList → Type 0 = λ l. AreUnits l.names b.came.files l.setting l.units b.outs in
-    let theirs = subst P (sym same) b.came.gives in
+pub one_output : HasOneValue → ListGrows → (Allowed : CompilationList → Files → Type 0) → OneOutput Allowed
+one_output once grows Allowed inline mode known written left right one two any other a b agree =
+    let same : a.list ≡ b.list = one_list inline known left right a.list b.list a.produces.reads b.produces.reads in
+    let P : CompilationList → Type 0 = λ l. AreUnits l.names b.produces.files l.setting l.units b.outs in
+    let theirs = subst P (sym same) b.produces.values in
     let list = a.list in
-    let outs : a.outs ≡ b.outs = same_answers once grows list.names a.came.files b.came.files list.setting list.units a.outs b.outs
-    (named inline a.came.came.bytes list a.came.came.is_list) agree a.came.gives theirs in
+    let outs : a.outs ≡ b.outs = same_answers once grows list.names a.produces.files b.produces.files list.setting list.units a.outs b.outs
+    (named inline a.produces.reads.bytes list a.produces.reads.is_list) agree a.produces.values theirs in
     let text : output_text mode a.list a.outs ≡ output_text mode b.list b.outs = ap (λ (l : CompilationList). output_text mode l a.outs) same ∙ ap (output_text mode b.list) outs in (
-      a.went ∙ (ap (λ bytes. with_part ++ bytes) text ∙ sym b.went),
+      a.appends ∙ (ap (λ bytes. written ++ bytes) text ∙ sym b.appends),
       a.fault ∙ (ap any_fault outs ∙ sym b.fault),
     )
 
@@ -111,7 +111,7 @@ same_agree : (one two : Files) → one ≡ two → Agree one two
 same_agree one two e row c d p q = same_Some c d (sym p ∙ (ap (λ (f : Files). file_at f row) e ∙ q))
 
 pub one_output_of_contents : HasOneValue → ListGrows → OneOutputOfContents
-one_output_of_contents once grows mode known with_part left right one two any other a b =
-    let same : a.list ≡ b.list = one_list true known left right a.list b.list a.came.came b.came.came in
-    let files : a.came.files ≡ b.came.files = a.came.such ∙ (ap (λ (l : CompilationList). files_of l.contents) same ∙ sym b.came.such) in
-    one_output once grows AreInList true mode known with_part left right one two any other a b (same_agree a.came.files b.came.files files)
+one_output_of_contents once grows mode known written left right one two any other a b =
+    let same : a.list ≡ b.list = one_list true known left right a.list b.list a.produces.reads b.produces.reads in
+    let files : a.produces.files ≡ b.produces.files = a.produces.allowed ∙ (ap (λ (l : CompilationList). files_of l.contents) same ∙ sym b.produces.allowed) in
+    one_output once grows AreInList true mode known written left right one two any other a b (same_agree a.produces.files b.produces.files files)

@@ -13,15 +13,15 @@ too_many inline bytes h = refused_where (ltb max_input (length bytes)) _ (lt-ltb
 
 decided_by : (test : Bool) (inline : Bool) (known bytes rest : List ℕ) → ltb max_input (length bytes) ≡ test → known ≡ bytes ++ rest → (length bytes ≤ max_input → rest ≡ [])
     → outcome_of inline bytes ≡ outcome_of inline known
-decided_by true inline known bytes rest e came whole =
+decided_by true inline known bytes rest e consumed whole =
     let many : max_input < length bytes = ltb-true max_input (length bytes) e in
-    let more : max_input < length known = omega (arith, many, ap length came, length-append bytes rest) in
+    let more : max_input < length known = omega (arith, many, ap length consumed, length-append bytes rest) in
     too_many inline bytes many ∙ sym (too_many inline known more)
-decided_by false inline known bytes rest e came whole =
+decided_by false inline known bytes rest e consumed whole =
     let none : rest ≡ [] = whole (ltb-false max_input (length bytes) e) in
-    let all : known ≡ bytes = came ∙ (ap (λ xs. bytes ++ xs) none ∙ append-nil bytes) in
+    let all : known ≡ bytes = consumed ∙ (ap (λ xs. bytes ++ xs) none ∙ append-nil bytes) in
     ap (outcome_of inline) (sym all)
 
 pub decided : (inline : Bool) (known bytes : List ℕ) (after : Option (List ℕ)) → Received (Some known) after bytes → outcome_of inline bytes ≡ outcome_of inline known
-decided inline known bytes None r = absurd r.came
-decided inline known bytes (Some rest) r = decided_by (ltb max_input (length bytes)) inline known bytes rest refl r.came r.whole
+decided inline known bytes None r = absurd r.consumed
+decided inline known bytes (Some rest) r = decided_by (ltb max_input (length bytes)) inline known bytes rest refl r.consumed r.whole

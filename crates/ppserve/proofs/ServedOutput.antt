@@ -92,46 +92,46 @@ text_of mode list units shown outs same is =
     ∙ (ap (λ (os : List UnitOut). numbered (unit_lines mode list.names) 0 list.units os) is ∙ text_kept mode list.names 0 list.units outs)
 
 -- A list was read, and `shown` prints like its units' values and has a fault exactly if they have one.
-pub record Came (inline : Bool) (Such : CompilationList → Files → Type 0) (mode : Mode) (before after : Option (List ℕ)) (list : CompilationList)
+pub record ProducesText (inline : Bool) (Allowed : CompilationList → Files → Type 0) (mode : Mode) (before after : Option (List ℕ)) (list : CompilationList)
     (units : List UnitOfList) (shown : List UnitOut) : Type 0 where
   pub outs : List UnitOut
-  pub brings : Produces inline Such before after list outs
+  pub produces : Produces inline Allowed before after list outs
   pub text : numbered (unit_lines mode list.names) 0 units shown ≡ output_text mode list outs
   pub fault : any_fault shown ≡ any_fault outs
 
-pub came_of : {inline : Bool} {Such : CompilationList → Files → Type 0} {before after : Option (List ℕ)} (mode : Mode) (list : CompilationList)
+pub produced : {inline : Bool} {Allowed : CompilationList → Files → Type 0} {before after : Option (List ℕ)} (mode : Mode) (list : CompilationList)
     (units : List UnitOfList) (shown outs : List UnitOut)
-    → units ≡ list.units → shown ≡ outs → ReadsList inline before after list → (files : Files) → Such list files → AreRetained (needed_retention mode) list.names files list.setting list.units outs
-    → Came inline Such mode before after list units shown
-came_of mode list units shown outs same is came files such gives = record {
-  outs = gives.wholes;
-  brings = record { came = came; files = files; such = such; gives = gives.values };
-  text = text_of mode list units shown gives.wholes same (is ∙ gives.same);
-  fault = ap any_fault (is ∙ gives.same) ∙ some_fault_kept mode gives.wholes;
+    → units ≡ list.units → shown ≡ outs → ReadsList inline before after list → (files : Files) → Allowed list files → AreRetained (needed_retention mode) list.names files list.setting list.units outs
+    → ProducesText inline Allowed mode before after list units shown
+produced mode list units shown outs same is reads files allowed retained = record {
+  outs = retained.wholes;
+  produces = record { reads = reads; files = files; allowed = allowed; values = retained.values };
+  text = text_of mode list units shown retained.wholes same (is ∙ retained.same);
+  fault = ap any_fault (is ∙ retained.same) ∙ some_fault_kept mode retained.wholes;
 }
 
 -- If the whole output of a list was written, `Serves` holds.
-pub served : {inline : Bool} {Such : CompilationList → Files → Type 0} {before after : Option (List ℕ)} (mode : Mode) (list : CompilationList)
+pub served : {inline : Bool} {Allowed : CompilationList → Files → Type 0} {before after : Option (List ℕ)} (mode : Mode) (list : CompilationList)
     (units : List UnitOfList) (shown : List UnitOut) (out_before out_after : Option (List ℕ)) (any : Bool)
-    → Came inline Such mode before after list units shown → WritesAll mode list.names units shown out_before out_after any
-    → Serves inline Such mode before after out_before out_after any
-served mode list units shown out_before out_after any came with_part = record {
+    → ProducesText inline Allowed mode before after list units shown → WritesAll mode list.names units shown out_before out_after any
+    → Serves inline Allowed mode before after out_before out_after any
+served mode list units shown out_before out_after any text writes = record {
   list = list;
-  outs = came.outs;
-  came = came.brings;
-  went = appends_as out_before out_after _ _ came.text with_part.went;
-  fault = with_part.fault ∙ came.fault;
+  outs = text.outs;
+  produces = text.produces;
+  appends = appends_as out_before out_after _ _ text.text writes.appends;
+  fault = writes.fault ∙ text.fault;
 }
 
 -- If a prefix of the output was written, `ServesPrefix` holds.
-pub prefix_served : {inline : Bool} {Such : CompilationList → Files → Type 0} {before after : Option (List ℕ)} (mode : Mode) (list : CompilationList)
+pub prefix_served : {inline : Bool} {Allowed : CompilationList → Files → Type 0} {before after : Option (List ℕ)} (mode : Mode) (list : CompilationList)
     (units : List UnitOfList) (shown : List UnitOut) (out_before out_after : Option (List ℕ))
-    → Came inline Such mode before after list units shown → WritesPrefix mode list.names units shown out_before out_after
-    → ServesPrefix inline Such mode before after out_before out_after
-prefix_served mode list units shown out_before out_after came with_part = record {
+    → ProducesText inline Allowed mode before after list units shown → WritesPrefix mode list.names units shown out_before out_after
+    → ServesPrefix inline Allowed mode before after out_before out_after
+prefix_served mode list units shown out_before out_after text writes = record {
   list = list;
-  outs = came.outs;
-  came = came.brings;
-  count = with_part.count;
-  went = appends_as out_before out_after _ _ (ap (take with_part.count) came.text) with_part.went;
+  outs = text.outs;
+  produces = text.produces;
+  count = writes.count;
+  appends = appends_as out_before out_after _ _ (ap (take writes.count) text.text) writes.appends;
 }

@@ -21,9 +21,9 @@ AreInList list files = files ≡ files_of list.contents
 abbrev pub ArePermitted : (List ℕ → Content → Type 0) → CompilationList → Files → Type 0
 ArePermitted may list files = AllPermitted may list.names files
 
--- what is kept of the units' values over some such files
+-- the retained parts of the units' values over some permitted files
 pub record AreRetainedOverSome (may : List ℕ → Content → Type 0) (retain : Retain) (names : List (List ℕ)) (setting : Setting)
     (units : List UnitOfList) (outs : List UnitOut) : Type 0 where
   pub files : Files
   pub contents_permitted : AllPermitted may names files
-  pub gives : AreRetained retain names files setting units outs
+  pub retained : AreRetained retain names files setting units outs

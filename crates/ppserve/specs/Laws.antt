@@ -62,21 +62,21 @@ TakesTheRest =
 
 -- ---- what is printed
 
--- Two runs over such files, whose readers hold the same bytes and whose files agree, have the same output and the same
+-- Two runs over allowed files, whose readers hold the same bytes and whose files agree, have the same output and the same
 -- result.
 abbrev pub OneOutput : (CompilationList → Files → Type 0) → Type 0
-OneOutput Such =
-    (inline : Bool) (mode : Mode) (known with_part : List ℕ) (left right : Option (List ℕ)) (one two : List ℕ) (any other : Bool)
-    → (a : Serves inline Such mode (Some known) left (Some with_part) (Some one) any)
-    → (b : Serves inline Such mode (Some known) right (Some with_part) (Some two) other)
-    → Agree a.came.files b.came.files
+OneOutput Allowed =
+    (inline : Bool) (mode : Mode) (known written : List ℕ) (left right : Option (List ℕ)) (one two : List ℕ) (any other : Bool)
+    → (a : Serves inline Allowed mode (Some known) left (Some written) (Some one) any)
+    → (b : Serves inline Allowed mode (Some known) right (Some written) (Some two) other)
+    → Agree a.produces.files b.produces.files
     → (one ≡ two) × (any ≡ other)
 
 -- Two runs whose readers hold the same bytes, in which the files are contained, have the same output and the same
 -- result.
 abbrev pub OneOutputOfContents : Type 0
 OneOutputOfContents =
-    (mode : Mode) (known with_part : List ℕ) (left right : Option (List ℕ)) (one two : List ℕ) (any other : Bool)
-    → Serves true AreInList mode (Some known) left (Some with_part) (Some one) any
-    → Serves true AreInList mode (Some known) right (Some with_part) (Some two) other
+    (mode : Mode) (known written : List ℕ) (left right : Option (List ℕ)) (one two : List ℕ) (any other : Bool)
+    → Serves true AreInList mode (Some known) left (Some written) (Some one) any
+    → Serves true AreInList mode (Some known) right (Some written) (Some two) other
     → (one ≡ two) × (any ≡ other)

@@ -20,9 +20,9 @@ abbrev pub any_fault : List UnitOut → Bool
 any_fault [] = false
 any_fault (out ∷ outs) = is_some out.fault || any_fault outs
 
--- the bytes were read, and are all that the reader had unless they are more than a list may have
+-- These bytes were read. They are all that the reader had, unless they are too many for a list.
 pub record Received (before after : Option (List ℕ)) (bytes : List ℕ) : Type 0 where
-  pub came : Consumes before after bytes
+  pub consumed : Consumes before after bytes
   pub whole : length bytes ≤ max_input → IsAtEnd after
 
 -- a list was read, with its contents if `inline`
@@ -31,43 +31,43 @@ pub record ReadsList (inline : Bool) (before after : Option (List ℕ)) (list : 
   pub received : Received before after bytes
   pub is_list : outcome_of inline bytes ≡ accepted list
 
--- a list was read, and these are the values of its units over some such files
-pub record Produces (inline : Bool) (Such : CompilationList → Files → Type 0)
+-- A list was read, and these are the values of its units over some files that `Allowed` allows for the list.
+pub record Produces (inline : Bool) (Allowed : CompilationList → Files → Type 0)
     (before after : Option (List ℕ)) (list : CompilationList) (outs : List UnitOut) : Type 0 where
-  pub came : ReadsList inline before after list
+  pub reads : ReadsList inline before after list
   pub files : Files
-  pub such : Such list files
-  pub gives : AreUnits list.names files list.setting list.units outs
+  pub allowed : Allowed list files
+  pub values : AreUnits list.names files list.setting list.units outs
 
 -- the whole output of units was written
 pub record WritesAll (mode : Mode) (names : List (List ℕ)) (units : List UnitOfList) (outs : List UnitOut)
     (before after : Option (List ℕ)) (any : Bool) : Type 0 where
-  pub went : Appends before after (numbered (unit_lines mode names) 0 units outs)
+  pub appends : Appends before after (numbered (unit_lines mode names) 0 units outs)
   pub fault : any ≡ any_fault outs
 
 -- a prefix of the output of units was written
 pub record WritesPrefix (mode : Mode) (names : List (List ℕ)) (units : List UnitOfList) (outs : List UnitOut)
     (before after : Option (List ℕ)) : Type 0 where
   pub count : ℕ
-  pub went : Appends before after (take count (numbered (unit_lines mode names) 0 units outs))
+  pub appends : Appends before after (take count (numbered (unit_lines mode names) 0 units outs))
 
--- a list was read, and its whole output over some such files was written
-pub record Serves (inline : Bool) (Such : CompilationList → Files → Type 0) (mode : Mode)
+-- a list was read, and its whole output over some allowed files was written
+pub record Serves (inline : Bool) (Allowed : CompilationList → Files → Type 0) (mode : Mode)
     (before after out_before out_after : Option (List ℕ)) (any : Bool) : Type 0 where
   pub list : CompilationList
   pub outs : List UnitOut
-  pub came : Produces inline Such before after list outs
-  pub went : Appends out_before out_after (output_text mode list outs)
+  pub produces : Produces inline Allowed before after list outs
+  pub appends : Appends out_before out_after (output_text mode list outs)
   pub fault : any ≡ any_fault outs
 
--- a list was read, and a prefix of its output over some such files was written
-pub record ServesPrefix (inline : Bool) (Such : CompilationList → Files → Type 0) (mode : Mode)
+-- a list was read, and a prefix of its output over some allowed files was written
+pub record ServesPrefix (inline : Bool) (Allowed : CompilationList → Files → Type 0) (mode : Mode)
     (before after out_before out_after : Option (List ℕ)) : Type 0 where
   pub list : CompilationList
   pub outs : List UnitOut
-  pub came : Produces inline Such before after list outs
+  pub produces : Produces inline Allowed before after list outs
   pub count : ℕ
-  pub went : Appends out_before out_after (take count (output_text mode list outs))
+  pub appends : Appends out_before out_after (take count (output_text mode list outs))
 
 -- the bytes that were read are refused with this number
 pub record Refuses (inline : Bool) (before after : Option (List ℕ)) (number : ℕ) : Type 0 where

@@ -145,10 +145,10 @@ fn run_with_contents<T: Threads + Sync, W: Sink>(
         units,
         outs: outs.as_slice(),
     };
-    let answer = write_output(threads, alloc, writer, options.workers, output);
+    let outcome = write_output(threads, alloc, writer, options.workers, output);
     options.at_end.let_go(outs);
     options.at_end.let_go(shelf);
-    answer
+    outcome
 }
 
 /// Does what `serve` does, for a list that names its files without holding them. Workers read a file from the disk when
@@ -224,10 +224,10 @@ fn run_with_disk<T: Threads + Sync, W: Sink, D: Disk + Send + Sync>(
         units,
         outs: outs.as_slice(),
     };
-    let answer = write_output(threads, alloc, writer, options.workers, output);
+    let outcome = write_output(threads, alloc, writer, options.workers, output);
     options.at_end.let_go(outs);
     options.at_end.let_go(shelf);
-    answer
+    outcome
 }
 
 /// Reads a list, which holds its files if `inline`, and otherwise only their names. Frees its bytes.

@@ -105,9 +105,9 @@ module _ (expansions : OneExpansion) (decisions : OneDecision) where
   decides_of_once (Err f) s at remaining_after following a b p q = free_once s.remaining remaining_after following _ a b p q
   decides_of_once (Ok tokens) s at remaining_after following a b p q = decisions s.macros s.env at tokens s.remaining remaining_after following a b p q
 
-  decides_by_once : (search : Search) (row : ℕ) (include_name : Option Question) (s : State) (line : List Token) (remaining_after following : Option ℕ) (a b : Result Bool Fault)
-      → DecidesBy search row include_name s line remaining_after a
-      → DecidesBy search row include_name s line following b
+  decides_by_once : (search : Search) (row : ℕ) (question : Option Question) (s : State) (line : List Token) (remaining_after following : Option ℕ) (a b : Result Bool Fault)
+      → DecidesBy search row question s line remaining_after a
+      → DecidesBy search row question s line following b
       → (a ≡ b) × (remaining_after ≡ following)
   decides_by_once search row (Some Value) s line remaining_after following a b p q =
       decides_of_once (condition_tokens search row line) s (hash_place line) remaining_after following a b p q

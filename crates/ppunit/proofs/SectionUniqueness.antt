@@ -83,22 +83,22 @@ module _ (expansions : OneExpansion) (decisions : OneDecision) (context : Contex
   SameBranches depth row s bs y = (z : Progress) → ExecutesBranches context depth row s bs z → y ≡ z
 
   -- Equal decisions of a line leave equal remaining budgets.
-  taken_again : (depth row : ℕ) (s : State) (line : LogicalLine) (ps : GroupParts) (remaining_after following : Option ℕ) (into_output : Result Bool Fault) (z : Progress)
-      → Decides (search_of context) row s line remaining_after into_output
-      → Decides (search_of context) row s line following into_output
+  taken_again : (depth row : ℕ) (s : State) (line : LogicalLine) (ps : GroupParts) (remaining_after following : Option ℕ) (decision : Result Bool Fault) (z : Progress)
+      → Decides (search_of context) row s line remaining_after decision
+      → Decides (search_of context) row s line following decision
       → ExecutesGroup context depth row (running (with_remaining s following)) ps z
       → ExecutesGroup context depth row (running (with_remaining s remaining_after)) ps z
-  taken_again depth row s line ps remaining_after following into_output z decides decides' here =
-      let remainders = sym (decides_once expansions decisions (search_of context) row s line remaining_after following into_output into_output decides decides').1 in
+  taken_again depth row s line ps remaining_after following decision z decides decides' here =
+      let remainders = sym (decides_once expansions decisions (search_of context) row s line remaining_after following decision decision decides decides').1 in
       subst (λ (x : Option ℕ). ExecutesGroup context depth row (running (with_remaining s x)) ps z) remainders here
 
-  skipped_again : (depth row : ℕ) (s : State) (line : LogicalLine) (bs : Branches) (remaining_after following : Option ℕ) (into_output : Result Bool Fault) (z : Progress)
-      → Decides (search_of context) row s line remaining_after into_output
-      → Decides (search_of context) row s line following into_output
+  skipped_again : (depth row : ℕ) (s : State) (line : LogicalLine) (bs : Branches) (remaining_after following : Option ℕ) (decision : Result Bool Fault) (z : Progress)
+      → Decides (search_of context) row s line remaining_after decision
+      → Decides (search_of context) row s line following decision
       → ExecutesBranches context depth row (with_remaining s following) bs z
       → ExecutesBranches context depth row (with_remaining s remaining_after) bs z
-  skipped_again depth row s line bs remaining_after following into_output z decides decides' here =
-      let remainders = sym (decides_once expansions decisions (search_of context) row s line remaining_after following into_output into_output decides decides').1 in
+  skipped_again depth row s line bs remaining_after following decision z decides decides' here =
+      let remainders = sym (decides_once expansions decisions (search_of context) row s line remaining_after following decision decision decides decides').1 in
       subst (λ (x : Option ℕ). ExecutesBranches context depth row (with_remaining s x) bs z) remainders here
 
   -- Equal faults with equal remaining budgets stop with equal outcomes.

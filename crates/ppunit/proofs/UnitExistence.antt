@@ -103,8 +103,8 @@ module _ (expansions : SomeExpansion) (decisions : SomeDecision) where
   some_asking : (s : State) (line : List Token) → (include_name : Result IncludeName Fault) × (remaining_after : Option ℕ) × NamesHeader s line remaining_after include_name
   some_asking s line = asks_by (begins_with_header (operands line)) s line
 
-  decides_freely : (s : State) (into_output : Result Bool Fault) → (taken : Result Bool Fault) × (remaining_after : Option ℕ) × DecidesFreely s into_output remaining_after taken
-  decides_freely s into_output = (into_output, s.remaining, (refl, refl))
+  decides_freely : (s : State) (decision : Result Bool Fault) → (taken : Result Bool Fault) × (remaining_after : Option ℕ) × DecidesFreely s decision remaining_after taken
+  decides_freely s decision = (decision, s.remaining, (refl, refl))
 
   decides_of : (tokens : Result (List Token) Fault) (s : State) (at : Place) → (taken : Result Bool Fault) × (remaining_after : Option ℕ) × DecidesOf tokens s at remaining_after taken
   decides_of (Err f) s at = decides_freely s (Err f)

@@ -31,7 +31,7 @@ by_name wanted macros line (Some name) = Ok (same_bool wanted (is_macro_name mac
 
 -- the decision spends nothing from the budget
 abbrev pub DecidesFreely : State → Result Bool Fault → Option ℕ → Result Bool Fault → Type 0
-DecidesFreely s into_output remaining_after taken = (remaining_after ≡ s.remaining) × (taken ≡ into_output)
+DecidesFreely s decision remaining_after taken = (remaining_after ≡ s.remaining) × (taken ≡ decision)
 
 -- the value of a condition of these tokens, or the fault of the step before it, which spends nothing
 abbrev pub DecidesOf : Result (List Token) Fault → State → Place → Option ℕ → Result Bool Fault → Type 0

@@ -103,10 +103,10 @@ abbrev mutual
   pub count_includes : {context : Context} {depth row : ℕ} {previous_directory : Option ℕ} {s : State} {line : LogicalLine} {m : Progress}
       → ExecutesInclude context depth row previous_directory s line m
       → ℕ
-  count_includes (ExecutesInclude.operand_fault {s = s} {line = line} {remaining_after = remaining_after} {f = f} asks) = count_names_header s line.tokens remaining_after (Err f) asks
-  count_includes (ExecutesInclude.missing {s = s} {line = line} {remaining_after = remaining_after} a asks finds) = count_names_header s line.tokens remaining_after (Ok a) asks
-  count_includes (ExecutesInclude.included {s = s} {line = line} {remaining_after = remaining_after} a found asks finds opens) =
-      count_names_header s line.tokens remaining_after (Ok a) asks + count_opened opens
+  count_includes (ExecutesInclude.operand_fault {s = s} {line = line} {remaining_after = remaining_after} {f = f} names) = count_names_header s line.tokens remaining_after (Err f) names
+  count_includes (ExecutesInclude.missing {s = s} {line = line} {remaining_after = remaining_after} a names finds) = count_names_header s line.tokens remaining_after (Ok a) names
+  count_includes (ExecutesInclude.included {s = s} {line = line} {remaining_after = remaining_after} a found names finds opens) =
+      count_names_header s line.tokens remaining_after (Ok a) names + count_opened opens
 
   pub count_opened : {context : Context} {depth row : ℕ} {directory : Option ℕ} {at : Place} {s : State} {m : Progress}
       → OpensFile context depth at s row directory m

@@ -51,10 +51,10 @@ fn by_name(
 ) -> Result<bool, Error>
     ensures { UnlessOutOfMemory result (λ taken. taken ≡ spec.by_name wanted macros.now.macros line.now (spec_lines.one_identifier (spec_lines.operands line.now))) }
 {
-    let Some(include_name) = one_identifier(line.operands()) else {
+    let Some(name) = one_identifier(line.operands()) else {
         return Err(Error::Fault(line_fault(alloc, 9, line, line.name())?));
     };
-    Ok(macros.get(include_name).is_some() == wanted)
+    Ok(macros.get(name).is_some() == wanted)
 }
 
 /// Evaluates the line's condition.

@@ -188,7 +188,7 @@ fn expand_include_name<'x>(
     line: &DirectiveTokens<'x>,
 ) -> Result<IncludeName, Error>
     ensures rest { state.new ≡ with_remaining state.old state.new.remaining }
-    ensures asks { UnlessOutOfMemory result (λ include_name. NamesHeaderByExpansion state.old line.now state.new.remaining include_name) }
+    ensures names { UnlessOutOfMemory result (λ include_name. NamesHeaderByExpansion state.old line.now state.new.remaining include_name) }
 {
     let tokens = expand_operands(alloc, state, line.operands())?;
     name_of_expansion_or(alloc, line, tokens.as_slice())
@@ -202,7 +202,7 @@ pub(crate) fn read_include_name<'x>(
     line: &DirectiveTokens<'x>,
 ) -> Result<IncludeName, Error>
     ensures rest { state.new ≡ with_remaining state.old state.new.remaining }
-    ensures asks { UnlessOutOfMemory result (λ include_name. NamesHeader state.old line.now state.new.remaining include_name) }
+    ensures names { UnlessOutOfMemory result (λ include_name. NamesHeader state.old line.now state.new.remaining include_name) }
 {
     let rest = line.operands();
     if let Some(first) = rest.first() {

@@ -145,7 +145,7 @@ fn run_unit<'x, 'a: 'x, D: Disk>(
     requires profile { unit.now.defines.profile ≡ context.now.shelf.profile }
     ensures shelf { pass.new.shelf ≡ context.now.shelf }
     ensures grows { Extends pass.new.files pass.old.files }
-    ensures gives { IfOk result (λ out.
+    ensures value { IfOk result (λ out.
         (progress : Progress)
         × Translates (context_over context.now pass.new.files) unit.now.defines.texts unit.now.file (initial_state setting.now) progress
         × (out ≡ output progress)) }

@@ -46,7 +46,7 @@ fn opens(tokens: &[Token]) -> bool
 }
 
 /// Returns whether the token is `__has_include` and the tokens after it begin with `(`.
-fn asks(token: &Token, following: &[Token]) -> bool
+fn begins_operator(token: &Token, following: &[Token]) -> bool
     ensures { result ≡ (spec.opens following.now && spec.is_has_include token.now) }
 {
     opens(following) && is_has_include(token)
@@ -135,7 +135,7 @@ pub(crate) fn probe<D: Disk>(
     let mut probed = Vec::new(context.alloc);
     let mut rest = operands;
     while let Some((first, following)) = rest.split_first() {
-        if !asks(first, following) {
+        if !begins_operator(first, following) {
             probed.push(first.clone()?)?;
             rest = following;
             continue;

@@ -8,6 +8,6 @@ pub record Puts {V : Type 0} (written : V → Option (List ℕ)) (has_failed : V
   pub prefix : List ℕ
   pub rest : List ℕ
   pub parts : p ++ text ≡ prefix ++ rest
-  pub went : Appends (written w) (written v) prefix
-  pub waits : has_failed v ≡ false → rest ≡ q
+  pub appends : Appends (written w) (written v) prefix
+  pub unwritten : has_failed v ≡ false → rest ≡ q
   pub stays : has_failed w ≡ true → (prefix ≡ []) × (has_failed v ≡ true)

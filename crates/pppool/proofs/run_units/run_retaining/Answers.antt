@@ -15,7 +15,7 @@ prove-unreachable-requires g c =
     let plan = ap (λ (p : Plan). p.seats) c.in_ok-desk.ensures.plan in
     let same : length seats ≡ c.in_ok-desk.desk.plan.seats = c.in_ok-seats.ensures.count ∙ (c.in_ok-desk.ensures.count ∙ sym plan) in
     let closed = closes seats c.in_ok-desk.desk.plan.seats same (omega (arith, plan, c.requires.workers.0)) c.in_ok-seats.ensures.drained in
-    false≢true (sym c.if-prove.true ∙ (c.close-all_claimed.ensures.answer ∙ closed))
+    false≢true (sym c.if-prove.true ∙ (c.close-all_claimed.ensures.value ∙ closed))
 
 pub take_all-requires : goal.take_all-requires
 take_all-requires g c =

@@ -1,6 +1,6 @@
 use Rattle.ppserve.specs.code.NeededRetention.{needed_retention}
 use Rattle.pppool.proofs.SlotFilling.{if_ok_then}
-use Rattle.ppserve.proofs.ServedOutput.{prefix_served, came_of, can_run, few_units, gives_from, served}
+use Rattle.ppserve.proofs.ServedOutput.{prefix_served, produced, can_run, few_units, gives_from, served}
 use Rattle.ppserve.proofs.serving.run_with_disk.Goals as goal
 
 pub run_over_disk-requires-clause-count : goal.run_over_disk-requires-clause-count
@@ -13,14 +13,14 @@ pub returns-clause-ok : goal.returns-clause-ok
 returns-clause-ok g c =
     let list = c.args.list.now in
     let outs = c.in_ok-outs.outs.items in
-    let gives = gives_from _ (needed_retention c.args.options.mode) list c.in_ok-shelf.shelf c.as_slice-units.result.now outs c.in_ok-shelf.ensures.names c.as_slice-units.ensures c.in_ok-outs.ensures in
-    if_ok_then c.write_output-answer.result c.write_output-answer.ensures.ok (λ any with_part before after came. served c.args.options.mode list _ _ _ _ any (came_of c.args.options.mode list c.as_slice-units.result.now c.as_slice.result.now outs
-    c.as_slice-units.ensures c.as_slice.ensures.value came gives.files gives.contents_permitted gives.gives) with_part)
+    let retained = gives_from _ (needed_retention c.args.options.mode) list c.in_ok-shelf.shelf c.as_slice-units.result.now outs c.in_ok-shelf.ensures.names c.as_slice-units.ensures c.in_ok-outs.ensures in
+    if_ok_then c.write_output-outcome.result c.write_output-outcome.ensures.ok (λ any writes before after reads. served c.args.options.mode list _ _ _ _ any (produced c.args.options.mode list c.as_slice-units.result.now c.as_slice.result.now outs
+    c.as_slice-units.ensures c.as_slice.ensures.value reads retained.files retained.contents_permitted retained.retained) writes)
 
 pub returns-clause-prefix_served : goal.returns-clause-prefix_served
-returns-clause-prefix_served g c = λ failed before after came.
+returns-clause-prefix_served g c = λ failed before after reads.
     let list = c.args.list.now in
     let outs = c.in_ok-outs.outs.items in
-    let gives = gives_from _ (needed_retention c.args.options.mode) list c.in_ok-shelf.shelf c.as_slice-units.result.now outs c.in_ok-shelf.ensures.names c.as_slice-units.ensures c.in_ok-outs.ensures in
-    prefix_served c.args.options.mode list _ _ _ _ (came_of c.args.options.mode list c.as_slice-units.result.now c.as_slice.result.now outs
-    c.as_slice-units.ensures c.as_slice.ensures.value came gives.files gives.contents_permitted gives.gives) (c.write_output-answer.ensures.prefix failed)
+    let retained = gives_from _ (needed_retention c.args.options.mode) list c.in_ok-shelf.shelf c.as_slice-units.result.now outs c.in_ok-shelf.ensures.names c.as_slice-units.ensures c.in_ok-outs.ensures in
+    prefix_served c.args.options.mode list _ _ _ _ (produced c.args.options.mode list c.as_slice-units.result.now c.as_slice.result.now outs
+    c.as_slice-units.ensures c.as_slice.ensures.value reads retained.files retained.contents_permitted retained.retained) (c.write_output-outcome.ensures.prefix failed)

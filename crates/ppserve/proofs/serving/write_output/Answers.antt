@@ -7,7 +7,7 @@ pub returns-in_err-print_output-clause-prefix : goal.returns-in_err-print_output
 returns-in_err-print_output-clause-prefix g c =
     λ failed.
     let prefix = c.in_err-print_output.ensures.prefix (search rules) in
-    record { count = prefix.0; went = appends_as _ _ _ _ (ap (take prefix.0) (lines_of_output c.args.output)) prefix.1 }
+    record { count = prefix.0; appends = appends_as _ _ _ _ (ap (take prefix.0) (lines_of_output c.args.output)) prefix.1 }
 
 pub returns-clause-ok : goal.returns-clause-ok
-returns-clause-ok g c = record { went = appends_as _ _ _ _ (lines_of_output c.args.output) c.in_ok-print_output.ensures.ok; fault = c.any_fault.ensures }
+returns-clause-ok g c = record { appends = appends_as _ _ _ _ (lines_of_output c.args.output) c.in_ok-print_output.ensures.ok; fault = c.any_fault.ensures }

@@ -17,7 +17,7 @@ returns-clause-is g c =
     (λ out gives.
     whole_unit c.args.shelf.now.names c.args.shelf.now.profile c.run_unit-output.new.pass.files c.args.setting.now unit _ _ gives.0 out
     c.requires.profile c.as_slice.ensures c.as_slice-2.ensures (subst (λ l. Of l gives.0) c.new-context.ensures gives.1) gives.2)
-    c.run_unit-output.ensures.gives
+    c.run_unit-output.ensures.value
 
 pub returns-clause-deps : goal.returns-clause-deps
 returns-clause-deps g c =

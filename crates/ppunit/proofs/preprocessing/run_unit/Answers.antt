@@ -10,8 +10,8 @@ use Rattle.ppunit.proofs.preprocessing.run_unit.Goals as goal
 pub returns-clause-grows : goal.returns-clause-grows
 returns-clause-grows g c = subst (λ (z : Files). Extends z c.args.pass.now.files) (search rules) c.first_fault-ended.ensures.continues.grows
 
-pub returns-clause-gives : goal.returns-clause-gives
-returns-clause-gives g c =
+pub returns-clause-value : goal.returns-clause-value
+returns-clause-value g c =
     let unit = c.args.unit.now in
     let From : Files → State → Progress → Type 0 = λ z s r. Translates (context_over c.args.context.now z) unit.defines.texts unit.file s r in
     let files = c.first_fault-ended.new.self.pass.now.files in

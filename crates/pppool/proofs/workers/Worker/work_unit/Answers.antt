@@ -9,9 +9,9 @@ use Rattle.pppool.proofs.workers.Worker.work_unit.Goals as goal
 pub returns-clause-results : goal.returns-clause-results
 returns-clause-results g c =
     let job = c.args.job.now in
-    let new = c.preprocess-given.new.pass.files in
+    let new = c.preprocess-outcome.new.pass.files in
     let P : List UnitResult → Type 0 = AreUnitResults job.retain job.shelf.now new job.setting.now job.units.now in
-    let e = c.in_ok-given.ensures in
+    let e = c.in_ok-outcome.ensures in
     let out = c.retained-out.result in
     let Q : UnitOfList → Type 0 = λ u. IsRetained job.retain (job.shelf.now.names) new job.setting.now u out in
     subst P (sym c.in_ok-push.ensures.items)

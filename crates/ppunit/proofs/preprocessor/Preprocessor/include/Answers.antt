@@ -13,7 +13,7 @@ use Rattle.ppunit.proofs.preprocessor.Preprocessor.include.Goals as goal
 
 pub returns-in_err-include_name-clause-includes : goal.returns-in_err-include_name-clause-includes
 returns-in_err-include_name-clause-includes g c =
-    stopped _ _ _ _ c.from_residual.ensures.1 c.in_err-include_name.ensures.asks (λ fault asks directive number more grows.
+    stopped _ _ _ _ c.from_residual.ensures.1 c.in_err-include_name.ensures.names (λ fault asks directive number more grows.
     subst (λ (z : State). ExecutesInclude (context_over c.args.self.now.context.now more) c.args.depth c.args.from.row c.args.from.directory c.args.self.now.state
     (directed directive c.args.tokens.now number) (record { state = z; fault = Some fault })) (sym c.in_err-include_name.ensures.rest)
     (ExecutesInclude.operand_fault asks))
@@ -28,7 +28,7 @@ returns-in_default-clause-includes g c directive number more grows =
     let finds =
     subst (FindsFile context c.args.from.row c.args.from.directory c.in_ok-include_name.include_name) (none_of c.in_ok-row.field-0 c.in_default.not-Some)
     (c.in_ok-row.ensures.finds more) in
-    let missing = ExecutesInclude.missing c.in_ok-include_name.include_name c.in_ok-include_name.ensures.asks finds in
+    let missing = ExecutesInclude.missing c.in_ok-include_name.include_name c.in_ok-include_name.ensures.names finds in
     subst (λ (z : State). ExecutesInclude context c.args.depth c.args.from.row c.args.from.directory c.args.self.now.state line
     (record { state = z; fault = Some c.in_ok-line_fault.field-0 })) (sym c.in_ok-include_name.ensures.rest)
     (subst (λ (z : Fault). ExecutesInclude context c.args.depth c.args.from.row c.args.from.directory c.args.self.now.state line
@@ -41,7 +41,7 @@ returns-clause-includes g c =
     on_settled c.open.result
     (λ r leads directive number. leads_included (context_over c.args.self.now.context.now) c.open.new.self.pass.now.files c.args.depth (c.args.depth + 1)
     c.args.from.row c.args.from.directory (c.in-Some.row, c.in-Some.directory) c.hash_place.result (directed directive c.args.tokens.now number)
-    c.args.self.now.state c.open.new.self.state c.read_include_name.new.state.remaining c.in_ok-include_name.include_name r deeper c.hash_place.ensures c.in_ok-include_name.ensures.asks
+    c.args.self.now.state c.open.new.self.state c.read_include_name.new.state.remaining c.in_ok-include_name.include_name r deeper c.hash_place.ensures c.in_ok-include_name.ensures.names
     (λ more. subst (FindsFile (context_over c.args.self.now.context.now more) c.args.from.row c.args.from.directory c.in_ok-include_name.include_name) c.in-Some.is
     (c.in_ok-row.ensures.finds more))
     leads)
