@@ -177,4 +177,4 @@ module _ (macros : Macros) (env : Env) where
   never_refused {out = out} {f = f} d is = never out.fault f is (below refl d.1)
 
   pub expansion_never_refused : {tokens : List Token} {e : Expanded} {f : Fault} → IsExpansion macros env None tokens e → e.fault ≡ Some f → f.number ≢ 35
-  expansion_never_refused x is = never_refused x.expands (sym x.ended ∙ is)
+  expansion_never_refused x is = never_refused x.expands (sym x.fault_is ∙ is)

@@ -333,14 +333,14 @@ module _ (macros : Macros) (env : Env) where
   -- ---- expansions of tokens
 
   pub expansion_spends : {remaining : Option ℕ} {tokens : List Token} {e : Expanded} (x : IsExpansion macros env remaining tokens e) → remaining ≡ plus (count_expansion x) e.remaining
-  expansion_spends x = spends x.expands.1 ∙ ap (plus (count_expansion x)) (sym x.remains)
+  expansion_spends x = spends x.expands.1 ∙ ap (plus (count_expansion x)) (sym x.remaining_is)
 
   -- A budget of the cost plus n does not change the expansion, except that n is left.
   pub expansion_enough : {remaining : Option ℕ} {tokens : List Token} {e : Expanded} (b : ℕ) → Covers remaining b
       → (x : IsExpansion macros env remaining tokens e) (n : ℕ)
       → b ≡ count_expansion x + n
       → IsExpansion macros env (Some b) tokens (record e { remaining = Some n })
-  expansion_enough b is x n sum = record { outcome = leaving n x.outcome; expands = (x.expands.0, enough b is x.expands.1 n sum); emitted = x.emitted; ended = x.ended; remains = refl }
+  expansion_enough b is x n sum = record { outcome = leaving n x.outcome; expands = (x.expands.0, enough b is x.expands.1 n sum); emitted = x.emitted; fault_is = x.fault_is; remaining_is = refl }
 
   -- the expansion within the budget b ends in fault 35, after a prefix of the tokens of `whole`
   pub record StopsEarly (b : ℕ) (tokens : List Token) (whole : Expanded) : Type 0 where
@@ -362,7 +362,7 @@ module _ (macros : Macros) (env : Env) where
       let text : Hiding → Token = λ t. t.token in
       record {
         expanded = record { tokens = map text s.1.tokens; fault = s.1.fault; remaining = s.1.remaining };
-        is = record { outcome = s.1; expands = (s.0, s.2); emitted = refl; ended = refl; remains = refl };
+        is = record { outcome = s.1; expands = (s.0, s.2); emitted = refl; fault_is = refl; remaining_is = refl };
         begins = (map text s.3.0, x.emitted ∙ ap (map text) s.3.1 ∙ map-append text s.1.tokens s.3.0);
         fault = s.4.fault;
         stopped = s.4.is;

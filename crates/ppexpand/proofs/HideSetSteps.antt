@@ -25,7 +25,7 @@ use Rattle.ppexpand.specs.ExpansionStep.{Invocation, ExpansionStep, Done, TokenF
 use Rattle.ppexpand.specs.Budget.{exhausted_step, in_budget}
 use Rattle.ppexpand.specs.ExpansionStep.{macro_of}
 use Rattle.ppexpand.specs.Expansion.{step_in_budget}
-use Rattle.ppexpand.specs.Termination.{hides, Holds, HidesNames, IsOutside, Step}
+use Rattle.ppexpand.specs.Termination.{hides, IsSubset, HidesNames, IsOutside, Step}
 use Rattle.ppexpand.specs.Termination as ending
 
 pub hides-append : (xs ys : List Hiding) → hides (xs ++ ys) ≡ hides xs ++ hides ys
@@ -39,7 +39,7 @@ hides-space_next false xs = refl
 
 -- a token whose hide set has the names to hide
 abbrev pub HasNamesToHide : HideSet → Hiding → Type 0
-HasNamesToHide names_to_hide t = Holds names_to_hide t.hide
+HasNamesToHide names_to_hide t = IsSubset names_to_hide t.hide
 
 all_have_names : (names_to_hide : HideSet) (used : Place) (ts : List Hiding) → AllByRecursion (HasNamesToHide names_to_hide) (map (hsadd names_to_hide used) ts)
 all_have_names names_to_hide used [] = tt
@@ -245,7 +245,7 @@ module _ (macros : Macros) (env : Env) where
   finishes list invocation found (Ok m) names_to_hide =
       let lists : hides list ≡ invocation.name_token.hide ∷ (hides found.inside ++ found.close.hide ∷ hides invocation.following) = ap hides found.is ∙ ap (λ hs. invocation.name_token.hide ∷ hs) (hides-append found.inside (found.close ∷ invocation.following)) in
       subst (λ hs. HideStep hs (hides (followed_by m invocation.following))) (sym lists)
-      (ending.invocation_step invocation.name_token.token.text found.outside (hides found.inside) found.close.hide (hides invocation.following) refl (hides m.tokens)
+      (ending.invoked invocation.name_token.token.text found.outside (hides found.inside) found.close.hide (hides invocation.following) refl (hides m.tokens)
       (sets_hide_names invocation.name_token.hide found.close.hide invocation.name_token.token.text invocation.names_to_hide found.to_hide m.tokens (names_to_hide m refl)) (hides-followed_by m invocation.following))
   finishes list invocation found (Err f) names_to_hide = tt
 

@@ -5,7 +5,7 @@ use Rattle.ppmacro.specs.Names.{Name, HideSet, Macros}
 use Rattle.ppmacro.specs.Hiding.{Hiding}
 use Rattle.ppexpand.specs.declared.env.Env.{Env}
 use Rattle.ppexpand.specs.ExpansionStep.{ExpansionStep, Emits, Replaced, Invoked}
-use Rattle.ppexpand.specs.Termination.{hides, Holds, HidesNames, Step, emits}
+use Rattle.ppexpand.specs.Termination.{hides, IsSubset, HidesNames, Step, emits}
 use Rattle.ppexpand.specs.Laws.{Leads, by_emitting, by_replacing, by_invoking}
 use Rattle.ppexpand.specs.Expansion.{step_in_budget}
 use Rattle.ppexpand.proofs.HideSetSteps.{StepsTo, FinishesTo, turn_within_steps, finished_steps}
@@ -24,5 +24,5 @@ module _ (macros : Macros) (env : Env) (level : ℕ) where
   leads_step {remaining = remaining} {list = list} {next = next} (by_invoking {invocation = invocation} {expanded = expanded} e a f) =
       subst (FinishesTo macros env list) f (finished_steps macros env list invocation expanded (by_turn remaining list (Invoked invocation) e))
 
-pub one_more_name : (hidden one two whole : HideSet) (name : Name) → Holds hidden one → Holds hidden two → HidesNames one two name whole → Holds (set.insert hidden name) whole
+pub one_more_name : (hidden one two whole : HideSet) (name : Name) → IsSubset hidden one → IsSubset hidden two → HidesNames one two name whole → IsSubset (set.insert hidden name) whole
 one_more_name hidden one two whole name first second g = extended hidden name whole (λ q h. g.common q (first q h) (second q h)) g.own

@@ -11,7 +11,7 @@ use Rattle.ppexpand.specs.declared.expand_step.Invocation.{Invocation as CodeInv
 use Rattle.ppexpand.specs.ExpansionStep.{Invocation, ExpansionStep, ReplacementFault, Replaced, Invoked, arguments_to_expand, ExpandedArguments, with_expanded}
 use Rattle.ppexpand.specs.Budget.{spend_one}
 use Rattle.ppexpand.specs.Expansion.{Outcome, step_in_budget, Expands, ExpandsTo, ExpandsArguments, argument_fault, invocation_fault, invocation_replaced, none, unused, too_deep, pre_expanded, pre_expansion_fault}
-use Rattle.ppexpand.specs.code.ProgramValues.{Advances, EndsWith, HasAdvanced, HasEnded, HasTaken, HasInvoked, ClosedStepsTo, argument_raises, finishes, ExpandsArgument, expands, raises, deep}
+use Rattle.ppexpand.specs.code.ProgramValues.{Advances, EndsWith, HasAdvanced, HasEnded, HasStepped, HasInvoked, ClosedStepsTo, argument_raises, finishes, ExpandsArgument, expands, raises, deep}
 use Rattle.ppexpand.proofs.OutcomeExistence.{total}
 use Rattle.ppexpand.proofs.OutcomeUniqueness.{same_outcome}
 
@@ -31,7 +31,7 @@ module _ (macros : Macros) (env : Env) (level : ℕ) where
   advances_falls remaining list remaining_after next tokens step =
       let here = total macros env level remaining list in
       let there = total macros env level remaining_after next in
-      let more = step.expansion_step there.0 there.1 there.2 in
+      let more = step.prepends_step there.0 there.1 there.2 in
       let same = (same_outcome macros env more here.0 here.1 here.2).0 in
       rw (← same) (omega arith)
 
@@ -40,7 +40,7 @@ module _ (macros : Macros) (env : Env) (level : ℕ) where
       → Advances macros env level remaining list remaining_after next tokens
       → Follows first start (emitted ++ tokens) remaining_after next
   follows_on first start emitted remaining list remaining_after next tokens so_far step n out d =
-      let whole = so_far (suc n) _ (step.expansion_step n out d) in
+      let whole = so_far (suc n) _ (step.prepends_step n out d) in
       (whole.0, rw append_assoc whole.1)
 
   pub follows_end : (first : Option ℕ) (start emitted : List Hiding) (remaining : Option ℕ) (list : List Hiding) (fault : Option Fault) (remaining_after : Option ℕ)
@@ -82,7 +82,7 @@ module _ (macros : Macros) (env : Env) (level : ℕ) (remaining : Option ℕ) (l
 
   invocation_goes_on : {remaining_after : Option ℕ} {t : ExpansionStep} → ClosedStepsTo macros env level invocation (spend_one remaining) remaining_after t → (next : List Hiding) → t ≡ Replaced next → Advances macros env level remaining list remaining_after next []
   invocation_goes_on (argument_raises args) next e = absurd (cc e)
-  invocation_goes_on (finishes args) next e = record { expansion_step = λ n out d. invocation_replaced found args e d }
+  invocation_goes_on (finishes args) next e = record { prepends_step = λ n out d. invocation_replaced found args e d }
 
   -- If the invocation is replaced, the list advances by one expansion step.
   pub invocation_taken : (s : HideSetPool) (hs : List Hidden) (emitted more : List Hiding) (remaining_after : Option ℕ) → more ≡ emitted
@@ -98,8 +98,8 @@ module _ (macros : Macros) (env : Env) (level : ℕ) (remaining : Option ℕ) (l
 
 -- A step that raises a fault has not begun an invocation.
 pub begun_raises : (macros : Macros) (env : Env) (level : ℕ) (remaining : Option ℕ) (list emitted : List Hiding) (found : Option CodeInvocation) (invocation : CodeInvocation → Invocation) (f : Fault) (remaining_after : Option ℕ) (next more : List Hiding)
-    → MatchOption found ((level : ℕ) → HasTaken macros env level remaining list emitted (Err f) remaining_after next more) (λ c. HasInvoked macros env remaining list emitted (invocation c) (Err f) remaining_after more)
-    → HasTaken macros env level remaining list emitted (Err f) remaining_after next more
+    → MatchOption found ((level : ℕ) → HasStepped macros env level remaining list emitted (Err f) remaining_after next more) (λ c. HasInvoked macros env remaining list emitted (invocation c) (Err f) remaining_after more)
+    → HasStepped macros env level remaining list emitted (Err f) remaining_after next more
 begun_raises macros env level remaining list emitted None invocation f remaining_after next more h = h level
 begun_raises macros env level remaining list emitted (Some c) invocation f remaining_after next more h = absurd (cc h.1)
 

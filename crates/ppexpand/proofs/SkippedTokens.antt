@@ -161,8 +161,8 @@ expansion-following macros env remaining tokens prefix rest e out laid_out h d i
       outcome = whole;
       expands = subst (λ ts. ExpandsTo macros env 0 remaining ts whole) (sym (ap (map unhidden) laid_out ∙ map-append unhidden prefix rest)) (expands-prefix macros env 0 remaining prefix (map unhidden rest) out h d);
       emitted = is ∙ (λ i. sym (tokens-unhidden prefix) i ++ map (λ t. t.token) out.tokens) ∙ sym (map-append (λ t. t.token) (map unhidden prefix) out.tokens);
-      ended = ends;
-      remains = leaves;
+      fault_is = ends;
+      remaining_is = leaves;
     }
 
 -- Tokens that are all emitted unchanged expand to themselves.

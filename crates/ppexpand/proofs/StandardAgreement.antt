@@ -41,7 +41,7 @@ module _ (macros : Macros) (env : Env) where
     hidden : {t : Hiding} {rest : List Hiding} → is_unmatched_quote t.token ≡ false → set.contains t.hide t.token.text ≡ true → Means (t ∷ rest) (Emits t rest)
     predefined : {t : Hiding} {rest : List Hiding} {d : Macro} {b : PredefinedMacro} → NamesMacro macros t d → d.kind ≡ Predefined b → Means (t ∷ rest) (Replaced (predefined_value b env t (set.insert t.hide t.token.text) ∷ rest))
     object_like : {t : Hiding} {rest : List Hiding} {d : Macro} {m : Replacement} → NamesMacro macros t d → d.kind ≡ ObjectLike → object_result t d ≡ Ok m → Means (t ∷ rest) (Replaced (followed_by m rest))
-    object_refused : {t : Hiding} {rest : List Hiding} {d : Macro} {f : Fault} → NamesMacro macros t d → d.kind ≡ ObjectLike → object_result t d ≡ Err f → Means (t ∷ rest) (ReplacementFault f)
+    object_result_fault : {t : Hiding} {rest : List Hiding} {d : Macro} {f : Fault} → NamesMacro macros t d → d.kind ≡ ObjectLike → object_result t d ≡ Err f → Means (t ∷ rest) (ReplacementFault f)
     not_invoked : {t : Hiding} {rest : List Hiding} {d : Macro} {names : List Name} {variadic : Variadic}
         → NamesMacro macros t d
         → d.kind ≡ FunctionLike names variadic
@@ -92,7 +92,7 @@ module _ (macros : Macros) (env : Env) where
 
   by_result : (t : Hiding) (rest : List Hiding) (d : Macro) → NamesMacro macros t d → d.kind ≡ ObjectLike → (r : Result Replacement Fault) → object_result t d ≡ r → Means (t ∷ rest) (replaced_by r rest)
   by_result t rest d c e (Ok m) h = Means.object_like c e h
-  by_result t rest d c e (Err f) h = Means.object_refused c e h
+  by_result t rest d c e (Err f) h = Means.object_result_fault c e h
 
   by_shape : (t : Hiding) (rest : List Hiding) (d : Macro) → NamesMacro macros t d → (s : MacroKind) → d.kind ≡ s → Means (t ∷ rest) (macro_step env t rest d s)
   by_shape t rest d c (Predefined b) e = Means.predefined c e
@@ -146,7 +146,7 @@ module _ (macros : Macros) (env : Env) where
   meant (Means.hidden {t = t} {rest = rest} q h) = expansion_step-hidden macros env t rest q h
   meant (Means.predefined {rest = rest} {b = b} c e) = invocations_turn rest c (Predefined b) e
   meant (Means.object_like {rest = rest} c e h) = invocations_turn rest c ObjectLike e ∙ ap (λ r. replaced_by r rest) h
-  meant (Means.object_refused {rest = rest} c e h) = invocations_turn rest c ObjectLike e ∙ ap (λ r. replaced_by r rest) h
+  meant (Means.object_result_fault {rest = rest} c e h) = invocations_turn rest c ObjectLike e ∙ ap (λ r. replaced_by r rest) h
   meant (Means.not_invoked {t = t} {rest = rest} {d = d} {names = names} {variadic = variadic} c e n) = invocations_turn rest c (FunctionLike names variadic) e ∙ not_opened t d names variadic rest n
   meant (Means.quote_inside {quote = quote} {inside = inside} i g) = invokes_turn inside i (UnmatchedQuote quote) g
   meant (Means.unclosed {inside = inside} i g) = invokes_turn inside i Unclosed g
@@ -173,7 +173,7 @@ module _ (macros : Macros) (env : Env) where
   at_passes (Means.not_invoked c e n) more = StandardExpands.not_invoked c e n more
 
   at_replacement_fault : {level : ℕ} {list : List Hiding} {f : Fault} → Means list (ReplacementFault f) → StandardExpands macros env level list [] (Some f)
-  at_replacement_fault (Means.object_refused c e h) = StandardExpands.object_refused c e h
+  at_replacement_fault (Means.object_result_fault c e h) = StandardExpands.object_result_fault c e h
   at_replacement_fault (Means.quote_inside i g) = StandardExpands.quote_inside i g
   at_replacement_fault (Means.unclosed i g) = StandardExpands.unclosed i g
   at_replacement_fault (Means.wrong_number i g f) = StandardExpands.wrong_number i g f
@@ -218,7 +218,7 @@ module _ (macros : Macros) (env : Env) where
     standard {list = list} is (in_budget.replaced e more) = at_replaced (by_rule list is e) (standard (ap spend_one is) more)
     standard {list = list} is (in_budget.argument_fault e a) = StandardExpands.argument_fault (at_invoked (by_rule list is e)) (standard_arguments (ap spend_one is) a)
     standard {list = list} is (in_budget.invocation_fault {invocation = invocation} {expanded = expanded} {f = f} e a h) =
-        StandardExpands.invocation_refused (at_invoked (by_rule list is e)) (standard_arguments (ap spend_one is) a) (result_failed invocation expanded f (invocation_result invocation expanded) (sym (finish_invocation-is invocation expanded) ∙ h))
+        StandardExpands.invocation_result_fault (at_invoked (by_rule list is e)) (standard_arguments (ap spend_one is) a) (result_failed invocation expanded f (invocation_result invocation expanded) (sym (finish_invocation-is invocation expanded) ∙ h))
     standard {list = list} is (in_budget.invocation_replaced e a h more) =
         at_next (at_invoked (by_rule list is e)) (standard_arguments (ap spend_one is) a) h (standard (arguments_none macros env (ap spend_one is) a) more)
 
@@ -254,13 +254,13 @@ module _ (macros : Macros) (env : Env) where
     unbudgeted (StandardExpands.hidden q h more) = passing (Means.hidden q h) (unbudgeted more)
     unbudgeted (StandardExpands.predefined c e more) = replacing (Means.predefined c e) (unbudgeted more)
     unbudgeted (StandardExpands.object_like c e h more) = replacing (Means.object_like c e h) (unbudgeted more)
-    unbudgeted (StandardExpands.object_refused c e h) = failing (Means.object_refused c e h)
+    unbudgeted (StandardExpands.object_result_fault c e h) = failing (Means.object_result_fault c e h)
     unbudgeted (StandardExpands.not_invoked c e n more) = passing (Means.not_invoked c e n) (unbudgeted more)
     unbudgeted (StandardExpands.quote_inside i g) = failing (Means.quote_inside i g)
     unbudgeted (StandardExpands.unclosed i g) = failing (Means.unclosed i g)
     unbudgeted (StandardExpands.wrong_number i g f) = failing (Means.wrong_number i g f)
     unbudgeted (StandardExpands.argument_fault b a) = (0, in_budget.argument_fault (meant (Means.begins b)) (unbudgeted_arguments a))
-    unbudgeted (StandardExpands.invocation_refused {invocation = invocation} {expanded = expanded} b a e) =
+    unbudgeted (StandardExpands.invocation_result_fault {invocation = invocation} {expanded = expanded} b a e) =
         (0, in_budget.invocation_fault (meant (Means.begins b)) (unbudgeted_arguments a) (finish_invocation-is invocation expanded ∙ ap (λ r. replaced_by r invocation.following) e))
     unbudgeted (StandardExpands.invocation {invocation = invocation} {expanded = expanded} b a e rest) =
         let more = unbudgeted rest in
@@ -282,14 +282,14 @@ module _ (macros : Macros) (env : Env) where
   )
 
   tokens_left : {tokens : List Token} {e : Expanded} → IsExpansion macros env None tokens e → e.remaining ≡ None
-  tokens_left x = x.remains ∙ remaining_none macros env refl x.expands.1
+  tokens_left x = x.remaining_is ∙ remaining_none macros env refl x.expands.1
 
   tokens_standard : {tokens : List Token} {e : Expanded} → IsExpansion macros env None tokens e → IsStandardExpansion macros env tokens e.tokens e.fault
   tokens_standard x =
-      record { emitted = x.outcome.tokens; expands = subst (λ f. StandardExpands macros env 0 _ x.outcome.tokens f) (sym x.ended) (standard refl x.expands.1); is = x.emitted }
+      record { emitted = x.outcome.tokens; expands = subst (λ f. StandardExpands macros env 0 _ x.outcome.tokens f) (sym x.fault_is) (standard refl x.expands.1); is = x.emitted }
 
   tokens_unbudgeted : {tokens : List Token} {e : Expanded} → e.remaining ≡ None → IsStandardExpansion macros env tokens e.tokens e.fault → IsExpansion macros env None tokens e
-  tokens_unbudgeted {e = e} none s = record { outcome = record { tokens = s.emitted; fault = e.fault; remaining = None }; expands = unbudgeted s.expands; emitted = s.is; ended = refl; remains = none }
+  tokens_unbudgeted {e = e} none s = record { outcome = record { tokens = s.emitted; fault = e.fault; remaining = None }; expands = unbudgeted s.expands; emitted = s.is; fault_is = refl; remaining_is = none }
 
   pub expansion_standard : (tokens : List Token) (e : Expanded) → IsExpansion macros env None tokens e ↔ ((e.remaining ≡ None) × IsStandardExpansion macros env tokens e.tokens e.fault)
   expansion_standard tokens e = (λ x. (tokens_left x, tokens_standard x), λ s. tokens_unbudgeted s.0 s.1)

@@ -11,7 +11,7 @@ use Rattle.std.proofs.lemmas.Map.Lookups.{exact_bytes}
 use Rattle.std.proofs.lemmas.Map.Views.{tells_apart}
 use Rattle.ppmacro.specs.Names.{Name, HideSet, Macros}
 use Rattle.ppmacro.specs.code.Members.{same_name}
-use Rattle.ppexpand.specs.Termination.{Holds, HidesNames, left_out, IsOutside, Step, emits, replaced, invocation_step, Ends, ends, EndsAfter, PrefixEnds, names_left}
+use Rattle.ppexpand.specs.Termination.{IsSubset, HidesNames, count_outside, IsOutside, Step, emits, replaced, invoked, Ends, ends, EndsAfter, PrefixEnds, names_left}
 
 pub all-map : {A : Type 0} (P Q : A → Type 0) → ((x : A) → P x → Q x) → (xs : List A) → AllByRecursion P xs → AllByRecursion Q xs
 all-map P Q f [] h = tt
@@ -49,14 +49,14 @@ at_insert : (S : HideSet) (k : Name) → set.contains (set.insert S k) k ≡ tru
 at_insert S k = set.contains-insert nat_list_cmp_total S k k ∙ ap (λ b. b || set.contains S k) ((eq_by_cmp_equiv nat_list_cmp_total).refl k)
 
 -- A set that has k and all names of S has all names of S with k added.
-pub extended : (S : HideSet) (k : Name) (r : HideSet) → Holds S r → set.contains r k ≡ true → Holds (set.insert S k) r
+pub extended : (S : HideSet) (k : Name) (r : HideSet) → IsSubset S r → set.contains r k ≡ true → IsSubset (set.insert S k) r
 extended S k r old new q h =
     elim (same_name q k) as (λ a. same_name q k ≡ a → (a || set.contains S q) ≡ true → set.contains r q ≡ true) [
       | true ↦ λ same _. subst (λ x. set.contains r x ≡ true) (sym (tells_apart exact_bytes q k same)) new
       | false ↦ λ _ e. old q e
     ] refl (sym (set.contains-insert nat_list_cmp_total S k q) ∙ h)
 
-not_above : (S h : HideSet) (k : Name) → Holds S h → set.contains h k ≡ false → set.contains S k ≡ false
+not_above : (S h : HideSet) (k : Name) → IsSubset S h → set.contains h k ≡ false → set.contains S k ≡ false
 not_above S h k above out = elim (set.contains S k) as (λ a. set.contains S k ≡ a → a ≡ false) [ true ↦ λ e. sym (above k e) ∙ out | false ↦ λ _. refl ] refl
 
 not_in : (S : HideSet) (k j : Name) → set.contains (set.insert S k) j ≡ false → set.contains S j ≡ false
@@ -64,41 +64,41 @@ not_in S k j = not_above S (set.insert S k) j (in_insert S k)
 
 -- ---- how many names are not in a set
 
-left_out-more : (S S' : HideSet) → Holds S S' → (ns : List Name) → left_out S' ns ≤ left_out S ns
-left_out-more S S' more [] = omega arith
-left_out-more S S' more (n ∷ ns) =
-    let ih : left_out S' ns ≤ left_out S ns = left_out-more S S' more ns in
-    elim (set.contains S n) as (λ a. set.contains S n ≡ a → (if set.contains S' n then left_out S' ns else suc (left_out S' ns)) ≤ (if a then left_out S ns else suc (left_out S ns))) [
+count_outside-more : (S S' : HideSet) → IsSubset S S' → (ns : List Name) → count_outside S' ns ≤ count_outside S ns
+count_outside-more S S' more [] = omega arith
+count_outside-more S S' more (n ∷ ns) =
+    let ih : count_outside S' ns ≤ count_outside S ns = count_outside-more S S' more ns in
+    elim (set.contains S n) as (λ a. set.contains S n ≡ a → (if set.contains S' n then count_outside S' ns else suc (count_outside S' ns)) ≤ (if a then count_outside S ns else suc (count_outside S ns))) [
       | true ↦ λ e. rw (more n e) ih
-      | false ↦ λ e. elim (set.contains S' n) as (λ b. (if b then left_out S' ns else suc (left_out S' ns)) ≤ suc (left_out S ns)) [ true ↦ omega arith | false ↦ omega arith ]
+      | false ↦ λ e. elim (set.contains S' n) as (λ b. (if b then count_outside S' ns else suc (count_outside S' ns)) ≤ suc (count_outside S ns)) [ true ↦ omega arith | false ↦ omega arith ]
     ] refl
 
-left_out-less : (S S' : HideSet) → Holds S S' → (k : Name) → set.contains S k ≡ false → set.contains S' k ≡ true → (ns : List Name) → list_any (same_name k) ns ≡ true → left_out S' ns < left_out S ns
-left_out-less S S' more k out in' [] h = absurd (true≢false (sym h))
-left_out-less S S' more k out in' (n ∷ ns) h = elim (same_name k n) as (λ a. same_name k n ≡ a → (a || list_any (same_name k) ns) ≡ true → left_out S' (n ∷ ns) < left_out S (n ∷ ns)) [
+count_outside-less : (S S' : HideSet) → IsSubset S S' → (k : Name) → set.contains S k ≡ false → set.contains S' k ≡ true → (ns : List Name) → list_any (same_name k) ns ≡ true → count_outside S' ns < count_outside S ns
+count_outside-less S S' more k out in' [] h = absurd (true≢false (sym h))
+count_outside-less S S' more k out in' (n ∷ ns) h = elim (same_name k n) as (λ a. same_name k n ≡ a → (a || list_any (same_name k) ns) ≡ true → count_outside S' (n ∷ ns) < count_outside S (n ∷ ns)) [
   | true ↦ λ same _.
       let is : k ≡ n = tells_apart exact_bytes k n same in
       let here : set.contains S n ≡ false = subst (λ x. set.contains S x ≡ false) is out in
       let there : set.contains S' n ≡ true = subst (λ x. set.contains S' x ≡ true) is in' in
-      let rest : left_out S' ns ≤ left_out S ns = left_out-more S S' more ns in
+      let rest : count_outside S' ns ≤ count_outside S ns = count_outside-more S S' more ns in
       rw (here, there) (omega arith)
   | false ↦ λ _ later.
-      let ih : left_out S' ns < left_out S ns = left_out-less S S' more k out in' ns later in
-      elim (set.contains S n) as (λ a. set.contains S n ≡ a → (if set.contains S' n then left_out S' ns else suc (left_out S' ns)) < (if a then left_out S ns else suc (left_out S ns))) [
+      let ih : count_outside S' ns < count_outside S ns = count_outside-less S S' more k out in' ns later in
+      elim (set.contains S n) as (λ a. set.contains S n ≡ a → (if set.contains S' n then count_outside S' ns else suc (count_outside S' ns)) < (if a then count_outside S ns else suc (count_outside S ns))) [
         | true ↦ λ e. rw (more n e) ih
-        | false ↦ λ e. elim (set.contains S' n) as (λ b. (if b then left_out S' ns else suc (left_out S' ns)) < suc (left_out S ns)) [ true ↦ omega arith | false ↦ omega arith ]
+        | false ↦ λ e. elim (set.contains S' n) as (λ b. (if b then count_outside S' ns else suc (count_outside S' ns)) < suc (count_outside S ns)) [ true ↦ omega arith | false ↦ omega arith ]
       ] refl
 ] refl h
 
 module _ (macros : Macros) where
   -- fewer names are outside a set after a name is added
   pub fewer_left : (S : HideSet) (k : Name) → IsOutside macros k S → names_left macros (set.insert S k) < names_left macros S
-  fewer_left S k out = left_out-less S (set.insert S k) (in_insert S k) k out.outside (at_insert S k) (table.keys macros) (sym (table.contains_key-keys macros k) ∙ out.macro)
+  fewer_left S k out = count_outside-less S (set.insert S k) (in_insert S k) k out.outside (at_insert S k) (table.keys macros) (sym (table.contains_key-keys macros k) ∙ out.macro)
 
   abbrev Above : HideSet → List HideSet → Type 0
-  Above S prefix = AllByRecursion (Holds S) prefix
+  Above S prefix = AllByRecursion (IsSubset S) prefix
 
-  outside_part : (S h : HideSet) (k : Name) → Holds S h → IsOutside macros k h → IsOutside macros k S
+  outside_part : (S h : HideSet) (k : Name) → IsSubset S h → IsOutside macros k h → IsOutside macros k S
   outside_part S h k above out = record { macro = out.macro; outside = not_above S h k above out.outside }
 
   -- A prefix of length at most k terminates if its sets have all names of S and S lacks fewer than n names.
@@ -135,7 +135,7 @@ module _ (macros : Macros) where
       → P after
   by_step P emits p o f = p
   by_step P (replaced k out result to_hide e) p o f = rw e (o k out result to_hide)
-  by_step P (invocation_step k out inside close following e result to_hide e') p o f = rw e' (f k out inside close following e result to_hide)
+  by_step P (invoked k out inside close following e result to_hide e') p o f = rw e' (f k out inside close following e result to_hide)
 
   result_step : (n k : ℕ) → ((j : ℕ) → FrontsEnd n j) → FrontsEnd (suc n) k → ((j : ℕ) → j < k → ResultsEnd (suc n) j) → ResultsEnd (suc n) k
   result_step n k lower front_k below S small name out result hsadd prefix short above following ends_behind remaining_after =
@@ -145,11 +145,11 @@ module _ (macros : Macros) where
       let out2' : IsOutside macros k2 S = outside_part S (set.insert S name) k2 (in_insert S name) out2 in
       elim (split prefix following inside close rest e) [
         | in_first rest' at_front at_rest ↦
-            (let parts : Holds S close × Above S rest' = all-following (Holds S) inside close rest' (subst (Above S) at_front above) in
+            (let parts : IsSubset S close × Above S rest' = all-following (IsSubset S) inside close rest' (subst (Above S) at_front above) in
             let shorter : length rest' < length prefix = rw at_front (following-shorter inside close rest') in
             rw at_rest
             (below (length rest') (omega arith) S small k2 out2' result2
-            (all-map (HidesNames (set.insert S name) close k2) (Holds (set.insert S k2)) (λ r g. extended S k2 r (λ q s. g.common q (in_insert S name q s) (parts.0 q s)) g.own) result2 reached)
+            (all-map (HidesNames (set.insert S name) close k2) (IsSubset (set.insert S k2)) (λ r g. extended S k2 r (λ q s. g.common q (in_insert S name q s) (parts.0 q s)) g.own) result2 reached)
             rest' (omega arith) parts.1 following ends_behind remaining_after))
         | in_second p' at_behind ↦
             remaining_after k2 out2' p' close rest at_behind result2
@@ -163,17 +163,17 @@ module _ (macros : Macros) where
       ((below (length prefix) short).0 S small prefix (omega arith) above.1 following ends_behind remaining_after)
       (λ k2 out2 result to_hide.
       (below (length prefix) short).1 S small k2 (outside_part S h k2 above.0 out2) result
-      (all-map (HidesNames h h k2) (Holds (set.insert S k2)) (λ r g. extended S k2 r (λ q s. g.common q (above.0 q s) (above.0 q s)) g.own) result to_hide)
+      (all-map (HidesNames h h k2) (IsSubset (set.insert S k2)) (λ r g. extended S k2 r (λ q s. g.common q (above.0 q s) (above.0 q s)) g.own) result to_hide)
       prefix (omega arith) above.1 following ends_behind remaining_after)
       (λ k2 out2 inside close rest e result to_hide.
       let out2' : IsOutside macros k2 S = outside_part S h k2 above.0 out2 in
       elim (split prefix following inside close rest e) [
         | in_first rest' at_front at_rest ↦
-            (let parts : Holds S close × Above S rest' = all-following (Holds S) inside close rest' (subst (Above S) at_front above.1) in
+            (let parts : IsSubset S close × Above S rest' = all-following (IsSubset S) inside close rest' (subst (Above S) at_front above.1) in
             let shorter : length rest' < length prefix = rw at_front (following-shorter inside close rest') in
             rw at_rest
             ((below (length rest') (omega arith)).1 S small k2 out2' result
-            (all-map (HidesNames h close k2) (Holds (set.insert S k2)) (λ r g. extended S k2 r (λ q s. g.common q (above.0 q s) (parts.0 q s)) g.own) result to_hide)
+            (all-map (HidesNames h close k2) (IsSubset (set.insert S k2)) (λ r g. extended S k2 r (λ q s. g.common q (above.0 q s) (parts.0 q s)) g.own) result to_hide)
             rest' (omega arith) parts.1 following ends_behind remaining_after))
         | in_second p' at_behind ↦
             remaining_after k2 out2' p' close rest at_behind result

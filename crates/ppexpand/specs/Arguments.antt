@@ -44,7 +44,7 @@ with_argument (Closed as' close following) = Closed ([] ∷ as') close following
 with_argument (UnmatchedQuote q) = UnmatchedQuote q
 with_argument Unclosed = Unclosed
 
--- whether a comma inside this number of parentheses separates arguments, where this number of commas still may (None: all)
+-- whether a comma inside this number of parentheses separates arguments, if this many commas may still separate arguments (None: all)
 abbrev pub separates : ℕ → Option ℕ → Bool
 separates zero None = true
 separates zero (Some zero) = false

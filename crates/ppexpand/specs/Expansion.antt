@@ -121,8 +121,8 @@ pub record IsExpansion (macros : Macros) (env : Env) (remaining : Option ℕ) (t
   pub outcome : Outcome
   pub expands : ExpandsTo macros env 0 remaining (map unhidden tokens) outcome
   pub emitted : e.tokens ≡ map (λ t. t.token) outcome.tokens
-  pub ended : e.fault ≡ outcome.fault
-  pub remains : e.remaining ≡ outcome.remaining
+  pub fault_is : e.fault ≡ outcome.fault
+  pub remaining_is : e.remaining ≡ outcome.remaining
 
 -- the number of replacements in an expansion
 abbrev pub count_expansion : {macros : Macros} {env : Env} {remaining : Option ℕ} {tokens : List Token} {e : Expanded}

@@ -87,7 +87,7 @@ mutual
         → object_result t d ≡ Ok m
         → StandardExpands macros env level (followed_by m rest) tokens fault
         → StandardExpands macros env level (t ∷ rest) tokens fault
-    object_refused : {level : ℕ} {t : Hiding} {rest : List Hiding} {f : Fault} {d : Macro}
+    object_result_fault : {level : ℕ} {t : Hiding} {rest : List Hiding} {f : Fault} {d : Macro}
         → NamesMacro macros t d
         → d.kind ≡ ObjectLike
         → object_result t d ≡ Err f
@@ -117,7 +117,7 @@ mutual
         → Invokes macros list invocation
         → StandardExpandsArguments macros env level invocation (arguments_to_expand invocation) (Err f)
         → StandardExpands macros env level list [] (Some f)
-    invocation_refused : {level : ℕ} {list : List Hiding} {invocation : Invocation} {expanded : List (Option (List Hiding))} {f : Fault}
+    invocation_result_fault : {level : ℕ} {list : List Hiding} {invocation : Invocation} {expanded : List (Option (List Hiding))} {f : Fault}
         → Invokes macros list invocation
         → StandardExpandsArguments macros env level invocation (arguments_to_expand invocation) (Ok expanded)
         → invocation_result invocation expanded ≡ Err f

@@ -1,7 +1,7 @@
 -- Why expansion terminates (6.10.3.4), by the hide sets of a list alone.
 --
 -- Take a prefix of the list where the hide set of each token has the names `hidden`. No replacement in it is of these names. So each is of another
--- macro's name, and the hide sets of its result have that too: a prefix with fewer names left, before a shorter part of the old one. If the `)` of an
+-- macro's name, which the hide sets of its result have, too: the result is a prefix with fewer names left, followed by a shorter rest of the old prefix. If the `)` of an
 -- invocation is after the prefix, the prefix is used up, and the hide sets of the result have the names in both `hidden` and that of the `)`.
 use Rattle.std.specs.Prelude.{◌≡◌, ℕ, suc, true, false, List, [], ◌∷◌, ◌++◌, map, if◌then◌else◌}
 use Rattle.std.specs.FinSet as set
@@ -15,8 +15,8 @@ abbrev pub hides : List Hiding → List HideSet
 hides ts = map (λ t. t.hide) ts
 
 -- a set has all names of another
-abbrev pub Holds : HideSet → HideSet → Type 0
-Holds part whole = (name : Name) → set.contains part name ≡ true → set.contains whole name ≡ true
+abbrev pub IsSubset : HideSet → HideSet → Type 0
+IsSubset part whole = (name : Name) → set.contains part name ≡ true → set.contains whole name ≡ true
 
 -- a set has all names that two other sets have in common, and this name
 pub record HidesNames (one two : HideSet) (name : Name) (whole : HideSet) : Type 0 where
@@ -24,9 +24,9 @@ pub record HidesNames (one two : HideSet) (name : Name) (whole : HideSet) : Type
   pub own : set.contains whole name ≡ true
 
 -- how many of these names are not in a set
-abbrev pub left_out : HideSet → List Name → ℕ
-left_out hide [] = 0
-left_out hide (n ∷ ns) = if set.contains hide n then left_out hide ns else suc (left_out hide ns)
+abbrev pub count_outside : HideSet → List Name → ℕ
+count_outside hide [] = 0
+count_outside hide (n ∷ ns) = if set.contains hide n then count_outside hide ns else suc (count_outside hide ns)
 
 module _ (macros : Macros) where
   -- a macro's name that is not in a set
@@ -45,7 +45,7 @@ module _ (macros : Macros) where
         → AllByRecursion (HidesNames hide hide name) result
         → next ≡ result ++ rest
         → Step (hide ∷ rest) next
-    invocation_step : {hide : HideSet} {rest next : List HideSet} (name : Name)
+    invoked : {hide : HideSet} {rest next : List HideSet} (name : Name)
         → IsOutside name hide
         → (inside : List HideSet) (close : HideSet) (following : List HideSet)
         → rest ≡ inside ++ close ∷ following
@@ -70,8 +70,8 @@ module _ (macros : Macros) where
 
   -- a prefix whose sets have these names terminates, if the rest terminates alone and also after the prefix is used up
   abbrev pub PrefixEnds : HideSet → List HideSet → Type 0
-  PrefixEnds hidden prefix = AllByRecursion (Holds hidden) prefix → (following : List HideSet) → Ends following → EndsAfter hidden following → Ends (prefix ++ following)
+  PrefixEnds hidden prefix = AllByRecursion (IsSubset hidden) prefix → (following : List HideSet) → Ends following → EndsAfter hidden following → Ends (prefix ++ following)
 
   -- how many macros' names are not in a set
   abbrev pub names_left : HideSet → ℕ
-  names_left hidden = left_out hidden (table.keys macros)
+  names_left hidden = count_outside hidden (table.keys macros)

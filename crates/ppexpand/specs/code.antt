@@ -1,4 +1,4 @@
--- Vocabulary of the code: only contracts inside this crate and views cite these files. No theorem rests on them.
+-- Vocabulary of the code: only contracts, views and other vocabulary of the code cite these files, in this crate and in ppexpr. No theorem rests on them.
 pub mod Action
 pub mod Lists
 pub mod Pieces

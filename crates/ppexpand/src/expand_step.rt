@@ -28,7 +28,7 @@ use crate::context::Context;
 use crate::env::Env;
 use crate::predefined::predefined_value;
 use crate::stop::Stop;
-use crate::token_roles::{fault_at_expansion, is_open, is_quote, over_budget, unmatched_quote};
+use crate::token_roles::{budget_fault, fault_at_expansion, is_open, is_quote, quote_fault};
 use crate::token_stack::TokenStack;
 use crate::vec_pool::VecPool;
 use ppmacro::{
@@ -219,7 +219,7 @@ fn failed_quote<'t, 'x, 'a>(quote: &Hidden) -> Result<Action<'t, 'x, 'a>, Memory
     ensures { IfOk result (λ n. n ≡ next.ReplacementFault (fault_at 7 quote.now.token.at quote.now.token.text)) }
 {
     Ok(Action {
-        kind: ActionKind::ReplacementFault(unmatched_quote(quote)?),
+        kind: ActionKind::ReplacementFault(quote_fault(quote)?),
     })
 }
 
@@ -249,7 +249,7 @@ fn exhausted_step<'t, 'x, 'a: 'x>(
         }
     }
     Ok(Action {
-        kind: ActionKind::TokenFault(over_budget(&name_token)),
+        kind: ActionKind::TokenFault(budget_fault(&name_token)),
     })
 }
 
@@ -258,7 +258,7 @@ fn refused_quote<'t, 'x, 'a>(quote: &Hidden) -> Result<Action<'t, 'x, 'a>, Memor
     ensures { IfOk result (λ n. n ≡ next.TokenFault (fault_at 7 quote.now.token.at quote.now.token.text)) }
 {
     Ok(Action {
-        kind: ActionKind::TokenFault(unmatched_quote(quote)?),
+        kind: ActionKind::TokenFault(quote_fault(quote)?),
     })
 }
 

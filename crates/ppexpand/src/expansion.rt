@@ -16,7 +16,7 @@ ghost use Rattle.ppexpand.specs.code.Lists.{NeverExpand, never_expands, next_mac
 ghost use Rattle.std.specs.List.{AllByRecursion};
 ghost use Rattle.ppexpand.specs.code.Skipping.{HasSkipped};
 ghost use Rattle.ppexpand.specs.code.ProgramValues.{expanded_in, ExpansionsKnown, invocation_in, InvocationKnown, replaced_in, owned_tokens, HasExpanded};
-ghost use Rattle.ppexpand.specs.code.ProgramValues.{ExpandsInvocationArguments, ClosedStepsTo, HasTaken, HasInvoked};
+ghost use Rattle.ppexpand.specs.code.ProgramValues.{ExpandsInvocationArguments, ClosedStepsTo, HasStepped, HasInvoked};
 
 use crate::budget::spend_one;
 use crate::context::Context;
@@ -62,7 +62,7 @@ fn emit_pushed<'t, 'x, 'a>(
     }
 }
 
-/// Emits the next tokens that are emitted unchanged: all, or only some of them. Returns the macro that the token after them names, if
+/// Emits tokens from the start of the list that are neither macro names nor unmatched quotes, but not always all of them. Returns the macro that the token after them names, if
 /// it names one.
 #[inline(never)]
 fn emit_unexpanded<'t, 'x, 'a>(
@@ -158,8 +158,8 @@ impl<'x> Expander<'x> {
         requires named { option_copied named ≡ next_macro context.now.table.now.macros (tokens_of list.old) }
         requires list_known { AllKnown self.old.replacer.sets list.old }
         requires emitted_known { AllKnown self.old.replacer.sets emitted.old }
-        ensures on { UnlessFailed result self.new.fault (λ r. MatchOption invocation.new
-            ((level : ℕ) → HasTaken context.now.table.now.macros context.now.env.now level self.old.remaining (hidings self.old.replacer.sets list.old)
+        ensures progress { UnlessFailed result self.new.fault (λ r. MatchOption invocation.new
+            ((level : ℕ) → HasStepped context.now.table.now.macros context.now.env.now level self.old.remaining (hidings self.old.replacer.sets list.old)
             (hidings self.old.replacer.sets emitted.old) r self.new.remaining (hidings self.new.replacer.sets list.new) (hidings self.new.replacer.sets emitted.new))
             (λ c. HasInvoked context.now.table.now.macros context.now.env.now self.old.remaining (hidings self.old.replacer.sets list.old)
             (hidings self.old.replacer.sets emitted.old) (invocation_in self.new.replacer.sets c.name_token c.definition.now c.arguments.items c.base list.new)
@@ -331,8 +331,8 @@ impl<'x> Expander<'x> {
         requires named { option_copied named ≡ next_macro context.now.table.now.macros (tokens_of list.old) }
         requires list_known { AllKnown self.old.replacer.sets list.old }
         requires emitted_known { AllKnown self.old.replacer.sets emitted.old }
-        ensures on { UnlessFailed result self.new.fault (λ r.
-            HasTaken context.now.table.now.macros context.now.env.now context.now.level self.old.remaining (hidings self.old.replacer.sets list.old)
+        ensures progress { UnlessFailed result self.new.fault (λ r.
+            HasStepped context.now.table.now.macros context.now.env.now context.now.level self.old.remaining (hidings self.old.replacer.sets list.old)
             (hidings self.old.replacer.sets emitted.old) r self.new.remaining (hidings self.new.replacer.sets list.new) (hidings self.new.replacer.sets emitted.new)) }
         ensures list_known { IfOk result (λ continues. continues ≡ true → AllKnown self.new.replacer.sets list.new) }
         ensures emitted_known { OnOk result (AllKnown self.new.replacer.sets emitted.new) }

@@ -13,7 +13,7 @@ ghost use Rattle.ppexpand.specs.Expansion.{Outcome, step_in_budget, Expands, Exp
 ghost use Rattle.ppexpand.specs.Standard.{StandardExpands, IsStandardExpansion};
 ghost use Rattle.ppexpand.specs.Laws.{HasOneOutcome, HasOneExpansion, EndsWithin, plus, IsCapped, OnlyBudgetsRefuse, is_fully_expanded, IsInvocation};
 ghost use Rattle.ppexpand.specs.Laws.{StopsAtQuote, NeverClosed, Leads};
-ghost use Rattle.ppexpand.specs.Termination.{hides, Holds, HidesNames, names_left, IsOutside, Step, Ends, PrefixEnds};
+ghost use Rattle.ppexpand.specs.Termination.{hides, IsSubset, HidesNames, names_left, IsOutside, Step, Ends, PrefixEnds};
 
 /// Each list of tokens with hide sets has exactly one outcome, for all macros and at each level of arguments.
 pub fn one_outcome()
@@ -31,14 +31,14 @@ pub fn expansion_terminates()
         → (most : ℕ) × EndsWithin macros env level most remaining list }
 {}
 
-/// Why expansion terminates (6.10.3.4). Each expansion step is a step on the hide sets of the list alone. Where the hide sets of a prefix have
-/// some names, those of what the step puts there have one name more, so fewer macro names are left to replace there. Hence each prefix
+/// Why expansion terminates (6.10.3.4). Each expansion step is a step on the hide sets of the list alone. If the hide sets of a prefix all have
+/// some names, the hide sets of a replacement in it have these names and one more, so fewer macro names remain to be replaced there. Hence each prefix
 /// terminates before a rest that terminates, and each list is such a prefix.
 pub fn prefixes_terminate()
     ensures steps { (macros : Macros) (env : Env) (level : ℕ) (remaining remaining_after : Option ℕ) (list next : List Hiding)
         → Leads macros env level remaining list remaining_after next
         → Step macros (hides list) (hides next) }
-    ensures names { (hidden one two whole : HideSet) (name : Name) → Holds hidden one → Holds hidden two → HidesNames one two name whole → Holds (set.insert hidden name) whole }
+    ensures names { (hidden one two whole : HideSet) (name : Name) → IsSubset hidden one → IsSubset hidden two → HidesNames one two name whole → IsSubset (set.insert hidden name) whole }
     ensures fewer { (macros : Macros) (hidden : HideSet) (name : Name) → IsOutside macros name hidden → names_left macros (set.insert hidden name) < names_left macros hidden }
     ensures prefixes { (macros : Macros) (hidden : HideSet) (prefix : List HideSet) → PrefixEnds macros hidden prefix }
     ensures lists { (macros : Macros) (list : List HideSet) → Ends macros list }
@@ -65,7 +65,7 @@ pub fn finds_no_arguments()
 {}
 
 /// Without a budget nothing is refused and nothing is counted. An expansion step is what the rules of macro replacement require (6.10.3,
-/// 6.10.3.4). There is no budget after an expansion either. A list expands to what it expands to by the standard's rules, which have no budget.
+/// 6.10.3.4). There is no budget after an expansion either. The expansion of a list is the one by the standard's rules, which have no budget.
 pub fn without_a_budget()
     ensures steps { (macros : Macros) (env : Env) (list : List Hiding) → step_in_budget macros env None list ≡ expansion_step macros env list }
     ensures remaining { (macros : Macros) (env : Env) (level : ℕ) (list : List Hiding) (out : Outcome)
@@ -84,7 +84,7 @@ pub fn budget_is_spent()
         → remaining ≡ plus (count macros env d) out.remaining }
 {}
 
-/// An expansion within a budget equals the one without if that costs no more. Otherwise it ends in fault 35, nothing remains of the budget,
+/// An expansion within a budget equals the one without a budget if the cost does not exceed the budget. Otherwise it ends in fault 35, nothing remains of the budget,
 /// and the emitted tokens are a prefix.
 pub fn budget_caps()
     ensures { (macros : Macros) (env : Env) (level steps : ℕ) (list : List Hiding) (whole : Outcome)

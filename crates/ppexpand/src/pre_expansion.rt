@@ -31,7 +31,7 @@ fn set_pre_expanded(pre_expanded: &mut Vec<bool>, operands: &[Operand])
     }
 }
 
-/// Sets the entry of a parameter if the list entry is that parameter.
+/// Marks a parameter as pre-expanded if this entry of the replacement list is that parameter.
 fn set_entry_pre_expanded(pre_expanded: &mut Vec<bool>, entry: &Entry)
     ensures len { length pre_expanded.new.items ≡ length pre_expanded.old.items }
     ensures marks { (i : ℕ) → i < length pre_expanded.old.items → get_or pre_expanded.new.items i false ≡ get_or pre_expanded.old.items i false || is_lone_parameter i (entry_chain entry.now).operands }

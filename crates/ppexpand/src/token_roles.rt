@@ -64,14 +64,14 @@ pub(crate) fn fault_at_expansion(number: u8, hidden: &Hidden) -> Result<Fault, A
 }
 
 /// Returns fault 7 of an unmatched quote.
-pub(crate) fn unmatched_quote(hidden: &Hidden) -> Result<Fault, AllocError>
+pub(crate) fn quote_fault(hidden: &Hidden) -> Result<Fault, AllocError>
     ensures { IfOk result (λ f. f ≡ fault 7 hidden.now.token.at hidden.now.token.text) }
 {
     Fault::of_token(7, hidden.at(), hidden.token())
 }
 
 /// Returns fault 35 of a macro's name that exceeds the budget.
-pub(crate) fn over_budget(hidden: &Hidden) -> Fault
+pub(crate) fn budget_fault(hidden: &Hidden) -> Fault
     ensures { result ≡ fault 35 hidden.now.token.used [] }
 {
     Fault::bare(35, hidden.used())

@@ -34,7 +34,7 @@ impl<'a> Model for TokenStack<'a> {
     ghost view = { λ c. reverse c.pushed.items ++ spaced c.pending c.below };
 }
 
-/// The next token of a stack, as a check without hide sets sees it.
+/// The next token of a stack, classified without its hide set.
 #[derive(Drop)]
 pub(crate) enum Lookahead<'t, 'x, 'a> {
     /// A token that is emitted unchanged. It is popped.

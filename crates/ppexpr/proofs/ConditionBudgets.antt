@@ -15,14 +15,14 @@ use Rattle.ppexpand.proofs.BudgetFaults.{expansion_never_refused}
 use Rattle.ppexpr.specs.Outcomes.{Value, Failure, ZeroDivisor, Overflow, Shift}
 use Rattle.ppexpr.specs.Symbols.{Symbol}
 use Rattle.ppexpr.specs.Tokens.{symbol_by, symbol_of, before, symbols_of, constant_or}
-use Rattle.ppexpr.specs.Conditions.{Condition, taken, EvaluatesShallow, no_expression, has_value, EvaluatesSymbols, too_nested, not_nested, EvaluatesTokens, made_defined, bad_constant, constants, IsCondition, ill_formed, not_replaced, replaced, count_condition}
+use Rattle.ppexpr.specs.Conditions.{Condition, taken, EvaluatesShallow, no_expression, has_value, EvaluatesSymbols, too_nested, not_nested, EvaluatesTokens, defined_after_replacement, bad_constant, constants, IsCondition, ill_formed, expansion_fault, replaced, count_condition}
 
 -- ---- the budget
 
 -- the cost of a condition and the rest of the budget add up to the budget
 pub condition_spends : {macros : Macros} {env : Env} {at : Place} {tokens : List Token} {remaining remaining_after : Option ℕ} {c : Condition} (d : IsCondition macros env at tokens remaining c remaining_after) → remaining ≡ plus (count_condition d) remaining_after
 condition_spends {remaining = remaining} (ill_formed none) = plus-nothing remaining
-condition_spends {macros} {env} (not_replaced asks x leaves faulty) = expansion_spends macros env x ∙ ap (plus (count_expansion x)) leaves
+condition_spends {macros} {env} (expansion_fault asks x leaves faulty) = expansion_spends macros env x ∙ ap (plus (count_expansion x)) leaves
 condition_spends {macros} {env} (replaced asks x leaves whole decides) = expansion_spends macros env x ∙ ap (plus (count_expansion x)) leaves
 
 -- A budget of the cost plus n does not change the condition, except that n is left.
@@ -33,7 +33,7 @@ pub condition_enough : {macros : Macros} {env : Env} {at : Place} {tokens : List
 condition_enough {macros} {env} {at} {tokens} b is (ill_formed bad) n sum =
     let same : b ≡ n = omega arith in
     subst (λ x. IsCondition macros env at tokens (Some b) (Err (fault 22 at [])) (Some x)) same (ill_formed bad)
-condition_enough {macros} {env} b is (not_replaced asks x leaves faulty) n sum = not_replaced asks (expansion_enough macros env b is x n sum) refl faulty
+condition_enough {macros} {env} b is (expansion_fault asks x leaves faulty) n sum = expansion_fault asks (expansion_enough macros env b is x n sum) refl faulty
 condition_enough {macros} {env} b is (replaced asks x leaves whole decides) n sum = replaced asks (expansion_enough macros env b is x n sum) refl whole decides
 
 -- A budget below the cost is used up, and the condition is fault 35.
@@ -42,12 +42,12 @@ pub condition_short : {macros : Macros} {env : Env} {at : Place} {tokens : List 
     → b < count_condition d
     → (f : Fault) × (f.number ≡ 35) × IsCondition macros env at tokens (Some b) (Err f) (Some 0)
 condition_short b is (ill_formed bad) less = absurd (omega arith)
-condition_short {macros} {env} b is (not_replaced {without_defined = without_defined} {e = e} asks x leaves faulty) less =
+condition_short {macros} {env} b is (expansion_fault {without_defined = without_defined} {e = e} asks x leaves faulty) less =
     let s : StopsEarly macros env b without_defined e = expansion_short macros env b is x less in
-    (s.fault, s.number, not_replaced asks s.is s.nothing s.stopped)
+    (s.fault, s.number, expansion_fault asks s.is s.nothing s.stopped)
 condition_short {macros} {env} b is (replaced {without_defined = without_defined} {e = e} asks x leaves whole decides) less =
     let s : StopsEarly macros env b without_defined e = expansion_short macros env b is x less in
-    (s.fault, s.number, not_replaced asks s.is s.nothing s.stopped)
+    (s.fault, s.number, expansion_fault asks s.is s.nothing s.stopped)
 
 -- If there is no budget before a condition, there is none after it.
 pub condition_leaves_none : {macros : Macros} {env : Env} {at : Place} {tokens : List Token} {remaining_after : Option ℕ} {c : Condition} → IsCondition macros env at tokens None c remaining_after → remaining_after ≡ None
@@ -98,7 +98,7 @@ judges_other at s c (too_nested deep) = λ e. absurd (omega arith)
 judges_other at s c (not_nested shallow h) = evaluates_other at s c h
 
 decides_other : (at : Place) (ts : List Token) (c : Condition) → EvaluatesTokens at ts c → IsOther c
-decides_other at ts c (made_defined e) = λ e. absurd (omega arith)
+decides_other at ts c (defined_after_replacement e) = λ e. absurd (omega arith)
 decides_other at ts c (bad_constant e g) = subst IsOther g (symbols_other at ts)
 decides_other at ts c (constants {symbols = s} e g h) = judges_other at s c h
 
@@ -107,7 +107,7 @@ condition_other : {macros : Macros} {env : Env} {at : Place} {tokens : List Toke
     → IsCondition macros env at tokens remaining c remaining_after
     → IsOther c
 condition_other is (ill_formed none) = λ e. absurd (omega arith)
-condition_other {macros} {env} is (not_replaced {without_defined = without_defined} {e = e} asks x leaves faulty) = expansion_never_refused macros env (subst (λ l. IsExpansion macros env l without_defined e) is x) faulty
+condition_other {macros} {env} is (expansion_fault {without_defined = without_defined} {e = e} asks x leaves faulty) = expansion_never_refused macros env (subst (λ l. IsExpansion macros env l without_defined e) is x) faulty
 condition_other {at = at} {c = c} is (replaced {e = e} asks x leaves whole decides) = decides_other at e.tokens c decides
 
 pub condition_never_refused : {macros : Macros} {env : Env} {at : Place} {tokens : List Token} {remaining remaining_after : Option ℕ} {f : Fault}

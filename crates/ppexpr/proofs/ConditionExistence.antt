@@ -21,7 +21,7 @@ use Rattle.ppexpr.specs.DefinedOperator.{is_defined, Operand, operand, defined_v
 use Rattle.ppexpr.specs.Tokens.{symbols_of}
 use Rattle.ppexpr.specs.code.Pending.{outcomes}
 use Rattle.ppexpr.specs.Nesting.{is_open, is_close, is_question, is_sign, IsTooNested}
-use Rattle.ppexpr.specs.Conditions.{Condition, taken, EvaluatesShallow, no_expression, has_value, EvaluatesSymbols, too_nested, not_nested, EvaluatesTokens, made_defined, bad_constant, constants, IsCondition, ill_formed, not_replaced, replaced}
+use Rattle.ppexpr.specs.Conditions.{Condition, taken, EvaluatesShallow, no_expression, has_value, EvaluatesSymbols, too_nested, not_nested, EvaluatesTokens, defined_after_replacement, bad_constant, constants, IsCondition, ill_formed, expansion_fault, replaced}
 use Rattle.ppexpr.proofs.DefinedReplacement.{Begins, begins_other, begins_question, asks_none}
 use Rattle.ppexpr.proofs.MachineCorrectness.{exact}
 use Rattle.ppexpr.proofs.UnreplacedConditions.{operand_shorter}
@@ -113,7 +113,7 @@ some_constants at ts (Err f) e h = (Err f, bad_constant e h)
 some_constants at ts (Ok s) e h = let j = some_judgement at s in (j.0, constants e h j.1)
 
 some_decision : (at : Place) (ts : List Token) (b : Bool) → list_any is_defined ts ≡ b → (c : Condition) × EvaluatesTokens at ts c
-some_decision at ts true e = (Err (fault 22 at []), made_defined e)
+some_decision at ts true e = (Err (fault 22 at []), defined_after_replacement e)
 some_decision at ts false e = some_constants at ts (symbols_of at ts) e refl
 
 some_replacement : (macros : Macros) (env : Env) (at : Place) (ts us : List Token) (remaining : Option ℕ) (e : Expanded) (f : Option Fault)
@@ -121,13 +121,13 @@ some_replacement : (macros : Macros) (env : Env) (at : Place) (ts us : List Toke
     → IsExpansion macros env remaining us e
     → e.fault ≡ f
     → (c : Condition) × (remaining_after : Option ℕ) × IsCondition macros env at ts remaining c remaining_after
-some_replacement macros env at ts us remaining e (Some f) a x h = (Err f, e.remaining, not_replaced a x refl h)
+some_replacement macros env at ts us remaining e (Some f) a x h = (Err f, e.remaining, expansion_fault a x refl h)
 some_replacement macros env at ts us remaining e None a x h = let d = some_decision at e.tokens (list_any is_defined e.tokens) refl in (d.0, e.remaining, replaced a x refl h d.1)
 
 some_expansion : (macros : Macros) (env : Env) (remaining : Option ℕ) (ts : List Token) → (e : Expanded) × IsExpansion macros env remaining ts e
 some_expansion macros env remaining ts =
     let one = total macros env 0 remaining (map unhidden ts) in
-    (record { tokens = map (λ t. t.token) one.1.tokens; fault = one.1.fault; remaining = one.1.remaining }, record { outcome = one.1; expands = (one.0, one.2); emitted = refl; ended = refl; remains = refl })
+    (record { tokens = map (λ t. t.token) one.1.tokens; fault = one.1.fault; remaining = one.1.remaining }, record { outcome = one.1; expands = (one.0, one.2); emitted = refl; fault_is = refl; remaining_is = refl })
 
 pub some_condition : (macros : Macros) (env : Env) (at : Place) (ts : List Token) (remaining : Option ℕ) → (c : Condition) × (remaining_after : Option ℕ) × IsCondition macros env at ts remaining c remaining_after
 some_condition macros env at ts remaining = elim (answered (length ts) macros ts (omega arith)) [

@@ -14,7 +14,7 @@ use Rattle.ppexpr.specs.Reading.{Denotes}
 use Rattle.ppexpr.specs.Values.{outcome_of}
 use Rattle.ppexpr.specs.DefinedOperator.{defined_value, ReplacesDefined, nothing, other, defined_use}
 use Rattle.ppexpr.specs.Tokens.{symbols_of}
-use Rattle.ppexpr.specs.Conditions.{Condition, taken, EvaluatesShallow, no_expression, has_value, EvaluatesSymbols, too_nested, not_nested, EvaluatesTokens, made_defined, bad_constant, constants, IsCondition, ill_formed, not_replaced, replaced}
+use Rattle.ppexpr.specs.Conditions.{Condition, taken, EvaluatesShallow, no_expression, has_value, EvaluatesSymbols, too_nested, not_nested, EvaluatesTokens, defined_after_replacement, bad_constant, constants, IsCondition, ill_formed, expansion_fault, replaced}
 use Rattle.ppexpr.proofs.TreeUniqueness.{same_tree}
 use Rattle.ppexpr.proofs.DefinedReplacement.{Begins, begins_other, begins_question}
 
@@ -34,9 +34,9 @@ same_expansion : (macros : Macros) (env : Env) (remaining : Option ℕ) (ts : Li
 same_expansion macros env remaining ts d e g h =
     let same : g.outcome ≡ h.outcome = (same_outcome macros env g.expands.1 h.expands.0 h.outcome h.expands.1).1 in
     let emitted : d.tokens ≡ e.tokens = g.emitted ∙ (ap (λ o. map (λ t. t.token) o.tokens) same ∙ sym h.emitted) in
-    let ended : d.fault ≡ e.fault = g.ended ∙ (ap (λ o. o.fault) same ∙ sym h.ended) in
-    let lefts : d.remaining ≡ e.remaining = g.remains ∙ (ap (λ o. o.remaining) same ∙ sym h.remains) in
-    λ i. record { tokens = emitted i; fault = ended i; remaining = lefts i }
+    let fault_is : d.fault ≡ e.fault = g.fault_is ∙ (ap (λ o. o.fault) same ∙ sym h.fault_is) in
+    let lefts : d.remaining ≡ e.remaining = g.remaining_is ∙ (ap (λ o. o.remaining) same ∙ sym h.remaining_is) in
+    λ i. record { tokens = emitted i; fault = fault_is i; remaining = lefts i }
 
 same_outcomes : (s : List Symbol) (o p : Outcome) → Denotes s o → Denotes s p → o ≡ p
 same_outcomes s o p h k = sym h.2 ∙ (ap outcome_of (same_tree s h.0 k.0 h.1 k.1) ∙ k.2)
@@ -57,13 +57,13 @@ same_symbols : (at : Place) (ts : List Token) (s r : List Symbol) → symbols_of
 same_symbols at ts s r e f = cc
 
 same_decision : (at : Place) (ts : List Token) (c d : Condition) → EvaluatesTokens at ts c → EvaluatesTokens at ts d → c ≡ d
-same_decision at ts c d (made_defined e) (made_defined f) = refl
-same_decision at ts c d (made_defined e) (bad_constant f g) = cc
-same_decision at ts c d (made_defined e) (constants f g j) = cc
-same_decision at ts c d (bad_constant f g) (made_defined e) = cc
+same_decision at ts c d (defined_after_replacement e) (defined_after_replacement f) = refl
+same_decision at ts c d (defined_after_replacement e) (bad_constant f g) = cc
+same_decision at ts c d (defined_after_replacement e) (constants f g j) = cc
+same_decision at ts c d (bad_constant f g) (defined_after_replacement e) = cc
 same_decision at ts c d (bad_constant e f) (bad_constant g h) = cc
 same_decision at ts c d (bad_constant e f) (constants g h j) = cc
-same_decision at ts c d (constants f g j) (made_defined e) = cc
+same_decision at ts c d (constants f g j) (defined_after_replacement e) = cc
 same_decision at ts c d (constants g h j) (bad_constant e f) = cc
 same_decision at ts c d (constants {symbols = s} e f j) (constants {symbols = r} g h k) =
     same_judgement at r c d (subst (λ (x : List Symbol). EvaluatesSymbols at x c) (same_symbols at ts s r f h) j) k
@@ -78,25 +78,25 @@ same_fault d e f q s g h = let k : d.fault ≡ e.fault = ap (λ (x : Expanded). 
 no_fault : (d e : Expanded) (f : Fault) → d ≡ e → d.fault ≡ Some f → e.fault ≡ None → ⊥
 no_fault d e f s g h = let k : d.fault ≡ e.fault = ap (λ (x : Expanded). x.fault) s in cc
 
-same_remaining : (d e : Expanded) (remaining_after following : Option ℕ) → d ≡ e → d.remaining ≡ remaining_after → e.remaining ≡ following → remaining_after ≡ following
-same_remaining d e remaining_after following s g h = sym g ∙ (ap (λ (x : Expanded). x.remaining) s ∙ h)
+same_remaining : (d e : Expanded) (remaining_after other_remaining : Option ℕ) → d ≡ e → d.remaining ≡ remaining_after → e.remaining ≡ other_remaining → remaining_after ≡ other_remaining
+same_remaining d e remaining_after other_remaining s g h = sym g ∙ (ap (λ (x : Expanded). x.remaining) s ∙ h)
 
-pub same_condition : (macros : Macros) (env : Env) (at : Place) (ts : List Token) (remaining remaining_after following : Option ℕ) (c d : Condition)
+pub same_condition : (macros : Macros) (env : Env) (at : Place) (ts : List Token) (remaining remaining_after other_remaining : Option ℕ) (c d : Condition)
     → IsCondition macros env at ts remaining c remaining_after
-    → IsCondition macros env at ts remaining d following
-    → (c ≡ d) × (remaining_after ≡ following)
-same_condition macros env at ts remaining remaining_after following c d (ill_formed n) (ill_formed m) = (refl, refl)
-same_condition macros env at ts remaining remaining_after following c d (ill_formed n) (not_replaced a g l h) = absurd (n _ a)
-same_condition macros env at ts remaining remaining_after following c d (ill_formed n) (replaced a g l h j) = absurd (n _ a)
-same_condition macros env at ts remaining remaining_after following c d (not_replaced a g l h) (ill_formed n) = absurd (n _ a)
-same_condition macros env at ts remaining remaining_after following c d (replaced a g l h j) (ill_formed n) = absurd (n _ a)
-same_condition macros env at ts remaining remaining_after following c d (not_replaced {without_defined = us} {e = x} {f = f} a g l h) (not_replaced {without_defined = vs} {e = y} {f = q} b k m i) =
+    → IsCondition macros env at ts remaining d other_remaining
+    → (c ≡ d) × (remaining_after ≡ other_remaining)
+same_condition macros env at ts remaining remaining_after other_remaining c d (ill_formed n) (ill_formed m) = (refl, refl)
+same_condition macros env at ts remaining remaining_after other_remaining c d (ill_formed n) (expansion_fault a g l h) = absurd (n _ a)
+same_condition macros env at ts remaining remaining_after other_remaining c d (ill_formed n) (replaced a g l h j) = absurd (n _ a)
+same_condition macros env at ts remaining remaining_after other_remaining c d (expansion_fault a g l h) (ill_formed n) = absurd (n _ a)
+same_condition macros env at ts remaining remaining_after other_remaining c d (replaced a g l h j) (ill_formed n) = absurd (n _ a)
+same_condition macros env at ts remaining remaining_after other_remaining c d (expansion_fault {without_defined = us} {e = x} {f = f} a g l h) (expansion_fault {without_defined = vs} {e = y} {f = q} b k m i) =
     let same : x ≡ y = same_replacement macros env remaining ts us vs x y a b g k in
-    (ap (λ (z : Fault). Err z) (same_fault x y f q same h i), same_remaining x y remaining_after following same l m)
-same_condition macros env at ts remaining remaining_after following c d (not_replaced {without_defined = us} {e = x} {f = f} a g l h) (replaced {without_defined = vs} {e = y} b k m i j) =
+    (ap (λ (z : Fault). Err z) (same_fault x y f q same h i), same_remaining x y remaining_after other_remaining same l m)
+same_condition macros env at ts remaining remaining_after other_remaining c d (expansion_fault {without_defined = us} {e = x} {f = f} a g l h) (replaced {without_defined = vs} {e = y} b k m i j) =
     absurd (no_fault x y f (same_replacement macros env remaining ts us vs x y a b g k) h i)
-same_condition macros env at ts remaining remaining_after following c d (replaced {without_defined = vs} {e = y} b k m i j) (not_replaced {without_defined = us} {e = x} {f = f} a g l h) =
+same_condition macros env at ts remaining remaining_after other_remaining c d (replaced {without_defined = vs} {e = y} b k m i j) (expansion_fault {without_defined = us} {e = x} {f = f} a g l h) =
     absurd (no_fault x y f (same_replacement macros env remaining ts us vs x y a b g k) h i)
-same_condition macros env at ts remaining remaining_after following c d (replaced {without_defined = us} {e = x} a g l h i) (replaced {without_defined = vs} {e = y} b k m n j) =
+same_condition macros env at ts remaining remaining_after other_remaining c d (replaced {without_defined = us} {e = x} a g l h i) (replaced {without_defined = vs} {e = y} b k m n j) =
     let same : x ≡ y = same_replacement macros env remaining ts us vs x y a b g k in
-    (same_decision at y.tokens c d (subst (λ (z : Expanded). EvaluatesTokens at z.tokens c) same i) j, same_remaining x y remaining_after following same l m)
+    (same_decision at y.tokens c d (subst (λ (z : Expanded). EvaluatesTokens at z.tokens c) same i) j, same_remaining x y remaining_after other_remaining same l m)

@@ -7,7 +7,7 @@ use Rattle.ppexpr.specs.Symbols.{Symbol, Operator, Open, Close, Question, Colon,
 use Rattle.ppexpr.specs.Operations.{Unary, Binary, Multiply, Divide, Remainder, Add, Subtract, ShiftLeft, ShiftRight, Less, Greater, LessOrEqual, GreaterOrEqual, Equal, NotEqual, BitAnd, BitXor, BitOr, And, Or}
 use Rattle.ppexpr.specs.Trees.{Tree, Leaf, Applied, Joined, Chosen}
 use Rattle.ppexpr.specs.Grammar.{level_of, Derives, constant, parentheses, unary, binary, conditional, tighter}
-use Rattle.ppexpr.specs.code.Pending.{Meaning, Frame, Group, Sign, Left, Test, Arms, frame_level, completed, unreduced, reduced, signed, operated, between, closed, ended}
+use Rattle.ppexpr.specs.code.Pending.{Meaning, Frame, Group, Sign, Left, Test, Arms, frame_level, completed, unreduced, reduced, after_sign, after_operator, after_colon, after_close, after_last}
 use Rattle.ppexpr.proofs.MachineRuns.{run}
 
 -- the value of a tree, by the operations of a `Meaning`
@@ -115,7 +115,7 @@ reach_parentheses m fs s t r = record {
   runs = λ rest.
       ap (λ xs. run m (Group ∷ fs, None) xs) (append_assoc s (Close ∷ []) rest)
       ∙ r.runs (Close ∷ rest)
-      ∙ (λ i. option_and_then (λ n. run m n rest) (closed (unreduced-tight 1 r.above (Group ∷ fs) r.open_none i) ((reduced-tight m 1 r.above (Group ∷ fs) r.last r.open_none ∙ r.value) i)));
+      ∙ (λ i. option_and_then (λ n. run m n rest) (after_close (unreduced-tight 1 r.above (Group ∷ fs) r.open_none i) ((reduced-tight m 1 r.above (Group ∷ fs) r.last r.open_none ∙ r.value) i)));
 }
 
 reach_unary : {A : Type 0} (m : Meaning A) (fs : List (Frame A)) (s : List Symbol) (t : Tree) (sign : OperatorSign) (o : Unary) →
@@ -127,7 +127,7 @@ reach_unary m fs s t sign o e r = record {
   open_none = Tight-push 1 r.above (Sign o) r.open_none (omega arith);
   value = all_completed-push m r.above (Sign o) r.last ∙ ap (λ z. m.applied o z) r.value;
   runs = λ rest.
-      ap (λ q. option_and_then (λ n. run m n (s ++ rest)) (signed fs q)) e
+      ap (λ q. option_and_then (λ n. run m n (s ++ rest)) (after_sign fs q)) e
       ∙ r.runs rest
       ∙ ap (λ gs. run m (gs, Some r.last) rest) (sym (append_assoc r.above (Sign o ∷ []) fs));
 }
@@ -144,7 +144,7 @@ reach_binary m fs s q t u sign o e w a b = record {
   runs = λ rest.
       ap (λ xs. run m (fs, None) xs) (append_assoc s (Operator sign ∷ q) rest)
       ∙ a.runs (Operator sign ∷ (q ++ rest))
-      ∙ ap (λ x. option_and_then (λ n. run m n (q ++ rest)) (operated m (a.above ++ fs) a.last x)) e
+      ∙ ap (λ x. option_and_then (λ n. run m n (q ++ rest)) (after_operator m (a.above ++ fs) a.last x)) e
       ∙ (λ i. run m (Left o (left i) ∷ below i, None) (q ++ rest))
       ∙ b.runs rest
       ∙ ap (λ gs. run m (gs, Some b.last) rest) (sym (append_assoc b.above (Left o (meaning m t) ∷ []) fs));
@@ -171,7 +171,7 @@ reach_conditional m fs s q n t u v w a b c = record {
       ∙ (λ i. run m (Test (test i) ∷ below i, None) ((q ++ (Colon ∷ n)) ++ rest))
       ∙ ap (λ xs. run m (Test (meaning m t) ∷ fs, None) xs) (append_assoc q (Colon ∷ n) rest)
       ∙ b.runs (Colon ∷ (n ++ rest))
-      ∙ (λ i. option_and_then (λ r. run m r (n ++ rest)) (between (unreduced-tight 1 b.above (Test (meaning m t) ∷ fs) b.open_none i) ((reduced-tight m 1 b.above (Test (meaning m t) ∷ fs) b.last b.open_none ∙ b.value) i)))
+      ∙ (λ i. option_and_then (λ r. run m r (n ++ rest)) (after_colon (unreduced-tight 1 b.above (Test (meaning m t) ∷ fs) b.open_none i) ((reduced-tight m 1 b.above (Test (meaning m t) ∷ fs) b.last b.open_none ∙ b.value) i)))
       ∙ c.runs rest
       ∙ ap (λ gs. run m (gs, Some c.last) rest) (sym (append_assoc c.above (Arms (meaning m t) (meaning m u) ∷ []) fs));
 }
@@ -212,4 +212,4 @@ complete m s t d = at_end (reaches m d [] tt)
     at_end r =
         ap (λ xs. run m ([], None) xs) (sym (append-nil s))
         ∙ r.runs []
-        ∙ (λ i. ended (unreduced-tight 1 r.above [] r.open_none i) ((reduced-tight m 1 r.above [] r.last r.open_none ∙ r.value) i))
+        ∙ (λ i. after_last (unreduced-tight 1 r.above [] r.open_none i) ((reduced-tight m 1 r.above [] r.last r.open_none ∙ r.value) i))

@@ -7,7 +7,7 @@ use Rattle.ppexpr.specs.Symbols.{Symbol, Constant, Operator, Open, Close, Questi
 use Rattle.ppexpr.specs.Operations.{Unary, Binary}
 use Rattle.ppexpr.specs.Trees.{Tree, Leaf, Applied, Joined, Chosen}
 use Rattle.ppexpr.specs.Grammar.{level_of, Derives, constant, parentheses, unary, binary, conditional, tighter}
-use Rattle.ppexpr.specs.code.Pending.{Meaning, Frame, Group, Sign, Left, Test, Arms, frame_level, completed, unreduced, reduced, State, signed, operated, between, closed, ended, step}
+use Rattle.ppexpr.specs.code.Pending.{Meaning, Frame, Group, Sign, Left, Test, Arms, frame_level, completed, unreduced, reduced, State, after_sign, after_operator, after_colon, after_close, after_last, step}
 use Rattle.ppexpr.proofs.MachineCompleteness.{meaning, level_bounds}
 use Rattle.ppexpr.proofs.MachineRuns.{run}
 
@@ -147,15 +147,15 @@ abbrev Stands : {A : Type 0} → Meaning A → State A → List Symbol → Type 
 Stands m (fs, None) xs = Opens m fs xs
 Stands m (fs, Some z) xs = Reads m 13 fs z xs
 
-signed-stands : {A : Type 0} (m : Meaning A) (fs : List (Frame A)) (xs : List Symbol) (s : OperatorSign) (q : Option Unary) → unary_of s ≡ q →
-    Opens m fs xs → IfSome (signed fs q) (λ r. Stands m r (xs ++ Operator s ∷ []))
-signed-stands m fs xs s None e h = tt
-signed-stands m fs xs s (Some o) e h = sign s o e h refl
+after_sign-stands : {A : Type 0} (m : Meaning A) (fs : List (Frame A)) (xs : List Symbol) (s : OperatorSign) (q : Option Unary) → unary_of s ≡ q →
+    Opens m fs xs → IfSome (after_sign fs q) (λ r. Stands m r (xs ++ Operator s ∷ []))
+after_sign-stands m fs xs s None e h = tt
+after_sign-stands m fs xs s (Some o) e h = sign s o e h refl
 
-operated-stands : {A : Type 0} (m : Meaning A) (fs : List (Frame A)) (z : A) (xs : List Symbol) (s : OperatorSign) (q : Option Binary) → binary_of s ≡ q →
-    Reads m 13 fs z xs → IfSome (operated m fs z q) (λ r. Stands m r (xs ++ Operator s ∷ []))
-operated-stands m fs z xs s None e h = tt
-operated-stands m fs z xs s (Some o) e h = opened (reduce m (level_of o) 13 fs z xs (omega (arith, level_bounds o)) (omega (arith, level_bounds o)) h)
+after_operator-stands : {A : Type 0} (m : Meaning A) (fs : List (Frame A)) (z : A) (xs : List Symbol) (s : OperatorSign) (q : Option Binary) → binary_of s ≡ q →
+    Reads m 13 fs z xs → IfSome (after_operator m fs z q) (λ r. Stands m r (xs ++ Operator s ∷ []))
+after_operator-stands m fs z xs s None e h = tt
+after_operator-stands m fs z xs s (Some o) e h = opened (reduce m (level_of o) 13 fs z xs (omega (arith, level_bounds o)) (omega (arith, level_bounds o)) h)
   where
     opened : Reads m (level_of o) (unreduced (level_of o) fs) (reduced m (level_of o) fs z) xs →
         Opens m (Left o (reduced m (level_of o) fs z) ∷ unreduced (level_of o) fs) (xs ++ Operator s ∷ [])
@@ -174,21 +174,21 @@ wanted_low (Left o x ∷ fs) h = absurd (omega (arith, level_bounds o))
 wanted_low (Test x ∷ fs) h = omega arith
 wanted_low (Arms x y ∷ fs) h = omega arith
 
-between-stands : {A : Type 0} (m : Meaning A) {fs : List (Frame A)} {xs : List Symbol} → Opens m fs xs → (z : A) (ns all : List Symbol) (t : Tree) →
-    Derives 1 ns t → z ≡ meaning m t → xs ++ ns ≡ all → IfSome (between fs z) (λ r. Stands m r (all ++ Colon ∷ []))
-between-stands m (nothing) z ns all t operand means whole = tt
-between-stands m (group outer read) z ns all t operand means whole = tt
-between-stands m (sign o u is outer read) z ns all t operand means whole = tt
-between-stands m (left o b is outer fits first same read) z ns all t operand means whole = tt
-between-stands m (test {xs = xs} {ys = ys} {zs = zs} outer fits first same read) z ns all t operand means whole =
+after_colon-stands : {A : Type 0} (m : Meaning A) {fs : List (Frame A)} {xs : List Symbol} → Opens m fs xs → (z : A) (ns all : List Symbol) (t : Tree) →
+    Derives 1 ns t → z ≡ meaning m t → xs ++ ns ≡ all → IfSome (after_colon fs z) (λ r. Stands m r (all ++ Colon ∷ []))
+after_colon-stands m (nothing) z ns all t operand means whole = tt
+after_colon-stands m (group outer read) z ns all t operand means whole = tt
+after_colon-stands m (sign o u is outer read) z ns all t operand means whole = tt
+after_colon-stands m (left o b is outer fits first same read) z ns all t operand means whole = tt
+after_colon-stands m (test {xs = xs} {ys = ys} {zs = zs} outer fits first same read) z ns all t operand means whole =
     arms outer fits first same (tighter operand) means
     (pushed xs (ys ++ (Question ∷ ns)) all Colon (middle xs ys zs ns all Question read whole) ∙ ap (λ q. xs ++ q) (append_assoc ys (Question ∷ ns) (Colon ∷ [])))
-between-stands m (arms outer fits first same second like read) z ns all t operand means whole = tt
+after_colon-stands m (arms outer fits first same second like read) z ns all t operand means whole = tt
 
-closed-stands : {A : Type 0} (m : Meaning A) {fs : List (Frame A)} {xs : List Symbol} → Opens m fs xs → (z : A) (ns all : List Symbol) (t : Tree) →
-    Derives 1 ns t → z ≡ meaning m t → xs ++ ns ≡ all → IfSome (closed fs z) (λ r. Stands m r (all ++ Close ∷ []))
-closed-stands m (nothing) z ns all t operand means whole = tt
-closed-stands m (group {fs = fs} {xs = xs} {zs = zs} outer read) z ns all t operand means whole = record {
+after_close-stands : {A : Type 0} (m : Meaning A) {fs : List (Frame A)} {xs : List Symbol} → Opens m fs xs → (z : A) (ns all : List Symbol) (t : Tree) →
+    Derives 1 ns t → z ≡ meaning m t → xs ++ ns ≡ all → IfSome (after_close fs z) (λ r. Stands m r (all ++ Close ∷ []))
+after_close-stands m (nothing) z ns all t operand means whole = tt
+after_close-stands m (group {fs = fs} {xs = xs} {zs = zs} outer read) z ns all t operand means whole = record {
   before = xs;
   inside = Open ∷ (ns ++ Close ∷ []);
   tree = t;
@@ -198,23 +198,23 @@ closed-stands m (group {fs = fs} {xs = xs} {zs = zs} outer read) z ns all t oper
   value = means;
   whole = front xs zs (ns ++ Close ∷ []) (all ++ Close ∷ []) Open read (sym (pushed zs ns all Close whole));
 }
-closed-stands m (sign o u is outer read) z ns all t operand means whole = tt
-closed-stands m (left o b is outer fits first same read) z ns all t operand means whole = tt
-closed-stands m (test outer fits first same read) z ns all t operand means whole = tt
-closed-stands m (arms outer fits first same second like read) z ns all t operand means whole = tt
+after_close-stands m (sign o u is outer read) z ns all t operand means whole = tt
+after_close-stands m (left o b is outer fits first same read) z ns all t operand means whole = tt
+after_close-stands m (test outer fits first same read) z ns all t operand means whole = tt
+after_close-stands m (arms outer fits first same second like read) z ns all t operand means whole = tt
 
 -- the symbols are an expression with this meaning
 abbrev pub Means : {A : Type 0} → Meaning A → List Symbol → A → Type 0
 Means m all z = (t : Tree) × Derives 0 all t × (z ≡ meaning m t)
 
-ended-means : {A : Type 0} (m : Meaning A) {fs : List (Frame A)} {xs : List Symbol} → Opens m fs xs → (z : A) (ns all : List Symbol) (t : Tree) →
-    Derives 1 ns t → z ≡ meaning m t → xs ++ ns ≡ all → IfSome (ended fs z) (Means m all)
-ended-means m (nothing) z ns all t operand means whole = (t, subst (λ q. Derives 0 q t) whole (tighter operand), means)
-ended-means m (group outer read) z ns all t operand means whole = tt
-ended-means m (sign o u is outer read) z ns all t operand means whole = tt
-ended-means m (left o b is outer fits first same read) z ns all t operand means whole = tt
-ended-means m (test outer fits first same read) z ns all t operand means whole = tt
-ended-means m (arms outer fits first same second like read) z ns all t operand means whole = tt
+after_last-means : {A : Type 0} (m : Meaning A) {fs : List (Frame A)} {xs : List Symbol} → Opens m fs xs → (z : A) (ns all : List Symbol) (t : Tree) →
+    Derives 1 ns t → z ≡ meaning m t → xs ++ ns ≡ all → IfSome (after_last fs z) (Means m all)
+after_last-means m (nothing) z ns all t operand means whole = (t, subst (λ q. Derives 0 q t) whole (tighter operand), means)
+after_last-means m (group outer read) z ns all t operand means whole = tt
+after_last-means m (sign o u is outer read) z ns all t operand means whole = tt
+after_last-means m (left o b is outer fits first same read) z ns all t operand means whole = tt
+after_last-means m (test outer fits first same read) z ns all t operand means whole = tt
+after_last-means m (arms outer fits first same second like read) z ns all t operand means whole = tt
 
 step-stands : {A : Type 0} (m : Meaning A) (s : State A) (xs : List Symbol) (x : Symbol) → Stands m s xs → IfSome (step m s x) (λ r. Stands m r (xs ++ x ∷ []))
 step-stands m (fs, None) xs (Constant v) h = record {
@@ -227,24 +227,24 @@ step-stands m (fs, None) xs (Constant v) h = record {
   value = refl;
   whole = refl;
 }
-step-stands m (fs, None) xs (Operator o) h = signed-stands m fs xs o (unary_of o) refl h
+step-stands m (fs, None) xs (Operator o) h = after_sign-stands m fs xs o (unary_of o) refl h
 step-stands m (fs, None) xs Open h = group h refl
 step-stands m (fs, None) xs Close h = tt
 step-stands m (fs, None) xs Question h = tt
 step-stands m (fs, None) xs Colon h = tt
 step-stands m (fs, None) xs Other h = tt
 step-stands m (fs, Some z) xs (Constant v) h = tt
-step-stands m (fs, Some z) xs (Operator o) h = operated-stands m fs z xs o (binary_of o) refl h
+step-stands m (fs, Some z) xs (Operator o) h = after_operator-stands m fs z xs o (binary_of o) refl h
 step-stands m (fs, Some z) xs Open h = tt
 step-stands m (fs, Some z) xs Close h =
     let r : Reads m 1 (unreduced 1 fs) (reduced m 1 fs z) xs = reduce m 1 13 fs z xs (omega arith) (omega arith) h in
-    closed-stands m r.opens (reduced m 1 fs z) r.inside xs r.tree r.derives r.value r.whole
+    after_close-stands m r.opens (reduced m 1 fs z) r.inside xs r.tree r.derives r.value r.whole
 step-stands m (fs, Some z) xs Question h =
     let r : Reads m 2 (unreduced 2 fs) (reduced m 2 fs z) xs = reduce m 2 13 fs z xs (omega arith) (omega arith) h in
     tested-stands m (unreduced 2 fs) (reduced m 2 fs z) xs (wanted_low (unreduced 2 fs) r.fits) r
 step-stands m (fs, Some z) xs Colon h =
     let r : Reads m 1 (unreduced 1 fs) (reduced m 1 fs z) xs = reduce m 1 13 fs z xs (omega arith) (omega arith) h in
-    between-stands m r.opens (reduced m 1 fs z) r.inside xs r.tree r.derives r.value r.whole
+    after_colon-stands m r.opens (reduced m 1 fs z) r.inside xs r.tree r.derives r.value r.whole
 step-stands m (fs, Some z) xs Other h = tt
 
 next-means : {A : Type 0} (m : Meaning A) (q : Option (State A)) (P : State A → Type 0) (xs all : List Symbol) → IfSome q P →
@@ -256,7 +256,7 @@ run-means : {A : Type 0} (m : Meaning A) (xs : List Symbol) (s : State A) (ys : 
 run-means m [] (fs, None) ys h = tt
 run-means m [] (fs, Some z) ys h =
     let r : Reads m 1 (unreduced 1 fs) (reduced m 1 fs z) ys = reduce m 1 13 fs z ys (omega arith) (omega arith) h in
-    ended-means m r.opens (reduced m 1 fs z) r.inside (ys ++ []) r.tree r.derives r.value (r.whole ∙ sym (append-nil ys))
+    after_last-means m r.opens (reduced m 1 fs z) r.inside (ys ++ []) r.tree r.derives r.value (r.whole ∙ sym (append-nil ys))
 run-means m (x ∷ xs) s ys h = next-means m (step m s x) (λ r. Stands m r (ys ++ x ∷ [])) xs (ys ++ x ∷ xs) (step-stands m s ys x h)
     (λ r k. subst (λ l. IfSome (run m r xs) (Means m l)) (append_assoc ys (x ∷ []) xs) (run-means m xs r (ys ++ x ∷ []) k))
 

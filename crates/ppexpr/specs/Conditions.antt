@@ -47,7 +47,7 @@ pub data EvaluatesSymbols (at : Place) (symbols : List Symbol) : Condition → T
 
 -- a `defined` that replacement made is fault 22; then the first constant from the left without a value is fault 24 or 25
 pub data EvaluatesTokens (at : Place) (tokens : List Token) : Condition → Type 0 where
-  made_defined : list_any is_defined tokens ≡ true → EvaluatesTokens at tokens (Err (fault 22 at []))
+  defined_after_replacement : list_any is_defined tokens ≡ true → EvaluatesTokens at tokens (Err (fault 22 at []))
   bad_constant : {f : Fault} → list_any is_defined tokens ≡ false → symbols_of at tokens ≡ Err f → EvaluatesTokens at tokens (Err f)
   constants : {symbols : List Symbol} {c : Condition}
       → list_any is_defined tokens ≡ false
@@ -61,7 +61,7 @@ pub data IsCondition (macros : Macros) (env : Env) (at : Place) (tokens : List T
   ill_formed : {remaining : Option ℕ}
       → ((without_defined : List Token) → ¬ ReplacesDefined macros tokens without_defined)
       → IsCondition macros env at tokens remaining (Err (fault 22 at [])) remaining
-  not_replaced : {remaining remaining_after : Option ℕ} {without_defined : List Token} {e : Expanded} {f : Fault}
+  expansion_fault : {remaining remaining_after : Option ℕ} {without_defined : List Token} {e : Expanded} {f : Fault}
       → ReplacesDefined macros tokens without_defined
       → IsExpansion macros env remaining without_defined e
       → e.remaining ≡ remaining_after
@@ -80,5 +80,5 @@ abbrev pub count_condition : {macros : Macros} {env : Env} {at : Place} {tokens 
     → IsCondition macros env at tokens remaining c remaining_after
     → ℕ
 count_condition (ill_formed none) = 0
-count_condition (not_replaced asks expands leaves is) = count_expansion expands
-count_condition (replaced asks expands leaves is decides) = count_expansion expands
+count_condition (expansion_fault replaces expands remaining_is fault_is) = count_expansion expands
+count_condition (replaced replaces expands remaining_is fault_is evaluates) = count_expansion expands

@@ -11,6 +11,6 @@ IsInRange (Signed z) = is_intmax z ≡ true
 IsInRange (Unsigned n) = n < 2 ^ 64
 
 -- a condition with the budget b and what is left, compared with that condition without a budget, which makes this number of replacements
-pub record IsCapped (b replacements : ℕ) (whole answer : Condition) (remaining : Option ℕ) : Type 0 where
-  pub enough : replacements ≤ b → (answer ≡ whole) × (remaining ≡ Some (b - replacements))
-  pub short : b < replacements → ((f : Fault) × (answer ≡ Err f) × (f.number ≡ 35)) × (remaining ≡ Some 0)
+pub record IsCapped (b replacements : ℕ) (whole limited : Condition) (remaining : Option ℕ) : Type 0 where
+  pub enough : replacements ≤ b → (limited ≡ whole) × (remaining ≡ Some (b - replacements))
+  pub short : b < replacements → ((f : Fault) × (limited ≡ Err f) × (f.number ≡ 35)) × (remaining ≡ Some 0)

@@ -89,12 +89,12 @@ fn evaluate_rope(alloc: Global, at: Place, rope: &TokenRope) -> Result<bool, Err
 
 /// Returns the result together with the rest of the budget.
 fn with_remaining(
-    decided: Result<bool, Error>,
+    condition: Result<bool, Error>,
     remaining: Option<u64>,
 ) -> Result<(Result<bool, Fault>, Option<u64>), Memory>
-    ensures { IfOk result (λ r. (Ok r.0 ≡ split_memory decided) × (r.1 ≡ remaining)) }
+    ensures { IfOk result (λ r. (Ok r.0 ≡ split_memory condition) × (r.1 ≡ remaining)) }
 {
-    Ok((split_memory(decided)?, remaining))
+    Ok((split_memory(condition)?, remaining))
 }
 
 /// Replaces macros and evaluates the result. Also returns the rest of the budget.

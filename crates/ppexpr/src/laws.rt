@@ -43,10 +43,10 @@ pub fn reads_constants()
 
 /// A condition has at most one result (true, false or one fault), and at most one rest of the budget.
 pub fn one_condition()
-    ensures { (macros : Macros) (env : Env) (at : Place) (tokens : List Token) (remaining remaining_after following : Option ℕ) (c d : Condition)
+    ensures { (macros : Macros) (env : Env) (at : Place) (tokens : List Token) (remaining remaining_after other_remaining : Option ℕ) (c d : Condition)
         → IsCondition macros env at tokens remaining c remaining_after
-        → IsCondition macros env at tokens remaining d following
-        → (c ≡ d) × (remaining_after ≡ following) }
+        → IsCondition macros env at tokens remaining d other_remaining
+        → (c ≡ d) × (remaining_after ≡ other_remaining) }
 {}
 
 /// Each list of tokens has a result, for all macros and all budgets.
@@ -69,7 +69,7 @@ pub fn budget_is_spent()
         → remaining ≡ plus (count_condition d) remaining_after }
 {}
 
-/// A condition within a budget equals the one without if that costs no more. Otherwise it ends in fault 35, and nothing is left.
+/// A condition has the same result within a budget as without one if the cost does not exceed the budget. Otherwise it ends in fault 35, and nothing remains of the budget.
 pub fn budget_caps()
     ensures { (macros : Macros) (env : Env) (at : Place) (tokens : List Token) (whole : Condition) (rest : Option ℕ)
         → (d : IsCondition macros env at tokens None whole rest) (b : ℕ) (c : Condition) (remaining_after : Option ℕ)

@@ -73,7 +73,7 @@ fn nests_signs(symbols: &[Symbol]) -> bool
 pub(crate) fn is_too_nested(symbols: &[Symbol]) -> bool
     ensures { IsTrue result ↔ IsTooNested symbols.now }
 {
-    // Few symbols cannot be nested too deep.
+    // A list of at most 256 symbols cannot be nested too deep.
     if symbols.len() <= MOST {
         return false;
     }

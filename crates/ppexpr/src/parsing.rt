@@ -2,7 +2,7 @@
 ghost use Rattle.std.specs.Prelude.{◌≡◌, Some, None, IfOk, MatchOption, ◌∷◌, MatchBool, reverse};
 ghost use Rattle.ppexpr.specs.Grammar.{IsExpression, level_of};
 ghost use Rattle.ppexpr.specs.Outcomes.{Outcome};
-ghost use Rattle.ppexpr.specs.code.Pending.{Group, Test, frame_level, outcomes, completed, unreduced, reduced, between, closed, ParserTakes, finish};
+ghost use Rattle.ppexpr.specs.code.Pending.{Group, Test, frame_level, outcomes, completed, unreduced, reduced, after_colon, after_close, ParserTakes, finish};
 ghost use Rattle.ppexpr.specs.Reading.{Denotes};
 
 use crate::operators::{Binary, BinaryKind, Unary};
@@ -144,7 +144,7 @@ fn reduce(pending: &mut Vec<Pending>, level: u8, mut operand: Outcome) -> Outcom
 
 /// Removes the innermost entry. Returns whether it was a `(`.
 fn pop_group(pending: &mut Vec<Pending>) -> bool
-    ensures { MatchBool result (reverse pending.old.items ≡ Group ∷ reverse pending.new.items) ((z : Outcome) → closed (reverse pending.old.items) z ≡ None) }
+    ensures { MatchBool result (reverse pending.old.items ≡ Group ∷ reverse pending.new.items) ((z : Outcome) → after_close (reverse pending.old.items) z ≡ None) }
 {
     let Some(last) = pending.pop() else {
         return false;
@@ -154,7 +154,7 @@ fn pop_group(pending: &mut Vec<Pending>) -> bool
 
 /// Removes the innermost entry. Returns its condition if it was a `?`.
 fn pop_test(pending: &mut Vec<Pending>) -> Option<Outcome>
-    ensures { MatchOption result ((z : Outcome) → between (reverse pending.old.items) z ≡ None) (λ x. reverse pending.old.items ≡ Test x ∷ reverse pending.new.items) }
+    ensures { MatchOption result ((z : Outcome) → after_colon (reverse pending.old.items) z ≡ None) (λ x. reverse pending.old.items ≡ Test x ∷ reverse pending.new.items) }
 {
     let last = pending.pop()?;
     let kind = last.kind;
@@ -168,7 +168,7 @@ impl Parser {
     /// Reads a symbol where an operand is expected. Returns false if no operand begins with it.
     fn begin(&mut self, symbol: Symbol) -> Result<bool, AllocError>
         requires { self.old.1 ≡ None }
-        ensures { IfOk result (λ more. ParserTakes self.old symbol more self.new) }
+        ensures { IfOk result (λ accepted. ParserTakes self.old symbol accepted self.new) }
     {
         let kind = symbol.kind;
         match kind {
@@ -190,9 +190,9 @@ impl Parser {
     }
 
     /// Reads a symbol after an operand. Returns false if no expression continues with it.
-    fn go_on(&mut self, operand: Outcome, symbol: Symbol) -> Result<bool, AllocError>
+    fn read_after_operand(&mut self, operand: Outcome, symbol: Symbol) -> Result<bool, AllocError>
         requires { self.old.1 ≡ Some operand }
-        ensures { IfOk result (λ more. ParserTakes self.old symbol more self.new) }
+        ensures { IfOk result (λ accepted. ParserTakes self.old symbol accepted self.new) }
     {
         let kind = symbol.kind;
         match kind {
@@ -230,11 +230,11 @@ impl Parser {
 
     /// Reads the next symbol. Returns false if no expression continues with it.
     fn take(&mut self, symbol: Symbol) -> Result<bool, AllocError>
-        ensures { IfOk result (λ more. ParserTakes self.old symbol more self.new) }
+        ensures { IfOk result (λ accepted. ParserTakes self.old symbol accepted self.new) }
     {
         match self.operand {
             None => self.begin(symbol),
-            Some(operand) => self.go_on(operand, symbol),
+            Some(operand) => self.read_after_operand(operand, symbol),
         }
     }
 

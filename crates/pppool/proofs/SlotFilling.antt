@@ -145,10 +145,10 @@ within_slots retain shelf mine theirs setting units slots results fit all k d w 
 -- Appending a seat preserves `AllFilled`, if the slots of its blocks are full.
 pub filled_push : (count block : ℕ) (seats more : List SeatView) (seat : SeatView) (old new : List (Option UnitOut)) → more ≡ seats ++ seat ∷ [] → AllFilled count block (claims_of seats) old
     → ((i : ℕ) → IsSome (get_or old i None) → IsSome (get_or new i None)) → ((i : ℕ) → i < count → 0 < times (i / block) seat.claims → IsSome (get_or new i None)) → AllFilled count block (claims_of more) new
-filled_push count block seats more seat old new is all stay fill_slot i w h =
+filled_push count block seats more seat old new is all stay claims_filled i w h =
     let sum = ap (λ l. times (i / block) (claims_of l)) is ∙ claims-append (i / block) seats seat in
     elim (cases_lt 0 (times (i / block) seat.claims)) [
-      | inl e ↦ fill_slot i w e
+      | inl e ↦ claims_filled i w e
       | inr e ↦ stay i (all i w (omega arith))
     ]
 

@@ -19,7 +19,7 @@ ListGrows =
     (names : List (List ℕ)) (files more : Files) (setting : Setting) (units : List UnitOfList) (results : List UnitOut)
     → Extends more files → AreUnits names files setting units results → AreUnits names more setting units results
 
--- two maps of files that were merged with others into one agree, however often that one was merged further
+-- two file maps agree if one map extends both, such as those of two passes that were merged into one pass
 abbrev pub JoinedAgree : Type 0
 JoinedAgree = (one two all : Files) → Extends all one → Extends all two → Agree one two
 
@@ -36,7 +36,7 @@ EachHasOneValue =
     → Extends more files
     → AllZip (λ unit out. IsOnlyValue names more setting unit out) units results
 
--- and so is what is kept of a list's values
+-- What is kept of the units' values over one set of files is the only such list over any larger set.
 abbrev pub RetainsOneList : Type 0
 RetainsOneList =
     (retain : Retain) (names : List (List ℕ)) (files more : Files) (setting : Setting) (units : List UnitOfList) (outs others : List UnitOut)

@@ -31,7 +31,7 @@ pub record AreRetained (retain : Retain) (names : List (List ℕ)) (files : File
   pub values : AreUnits names files setting units wholes
   pub same : outs ≡ map (retained retain) wholes
 
--- these are what is kept of the units' values, each of which takes at most the budget's replacements and opened files
+-- these are what is kept of the units' values; each unit's replacements and opened files total at most the budget
 pub record AreRetainedInBudget (retain : Retain) (names : List (List ℕ)) (files : Files) (setting : Setting)
     (units : List UnitOfList) (outs : List UnitOut) : Type 0 where
   pub retained : AreRetained retain names files setting units outs

@@ -78,7 +78,7 @@ impl Desk {
     }
 
     /// Claims the next block: no other seat claims it, and its number is above all claims of this seat. Returns nothing
-    /// if no block is left, and from then on always for this seat. Doesn't allocate.
+    /// if no block is left, and then on every later call with this seat. Doesn't allocate.
     pub fn claim(&self, seat: &mut DeskSeat) -> Option<u64>
         requires { seat.old.desk ≡ self.now }
         ensures desk { seat.new.desk ≡ self.now }
@@ -107,7 +107,7 @@ impl Desk {
     /// twice. Doesn't allocate.
     pub fn close(self, mut seats: Vec<DeskSeat>) -> bool
         requires { All (λ s. s.desk ≡ self) seats.items }
-        ensures apart { (x : ℕ) → times x (claims_of seats.items) ≤ 1 }
+        ensures no_repeats { (x : ℕ) → times x (claims_of seats.items) ≤ 1 }
         ensures blocks { All (λ b. b < self.plan.blocks) (claims_of seats.items) }
         ensures value { result ≡ ((length seats.items == self.plan.seats) && any_empty seats.items) }
         ensures whole { IsTrue result → (x : ℕ) → times x (claims_of seats.items) ≡ once_below x self.plan.blocks }

@@ -3,7 +3,7 @@ ghost use Rattle.pppool.specs.Laws.{EachHasOneValue, HasSomeValues, JoinedAgree,
 
 use ppunit::{growth, one_value, some_value};
 
-/// Theorem: the values that units have over what one worker knows they also have over what all workers know together.
+/// Theorem: the values of units over the files that one worker knows are their values over the files that all know.
 pub fn list_growth()
     ensures { ListGrows }
 {
@@ -11,7 +11,7 @@ pub fn list_growth()
 }
 
 /// Theorem: if file names are distinct, the values of a list's units over one set of files, such as what the pass knows
-/// after `run`, are their only values over any larger set; and so is what is kept of them.
+/// after `run`, are their only values over any larger set; their retained outputs are unique, too.
 pub fn each_unit_has_one_value()
     ensures values { EachHasOneValue }
     ensures retained { RetainsOneList }

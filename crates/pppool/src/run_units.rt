@@ -212,12 +212,12 @@ fn absorb<'a, D: Disk, G: Gate>(
     ensures grows { Extends pass.new.files pass.old.files }
     ensures slots { FitSlots job.now.retain job.now.shelf.now pass.new.files job.now.setting.now job.now.units.now slots.new.items }
     ensures slots_stay { (i : ℕ) → IsSome (slice_index_or slots.old.items i None) → IsSome (slice_index_or slots.new.items i None) }
-    ensures fill_slot { (i : ℕ) → i < length job.now.units.now → 0 < times (i / job.now.block) result.claims
+    ensures claims_filled { (i : ℕ) → i < length job.now.units.now → 0 < times (i / job.now.block) result.claims
         → IsSome (slice_index_or slots.new.items i None) }
 {
     let (seat, other, results) = worker.into_parts();
     job.shelf.meet(pass, other);
-    // For proofs only: cites the theorem that units' values grow with the files.
+    // For proofs only: cites the theorem that units have the same values over more files.
     growth();
     fill_slots(results, slots);
     seat

@@ -118,7 +118,7 @@ impl<'a, D: Disk> Worker<'a, D> {
         ensures results { OnOk result (AreUnitResults job.now.retain job.now.shelf.now self.new.pass.files
             job.now.setting.now job.now.units.now self.new.results.items) }
         ensures stay { OnOk result ((i : ℕ) → 0 < times i (result_units self.old.results.items) → 0 < times i (result_units self.new.results.items)) }
-        ensures block { OnOk result ((i : ℕ) → i < length job.now.units.now → i / job.now.block ≡ number
+        ensures block_complete { OnOk result ((i : ℕ) → i < length job.now.units.now → i / job.now.block ≡ number
             → 0 < times i (result_units self.new.results.items)) }
     {
         let first = number * job.block;

@@ -17,7 +17,7 @@ puts_here {written = written} {w = w} {p = p} {q = q} {text = text} e = record {
   parts = refl;
   appends = Appends-nil (written w);
   unwritten = λ _. sym e;
-  stays = λ f. (refl, f);
+  stays_failed = λ f. (refl, f);
 }
 
 pub puts_none : {V : Type 0} {written : V → Option (List ℕ)} {has_failed : V → Bool} {w : V} {p : List ℕ} → Puts written has_failed w w p p []
@@ -43,17 +43,17 @@ puts_then {written = written} {has_failed = has_failed} {w = w} {v = v} {u = u} 
           parts = first ∙ (ap (λ l. a.prefix ++ l) (ap (λ l. l ++ t) unwritten ∙ b.parts) ∙ sym (append_assoc a.prefix b.prefix b.rest));
           appends = Appends-trans _ _ _ _ _ a.appends b.appends;
           unwritten = b.unwritten;
-          stays = λ f. absurd (false≢true (sym e ∙ (a.stays f).1));
+          stays_failed = λ f. absurd (false≢true (sym e ∙ (a.stays_failed f).1));
         }
     by_case true e =
-        let none = (b.stays e).0 in
+        let none = (b.stays_failed e).0 in
         record {
           prefix = a.prefix ++ b.prefix;
           rest = a.rest ++ t;
           parts = first ∙ ap (λ l. l ++ (a.rest ++ t)) (sym (ap (λ l. a.prefix ++ l) none ∙ append-nil a.prefix));
           appends = Appends-trans _ _ _ _ _ a.appends b.appends;
-          unwritten = λ f. absurd (false≢true (sym f ∙ (b.stays e).1));
-          stays = λ f. (rw ((a.stays f).0, none) refl, (b.stays e).1);
+          unwritten = λ f. absurd (false≢true (sym f ∙ (b.stays_failed e).1));
+          stays_failed = λ f. (rw ((a.stays_failed f).0, none) refl, (b.stays_failed e).1);
         }
 
 -- After a failed write, printing writes nothing.
@@ -64,7 +64,7 @@ puts_failed {written = written} {w = w} {p = p} {text = text} failed = record {
   parts = refl;
   appends = Appends-nil (written w);
   unwritten = λ f. absurd (false≢true (sym f ∙ failed));
-  stays = λ _. (refl, failed);
+  stays_failed = λ _. (refl, failed);
 }
 
 -- Putting a text into an empty buffer and then flushing the buffer prints the text.
@@ -127,7 +127,7 @@ puts_broken {bytes = bytes} n was now appends = record {
   parts = sym (take-append-drop n bytes);
   appends = appends;
   unwritten = λ f. absurd (false≢true (sym f ∙ now));
-  stays = λ f. absurd (false≢true (sym was ∙ f));
+  stays_failed = λ f. absurd (false≢true (sym was ∙ f));
 }
 
 -- A line of four parts that fits into the buffer is put there.

@@ -6,7 +6,7 @@ use Rattle.serde_json.specs.Data.{Num, Data, null, boolean, number, string, arra
 use Rattle.serde_json.specs.Find.{get, as_number, as_str, as_array, as_u64}
 use Rattle.ppserve.specs.Shape.{is_object_of, file_members, unit_members, list_members, hex_bytes}
 use Rattle.ppserve.specs.Drafting.{text_at, text_or, each_item, each_of, array_at, texts_of, texts_at, content_from, content_of}
-use Rattle.ppserve.specs.Drafting.{draft_file, draft_unit, profile_at, written, budget_from, budget_at, draft_setting, draft}
+use Rattle.ppserve.specs.Drafting.{draft_file, draft_unit, profile_at, budget_of_number, budget_from, budget_at, draft_setting, draft}
 use Rattle.ppserve.specs.Shape.{IsText, HasText, AreItems, nothing, more, HasItems, HasTexts, no_texts, some_texts}
 use Rattle.ppserve.specs.Shape.{HasContent, as_text, as_hex, left_out, HasProfile, no_profile, some_profile}
 use Rattle.ppserve.specs.Shape.{HasBudget, no_budget, whole_budget, other_budget, IsFileDraft, IsUnitDraft, IsSettingDraft, IsDraft}
@@ -121,7 +121,7 @@ profile_back : {d : Data} {t : List ℕ} → HasProfile d t → profile_at d ≡
 profile_back (no_profile at) = ap (text_or (codes "c11")) at
 profile_back (some_profile at) = ap (text_or (codes "c11")) at
 
-numbered : (d : Data) (n : Num) (o : Option ℕ) → get (codes "budget") d ≡ Some (number n) → as_u64 n ≡ o → HasBudget d (written o)
+numbered : (d : Data) (n : Num) (o : Option ℕ) → get (codes "budget") d ≡ Some (number n) → as_u64 n ≡ o → HasBudget d (budget_of_number o)
 numbered d n (Some amount) at is = whole_budget at is
 numbered d n None at is = other_budget at is
 
@@ -131,13 +131,13 @@ budget_from_member d b e = by (get (codes "budget") d) refl e
     by : (o : Option Data) → get (codes "budget") d ≡ o → budget_from o ≡ Some b → HasBudget d b
     by None at e = subst (HasBudget d) (same_Some Missing b e) (no_budget at)
     by (Some v) at e =
-        let m = mapped (λ (n : Num). written (as_u64 n)) (as_number v) b e in
+        let m = mapped (λ (n : Num). budget_of_number (as_u64 n)) (as_number v) b e in
         subst (HasBudget d) m.2 (numbered d m.0 (as_u64 m.0) (at ∙ ap Some (is_number v m.0 m.1)) refl)
 
 budget_back : {d : Data} {b : DraftBudget} → HasBudget d b → budget_at d ≡ Some b
 budget_back (no_budget at) = ap budget_from at
-budget_back (whole_budget at is) = ap budget_from at ∙ ap (λ o. Some (written o)) is
-budget_back (other_budget at is) = ap budget_from at ∙ ap (λ o. Some (written o)) is
+budget_back (whole_budget at is) = ap budget_from at ∙ ap (λ o. Some (budget_of_number o)) is
+budget_back (other_budget at is) = ap budget_from at ∙ ap (λ o. Some (budget_of_number o)) is
 
 -- ---- objects
 
@@ -184,13 +184,13 @@ reads_units d u = (unit_from d u, unit_back d u)
 setting_from : (d : Data) (s : DraftSetting) → draft_setting d ≡ Some s → IsSettingDraft d s
 setting_from d s e =
     option_and_then_some _ (profile_at d) s e (λ profile is_profile e.
-    option_and_then_some _ (budget_at d) s e (λ allowed is_budget e.
+    option_and_then_some _ (budget_at d) s e (λ draft_budget is_budget e.
     option_and_then_some _ (text_at (codes "date") d) s e (λ date is_date e.
     option_and_then_some _ (text_at (codes "time") d) s e (λ time is_time e.
     option_and_then_some _ (texts_at (codes "search") d) s e (λ directories are_directories e.
     subst (IsSettingDraft d) (same_Some _ s e) (record {
       profile = profile_from d profile is_profile;
-      budget = budget_from_member d allowed is_budget;
+      budget = budget_from_member d draft_budget is_budget;
       date = text_from (codes "date") d date is_date;
       time = text_from (codes "time") d time is_time;
       directories = texts_from (codes "search") d directories are_directories;

@@ -121,8 +121,8 @@ validated-runnable inline d l e =
     λ k x lt. unit_passes names (profile_of d.setting) (get_or d.units k x) (known k x lt) (lines k x lt) (fit k x lt) in
     subst IsRunnable p.is_list (record {
       names = names_from_test names p.names_pass;
-      few = rw same count;
-      many = rw same_units unit_count;
+      names_fit = rw same count;
+      units_fit = rw same_units unit_count;
       small = contents-small inline d short;
       setting = p.times_pass;
       units = All-map IsGood listing d.units good;

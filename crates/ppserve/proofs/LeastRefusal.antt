@@ -6,7 +6,7 @@ use Rattle.serde_json.specs.Data.{Data}
 use Rattle.ppserve.specs.Drafting.{draft}
 use Rattle.ppserve.specs.Drafts.{Draft}
 use Rattle.ppserve.specs.Laws.{HoldsDraft, Applies, too_long, no_json, no_shape, wrong_names, wrong_sizes, unknown_file, wrong_times, wrong_lines, wrong_directories, wrong_profile, wrong_budget}
-use Rattle.ppserve.specs.Laws.{IsLeast, IsTaken, RefusesByTheLeast, TakesTheRest}
+use Rattle.ppserve.specs.Laws.{IsLeast, IsAccepted, RefusesByTheLeast, AcceptsTheRest}
 use Rattle.ppserve.specs.Listing.{Outcome, accepted, refused, json_value, outcome_of, validated, listed, names_of, names_hold, sizes_hold, are_known, times_hold, lines_hold}
 use Rattle.ppserve.specs.Listing.{directories_hold, profile_holds, budget_holds, max_input}
 use Rattle.ppserve.specs.Shape.{IsDraft}
@@ -102,7 +102,7 @@ fails_of inline bytes d m fits h (wrong_budget {x = x} k e) =
 
 -- the meaning of an outcome: no refusal applies, or its number is the least that applies
 abbrev Told : Bool → List ℕ → Outcome → Type 0
-Told inline bytes (accepted list) = IsTaken inline bytes list
+Told inline bytes (accepted list) = IsAccepted inline bytes list
 Told inline bytes (refused number) = IsLeast (Applies inline bytes) number
 
 told_judged : (inline : Bool) (bytes : List ℕ) (d : Draft) (o : Outcome) → length bytes ≤ max_input → HoldsDraft inline bytes d → validated inline d ≡ o → Told inline bytes o
@@ -182,13 +182,13 @@ refuses_by_the_least inline bytes number = (
   (λ least. by_the_least inline bytes number (outcome_of inline bytes) (told inline bytes) least),
 )
 
-as_taken : (inline : Bool) (bytes : List ℕ) (list : CompilationList) (o : Outcome) → Told inline bytes o → IsTaken inline bytes list → o ≡ accepted list
+as_taken : (inline : Bool) (bytes : List ℕ) (list : CompilationList) (o : Outcome) → Told inline bytes o → IsAccepted inline bytes list → o ≡ accepted list
 as_taken inline bytes list (refused n) is taken = absurd (taken.none n is.is_so)
 as_taken inline bytes list (accepted other) is taken =
     let same = one_draft inline bytes is.draft taken.draft is.holds taken.holds in
     ap accepted (is.is_list ∙ (ap (listed inline) same ∙ sym taken.is_list))
 
-pub takes_the_rest : TakesTheRest
+pub takes_the_rest : AcceptsTheRest
 takes_the_rest inline bytes list = (
   (λ e. subst (Told inline bytes) e (told inline bytes)),
   (λ taken. as_taken inline bytes list (outcome_of inline bytes) (told inline bytes) taken),

@@ -8,7 +8,7 @@ use Rattle.ppunit.specs.declared.units.Item.{Item}
 use Rattle.ppunit.specs.declared.units.Item.TheVariants as item
 use Rattle.ppunit.specs.declared.units.UnitOut.{UnitOut}
 use Rattle.ppunit.specs.declared.units.Unit.{Unit as UnitOfList}
-use Rattle.ppserve.specs.Output.{item_lines, shown_items, dep_line, last_line, unit_lines, numbered}
+use Rattle.ppserve.specs.Output.{item_lines, shown_item_lines, dep_line, last_line, unit_lines, numbered}
 use Rattle.ppserve.specs.declared.output.Mode.{Mode}
 use Rattle.ppserve.specs.declared.output.Mode.TheVariants.{Dump, Deps}
 use Rattle.ppserve.specs.declared.output.Output.{Output}
@@ -20,7 +20,7 @@ pub lines_of_items : (names : List (List ℕ)) (items : List Item) → flat_map 
 lines_of_items names [] = refl
 lines_of_items names (i ∷ is) = ap (λ l. item_lines i ++ l) (lines_of_items names is)
 
-lines_of_mode : (mode : Mode) (names : List (List ℕ)) (items : List Item) → flat_map (record_lines names) (records_of_items mode items) ≡ shown_items mode items
+lines_of_mode : (mode : Mode) (names : List (List ℕ)) (items : List Item) → flat_map (record_lines names) (records_of_items mode items) ≡ shown_item_lines mode items
 lines_of_mode Dump names items = lines_of_items names items
 lines_of_mode Deps names items = refl
 
@@ -41,7 +41,7 @@ lines_of_all mode names n (unit ∷ units) (out ∷ outs) =
     let later = lines_of_all mode names (suc n) units outs in
     let items = flat_map-append (record_lines names) (records_of_items mode out.items) (Last out ∷ records_from mode (suc n) units outs) in
     rw (items, lines_of_mode mode names out.items, later)
-    (joined (first_line names n unit) (shown_items mode out.items) (flat_map (dep_line names) out.deps) (last_line out.fault) (numbered (unit_lines mode names) (suc n) units outs))
+    (joined (first_line names n unit) (shown_item_lines mode out.items) (flat_map (dep_line names) out.deps) (last_line out.fault) (numbered (unit_lines mode names) (suc n) units outs))
 
 pub lines_of_output : (output : Output) → output_bytes output ≡ numbered (unit_lines output.mode output.names.now) 0 output.units.now output.outs.now
 lines_of_output output = lines_of_all output.mode output.names.now 0 output.units.now output.outs.now

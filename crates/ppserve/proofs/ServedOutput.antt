@@ -82,7 +82,7 @@ can_run list names units runs named same =
 
 -- A runnable list has at most `max_rows` units.
 pub few_units : (list : CompilationList) (units : List UnitOfList) → IsRunnable list → units ≡ list.units → length units ≤ max_rows
-few_units list units runs same = let P : List UnitOfList → Type 0 = λ us. length us ≤ max_rows in subst P (sym same) runs.many
+few_units list units runs same = let P : List UnitOfList → Type 0 = λ us. length us ≤ max_rows in subst P (sym same) runs.units_fit
 
 -- The text of the retained outputs is the output text of the list.
 text_of : (mode : Mode) (list : CompilationList) (units : List UnitOfList) (shown outs : List UnitOut) → units ≡ list.units → shown ≡ map (retained (needed_retention mode)) outs

@@ -9,7 +9,7 @@ use Rattle.ppunit.specs.declared.units.Unit.{Unit as UnitOfList}
 use Rattle.ppunit.specs.declared.units.UnitOut.{UnitOut}
 use Rattle.ppserve.specs.declared.list.List.{List as CompilationList}
 
--- the files whose contents these are, and no others
+-- the files with these contents, which are all known
 abbrev pub files_of : List (List ℕ) → Files
 files_of contents = map (λ bytes. Some (readable bytes)) contents
 

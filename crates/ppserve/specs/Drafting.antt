@@ -18,7 +18,7 @@ abbrev pub text_or : List ℕ → Option Data → Option (List ℕ)
 text_or other None = Some other
 text_or other (Some d) = as_str d
 
--- the items that `read` returns, if it returns all
+-- the results of `read` for the items, if it has one for each
 abbrev pub each_item : {A : Type 0} → (Data → Option A) → Items → Option (List A)
 each_item read no_items = Some []
 each_item read (item d ds) = option_and_then (λ x. option_map (λ xs. x ∷ xs) (each_item read ds)) (read d)
@@ -71,14 +71,14 @@ abbrev pub profile_at : Data → Option (List ℕ)
 profile_at d = text_or (codes "c11") (get (codes "profile") d)
 
 -- a number as it is written: an unsigned integer of 64 bits, or another number
-abbrev pub written : Option ℕ → DraftBudget
-written (Some n) = Integer n
-written None = Other
+abbrev pub budget_of_number : Option ℕ → DraftBudget
+budget_of_number (Some n) = Integer n
+budget_of_number None = Other
 
 -- the budget: a number, or missing
 abbrev pub budget_from : Option Data → Option DraftBudget
 budget_from None = Some Missing
-budget_from (Some d) = option_map (λ (n : Num). written (as_u64 n)) (as_number d)
+budget_from (Some d) = option_map (λ (n : Num). budget_of_number (as_u64 n)) (as_number d)
 
 abbrev pub budget_at : Data → Option DraftBudget
 budget_at d = budget_from (get (codes "budget") d)
@@ -86,11 +86,11 @@ budget_at d = budget_from (get (codes "budget") d)
 abbrev pub draft_setting : Data → Option DraftSetting
 draft_setting d =
     with_part (profile_at d) (λ profile.
-    with_part (budget_at d) (λ allowed.
+    with_part (budget_at d) (λ draft_budget.
     with_part (text_at (codes "date") d) (λ date.
     with_part (text_at (codes "time") d) (λ time.
     with_part (texts_at (codes "search") d) (λ directories.
-    Some (record { profile = profile; budget = allowed; date = date; time = time; search = directories }))))))
+    Some (record { profile = profile; budget = draft_budget; date = date; time = time; search = directories }))))))
 
 -- the draft, if the value has the members of a list and no others
 abbrev pub draft : Bool → Data → Option Draft

@@ -42,7 +42,7 @@ pub record IsLeast (P : ℕ → Type 0) (number : ℕ) : Type 0 where
   pub least : (other : ℕ) → P other → number ≤ other
 
 -- no refusal applies to the bytes, and the list is the one that they hold
-pub record IsTaken (inline : Bool) (bytes : List ℕ) (list : CompilationList) : Type 0 where
+pub record IsAccepted (inline : Bool) (bytes : List ℕ) (list : CompilationList) : Type 0 where
   pub draft : Draft
   pub holds : HoldsDraft inline bytes draft
   pub none : (number : ℕ) → ¬ Applies inline bytes number
@@ -54,11 +54,11 @@ RefusesByTheLeast =
     (inline : Bool) (bytes : List ℕ) (number : ℕ)
     → (outcome_of inline bytes ≡ refused number) ↔ IsLeast (Applies inline bytes) number
 
--- Bytes are taken as a list exactly if no refusal applies.
-abbrev pub TakesTheRest : Type 0
-TakesTheRest =
+-- Bytes are accepted as a list exactly if no refusal applies.
+abbrev pub AcceptsTheRest : Type 0
+AcceptsTheRest =
     (inline : Bool) (bytes : List ℕ) (list : CompilationList)
-    → (outcome_of inline bytes ≡ accepted list) ↔ IsTaken inline bytes list
+    → (outcome_of inline bytes ≡ accepted list) ↔ IsAccepted inline bytes list
 
 -- ---- what is printed
 
@@ -72,7 +72,7 @@ OneOutput Allowed =
     → Agree a.produces.files b.produces.files
     → (one ≡ two) × (any ≡ other)
 
--- Two runs whose readers hold the same bytes, in which the files are contained, have the same output and the same
+-- Two runs whose readers hold the same bytes, and whose lists hold their files, have the same output and the same
 -- result.
 abbrev pub OneOutputOfContents : Type 0
 OneOutputOfContents =

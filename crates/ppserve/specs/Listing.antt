@@ -173,8 +173,8 @@ outcome_of inline bytes = if nat_lt max_input (length bytes) then refused 1 else
 -- a list whose units can be preprocessed
 pub record IsRunnable (l : CompilationList) : Type 0 where
   pub names : AreNames l.names
-  pub few : length l.names ≤ max_rows
-  pub many : length l.units ≤ max_rows
+  pub names_fit : length l.names ≤ max_rows
+  pub units_fit : length l.units ≤ max_rows
   pub small : All (λ bytes. length bytes ≤ longest) l.contents
   pub setting : is_setting l.setting ≡ true
   pub units : All (λ (u : UnitOfList). is_unit (length l.names) l.setting.profile u ≡ true) l.units

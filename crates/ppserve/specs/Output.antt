@@ -71,14 +71,14 @@ abbrev pub last_line : Option Fault → List ℕ
 last_line None = codes "ok" ++ (10 ∷ [])
 last_line (Some f) = codes "fault " ++ decimal f.number ++ codes " " ++ place_text f.at ++ fault_text f.text ++ (10 ∷ [])
 
-abbrev pub shown_items : Mode → List Item → List ℕ
-shown_items Dump items = flat_map item_lines items
-shown_items Deps items = []
+abbrev pub shown_item_lines : Mode → List Item → List ℕ
+shown_item_lines Dump items = flat_map item_lines items
+shown_item_lines Deps items = []
 
 abbrev pub unit_lines : Mode → List (List ℕ) → ℕ → UnitOfList → UnitOut → List ℕ
 unit_lines mode names i unit out =
     codes "unit " ++ decimal i ++ codes " " ++ escaped (name_in names unit.file) ++ (10 ∷ [])
-    ++ shown_items mode out.items ++ flat_map (dep_line names) out.deps ++ last_line out.fault
+    ++ shown_item_lines mode out.items ++ flat_map (dep_line names) out.deps ++ last_line out.fault
 
 -- f of each pair, concatenated, numbered from n
 abbrev pub numbered : {A B : Type 0} → (ℕ → A → B → List ℕ) → ℕ → List A → List B → List ℕ

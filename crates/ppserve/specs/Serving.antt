@@ -80,7 +80,7 @@ abbrev pub run_fault_of : ListFault → RunFault
 run_fault_of (list_fault.Bad number) = run_fault.List number
 run_fault_of list_fault.Memory = run_fault.Memory
 
--- If the bytes of a reader are known, the list that was read is the one that they all hold, or they are refused.
+-- If all bytes of a reader are known, the bytes that were read have the same outcome as all of them.
 abbrev pub KnownBytesDecide : Type 0
 KnownBytesDecide =
     (inline : Bool) (known bytes : List ℕ) (after : Option (List ℕ))

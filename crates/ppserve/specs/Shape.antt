@@ -9,13 +9,13 @@ use Rattle.ppserve.specs.Drafts.{DraftFile, DraftUnit, DraftBudget, Missing, Int
 
 -- ---- names of members
 
-abbrev pub has_text : List ℕ → List (List ℕ) → Bool
-has_text t = list_any (bytes_eq t)
+abbrev pub is_one_of : List ℕ → List (List ℕ) → Bool
+is_one_of t = list_any (bytes_eq t)
 
 -- each member's name is one of these
 abbrev pub has_only : List (List ℕ) → Members → Bool
 has_only names no_members = true
-has_only names (member k d ms) = has_text k names && has_only names ms
+has_only names (member k d ms) = is_one_of k names && has_only names ms
 
 -- an object that has no members but these
 abbrev pub is_object_of : List (List ℕ) → Data → Bool

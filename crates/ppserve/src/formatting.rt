@@ -83,7 +83,7 @@ impl Digits {
     }
 }
 
-/// Writes the two last digits of a number.
+/// Writes the last two digits of a number.
 #[inline(always)]
 fn put_pair(bytes: &mut [u8], end: usize, number: u32) -> usize
     requires { end + 2 ≤ length bytes.old }
@@ -128,8 +128,12 @@ pub(crate) fn put_number(bytes: &mut [u8], end: usize, number: u32) -> usize
 pub(crate) fn as_is_prefix(inline: &[u8; 14]) -> usize
     ensures { PrintsAsIsBetween inline.now 0 result }
 {
-    let (prefix, back) = (as_is_run(inline, 0), as_is_run(inline, 6));
-    if prefix < 8 { prefix } else { 6 + back }
+    let (first_run, second_run) = (as_is_run(inline, 0), as_is_run(inline, 6));
+    if first_run < 8 {
+        first_run
+    } else {
+        6 + second_run
+    }
 }
 
 /// Returns how many of the eight bytes from `at` on are printed as they are, before the first that isn't.

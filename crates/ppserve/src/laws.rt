@@ -2,7 +2,7 @@
 //! rest on.
 ghost use Rattle.ppserve.specs.Contents.{ArePermitted};
 ghost use Rattle.ppserve.specs.Drafting.{ShapeDecides};
-ghost use Rattle.ppserve.specs.Laws.{OneOutput, OneOutputOfContents, RefusesByTheLeast, TakesTheRest};
+ghost use Rattle.ppserve.specs.Laws.{OneOutput, OneOutputOfContents, RefusesByTheLeast, AcceptsTheRest};
 ghost use Rattle.ppserve.specs.Serving.{KnownBytesDecide};
 
 use pppool::list_growth;
@@ -14,15 +14,15 @@ pub fn shape_decides()
     ensures { ShapeDecides }
 {}
 
-/// Theorem: bytes are refused with the least number of a refusal that applies to them, and taken as a list exactly if
+/// Theorem: bytes are refused with the least number of a refusal that applies to them, and accepted as a list exactly if
 /// none applies.
 pub fn refuses_by_the_least()
     ensures refused { RefusesByTheLeast }
-    ensures taken { TakesTheRest }
+    ensures accepted { AcceptsTheRest }
 {}
 
-/// Theorem: if the bytes of a reader are known, the list that was read is the one that they all hold, or they are
-/// refused.
+/// Theorem: if all bytes of a reader are known, the bytes that were read have the same outcome (a list or a
+/// refusal) as all of them.
 pub fn known_bytes_decide()
     ensures { KnownBytesDecide }
 {}

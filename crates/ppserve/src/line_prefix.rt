@@ -131,7 +131,7 @@ pub(crate) struct LastPrefixes {
 }
 
 impl LastPrefixes {
-    /// Creates prefixes of no line.
+    /// Creates the prefixes of line 0 of file 0.
     pub(crate) fn new() -> LastPrefixes {
         LastPrefixes {
             at: LocationPrefix::new(0, 0),

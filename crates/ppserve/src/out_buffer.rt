@@ -30,7 +30,7 @@ pub(crate) struct OutBuffer {
     filled: usize,
     /// The buffer is flushed before the line of a token if it has more bytes than this.
     limit: usize,
-    line: LastPrefixes,
+    prefixes: LastPrefixes,
 }
 
 impl Model for OutBuffer {
@@ -68,7 +68,7 @@ impl OutBuffer {
             bytes,
             filled: 0,
             limit,
-            line: LastPrefixes::new(),
+            prefixes: LastPrefixes::new(),
         })
     }
 
@@ -106,7 +106,7 @@ impl OutBuffer {
         ensures within { length self.new ≤ length self.old + 73 }
     {
         let bytes = self.bytes.as_mut_slice();
-        self.filled = self.line.put(bytes, self.filled, fields);
+        self.filled = self.prefixes.put(bytes, self.filled, fields);
     }
 
     /// Appends the spelling in the first `len` bytes of `inline` and the end of its line. Returns false, without

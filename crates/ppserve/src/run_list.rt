@@ -153,7 +153,7 @@ pub(crate) fn filled_shelf(
 }
 
 /// Preprocesses the units over a file table whose contents are all known, and returns what is needed of their outputs,
-/// in list order. A run proves them over the files that units opened; over all files they are the same.
+/// in list order. `run_retaining` proves them for the files that it read; by `list_growth` they hold for all files.
 pub(crate) fn run_over_contents<'a, R: Threads + Sync>(
     threads: &R,
     alloc: Global,

@@ -179,8 +179,8 @@ pub fn serve_from<T: Threads + Sync, R: Feed, W: Sink, D: Disk + Send + Sync>(
     run_with_disk(threads, alloc, writer, disk, &list, options)
 }
 
-/// Preprocesses the units of a list of names, and writes their output once all are done. Returns whether a unit has a
-/// fault.
+/// Preprocesses the units of a list that only names its files, and writes their output once all are done. Returns
+/// whether a unit has a fault.
 fn run_with_disk<T: Threads + Sync, W: Sink, D: Disk + Send + Sync>(
     threads: &T,
     alloc: Global,

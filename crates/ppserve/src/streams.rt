@@ -72,9 +72,9 @@ impl Feed for SliceFeed<'_> {
 
     fn read(&mut self, buf: &mut [u8]) -> Result<usize, Failed> {
         let count = self.bytes.len().min(buf.len());
-        let (prefix, back) = self.bytes.split_at(count);
+        let (prefix, suffix) = self.bytes.split_at(count);
         buf[..count].copy_from_slice(prefix);
-        self.bytes = back;
+        self.bytes = suffix;
         Ok(count)
     }
 

@@ -10,23 +10,23 @@ use Rattle.pptext.proofs.NextBranchFacts.{next_of_branch}
 use Rattle.ppunit.specs.States.{Search, State, Context, search_of, Progress, running, stopped, with_remaining}
 use Rattle.ppunit.specs.Group.{ExecutesGroup, ExecutesBranches}
 use Rattle.ppunit.specs.Conditions.{DecidesFreely, Decides}
-use Rattle.ppunit.specs.code.Walk.{line_at, Outer, lay, AreOuter, Ends, BranchesAt, ContinuesBy, TakesBranch, FindsBranch}
+use Rattle.ppunit.specs.code.Walk.{line_at, EnclosingSections, lines_to_end, AreEnclosingSections, Ends, BranchesAt, ContinuesBy, TakesBranch, FindsBranch}
 use Rattle.ppunit.proofs.IndexedLines.{at_index}
 use Rattle.ppunit.proofs.FirstLineCases.{lay_branch, endif_directive, else_directive, not_else, condition_decides}
 use Rattle.ppunit.proofs.WalkSteps.{stands_behind}
 use Rattle.ppunit.proofs.SectionEnds.{branches_next, branches_there, next_inside}
 
-at_branches : (lines : List LogicalLine) (index : ℕ) (ps : GroupParts) (bs : Branches) (qs : GroupParts) (k : Outer)
+at_branches : (lines : List LogicalLine) (index : ℕ) (ps : GroupParts) (bs : Branches) (qs : GroupParts) (k : EnclosingSections)
     → BranchesAt lines index ps bs qs k
     → (next_branch index (role (line_at lines index)) (drop (suc index) lines) ≡ Some (index + 1 + length (part_lines ps)))
-    × (drop (index + 1 + length (part_lines ps)) lines ≡ branch_lines bs ++ lay qs k)
+    × (drop (index + 1 + length (part_lines ps)) lines ≡ branch_lines bs ++ lines_to_end qs k)
 at_branches lines index ps bs qs k b =
-    (branches_next lines index b.line ps qs bs b.outer.0.0 (lay qs k) b.rest b.next b.parts b.outer.0.1, branches_there lines index b.line ps (branch_lines bs ++ lay qs k) b.rest)
+    (branches_next lines index b.line ps qs bs b.outer.0.0 (lines_to_end qs k) b.rest b.next b.parts b.outer.0.1, branches_there lines index b.line ps (branch_lines bs ++ lines_to_end qs k) b.rest)
 
-pub found_at : (lines : List LogicalLine) (index next : ℕ) (ps : GroupParts) (bs : Branches) (qs : GroupParts) (k : Outer)
+pub found_at : (lines : List LogicalLine) (index next : ℕ) (ps : GroupParts) (bs : Branches) (qs : GroupParts) (k : EnclosingSections)
     → BranchesAt lines index ps bs qs k
     → next_branch index (role (line_at lines index)) (drop (suc index) lines) ≡ Some next
-    → drop next lines ≡ branch_lines bs ++ lay qs k
+    → drop next lines ≡ branch_lines bs ++ lines_to_end qs k
 found_at lines index next ps bs qs k b found =
     let known = at_branches lines index ps bs qs k b in
     let is = known.0 in
@@ -80,13 +80,13 @@ pub decides_around : (context : Context) (search : Search) (row : ℕ) (s : Stat
     → Decides (search_of context) row s r remaining_after taken
 decides_around context search row s r remaining_after taken by decides = subst (λ (z : Search). Decides z row s r remaining_after taken) (sym by) decides
 
-pub enter_branch : (search : Search) (row : ℕ) (lines : List LogicalLine) (next : ℕ) (s : State) (remaining_after : Option ℕ) (bs : Branches) (qs : GroupParts) (k : Outer)
-    → drop next lines ≡ branch_lines bs ++ lay qs k
-    → AreOuter ((bs, qs) ∷ k)
+pub enter_branch : (search : Search) (row : ℕ) (lines : List LogicalLine) (next : ℕ) (s : State) (remaining_after : Option ℕ) (bs : Branches) (qs : GroupParts) (k : EnclosingSections)
+    → drop next lines ≡ branch_lines bs ++ lines_to_end qs k
+    → AreEnclosingSections ((bs, qs) ∷ k)
     → EntersAt search row lines next s remaining_after (Ok true)
     → FindsBranch search row lines s (with_remaining s remaining_after) bs qs k (Ok (next + 1))
 enter_branch search row lines next s remaining_after (End r) qs k e outer entered =
-    let same : remaining_after ≡ s.remaining = (endif_enters search row lines next s remaining_after (Ok true) r (lay qs k) e outer.0.1 entered).0 in (
+    let same : remaining_after ≡ s.remaining = (endif_enters search row lines next s remaining_after (Ok true) r (lines_to_end qs k) e outer.0.1 entered).0 in (
       qs,
       k,
       stands_behind lines next r qs k e outer.1 outer.2,
@@ -95,7 +95,7 @@ enter_branch search row lines next s remaining_after (End r) qs k e outer entere
     )
 enter_branch search row lines next s remaining_after (Branch r ps bs) qs k e ((last, (before, true, is, parts, more)), following, context) entered =
     let there = e ∙ lay_branch r ps qs bs k in
-    let same : remaining_after ≡ s.remaining = (else_enters search row lines next s remaining_after (Ok true) r (lay ps ((bs, qs) ∷ k)) there is entered).0 in (
+    let same : remaining_after ≡ s.remaining = (else_enters search row lines next s remaining_after (Ok true) r (lines_to_end ps ((bs, qs) ∷ k)) there is entered).0 in (
       ps,
       (bs, qs) ∷ k,
       stands_behind lines next r ps ((bs, qs) ∷ k) there parts ((true, more), following, context),
@@ -106,51 +106,51 @@ enter_branch search row lines next s remaining_after (Branch r ps bs) qs k e ((l
 enter_branch search row lines next s remaining_after (Branch r ps bs) qs k e ((last, (before, false, is, parts, more)), following, context) entered =
     let there = e ∙ lay_branch r ps qs bs k in
     let other = not_else r.directive is in
-    let decides = branch_decides search row lines next s remaining_after (Ok true) r (lay ps ((bs, qs) ∷ k)) there is entered in (
+    let decides = branch_decides search row lines next s remaining_after (Ok true) r (lines_to_end ps ((bs, qs) ∷ k)) there is entered in (
       ps,
       (bs, qs) ∷ k,
       stands_behind lines next r ps ((bs, qs) ∷ k) there parts ((false, more), following, context),
       λ context by depth end rest. (rest.0, ExecutesBranches.branch_taken other (decides_around context search row s r remaining_after (Ok true) by decides) rest.1, rest.2),
     )
 
-pub refuse_branch : (search : Search) (row : ℕ) (lines : List LogicalLine) (next : ℕ) (s : State) (remaining_after : Option ℕ) (f : Fault) (bs : Branches) (qs : GroupParts) (k : Outer)
-    → drop next lines ≡ branch_lines bs ++ lay qs k
-    → AreOuter ((bs, qs) ∷ k)
+pub refuse_branch : (search : Search) (row : ℕ) (lines : List LogicalLine) (next : ℕ) (s : State) (remaining_after : Option ℕ) (f : Fault) (bs : Branches) (qs : GroupParts) (k : EnclosingSections)
+    → drop next lines ≡ branch_lines bs ++ lines_to_end qs k
+    → AreEnclosingSections ((bs, qs) ∷ k)
     → EntersAt search row lines next s remaining_after (Err f)
     → FindsBranch search row lines s (with_remaining s remaining_after) bs qs k (Err f)
 refuse_branch search row lines next s remaining_after f (End r) qs k e ((last, is), following, context) entered =
-    let not : Err f ≡ Ok true = (endif_enters search row lines next s remaining_after (Err f) r (lay qs k) e is entered).1 in
+    let not : Err f ≡ Ok true = (endif_enters search row lines next s remaining_after (Err f) r (lines_to_end qs k) e is entered).1 in
     absurd (cc)
 refuse_branch search row lines next s remaining_after f (Branch r ps bs) qs k e ((last, (before, true, is, parts, more)), following, context) entered =
     let there = e ∙ lay_branch r ps qs bs k in
-    let not : Err f ≡ Ok true = (else_enters search row lines next s remaining_after (Err f) r (lay ps ((bs, qs) ∷ k)) there is entered).1 in
+    let not : Err f ≡ Ok true = (else_enters search row lines next s remaining_after (Err f) r (lines_to_end ps ((bs, qs) ∷ k)) there is entered).1 in
     absurd (cc)
 refuse_branch search row lines next s remaining_after f (Branch r ps bs) qs k e ((last, (before, false, is, parts, more)), following, context) entered =
     let there = e ∙ lay_branch r ps qs bs k in
     let other = not_else r.directive is in
     λ context by depth. ExecutesBranches.branch_condition_fault other
-    (decides_around context search row s r remaining_after (Err f) by (branch_decides search row lines next s remaining_after (Err f) r (lay ps ((bs, qs) ∷ k)) there is entered))
+    (decides_around context search row s r remaining_after (Err f) by (branch_decides search row lines next s remaining_after (Err f) r (lines_to_end ps ((bs, qs) ∷ k)) there is entered))
 
 -- the branches from this index on: all that they reach from state t, the branches bs reach from state s
-abbrev pub Later : Search → ℕ → List LogicalLine → ℕ → State → State → Branches → GroupParts → Outer → Type 0
+abbrev pub Later : Search → ℕ → List LogicalLine → ℕ → State → State → Branches → GroupParts → EnclosingSections → Type 0
 Later search row lines index s t bs qs k = (ps : GroupParts) × (cs : Branches) × BranchesAt lines index ps cs qs k × ((context : Context) → search_of context ≡ search → (depth : ℕ) (m : Progress) → ExecutesBranches context depth row t cs m → ExecutesBranches context depth row s bs m)
 
-pass_branch : (search : Search) (row : ℕ) (lines : List LogicalLine) (next : ℕ) (s : State) (remaining_after : Option ℕ) (bs : Branches) (qs : GroupParts) (k : Outer)
-    → drop next lines ≡ branch_lines bs ++ lay qs k
-    → AreOuter ((bs, qs) ∷ k)
+pass_branch : (search : Search) (row : ℕ) (lines : List LogicalLine) (next : ℕ) (s : State) (remaining_after : Option ℕ) (bs : Branches) (qs : GroupParts) (k : EnclosingSections)
+    → drop next lines ≡ branch_lines bs ++ lines_to_end qs k
+    → AreEnclosingSections ((bs, qs) ∷ k)
     → EntersAt search row lines next s remaining_after (Ok false)
     → Later search row lines next s (with_remaining s remaining_after) bs qs k
 pass_branch search row lines next s remaining_after (End r) qs k e ((last, is), following, context) entered =
-    let not : Ok false ≡ Ok true = (endif_enters search row lines next s remaining_after (Ok false) r (lay qs k) e is entered).1 in
+    let not : Ok false ≡ Ok true = (endif_enters search row lines next s remaining_after (Ok false) r (lines_to_end qs k) e is entered).1 in
     absurd (cc)
 pass_branch search row lines next s remaining_after (Branch r ps bs) qs k e ((last, (before, true, is, parts, more)), following, context) entered =
     let there = e ∙ lay_branch r ps qs bs k in
-    let not : Ok false ≡ Ok true = (else_enters search row lines next s remaining_after (Ok false) r (lay ps ((bs, qs) ∷ k)) there is entered).1 in
+    let not : Ok false ≡ Ok true = (else_enters search row lines next s remaining_after (Ok false) r (lines_to_end ps ((bs, qs) ∷ k)) there is entered).1 in
     absurd (cc)
 pass_branch search row lines next s remaining_after (Branch r ps bs) qs k e ((last, (before, false, is, parts, more)), following, context) entered =
     let there = e ∙ lay_branch r ps qs bs k in
     let other = not_else r.directive is in
-    let decides = branch_decides search row lines next s remaining_after (Ok false) r (lay ps ((bs, qs) ∷ k)) there is entered in (
+    let decides = branch_decides search row lines next s remaining_after (Ok false) r (lines_to_end ps ((bs, qs) ∷ k)) there is entered in (
       ps,
       bs,
       record { line = r; rest = there; next = next_of_branch r false is; parts = parts; outer = ((false, more), following, context) },
@@ -161,7 +161,7 @@ pass_branch search row lines next s remaining_after (Branch r ps bs) qs k e ((la
 pub record BranchSoFar (search : Search) (row : ℕ) (lines : List LogicalLine) (start : ℕ) (s t : State) (index : ℕ) : Type 0 where
   pub within : index < length lines
   pub from : start ≤ index
-  pub so_far : (ps : GroupParts) (bs : Branches) (qs : GroupParts) (k : Outer) → BranchesAt lines start ps bs qs k → Later search row lines index s t bs qs k
+  pub so_far : (ps : GroupParts) (bs : Branches) (qs : GroupParts) (k : EnclosingSections) → BranchesAt lines start ps bs qs k → Later search row lines index s t bs qs k
 
 pub branch_start : (search : Search) (row : ℕ) (lines : List LogicalLine) (start : ℕ) (s : State) → start < length lines → BranchSoFar search row lines start s s start
 branch_start search row lines start s within = record { within = within; from = omega arith; so_far = λ ps bs qs k b. (ps, bs, b, λ context by depth m here. here) }
@@ -186,7 +186,7 @@ pub branch_taken : (search : Search) (row : ℕ) (lines : List LogicalLine) (sta
     → BranchSoFar search row lines start s t index
     → next_branch index (role (line_at lines index)) (drop (suc index) lines) ≡ Some next
     → EntersAt search row lines next t remaining_after (Ok true)
-    → (ps : GroupParts) (bs : Branches) (qs : GroupParts) (k : Outer)
+    → (ps : GroupParts) (bs : Branches) (qs : GroupParts) (k : EnclosingSections)
     → BranchesAt lines start ps bs qs k
     → FindsBranch search row lines s (with_remaining t remaining_after) bs qs k (Ok (next + 1))
 branch_taken search row lines start next index s t remaining_after sofar found entered ps bs qs k b =
@@ -198,7 +198,7 @@ pub branch_refused : (search : Search) (row : ℕ) (lines : List LogicalLine) (s
     → BranchSoFar search row lines start s t index
     → next_branch index (role (line_at lines index)) (drop (suc index) lines) ≡ Some next
     → EntersAt search row lines next t remaining_after (Err fault)
-    → (ps : GroupParts) (bs : Branches) (qs : GroupParts) (k : Outer)
+    → (ps : GroupParts) (bs : Branches) (qs : GroupParts) (k : EnclosingSections)
     → BranchesAt lines start ps bs qs k
     → FindsBranch search row lines s (with_remaining t remaining_after) bs qs k (Err fault)
 branch_refused search row lines start next index s t remaining_after fault sofar found entered ps bs qs k b =
@@ -210,7 +210,7 @@ branch_refused search row lines start next index s t remaining_after fault sofar
 pub branch_found : (search : Search) (row : ℕ) (lines : List LogicalLine) (start index : ℕ) (s t : State)
     → BranchSoFar search row lines start s t index
     → next_branch index (role (line_at lines index)) (drop (suc index) lines) ≡ None
-    → (ps : GroupParts) (bs : Branches) (qs : GroupParts) (k : Outer)
+    → (ps : GroupParts) (bs : Branches) (qs : GroupParts) (k : EnclosingSections)
     → BranchesAt lines start ps bs qs k
     → ⊥
 branch_found search row lines start index s t sofar none ps bs qs k b =

@@ -66,17 +66,17 @@ unit_caps one grows only names files setting unit out are p b more whole budget 
     let same : (r : Progress) → Translates context texts unit.file (with_remaining start (Some b)) r → output r ≡ out =
     λ r d.
     let within : IsUnit names more setting unit (output r) =
-    record { progress = r; translates = subst (λ l. Translates context texts unit.file (with_remaining start l) r) (sym budget) d; gives = refl } in
+    record { progress = r; translates = subst (λ l. Translates context texts unit.file (with_remaining start l) r) (sym budget) d; is_output = refl } in
     (one names more setting unit (output r) out are within there).0 in
     elim (dec_lt b c) [
       | yes less ↦
           (let x = unit_short context b without q.translates less in
-          let items : IsPrefix x.0.items whole.items = subst (λ o. IsPrefix x.0.items o.items) (sym q.gives) x.2.before.0 in
-          let deps : IsPrefix x.0.deps whole.deps = subst (λ o. IsPrefix x.0.deps o.deps) (sym q.gives) x.2.before.1 in
+          let items : IsPrefix x.0.items whole.items = subst (λ o. IsPrefix x.0.items o.items) (sym q.is_output) x.2.before.0 in
+          let deps : IsPrefix x.0.deps whole.deps = subst (λ o. IsPrefix x.0.deps o.deps) (sym q.is_output) x.2.before.1 in
           stopped_early b c x.0 x.1 whole out (same (stopped x.0 x.1) x.3) x.2.number items deps less (only names more (unlimited setting) unit whole refl q))
       | no not_less ↦
           (let n = b - c in
-          came_through b c whole out (q.gives ∙ same (holding n q.progress) (unit_suffices context b without q.translates n (omega arith))) (omega arith))
+          came_through b c whole out (q.is_output ∙ same (holding n q.progress) (unit_suffices context b without q.translates n (omega arith))) (omega arith))
     ]
 
 -- If each file is known, the unit also has a value without a budget.
@@ -109,19 +109,19 @@ no_less_here one names files setting unit b wide out more are most p q =
     let c : ℕ = count q in
     let covers : Covers wide b = covers_at_most wide b most in
     let same : (r : Progress) → Translates context unit.defines.texts unit.file (initial_state here) r → output r ≡ out =
-    λ r d. (one names files here unit (output r) out are (record { progress = r; translates = d; gives = refl }) p).0 in
+    λ r d. (one names files here unit (output r) out are (record { progress = r; translates = d; is_output = refl }) p).0 in
     elim (dec_lt b c) [
       | yes less ↦
           (let x = unit_short context b covers q.translates less in
           subst (λ o. GivesNoLess o more) (same (stopped x.0 x.1) x.3)
           (record {
-            items = subst (λ o. IsPrefix x.0.items o.items) (sym q.gives) x.2.before.0;
-            deps = subst (λ o. IsPrefix x.0.deps o.deps) (sym q.gives) x.2.before.1;
+            items = subst (λ o. IsPrefix x.0.items o.items) (sym q.is_output) x.2.before.0;
+            deps = subst (λ o. IsPrefix x.0.deps o.deps) (sym q.is_output) x.2.before.1;
             same = inr (x.1, refl, x.2.number);
           }))
       | no not_less ↦
           (let n = b - c in
-          let whole : more ≡ out = q.gives ∙ same (holding n q.progress) (unit_suffices context b covers q.translates n (omega arith)) in
+          let whole : more ≡ out = q.is_output ∙ same (holding n q.progress) (unit_suffices context b covers q.translates n (omega arith)) in
           subst (λ o. GivesNoLess o more) whole (record { items = same_beginning more.items; deps = same_beginning more.deps; same = inl refl }))
     ]
 

@@ -30,7 +30,7 @@ use Rattle.ppunit.specs.Probing.{condition_tokens}
 use Rattle.ppunit.specs.Conditions.{DecidesBy, DecidesUnless, Decides, DecidesOf}
 use Rattle.ppunit.specs.Directives.{EmitsText, NamesHeaderBy, NamesHeader, ExecutesDirective, with_macros, renumbered_by, is_once, noting_pragma_once}
 use Rattle.ppunit.specs.Group.{ExecutesGroup, ExecutesBranches, ExecutesControlLine, ExecutesInclude, OpensFile}
-use Rattle.ppunit.specs.Counts.{count_decides_by, count_decides_unless, count_decides, count_names_header_by, count_names_header, count_control_by, count_group, count_branched, count_control, count_includes, count_opened, count_decides_of}
+use Rattle.ppunit.specs.Counts.{count_decides_by, count_decides_unless, count_decides, count_names_header_by, count_names_header, count_control_by, count_group, count_branches, count_control, count_includes, count_opening, count_decides_of}
 use Rattle.ppunit.specs.Unit.{Defines, unread, processed, Translates, definitions_fault, translated, IsUnit, count, count_defines, count_translates}
 use Rattle.ppunit.specs.Capped.{AtMost}
 
@@ -134,7 +134,7 @@ module _ (context : Context) where
         both _ _ _ (decides_spends (search_of context) row s line remaining_after (Ok false) decides) (both _ _ _ (branches_spend here) (group_spends rest))
     group_spends {row = row} (ExecutesGroup.condition_fault {s = s} {line = line} {remaining_after = remaining_after} {f = f} decides) = decides_spends (search_of context) row s line remaining_after (Err f) decides
 
-    pub branches_spend : {depth row : ℕ} {s : State} {bs : Branches} {m : Progress} (d : ExecutesBranches context depth row s bs m) → s.remaining ≡ plus (count_branched d) m.state.remaining
+    pub branches_spend : {depth row : ℕ} {s : State} {bs : Branches} {m : Progress} (d : ExecutesBranches context depth row s bs m) → s.remaining ≡ plus (count_branches d) m.state.remaining
     branches_spend (ExecutesBranches.no_branch_taken {s = s}) = plus-nothing s.remaining
     branches_spend (ExecutesBranches.else_group e here) = group_spends here
     branches_spend {row = row} (ExecutesBranches.branch_taken {s = s} {line = line} {remaining_after = remaining_after} e decides here) = both _ _ _ (decides_spends (search_of context) row s line remaining_after (Ok true) decides) (group_spends here)
@@ -154,7 +154,7 @@ module _ (context : Context) where
     includes_spend (ExecutesInclude.included {s = s} {line = line} {remaining_after = remaining_after} a found asks finds opens) =
         both _ _ _ (asks_spends s line.tokens remaining_after (Ok a) asks) (opened_spends opens)
 
-    pub opened_spends : {depth row : ℕ} {directory : Option ℕ} {at : Place} {s : State} {m : Progress} (d : OpensFile context depth at s row directory m) → s.remaining ≡ plus (count_opened d) m.state.remaining
+    pub opened_spends : {depth row : ℕ} {directory : Option ℕ} {at : Place} {s : State} {m : Progress} (d : OpensFile context depth at s row directory m) → s.remaining ≡ plus (count_opening d) m.state.remaining
     opened_spends (OpensFile.too_deep {s = s} deep) = plus-nothing s.remaining
     opened_spends (OpensFile.exhausted {s = s} fits spent) = plus-nothing s.remaining
     opened_spends (OpensFile.not_read_again {s = s} fits more once) = pays s.remaining more

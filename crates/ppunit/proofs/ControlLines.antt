@@ -10,15 +10,15 @@ use Rattle.ppunit.specs.States.{State, Context, running}
 use Rattle.ppunit.specs.Group.{ExecutesGroup}
 use Rattle.ppunit.specs.Group.{ExecutesControlLine}
 use Rattle.ppshelf.specs.Files.{Files, Extends}
-use Rattle.ppunit.specs.code.Walk.{line_at, Outer, lay, AreOuter, HasPartsAt, Ends, Advances, Passes, PassesFrom}
+use Rattle.ppunit.specs.code.Walk.{line_at, EnclosingSections, lines_to_end, AreEnclosingSections, HasPartsAt, Ends, Advances, Passes, PassesFrom}
 use Rattle.ppunit.proofs.FirstLineCases.{lay_control, control_role, First, text, control, opening, ending}
 use Rattle.ppunit.proofs.WalkSteps.{ends_front, ends_stop, stands_behind, AdvancesFrom, advances, first_at, run_result}
 
 control_on : (context : Files → Context) (files : Files) (depth row : ℕ) (lines : List LogicalLine) (index : ℕ) (s t : State) (f : Option Fault)
-    (r : LogicalLine) (qs : GroupParts) (k : Outer)
-    → drop index lines ≡ r ∷ lay qs k
+    (r : LogicalLine) (qs : GroupParts) (k : EnclosingSections)
+    → drop index lines ≡ r ∷ lines_to_end qs k
     → AreGroupParts qs
-    → AreOuter k
+    → AreEnclosingSections k
     → ((more : Files) → Extends more files → ExecutesControlLine (context more) depth row s r (record { state = t; fault = f }))
     → AdvancesFrom context files depth row lines s t (run_result (index + 1) f) (Control r qs) k
 control_on context files depth row lines index s t None r qs k there are outer controls =
@@ -27,7 +27,7 @@ control_on context files depth row lines index s t (Some f) r qs k there are out
     λ more grows. ends_stop (context more) depth row (running s) t f (Control r qs) k (ExecutesGroup.control (controls more grows) ExecutesGroup.already_stopped)
 
 control_by : (context : Files → Context) (files : Files) (depth row : ℕ) (lines : List LogicalLine) (index : ℕ) (s t : State) (f : Option Fault)
-    (ps : GroupParts) (k : Outer)
+    (ps : GroupParts) (k : EnclosingSections)
     → role (line_at lines index) ≡ role_by (Some Null)
     → First (line_at lines index) ps k
     → HasPartsAt lines index ps k
@@ -35,7 +35,7 @@ control_by : (context : Files → Context) (files : Files) (depth row : ℕ) (li
     → AdvancesFrom context files depth row lines s t (run_result (index + 1) f) ps k
 control_by context files depth row lines index s t f (Control x qs) k is (control same other) stands controls =
     let r = line_at lines index in
-    let there : drop index lines ≡ r ∷ lay qs k = stands.rest ∙ lay_control x qs k ∙ ap (λ (z : LogicalLine). z ∷ lay qs k) same in
+    let there : drop index lines ≡ r ∷ lines_to_end qs k = stands.rest ∙ lay_control x qs k ∙ ap (λ (z : LogicalLine). z ∷ lines_to_end qs k) same in
     subst (λ (z : LogicalLine). AdvancesFrom context files depth row lines s t (run_result (index + 1) f) (Control z qs) k) (sym same) (control_on context files depth row lines index s t f r qs k there stands.parts.1 stands.outer controls)
 control_by context files depth row lines index s t f ps k is (text same) stands controls = absurd (cc)
 control_by context files depth row lines index s t f ps k is (opening same other) stands controls = absurd (cc)
@@ -54,14 +54,14 @@ control_advances context files depth row lines index s t f d within is opens end
     (λ ps k stands. control_by context files depth row lines index s t f ps k (ap role_by is ∙ control_role d opens ends)
     (first_at lines index ps k within stands) stands controls)
 
-passes_by : (depth row : ℕ) (lines : List LogicalLine) (index : ℕ) (s : State) (ps : GroupParts) (k : Outer)
+passes_by : (depth row : ℕ) (lines : List LogicalLine) (index : ℕ) (s : State) (ps : GroupParts) (k : EnclosingSections)
     → role (line_at lines index) ≡ role_by (Some Null)
     → First (line_at lines index) ps k
     → HasPartsAt lines index ps k
     → PassesFrom depth row lines index s (index + 1) ps k
 passes_by depth row lines index s (Control x qs) k is (control same other) stands =
     let r = line_at lines index in
-    let there : drop index lines ≡ r ∷ lay qs k = stands.rest ∙ lay_control x qs k ∙ ap (λ (z : LogicalLine). z ∷ lay qs k) same in (
+    let there : drop index lines ≡ r ∷ lines_to_end qs k = stands.rest ∙ lay_control x qs k ∙ ap (λ (z : LogicalLine). z ∷ lines_to_end qs k) same in (
       qs,
       k,
       stands_behind lines index r qs k there stands.parts.1 stands.outer,

@@ -41,6 +41,6 @@ module _ (expansions : OneExpansion) (decisions : OneDecision) (readings : OneRe
   pub unit_once : HasOneValue
   unit_once names files setting unit a b once p q =
       let context = context_of_unit names files setting unit in (
-        p.gives ∙ ap output (progress_once context once p.translates q.translates) ∙ sym q.gives,
+        p.is_output ∙ ap output (progress_once context once p.translates q.translates) ∙ sym q.is_output,
         counted_once context once setting.budget refl p.translates q.translates,
       )

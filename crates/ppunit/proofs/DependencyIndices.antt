@@ -121,4 +121,4 @@ module _ (context : Context) where
 
 pub unit_within : (names : List (List ℕ)) (files : Files) (setting : Setting) (unit : UnitOfList) (out : UnitOut) → IsUnit names files setting unit out → unit.file < length names → All (λ row. row < length names) out.deps
 unit_within names files setting unit out is within =
-    subst (λ (z : UnitOut). All (λ row. row < length names) z.deps) (sym is.gives) (translates_within (context_of_unit names files setting unit) is.translates within (All-nil (λ row. row < length names)))
+    subst (λ (z : UnitOut). All (λ row. row < length names) z.deps) (sym is.is_output) (translates_within (context_of_unit names files setting unit) is.translates within (All-nil (λ row. row < length names)))

@@ -22,8 +22,8 @@ without_tokens s = record {
     outcome = stops_with s.remaining None;
     expands = (0, done (none_next s.macros s.env s.remaining));
     emitted = refl;
-    ended = refl;
-    remains = refl;
+    fault_is = refl;
+    remaining_is = refl;
   };
   is = λ i. record { state = record s { items = sym (append-nil s.items) i }; fault = None };
 }

@@ -11,12 +11,12 @@ use Rattle.ppunit.specs.States.{Search, State, Context, search_of, running, with
 use Rattle.ppunit.specs.Group.{ExecutesGroup}
 use Rattle.ppunit.specs.Conditions.{Decides}
 use Rattle.ppshelf.specs.Files.{Files}
-use Rattle.ppunit.specs.code.Walk.{line_at, Outer, lay, HasPartsAt, Advances, BranchesAt, FindsBranch}
+use Rattle.ppunit.specs.code.Walk.{line_at, EnclosingSections, lines_to_end, HasPartsAt, Advances, BranchesAt, FindsBranch}
 use Rattle.ppunit.proofs.FirstLineCases.{lay_section, opening_role, First, text, control, opening, ending}
 use Rattle.ppunit.proofs.BranchSearch.{decides_around}
 use Rattle.ppunit.proofs.WalkSteps.{ends_front, ends_stop, stands_behind, AdvancesFrom, advances, first_at}
 
-record SectionAt (lines : List LogicalLine) (index : ℕ) (ps : GroupParts) (k : Outer) : Type 0 where
+record SectionAt (lines : List LogicalLine) (index : ℕ) (ps : GroupParts) (k : EnclosingSections) : Type 0 where
   first : GroupParts
   following : GroupParts
   branches : Branches
@@ -24,10 +24,10 @@ record SectionAt (lines : List LogicalLine) (index : ℕ) (ps : GroupParts) (k :
   at : BranchesAt lines index first branches following k
   stands : HasPartsAt lines (index + 1) first ((branches, following) ∷ k)
 
-section_by : (lines : List LogicalLine) (index : ℕ) (ps : GroupParts) (k : Outer) → role (line_at lines index) ≡ role_by (Some If) → First (line_at lines index) ps k → HasPartsAt lines index ps k → SectionAt lines index ps k
+section_by : (lines : List LogicalLine) (index : ℕ) (ps : GroupParts) (k : EnclosingSections) → role (line_at lines index) ≡ role_by (Some If) → First (line_at lines index) ps k → HasPartsAt lines index ps k → SectionAt lines index ps k
 section_by lines index (Section x ps bs qs) k is (opening same other) stands =
     let r = line_at lines index in
-    let there : drop index lines ≡ r ∷ lay ps ((bs, qs) ∷ k) = stands.rest ∙ lay_section x ps qs bs k ∙ ap (λ (z : LogicalLine). z ∷ lay ps ((bs, qs) ∷ k)) same in
+    let there : drop index lines ≡ r ∷ lines_to_end ps ((bs, qs) ∷ k) = stands.rest ∙ lay_section x ps qs bs k ∙ ap (λ (z : LogicalLine). z ∷ lines_to_end ps ((bs, qs) ∷ k)) same in
     let are = stands.parts in
     record {
       first = ps;
@@ -41,7 +41,7 @@ section_by lines index ps k is (text same) stands = absurd (cc)
 section_by lines index ps k is (control same other) stands = absurd (cc)
 section_by lines index ps k is (ending differs) stands = absurd (differs.not_opening is)
 
-section_at : (lines : List LogicalLine) (index : ℕ) (d : Directive) (ps : GroupParts) (k : Outer)
+section_at : (lines : List LogicalLine) (index : ℕ) (d : Directive) (ps : GroupParts) (k : EnclosingSections)
     → index < length lines
     → (line_at lines index).directive ≡ Some d
     → opens_section d ≡ true
@@ -69,7 +69,7 @@ enter_taken context search files depth row lines index s remaining_after d withi
     )
 
 skipped_to : (context : Files → Context) (search : Search) (files : Files) (depth row : ℕ) (lines : List LogicalLine) (index : ℕ) (s t : State)
-    (remaining_after : Option ℕ) (r : LogicalLine) (ps qs : GroupParts) (bs : Branches) (k : Outer) (found : Result ℕ Fault)
+    (remaining_after : Option ℕ) (r : LogicalLine) (ps qs : GroupParts) (bs : Branches) (k : EnclosingSections) (found : Result ℕ Fault)
     → ((more : Files) → search_of (context more) ≡ search)
     → Decides search row s r remaining_after (Ok false)
     → FindsBranch search row lines (with_remaining s remaining_after) t bs qs k found
@@ -86,7 +86,7 @@ pub enter_skipped : (context : Files → Context) (search : Search) (files : Fil
     → opens_section d ≡ true
     → ((more : Files) → search_of (context more) ≡ search)
     → Decides search row s (line_at lines index) remaining_after (Ok false)
-    → ((ps : GroupParts) (bs : Branches) (qs : GroupParts) (k : Outer) → BranchesAt lines index ps bs qs k → FindsBranch search row lines (with_remaining s remaining_after) t bs qs k found)
+    → ((ps : GroupParts) (bs : Branches) (qs : GroupParts) (k : EnclosingSections) → BranchesAt lines index ps bs qs k → FindsBranch search row lines (with_remaining s remaining_after) t bs qs k found)
     → Advances context files depth row lines index s t found
 enter_skipped context search files depth row lines index s t remaining_after d found within is opens by decides finds =
     advances context files depth row lines index s t found (λ ps k stands.

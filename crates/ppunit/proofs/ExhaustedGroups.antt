@@ -9,7 +9,7 @@ use Rattle.ppexpand.proofs.BudgetLemmas.{Covers, covers_less}
 use Rattle.ppunit.specs.States.{State, file_context, in_file_context, Context, Progress, stopped, with_dependency, with_remaining, with_one_spent, search_of}
 use Rattle.ppunit.specs.DirectiveLines.{text_tokens}
 use Rattle.ppunit.specs.Group.{depth_limit, ExecutesGroup, ExecutesBranches, ExecutesControlLine, ExecutesInclude, OpensFile}
-use Rattle.ppunit.specs.Counts.{count_decides, count_names_header, count_group, count_branched, count_control, count_includes, count_opened}
+use Rattle.ppunit.specs.Counts.{count_decides, count_names_header, count_group, count_branches, count_control, count_includes, count_opening}
 use Rattle.ppunit.specs.Unit.{Defines, unread, processed, Translates, definitions_fault, translated, count_defines, count_translates}
 use Rattle.ppunit.proofs.OutputPrefixes.{Before, same_state, before_then, depends, group_before, branches_before, opened_before}
 use Rattle.ppunit.proofs.SufficientLineBudgets.{holding, run_enough, asks_enough, asks_rest, decides_enough, decides_rest, run_rest}
@@ -81,7 +81,7 @@ module _ (context : Context) where
         ]
     group_short {row = row} {end = end} b is (ExecutesGroup.skipped {s = s} {line = line} {remaining_after = remaining_after} {m = m} decides here rest) less =
         let c = count_decides (search_of context) row s line remaining_after (Ok false) decides in
-        let j = count_branched here in
+        let j = count_branches here in
         let k = count_group rest in
         let one = branches_before context here in
         let two = group_before context rest in
@@ -110,7 +110,7 @@ module _ (context : Context) where
 
     branches_short : {depth row : ℕ} {s : State} {bs : Branches} {m : Progress} (b : ℕ) → Covers s.remaining b
         → (d : ExecutesBranches context depth row s bs m)
-        → b < count_branched d
+        → b < count_branches d
         → Stops m.state (λ t f. ExecutesBranches context depth row (with_remaining s (Some b)) bs (stopped t f))
     branches_short b is ExecutesBranches.no_branch_taken less = absurd (omega arith)
     branches_short b is (ExecutesBranches.else_group e here) less =
@@ -183,7 +183,7 @@ module _ (context : Context) where
 
     pub opened_short : {depth row : ℕ} {directory : Option ℕ} {at : Place} {s : State} {m : Progress} (b : ℕ) → Covers s.remaining b
         → (d : OpensFile context depth at s row directory m)
-        → b < count_opened d
+        → b < count_opening d
         → Stops m.state (λ t f. OpensFile context depth at (with_remaining s (Some b)) row directory (stopped t f))
     opened_short b is (OpensFile.too_deep deep) less = absurd (omega arith)
     opened_short b is (OpensFile.exhausted fits spent) less = absurd (omega arith)

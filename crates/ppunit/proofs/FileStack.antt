@@ -7,13 +7,13 @@ use Rattle.ppshelf.specs.Files.{Files, Extends}
 use Rattle.ppunit.specs.code.Opening.{OpenFile, Entered}
 use Rattle.ppunit.specs.Group.{ExecutesGroup, ExecutesControlLine}
 use Rattle.ppunit.specs.States.{State, in_file_context, Context, Progress, running, stopped}
-use Rattle.ppunit.specs.code.Walk.{line_at, Outer, HasPartsAt, Ends, Advances, Passes, EntersFile, StepsTo, SuspendedFile, Walks, restored, next_file, next_suspended, contexts_restored}
+use Rattle.ppunit.specs.code.Walk.{line_at, EnclosingSections, HasPartsAt, Ends, Advances, Passes, EntersFile, StepsTo, SuspendedFile, Walks, restored, next_file, next_suspended, contexts_restored}
 use Rattle.ppunit.proofs.FileWalk.{FileSoFar, file_start, file_more, file_stop, file_done, extends_trans}
 use Rattle.ppunit.proofs.WalkSteps.{ends_stop}
 
 -- the rest of a file: its parts, and the if-sections around them
 abbrev pub Rest : Type 0
-Rest = GroupParts × Outer
+Rest = GroupParts × EnclosingSections
 
 -- each suspended file is at the line after its include line
 abbrev pub Waits : List SuspendedFile → List Rest → Type 0

@@ -7,13 +7,13 @@ use Rattle.pptext.specs.Tree.{GroupParts, Done, TextLines, Control, Section, End
 use Rattle.ppunit.specs.States.{State, Context, Progress, running, stopped}
 use Rattle.ppunit.specs.Group.{ExecutesGroup}
 use Rattle.ppshelf.specs.Files.{Files, Extends}
-use Rattle.ppunit.specs.code.Walk.{Outer, lay, HasPartsAt, Ends, Advances}
+use Rattle.ppunit.specs.code.Walk.{EnclosingSections, lines_to_end, HasPartsAt, Ends, Advances}
 use Rattle.ppunit.proofs.FirstLineCases.{lay_run, lay_control, lay_section}
 
 -- the walk is at `index` in state t: all that the rest of the lines reaches meets the goal `whole`
 pub record FileSoFar (context : Files → Context) (files : Files) (whole : Files → Progress → Type 0) (depth row : ℕ) (lines : List LogicalLine) (index : ℕ) (t : State) : Type 0 where
   pub parts : GroupParts
-  pub outer : Outer
+  pub outer : EnclosingSections
   pub stands : HasPartsAt lines index parts outer
   pub ends : (more : Files) → Extends more files → (end : Progress) → Ends (context more) depth row (running t) parts outer end → whole more end
 
@@ -50,7 +50,7 @@ pub file_stop : (context : Files → Context) (old new : Files) (whole : Files �
 file_stop context old new whole depth row lines index t u fault sofar wider step more grows =
     sofar.ends more (extends_trans more new old grows wider) (stopped u fault) (step sofar.parts sofar.outer sofar.stands more grows)
 
-nothing_laid : (context : Context) (depth row : ℕ) (t : State) (ps : GroupParts) (k : Outer) → lay ps k ≡ [] → AreGroupParts ps → Ends context depth row (running t) ps k (running t)
+nothing_laid : (context : Context) (depth row : ℕ) (t : State) (ps : GroupParts) (k : EnclosingSections) → lines_to_end ps k ≡ [] → AreGroupParts ps → Ends context depth row (running t) ps k (running t)
 nothing_laid context depth row t Done [] e are = ExecutesGroup.no_parts
 nothing_laid context depth row t Done ((End r, qs) ∷ k) e are = absurd (cc)
 nothing_laid context depth row t Done ((Branch r ps bs, qs) ∷ k) e are = absurd (cc)

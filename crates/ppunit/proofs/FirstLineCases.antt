@@ -10,27 +10,27 @@ use Rattle.pptext.specs.Lines.{LogicalLine}
 use Rattle.pptext.specs.Tree.{TextLine, ControlLine, Opens, Elses, GroupParts, Done, TextLines, Control, Section, Branches, End, Branch, part_lines, branch_lines, AreGroupParts, AreBranches, role, role_in, role_by}
 use Rattle.ppunit.specs.States.{Search, State}
 use Rattle.ppunit.specs.Conditions.{Decides}
-use Rattle.ppunit.specs.code.Walk.{Outer, lay, AreOuter, ContinuesIf, ContinuesBy}
+use Rattle.ppunit.specs.code.Walk.{EnclosingSections, lines_to_end, AreEnclosingSections, ContinuesIf, ContinuesBy}
 
 -- ---- the lines of parts and of the if-sections around them
 
-pub lay_run : (rs : List LogicalLine) (ps : GroupParts) (k : Outer) → lay (TextLines rs ps) k ≡ rs ++ lay ps k
+pub lay_run : (rs : List LogicalLine) (ps : GroupParts) (k : EnclosingSections) → lines_to_end (TextLines rs ps) k ≡ rs ++ lines_to_end ps k
 lay_run rs ps [] = refl
-lay_run rs ps ((bs, qs) ∷ k) = append_assoc rs (part_lines ps) (branch_lines bs ++ lay qs k)
+lay_run rs ps ((bs, qs) ∷ k) = append_assoc rs (part_lines ps) (branch_lines bs ++ lines_to_end qs k)
 
-pub lay_control : (r : LogicalLine) (ps : GroupParts) (k : Outer) → lay (Control r ps) k ≡ r ∷ lay ps k
+pub lay_control : (r : LogicalLine) (ps : GroupParts) (k : EnclosingSections) → lines_to_end (Control r ps) k ≡ r ∷ lines_to_end ps k
 lay_control r ps [] = refl
 lay_control r ps ((bs, qs) ∷ k) = refl
 
-pub lay_section : (r : LogicalLine) (ps qs : GroupParts) (bs : Branches) (k : Outer) → lay (Section r ps bs qs) k ≡ r ∷ lay ps ((bs, qs) ∷ k)
+pub lay_section : (r : LogicalLine) (ps qs : GroupParts) (bs : Branches) (k : EnclosingSections) → lines_to_end (Section r ps bs qs) k ≡ r ∷ lines_to_end ps ((bs, qs) ∷ k)
 lay_section r ps qs bs [] = ap (λ (z : List LogicalLine). r ∷ z) (append_assoc (part_lines ps) (branch_lines bs) (part_lines qs))
 lay_section r ps qs bs ((cs, rs) ∷ k) =
     ap (λ (z : List LogicalLine). r ∷ z)
-    (append_assoc (part_lines ps ++ branch_lines bs) (part_lines qs) (branch_lines cs ++ lay rs k)
-    ∙ append_assoc (part_lines ps) (branch_lines bs) (part_lines qs ++ (branch_lines cs ++ lay rs k)))
+    (append_assoc (part_lines ps ++ branch_lines bs) (part_lines qs) (branch_lines cs ++ lines_to_end rs k)
+    ∙ append_assoc (part_lines ps) (branch_lines bs) (part_lines qs ++ (branch_lines cs ++ lines_to_end rs k)))
 
-pub lay_branch : (r : LogicalLine) (ps qs : GroupParts) (bs : Branches) (k : Outer) → branch_lines (Branch r ps bs) ++ lay qs k ≡ r ∷ lay ps ((bs, qs) ∷ k)
-lay_branch r ps qs bs k = ap (λ (z : List LogicalLine). r ∷ z) (append_assoc (part_lines ps) (branch_lines bs) (lay qs k))
+pub lay_branch : (r : LogicalLine) (ps qs : GroupParts) (bs : Branches) (k : EnclosingSections) → branch_lines (Branch r ps bs) ++ lines_to_end qs k ≡ r ∷ lines_to_end ps ((bs, qs) ∷ k)
+lay_branch r ps qs bs k = ap (λ (z : List LogicalLine). r ∷ z) (append_assoc (part_lines ps) (branch_lines bs) (lines_to_end qs k))
 
 -- ---- directives and their roles in the grammar
 
@@ -111,15 +111,15 @@ branches_differ (Branch x ps bs) last r rest following (before, final, is, parts
     record { not_text = λ h. cc; not_control = λ h. cc; not_opening = λ h. cc }
 
 -- the first line is a text line, a control line, the opening line of an if-section, or ends a group
-pub data First (r : LogicalLine) : GroupParts → Outer → Type 0 where
-  text : {rs : List LogicalLine} {ps : GroupParts} {k : Outer} → role r ≡ role_by None → First r (TextLines rs ps) k
-  control : {x : LogicalLine} {ps : GroupParts} {k : Outer} → x ≡ r → role r ≡ role_by (Some Null) → First r (Control x ps) k
-  opening : {x : LogicalLine} {ps qs : GroupParts} {bs : Branches} {k : Outer} → x ≡ r → role r ≡ role_by (Some If) → First r (Section x ps bs qs) k
-  ending : {bs : Branches} {qs : GroupParts} {k : Outer} → Differs r → First r Done ((bs, qs) ∷ k)
+pub data First (r : LogicalLine) : GroupParts → EnclosingSections → Type 0 where
+  text : {rs : List LogicalLine} {ps : GroupParts} {k : EnclosingSections} → role r ≡ role_by None → First r (TextLines rs ps) k
+  control : {x : LogicalLine} {ps : GroupParts} {k : EnclosingSections} → x ≡ r → role r ≡ role_by (Some Null) → First r (Control x ps) k
+  opening : {x : LogicalLine} {ps qs : GroupParts} {bs : Branches} {k : EnclosingSections} → x ≡ r → role r ≡ role_by (Some If) → First r (Section x ps bs qs) k
+  ending : {bs : Branches} {qs : GroupParts} {k : EnclosingSections} → Differs r → First r Done ((bs, qs) ∷ k)
 
-pub first_of : (ps : GroupParts) (k : Outer) (r : LogicalLine) (following : List LogicalLine) → lay ps k ≡ r ∷ following → AreGroupParts ps → AreOuter k → First r ps k
+pub first_of : (ps : GroupParts) (k : EnclosingSections) (r : LogicalLine) (following : List LogicalLine) → lines_to_end ps k ≡ r ∷ following → AreGroupParts ps → AreEnclosingSections k → First r ps k
 first_of Done [] r following e are outer = absurd (cc)
-first_of Done ((bs, qs) ∷ k) r following e are outer = ending (branches_differ bs outer.0.0 r (lay qs k) following outer.0.1 e)
+first_of Done ((bs, qs) ∷ k) r following e are outer = ending (branches_differ bs outer.0.0 r (lines_to_end qs k) following outer.0.1 e)
 first_of (TextLines [] ps) k r following e are outer = absurd (are.0 refl)
 first_of (TextLines (x ∷ rs) ps) k r following e are outer =
     let whole = sym (lay_run (x ∷ rs) ps k) ∙ e in

@@ -21,7 +21,7 @@ use Rattle.ppunit.specs.DirectiveLines.{text_tokens}
 use Rattle.ppunit.specs.Conditions.{is_macro_name}
 use Rattle.ppunit.specs.Directives.{EmitsText}
 use Rattle.ppunit.specs.Group.{depth_limit, ExecutesGroup, ExecutesBranches, OpensFile}
-use Rattle.ppunit.specs.Counts.{count_group, count_opened}
+use Rattle.ppunit.specs.Counts.{count_group, count_opening}
 use Rattle.ppunit.specs.Guarded.{GuardsLeaveOut, IsLeftOut}
 use Rattle.ppunit.proofs.FileTokens.{IsSpelledLine, source_spelled}
 use Rattle.ppexpand.specs.ExpansionStep as turns
@@ -42,7 +42,7 @@ unfolding expansion_step
 nothing_gives s = (
   record {
     expanded = record { tokens = []; fault = None; remaining = s.remaining };
-    expands = record { outcome = stops_with s.remaining None; expands = (0, done (unspent s.remaining)); emitted = refl; ended = refl; remains = refl };
+    expands = record { outcome = stops_with s.remaining None; expands = (0, done (unspent s.remaining)); emitted = refl; fault_is = refl; remaining_is = refl };
     is = ap (λ (items : List Item). running (record s { items = items })) (sym (append-nil s.items));
   },
   refl,
@@ -100,7 +100,7 @@ guards_leave_out context depth row directory at s bytes lines x fits is reads (p
     spelled : AllByRecursion (IsSpelledLine context.profile) (part_lines parts)
     spelled = subst (AllByRecursion (IsSpelledLine context.profile)) (sym tree.whole) (source_spelled context.profile row bytes lines reads)
 
-    cases : (b : Bool) → has_row row s.once ≡ b → (d : OpensFile context depth at s row directory (running (with_dependency (with_one_spent s) row))) × (count_opened d ≡ 1)
+    cases : (b : Bool) → has_row row s.once ≡ b → (d : OpensFile context depth at s row directory (running (with_dependency (with_one_spent s) row))) × (count_opening d ≡ 1)
     cases true once = (OpensFile.not_read_again fits some once, refl)
     cases false new =
         let inside = guarded_group context depth row (entering context (with_one_spent s) row directory) parts x spelled tree.each guarded known in

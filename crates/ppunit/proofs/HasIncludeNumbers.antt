@@ -9,7 +9,7 @@ use Rattle.pptext.specs.declared.tokens.Token.{Token}
 use Rattle.pptext.specs.Tokens.{is_punct}
 use Rattle.ppunit.specs.States.{Search}
 use Rattle.ppunit.specs.Including.{name_of_expansion, if_possible_name}
-use Rattle.ppunit.specs.Probing.{is_has_include, opens, probe_result, before, Begun, probed}
+use Rattle.ppunit.specs.Probing.{is_has_include, opens, probe_result, before, PendingProbe, probed}
 
 abbrev is_close : Token → Bool
 is_close t = is_punct (codes ")") t
@@ -26,11 +26,11 @@ abbrev told_of : Search → ℕ → Token → List Token → Option Token
 told_of search row name following = probe_result search row name (if_possible_name (name_of_expansion (drop 1 following)))
 
 module _ (search : Search) (row : ℕ) where
-  abbrev pub From : Option Begun → List Token → Option (List Token)
+  abbrev pub From : Option PendingProbe → List Token → Option (List Token)
   From b ts = probed search row b ts
 
-  unclosed_by : (b : Begun) (t : Token) (ts : List Token) (c : Bool) → is_close t ≡ c → length (t ∷ ts) ≤ cond (not c) (1 + position_or_len is_close ts) 0
-      → ((b : Begun) → length ts ≤ position_or_len is_close ts → From (Some b) ts ≡ None)
+  unclosed_by : (b : PendingProbe) (t : Token) (ts : List Token) (c : Bool) → is_close t ≡ c → length (t ∷ ts) ≤ cond (not c) (1 + position_or_len is_close ts) 0
+      → ((b : PendingProbe) → length ts ≤ position_or_len is_close ts → From (Some b) ts ≡ None)
       → From (Some b) (t ∷ ts) ≡ None
   unclosed_by b t ts true e far more = absurd (omega arith)
   unclosed_by b t ts false e far more =
@@ -38,7 +38,7 @@ module _ (search : Search) (row : ℕ) where
       ∙ more (record { name = b.name; following = b.following ++ t ∷ [] }) (omega arith)
 
   -- Without a `)` there is no result.
-  unclosed : (b : Begun) (ts : List Token) → length ts ≤ position_or_len is_close ts → From (Some b) ts ≡ None
+  unclosed : (b : PendingProbe) (ts : List Token) → length ts ≤ position_or_len is_close ts → From (Some b) ts ≡ None
   unclosed b [] far = refl
   unclosed b (t ∷ ts) far = unclosed_by b t ts (is_close t) refl far (λ b far. unclosed b ts far)
 

@@ -8,7 +8,7 @@ use Rattle.ppshelf.specs.Content.{unreadable}
 use Rattle.ppshelf.specs.Files.{Files, Extends}
 use Rattle.ppunit.specs.States.{State, Context, Progress, search_of}
 use Rattle.ppunit.specs.Group.{ExecutesGroup, ExecutesBranches, ExecutesControlLine, ExecutesInclude, OpensFile}
-use Rattle.ppunit.specs.Counts.{count_decides, count_names_header, count_group, count_branched, count_control, count_includes, count_opened}
+use Rattle.ppunit.specs.Counts.{count_decides, count_names_header, count_group, count_branches, count_control, count_includes, count_opening}
 use Rattle.ppunit.specs.Unit.{Defines, unread, processed, Translates, definitions_fault, translated, context_of_unit, count_defines, count_translates}
 use Rattle.ppunit.specs.Laws.{Grows}
 
@@ -41,7 +41,7 @@ module _ (context : Context) (more : Files) (grows : Extends more context.files)
         (ExecutesGroup.skipped decides h.0 r.0, ap (λ n. count_decides (search_of context) row s line remaining_after (Ok false) decides + n) (both h.1 r.1))
     group_grows (ExecutesGroup.condition_fault decides) = (ExecutesGroup.condition_fault decides, refl)
 
-    branches_grow : {depth row : ℕ} {s : State} {bs : Branches} {m : Progress} (d : ExecutesBranches context depth row s bs m) → (e : ExecutesBranches wider depth row s bs m) × (count_branched e ≡ count_branched d)
+    branches_grow : {depth row : ℕ} {s : State} {bs : Branches} {m : Progress} (d : ExecutesBranches context depth row s bs m) → (e : ExecutesBranches wider depth row s bs m) × (count_branches e ≡ count_branches d)
     branches_grow ExecutesBranches.no_branch_taken = (ExecutesBranches.no_branch_taken, refl)
     branches_grow (ExecutesBranches.else_group is here) = let h = group_grows here in (ExecutesBranches.else_group is h.0, h.1)
     branches_grow {row = row} (ExecutesBranches.branch_taken {s = s} {line = line} {remaining_after = remaining_after} is decides here) =
@@ -66,7 +66,7 @@ module _ (context : Context) (more : Files) (grows : Extends more context.files)
         let o = opened_grows opens in
         (ExecutesInclude.included a found asks finds o.0, ap (λ n. count_names_header s line.tokens remaining_after (Ok a) asks + n) o.1)
 
-    pub opened_grows : {depth row : ℕ} {directory : Option ℕ} {at : Place} {s : State} {m : Progress} (d : OpensFile context depth at s row directory m) → (e : OpensFile wider depth at s row directory m) × (count_opened e ≡ count_opened d)
+    pub opened_grows : {depth row : ℕ} {directory : Option ℕ} {at : Place} {s : State} {m : Progress} (d : OpensFile context depth at s row directory m) → (e : OpensFile wider depth at s row directory m) × (count_opening e ≡ count_opening d)
     opened_grows (OpensFile.too_deep deep) = (OpensFile.too_deep deep, refl)
     opened_grows (OpensFile.exhausted fits spent) = (OpensFile.exhausted fits spent, refl)
     opened_grows (OpensFile.not_read_again fits some known) = (OpensFile.not_read_again fits some known, refl)
@@ -90,4 +90,4 @@ module _ (context : Context) (more : Files) (grows : Extends more context.files)
 pub unit_grows : Grows
 unit_grows names files more setting unit out grows is =
     let t = translates_grows (context_of_unit names files setting unit) more grows is.translates in
-    (record { progress = is.progress; translates = t.0; gives = is.gives }, t.1)
+    (record { progress = is.progress; translates = t.0; is_output = is.is_output }, t.1)

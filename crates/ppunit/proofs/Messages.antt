@@ -7,7 +7,7 @@ use Rattle.pptext.specs.Tokens.{is_punct}
 use Rattle.ppmacro.specs.Substitution.{spelled_space}
 use Rattle.ppunit.specs.DirectiveLines.{spaced}
 use Rattle.ppunit.specs.Directives.{message}
-use Rattle.ppunit.specs.Including.{ended, prefixed, angle_rest, angle_name}
+use Rattle.ppunit.specs.Including.{if_at_end, prefixed, angle_rest, angle_name}
 
 abbrev mark : Bool → List ℕ
 mark b = if b then 32 ∷ [] else []
@@ -42,11 +42,11 @@ message_is (t ∷ ts) = ap (λ (z : List ℕ). z ++ (t.text ++ probe_result fals
 
 abbrev pub named : Bool → List Token → Option (List ℕ)
 named first [] = None
-named first (t ∷ ts) = if is_punct (codes ">") t then ended (spelled_space first t) ts else prefixed (spelled_space first t ++ t.text) (named false ts)
+named first (t ∷ ts) = if is_punct (codes ">") t then if_at_end (spelled_space first t) ts else prefixed (spelled_space first t ++ t.text) (named false ts)
 
 -- the rest of a name from the token t on, with this space before t
 abbrev from : Token → List Token → Option (List ℕ) → List ℕ → Option (List ℕ)
-from t ts more space = if is_punct (codes ">") t then ended space ts else prefixed (space ++ t.text) more
+from t ts more space = if is_punct (codes ">") t then if_at_end space ts else prefixed (space ++ t.text) more
 
 named_behind : (ts : List Token) → named false ts ≡ angle_rest ts
 named_behind [] = refl

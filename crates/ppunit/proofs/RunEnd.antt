@@ -2,7 +2,7 @@
 use Rattle.std.proofs.Common.{◌≡◌, ℕ, ◌+◌, ◌<◌, ◌≤◌, List, [], ◌∷◌, ◌++◌, length, drop, refl, sym, ◌∙◌, subst, arith, add-one}
 use Rattle.std.specs.List.{AllByRecursion}
 use Rattle.pptext.specs.Lines.{LogicalLine}
-use Rattle.ppunit.specs.code.Walk.{line_at, IsTextLine, IsRest}
+use Rattle.ppunit.specs.code.Walk.{line_at, IsTextLine, StartsWithoutTextLine}
 use Rattle.ppunit.proofs.IndexedLines.{at_index, from_index}
 
 -- loop invariant: the lines from `start` up to `end` are lines of the text run
@@ -12,7 +12,7 @@ pub record RunSoFar (lines : List LogicalLine) (start end : ℕ) : Type 0 where
   pub so_far : (front rest : List LogicalLine)
       → drop start lines ≡ front ++ rest
       → AllByRecursion IsTextLine front
-      → IsRest rest
+      → StartsWithoutTextLine rest
       → (more : List LogicalLine) × (drop end lines ≡ more ++ rest) × AllByRecursion IsTextLine more × (start + length front ≡ end + length more)
 
 pub run_start : (lines : List LogicalLine) (start : ℕ) → start ≤ length lines → RunSoFar lines start start
@@ -23,7 +23,7 @@ run_one : (lines : List LogicalLine) (end goal : ℕ) (more rest : List LogicalL
     → IsTextLine (line_at lines end)
     → drop end lines ≡ more ++ rest
     → AllByRecursion IsTextLine more
-    → IsRest rest
+    → StartsWithoutTextLine rest
     → goal ≡ end + length more
     → (less : List LogicalLine) × (drop (end + 1) lines ≡ less ++ rest) × AllByRecursion IsTextLine less × (goal ≡ end + 1 + length less)
 run_one lines end goal [] [] within is e all ends sum = let there = sym (from_index lines end within) ∙ e in absurd (cc)
@@ -58,7 +58,7 @@ pub run_done : (lines : List LogicalLine) (start end : ℕ)
     → (front rest : List LogicalLine)
     → drop start lines ≡ front ++ rest
     → AllByRecursion IsTextLine front
-    → IsRest rest
+    → StartsWithoutTextLine rest
     → (end ≡ start + length front) × (drop end lines ≡ rest)
 run_done lines start end sofar over front rest e all ends =
     let f = sofar.so_far front rest e all ends in

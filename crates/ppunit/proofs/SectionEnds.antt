@@ -10,7 +10,7 @@ use Rattle.pptext.proofs.NextBranchFacts.{next_within, next_of_branch, next_of_e
 use Rattle.ppunit.specs.States.{State, Context, running}
 use Rattle.ppunit.specs.Group.{ExecutesGroup}
 use Rattle.ppshelf.specs.Files.{Files}
-use Rattle.ppunit.specs.code.Walk.{line_at, Outer, lay, HasPartsAt, Advances}
+use Rattle.ppunit.specs.code.Walk.{line_at, EnclosingSections, lines_to_end, HasPartsAt, Advances}
 use Rattle.ppunit.proofs.IndexedLines.{at_index, drop_further}
 use Rattle.ppunit.proofs.FirstLineCases.{Differs, ending_role, First, text, control, opening, ending}
 use Rattle.ppunit.proofs.WalkSteps.{AdvancesFrom, first_at}
@@ -100,7 +100,7 @@ section_done lines branch index sofar found last bs rest e are =
 -- ---- the end of a group
 
 end_by : (context : Files → Context) (files : Files) (depth row : ℕ) (lines : List LogicalLine) (index next : ℕ) (s : State) (ps : GroupParts)
-    (k : Outer)
+    (k : EnclosingSections)
     → Differs (line_at lines index)
     → First (line_at lines index) ps k
     → HasPartsAt lines index ps k
@@ -109,7 +109,7 @@ end_by : (context : Files → Context) (files : Files) (depth row : ℕ) (lines 
     → AdvancesFrom context files depth row lines s s (Ok next) ps k
 end_by context files depth row lines index next s Done ((bs, qs) ∷ k) differs (ending other) stands over =
     let outer = stands.outer in
-    (qs, k, record { rest = over outer.0.0 bs (lay qs k) stands.rest outer.0.1; parts = outer.1; outer = outer.2 }, λ more grows end rest. (running s, ExecutesGroup.no_parts, rest))
+    (qs, k, record { rest = over outer.0.0 bs (lines_to_end qs k) stands.rest outer.0.1; parts = outer.1; outer = outer.2 }, λ more grows end rest. (running s, ExecutesGroup.no_parts, rest))
 end_by context files depth row lines index next s ps k differs (text same) stands over = absurd (differs.not_text same)
 end_by context files depth row lines index next s ps k differs (control same other) stands over = absurd (differs.not_control other)
 end_by context files depth row lines index next s ps k differs (opening same other) stands over = absurd (differs.not_opening other)

@@ -8,7 +8,7 @@ use Rattle.ppexpand.proofs.BudgetLemmas.{Covers, without, covers_less, covers_re
 use Rattle.ppunit.specs.States.{State, Context, Progress, running, stopped, with_remaining, search_of}
 use Rattle.ppunit.specs.DirectiveLines.{text_tokens}
 use Rattle.ppunit.specs.Group.{ExecutesGroup, ExecutesBranches, ExecutesControlLine, ExecutesInclude, OpensFile}
-use Rattle.ppunit.specs.Counts.{count_group, count_branched, count_control, count_includes, count_opened}
+use Rattle.ppunit.specs.Counts.{count_group, count_branches, count_control, count_includes, count_opening}
 use Rattle.ppunit.specs.Unit.{Defines, unread, processed, Translates, definitions_fault, translated, count_defines, count_translates}
 use Rattle.ppunit.proofs.BudgetSums.{group_spends, branches_spend, control_spends, defines_spends}
 use Rattle.ppunit.proofs.SufficientLineBudgets.{holding, run_enough, asks_enough, decides_enough, control_by_enough, asks_rest, decides_rest, run_rest, covered}
@@ -22,9 +22,9 @@ module _ (context : Context) where
 
   pub branches_rest : {depth row : ℕ} {s : State} {bs : Branches} {r : Progress} (b m : ℕ) → Covers s.remaining b
       → (d : ExecutesBranches context depth row s bs r)
-      → b ≡ count_branched d + m
+      → b ≡ count_branches d + m
       → Covers r.state.remaining m
-  branches_rest {r = r} b m is d sum = covers_rest r.state.remaining (count_branched d) m is (branches_spend context d) sum
+  branches_rest {r = r} b m is d sum = covers_rest r.state.remaining (count_branches d) m is (branches_spend context d) sum
 
   pub control_rest : {depth row : ℕ} {s : State} {line : LogicalLine} {r : Progress} (b m : ℕ) → Covers s.remaining b
       → (d : ExecutesControlLine context depth row s line r)
@@ -61,7 +61,7 @@ module _ (context : Context) where
         let remaining = decides_rest (search_of context) row s line remaining_after (Ok true) b (j + (k + n)) is decides (omega arith) in
         ExecutesGroup.taken (decides_enough (search_of context) row s line remaining_after (Ok true) b is decides (j + (k + n)) (omega arith)) (group_enough (j + (k + n)) remaining here (k + n) refl) (group_enough (k + n) (group_rest (j + (k + n)) (k + n) remaining here refl) rest n refl)
     group_enough {row = row} b is (ExecutesGroup.skipped {s = s} {line = line} {remaining_after = remaining_after} decides here rest) n sum =
-        let j = count_branched here in
+        let j = count_branches here in
         let k = count_group rest in
         let remaining = decides_rest (search_of context) row s line remaining_after (Ok false) b (j + (k + n)) is decides (omega arith) in
         ExecutesGroup.skipped (decides_enough (search_of context) row s line remaining_after (Ok false) b is decides (j + (k + n)) (omega arith))
@@ -70,7 +70,7 @@ module _ (context : Context) where
 
     pub branches_enough : {depth row : ℕ} {s : State} {bs : Branches} {m : Progress} (b : ℕ) → Covers s.remaining b
         → (d : ExecutesBranches context depth row s bs m) (n : ℕ)
-        → b ≡ count_branched d + n
+        → b ≡ count_branches d + n
         → ExecutesBranches context depth row (with_remaining s (Some b)) bs (holding n m)
     branches_enough {depth} {row} b is (ExecutesBranches.no_branch_taken {s = s} {line = line}) n sum =
         let same : b ≡ n = omega arith in
@@ -80,7 +80,7 @@ module _ (context : Context) where
         let j = count_group here in
         ExecutesBranches.branch_taken e (decides_enough (search_of context) row s line remaining_after (Ok true) b is decides (j + n) (omega arith)) (group_enough (j + n) (decides_rest (search_of context) row s line remaining_after (Ok true) b (j + n) is decides (omega arith)) here n refl)
     branches_enough {row = row} b is (ExecutesBranches.branch_skipped {s = s} {line = line} {remaining_after = remaining_after} e decides rest) n sum =
-        let j = count_branched rest in
+        let j = count_branches rest in
         ExecutesBranches.branch_skipped e (decides_enough (search_of context) row s line remaining_after (Ok false) b is decides (j + n) (omega arith)) (branches_enough (j + n) (decides_rest (search_of context) row s line remaining_after (Ok false) b (j + n) is decides (omega arith)) rest n refl)
     branches_enough {row = row} b is (ExecutesBranches.branch_condition_fault {s = s} {line = line} {remaining_after = remaining_after} {f = f} e decides) n sum =
         ExecutesBranches.branch_condition_fault e (decides_enough (search_of context) row s line remaining_after (Err f) b is decides n sum)
@@ -111,13 +111,13 @@ module _ (context : Context) where
     includes_enough b is (ExecutesInclude.missing {s = s} {line = line} {remaining_after = remaining_after} a asks finds) n sum =
         ExecutesInclude.missing a (asks_enough s line.tokens remaining_after (Ok a) b is asks n sum) finds
     includes_enough b is (ExecutesInclude.included {s = s} {line = line} {remaining_after = remaining_after} a found asks finds opens) n sum =
-        let j = count_opened opens in
+        let j = count_opening opens in
         ExecutesInclude.included a found (asks_enough s line.tokens remaining_after (Ok a) b is asks (j + n) (omega arith)) finds
         (opened_enough (j + n) (asks_rest s line.tokens remaining_after (Ok a) b (j + n) is asks (omega arith)) opens n refl)
 
     pub opened_enough : {depth row : ℕ} {directory : Option ℕ} {at : Place} {s : State} {m : Progress} (b : ℕ) → Covers s.remaining b
         → (d : OpensFile context depth at s row directory m) (n : ℕ)
-        → b ≡ count_opened d + n
+        → b ≡ count_opening d + n
         → OpensFile context depth at (with_remaining s (Some b)) row directory (holding n m)
     opened_enough {depth} {row} {directory} {at} {s} {m} b is (OpensFile.too_deep deep) n sum =
         let same : b ≡ n = omega arith in
@@ -158,7 +158,7 @@ module _ (context : Context) where
       → Translates context defines row (with_remaining s (Some b)) (holding n m)
   unit_suffices b is (definitions_fault here) n sum = definitions_fault (defines_enough b is here n sum)
   unit_suffices b is (translated here opens) n sum =
-      let j = count_opened opens in
+      let j = count_opening opens in
       translated (defines_enough b is here (j + n) (omega arith)) (opened_enough (j + n) (defines_rest b (j + n) is here (omega arith)) opens n refl)
 
   -- A unit without a budget has the same outcome with a sufficient budget.

@@ -10,7 +10,7 @@ use Rattle.ppunit.specs.Group.{ExecutesGroup}
 use Rattle.ppunit.specs.Directives.{EmitsText}
 use Rattle.ppunit.specs.DirectiveLines.{text_tokens}
 use Rattle.ppshelf.specs.Files.{Files}
-use Rattle.ppunit.specs.code.Walk.{line_at, Outer, lay, AreOuter, HasPartsAt, Advances, IsTextLine, IsRest}
+use Rattle.ppunit.specs.code.Walk.{line_at, EnclosingSections, lines_to_end, AreEnclosingSections, HasPartsAt, Advances, IsTextLine, StartsWithoutTextLine}
 use Rattle.ppunit.proofs.FirstLineCases.{lay_run, text_directive, branches_differ, First, text, control, opening, ending}
 use Rattle.ppunit.proofs.WalkSteps.{ends_front, ends_stop, AdvancesFrom, advances, first_at, run_result}
 
@@ -21,12 +21,12 @@ text_lines (r ∷ rs) all = (text_directive r.directive all.0, text_lines rs all
 no_text : (r : LogicalLine) → role r ≢ role_by None → ¬ IsTextLine r
 no_text r differs is = differs (ap role_by is)
 
-behind_run : (ps : GroupParts) (k : Outer) → AreGroupParts ps → AreOuter k → (¬ BeginsTextLines ps) → IsRest (lay ps k)
+behind_run : (ps : GroupParts) (k : EnclosingSections) → AreGroupParts ps → AreEnclosingSections k → (¬ BeginsTextLines ps) → StartsWithoutTextLine (lines_to_end ps k)
 behind_run Done [] are outer alone = tt
 behind_run Done ((End r, qs) ∷ k) are outer alone =
-    no_text r (branches_differ (End r) outer.0.0 r (lay qs k) (lay qs k) outer.0.1 refl).not_text
+    no_text r (branches_differ (End r) outer.0.0 r (lines_to_end qs k) (lines_to_end qs k) outer.0.1 refl).not_text
 behind_run Done ((Branch r ps bs, qs) ∷ k) are outer alone =
-    no_text r (branches_differ (Branch r ps bs) outer.0.0 r (lay qs k) (part_lines ps ++ branch_lines bs ++ lay qs k) outer.0.1 refl).not_text
+    no_text r (branches_differ (Branch r ps bs) outer.0.0 r (lines_to_end qs k) (part_lines ps ++ branch_lines bs ++ lines_to_end qs k) outer.0.1 refl).not_text
 behind_run (TextLines rs ps) k are outer alone = absurd (alone tt)
 behind_run (Control r ps) [] are outer alone = let is = are.0 in no_text r (λ h. cc)
 behind_run (Control r ps) ((bs, qs) ∷ k) are outer alone = let is = are.0 in no_text r (λ h. cc)
@@ -34,7 +34,7 @@ behind_run (Section r ps cs rs) [] are outer alone = let is = are.0 in no_text r
 behind_run (Section r ps cs rs) ((bs, qs) ∷ k) are outer alone = let is = are.0 in no_text r (λ h. cc)
 
 abbrev pub RunOf : List LogicalLine → ℕ → ℕ → Type 0
-RunOf lines index end = (front rest : List LogicalLine) → drop index lines ≡ front ++ rest → AllByRecursion IsTextLine front → IsRest rest → (end ≡ index + length front) × (drop end lines ≡ rest)
+RunOf lines index end = (front rest : List LogicalLine) → drop index lines ≡ front ++ rest → AllByRecursion IsTextLine front → StartsWithoutTextLine rest → (end ≡ index + length front) × (drop end lines ≡ rest)
 
 pub run_tokens_are : (lines front rest : List LogicalLine) (index end : ℕ) → drop index lines ≡ front ++ rest → end ≡ index + length front → take (end - index) (drop index lines) ≡ front
 run_tokens_are lines front rest index end e is =
@@ -42,28 +42,28 @@ run_tokens_are lines front rest index end e is =
     ap (take (end - index)) e ∙ take_at front rest (end - index) count
 
 run_by : (context : Files → Context) (files : Files) (depth row : ℕ) (lines : List LogicalLine) (index end : ℕ) (s t : State) (f : Option Fault)
-    (ps : GroupParts) (k : Outer)
+    (ps : GroupParts) (k : EnclosingSections)
     → role (line_at lines index) ≡ role_by None
     → First (line_at lines index) ps k
     → HasPartsAt lines index ps k
     → RunOf lines index end
     → EmitsText s (text_tokens (take (end - index) (drop index lines))) (record { state = t; fault = f })
-    → (rs : List LogicalLine) × (qs : GroupParts) × (ps ≡ TextLines rs qs) × (drop end lines ≡ lay qs k) × EmitsText s (text_tokens rs)
+    → (rs : List LogicalLine) × (qs : GroupParts) × (ps ≡ TextLines rs qs) × (drop end lines ≡ lines_to_end qs k) × EmitsText s (text_tokens rs)
     (record { state = t; fault = f })
 run_by context files depth row lines index end s t f (TextLines rs ps) k is (text same) stands run gives =
     let there = stands.rest ∙ lay_run rs ps k in
     let parts = stands.parts in
-    let over = run rs (lay ps k) there (text_lines rs parts.1) (behind_run ps k parts.3 stands.outer parts.2) in
-    (rs, ps, refl, over.1, subst (λ (z : List LogicalLine). EmitsText s (text_tokens z) (record { state = t; fault = f })) (run_tokens_are lines rs (lay ps k) index end there over.0) gives)
+    let over = run rs (lines_to_end ps k) there (text_lines rs parts.1) (behind_run ps k parts.3 stands.outer parts.2) in
+    (rs, ps, refl, over.1, subst (λ (z : List LogicalLine). EmitsText s (text_tokens z) (record { state = t; fault = f })) (run_tokens_are lines rs (lines_to_end ps k) index end there over.0) gives)
 run_by context files depth row lines index end s t f ps k is (control same other) stands run gives = absurd (cc)
 run_by context files depth row lines index end s t f ps k is (opening same other) stands run gives = absurd (cc)
 run_by context files depth row lines index end s t f ps k is (ending differs) stands run gives = absurd (differs.not_text is)
 
 run_on : (context : Files → Context) (files : Files) (depth row : ℕ) (lines : List LogicalLine) (index end : ℕ) (s t : State) (f : Option Fault)
-    (rs : List LogicalLine) (qs : GroupParts) (k : Outer)
+    (rs : List LogicalLine) (qs : GroupParts) (k : EnclosingSections)
     → AreGroupParts qs
-    → AreOuter k
-    → drop end lines ≡ lay qs k
+    → AreEnclosingSections k
+    → drop end lines ≡ lines_to_end qs k
     → EmitsText s (text_tokens rs) (record { state = t; fault = f })
     → AdvancesFrom context files depth row lines s t (run_result end f) (TextLines rs qs) k
 run_on context files depth row lines index end s t None rs qs k are outer there gives =

@@ -368,4 +368,4 @@ module _ (expansions : SomeExpansion) (decisions : SomeDecision) where
   pub some_unit : SomeReading → SomeTree → SomeRow → HasSomeValue
   some_unit readings trees rows names files setting unit known within =
       let t = some_translation readings trees rows (context_of_unit names files setting unit) known unit.defines.texts unit.file within (initial_state setting) in
-      (output t.0, record { progress = t.0; translates = t.1; gives = refl })
+      (output t.0, record { progress = t.0; translates = t.1; is_output = refl })

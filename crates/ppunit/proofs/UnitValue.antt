@@ -96,7 +96,7 @@ pub whole_unit : (names : List (List ℕ)) (profile : Profile) (files : Files) (
     unit.file (initial_state setting) r
     → out ≡ output r
     → IsUnit names files setting unit out
-whole_unit names profile files setting unit ours theirs r out p e f is gives =
+whole_unit names profile files setting unit ours theirs r out p e f is is_output =
     let Of : Profile → List (List ℕ) → List (List ℕ) → Type 0 = λ q o t.
     Translates (record { names = names; profile = q; files = files; unit_directories = o; setting_directories = t }) unit.defines.texts unit.file
     (initial_state setting) r in
@@ -104,5 +104,5 @@ whole_unit names profile files setting unit ours theirs r out p e f is gives =
       progress = r;
       translates = subst (Of setting.profile unit.search) f
           (subst (λ z. Of setting.profile z theirs) e (subst (λ z. Of z ours theirs) p is));
-      gives = gives;
+      is_output = is_output;
     }

@@ -33,7 +33,7 @@ use Rattle.ppunit.specs.Directives.{EmitsText, with_macros, renumbered_by, Names
 use Rattle.ppunit.specs.Group.{ExecutesGroup, ExecutesBranches, ExecutesControlLine}
 use Rattle.ppunit.specs.Unit.{count_defines, Defines}
 use Rattle.ppexpand.specs.Expansion.{count_expansion}
-use Rattle.ppunit.specs.Counts.{count_decides, count_names_header, count_group, count_branched, count_control}
+use Rattle.ppunit.specs.Counts.{count_decides, count_names_header, count_group, count_branches, count_control}
 use Rattle.ppunit.proofs.BudgetSums.{still_none, asks_spends, decides_spends, run_spends, group_spends, branches_spend, control_spends, defines_spends}
 
 -- ---- without a budget, there is none afterwards
@@ -52,7 +52,7 @@ module _ (context : Context) where
   group_none is d = still_none (count_group d) is (group_spends context d)
 
   pub branches_none : {depth row : ℕ} {s : State} {bs : Branches} {m : Progress} → s.remaining ≡ None → ExecutesBranches context depth row s bs m → m.state.remaining ≡ None
-  branches_none is d = still_none (count_branched d) is (branches_spend context d)
+  branches_none is d = still_none (count_branches d) is (branches_spend context d)
 
   pub control_none : {depth row : ℕ} {s : State} {line : LogicalLine} {m : Progress} → s.remaining ≡ None → ExecutesControlLine context depth row s line m → m.state.remaining ≡ None
   control_none is d = still_none (count_control d) is (control_spends context d)

@@ -71,4 +71,4 @@ never o f is h = subst IsOther is h
 
 pub never_refused : OnlyBudgetsRefuse
 never_refused names files setting unit out budget p h =
-    never p.progress.fault h.0 (sym (ap (λ o. o.fault) p.gives) ∙ h.1) (unit_other (context_of_unit names files setting unit) budget p.translates) h.2
+    never p.progress.fault h.0 (sym (ap (λ o. o.fault) p.is_output) ∙ h.1) (unit_other (context_of_unit names files setting unit) budget p.translates) h.2

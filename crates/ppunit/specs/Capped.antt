@@ -31,7 +31,7 @@ abbrev pub AtMost : Option ℕ → ℕ → Type 0
 AtMost None n = Unit {0}
 AtMost (Some b) n = n ≤ b
 
--- in each way to this value, the unit's replacements and opened files total at most its budget
+-- in each derivation of this value, the unit's replacements and opened files total at most its budget
 abbrev pub IsInBudget : List (List ℕ) → Files → Setting → UnitOfList → UnitOut → Type 0
 IsInBudget names files setting unit out = (p : IsUnit names files setting unit out) → AtMost setting.budget (count p)
 

@@ -38,7 +38,7 @@ abbrev pub DecidesOf : Result (List Token) Fault → State → Place → Option 
 DecidesOf (Err f) s at remaining_after taken = DecidesFreely s (Err f) remaining_after taken
 DecidesOf (Ok tokens) s at remaining_after taken = IsCondition s.macros s.env at tokens s.remaining taken remaining_after
 
--- by what a line without unmatched quotes asks, in the file at index `row`
+-- the decision of a line without unmatched quotes in the file at index `row`: by its condition or by its name
 abbrev pub DecidesBy : Search → ℕ → Option Question → State → List Token → Option ℕ → Result Bool Fault → Type 0
 DecidesBy search row (Some Value) s line remaining_after taken = DecidesOf (condition_tokens search row line) s (hash_place line) remaining_after taken
 DecidesBy search row (Some (Defined wanted)) s line remaining_after taken = DecidesFreely s (by_name wanted s.macros line (one_identifier (operands line))) remaining_after taken
@@ -52,6 +52,6 @@ DecidesUnless search row None d s line remaining_after taken = DecidesBy search 
 abbrev pub Decides : Search → ℕ → State → LogicalLine → Option ℕ → Result Bool Fault → Type 0
 Decides search row s line remaining_after taken = DecidesUnless search row (unmatched_quote line.tokens) line.directive s line.tokens remaining_after taken
 
--- the lines that have a condition
+-- the directives whose lines decide whether the group after them is taken
 abbrev pub IsConditional : Directive → Type 0
 IsConditional d = IsSome (question_of d)

@@ -71,24 +71,24 @@ abbrev mutual
   pub count_group : {context : Context} {depth row : ℕ} {r : Progress} {ps : GroupParts} {end : Progress} → ExecutesGroup context depth row r ps end → ℕ
   count_group ExecutesGroup.already_stopped = 0
   count_group ExecutesGroup.no_parts = 0
-  count_group (ExecutesGroup.text_lines gives rest) = count_expansion gives.expands + count_group rest
+  count_group (ExecutesGroup.text_lines emits rest) = count_expansion emits.expands + count_group rest
   count_group (ExecutesGroup.control here rest) = count_control here + count_group rest
   count_group {context} {depth} {row} (ExecutesGroup.taken {s = s} {line = line} {remaining_after = remaining_after} decides here rest) =
       count_decides (search_of context) row s line remaining_after (Ok true) decides + (count_group here + count_group rest)
   count_group {context} {depth} {row} (ExecutesGroup.skipped {s = s} {line = line} {remaining_after = remaining_after} decides here rest) =
-      count_decides (search_of context) row s line remaining_after (Ok false) decides + (count_branched here + count_group rest)
+      count_decides (search_of context) row s line remaining_after (Ok false) decides + (count_branches here + count_group rest)
   count_group {context} {depth} {row} (ExecutesGroup.condition_fault {s = s} {line = line} {remaining_after = remaining_after} {f = f} decides) = count_decides (search_of context) row s line remaining_after (Err f) decides
 
-  pub count_branched : {context : Context} {depth row : ℕ} {s : State} {bs : Branches} {m : Progress}
+  pub count_branches : {context : Context} {depth row : ℕ} {s : State} {bs : Branches} {m : Progress}
       → ExecutesBranches context depth row s bs m
       → ℕ
-  count_branched ExecutesBranches.no_branch_taken = 0
-  count_branched (ExecutesBranches.else_group is here) = count_group here
-  count_branched {context} {depth} {row} (ExecutesBranches.branch_taken {s = s} {line = line} {remaining_after = remaining_after} is decides here) =
+  count_branches ExecutesBranches.no_branch_taken = 0
+  count_branches (ExecutesBranches.else_group is here) = count_group here
+  count_branches {context} {depth} {row} (ExecutesBranches.branch_taken {s = s} {line = line} {remaining_after = remaining_after} is decides here) =
       count_decides (search_of context) row s line remaining_after (Ok true) decides + count_group here
-  count_branched {context} {depth} {row} (ExecutesBranches.branch_skipped {s = s} {line = line} {remaining_after = remaining_after} is decides rest) =
-      count_decides (search_of context) row s line remaining_after (Ok false) decides + count_branched rest
-  count_branched {context} {depth} {row} (ExecutesBranches.branch_condition_fault {s = s} {line = line} {remaining_after = remaining_after} {f = f} is decides) = count_decides (search_of context) row s line remaining_after (Err f) decides
+  count_branches {context} {depth} {row} (ExecutesBranches.branch_skipped {s = s} {line = line} {remaining_after = remaining_after} is decides rest) =
+      count_decides (search_of context) row s line remaining_after (Ok false) decides + count_branches rest
+  count_branches {context} {depth} {row} (ExecutesBranches.branch_condition_fault {s = s} {line = line} {remaining_after = remaining_after} {f = f} is decides) = count_decides (search_of context) row s line remaining_after (Err f) decides
 
   pub count_control : {context : Context} {depth row : ℕ} {s : State} {line : LogicalLine} {m : Progress}
       → ExecutesControlLine context depth row s line m
@@ -106,14 +106,14 @@ abbrev mutual
   count_includes (ExecutesInclude.operand_fault {s = s} {line = line} {remaining_after = remaining_after} {f = f} names) = count_names_header s line.tokens remaining_after (Err f) names
   count_includes (ExecutesInclude.missing {s = s} {line = line} {remaining_after = remaining_after} a names finds) = count_names_header s line.tokens remaining_after (Ok a) names
   count_includes (ExecutesInclude.included {s = s} {line = line} {remaining_after = remaining_after} a found names finds opens) =
-      count_names_header s line.tokens remaining_after (Ok a) names + count_opened opens
+      count_names_header s line.tokens remaining_after (Ok a) names + count_opening opens
 
-  pub count_opened : {context : Context} {depth row : ℕ} {directory : Option ℕ} {at : Place} {s : State} {m : Progress}
+  pub count_opening : {context : Context} {depth row : ℕ} {directory : Option ℕ} {at : Place} {s : State} {m : Progress}
       → OpensFile context depth at s row directory m
       → ℕ
-  count_opened (OpensFile.too_deep deep) = 0
-  count_opened (OpensFile.exhausted fits spent) = 0
-  count_opened (OpensFile.not_read_again fits more once) = 1
-  count_opened (OpensFile.not_readable fits more once is) = 1
-  count_opened (OpensFile.content_fault fits more once is reads) = 1
-  count_opened (OpensFile.read fits more once is reads tree here) = suc (count_group here)
+  count_opening (OpensFile.too_deep deep) = 0
+  count_opening (OpensFile.exhausted fits spent) = 0
+  count_opening (OpensFile.not_read_again fits more once) = 1
+  count_opening (OpensFile.not_readable fits more once is) = 1
+  count_opening (OpensFile.content_fault fits more once is reads) = 1
+  count_opening (OpensFile.read fits more once is reads tree here) = suc (count_group here)

@@ -11,7 +11,7 @@ use Rattle.ppshelf.specs.Files.{file_at}
 use Rattle.ppunit.specs.States.{State, Context, Progress, running, with_dependency, with_one_spent}
 use Rattle.ppunit.specs.Conditions.{is_macro_name}
 use Rattle.ppunit.specs.Group.{depth_limit, OpensFile}
-use Rattle.ppunit.specs.Counts.{count_opened}
+use Rattle.ppunit.specs.Counts.{count_opening}
 
 -- opening a file whose guard is defined adds a dependency and spends one of the budget, and does nothing else, if the
 -- budget isn't exhausted
@@ -24,9 +24,9 @@ GuardsLeaveOut =
     → GuardedBy lines x
     → is_macro_name s.macros x ≡ true
     → is_exhausted s.remaining ≡ false
-    → (d : OpensFile context depth at s row directory (running (with_dependency (with_one_spent s) row))) × (count_opened d ≡ 1)
+    → (d : OpensFile context depth at s row directory (running (with_dependency (with_one_spent s) row))) × (count_opening d ≡ 1)
 
--- and if file names are distinct, it has no other outcome
+-- if file names are also distinct, opening such a file has no other outcome
 abbrev pub GuardsOnlyLeaveOut : Type 0
 GuardsOnlyLeaveOut =
     (context : Context) (depth row : ℕ) (directory : Option ℕ) (at : Place) (s : State) (bytes : List ℕ) (lines : List LogicalLine) (x : List ℕ)

@@ -39,23 +39,23 @@ name_of_header (t ∷ []) = Some (record { form = form_of t.text; name = inner t
 name_of_header ts = None
 
 -- the text, if no tokens follow
-abbrev pub ended : List ℕ → List Token → Option (List ℕ)
-ended text [] = Some text
-ended text (t ∷ ts) = None
+abbrev pub if_at_end : List ℕ → List Token → Option (List ℕ)
+if_at_end text [] = Some text
+if_at_end text (t ∷ ts) = None
 
 abbrev pub prefixed : List ℕ → Option (List ℕ) → Option (List ℕ)
 prefixed text None = None
 prefixed text (Some more) = Some (text ++ more)
 
--- the rest of a name before `>`, which is the last token and the only one
+-- the rest of a name before the first `>`, which must be the last token
 abbrev pub angle_rest : List Token → Option (List ℕ)
 angle_rest [] = None
-angle_rest (t ∷ ts) = if is_punct (codes ">") t then ended (space_before t) ts else prefixed (spaced t) (angle_rest ts)
+angle_rest (t ∷ ts) = if is_punct (codes ">") t then if_at_end (space_before t) ts else prefixed (spaced t) (angle_rest ts)
 
 -- the name before `>`, with one space where a token other than the first has leading white space
 abbrev pub angle_name : List Token → Option (List ℕ)
 angle_name [] = None
-angle_name (t ∷ ts) = if is_punct (codes ">") t then ended [] ts else prefixed t.text (angle_rest ts)
+angle_name (t ∷ ts) = if is_punct (codes ">") t then if_at_end [] ts else prefixed t.text (angle_rest ts)
 
 abbrev pub name_of_angle_form : Option (List ℕ) → Option IncludeName
 name_of_angle_form None = None

@@ -7,7 +7,7 @@ pub mod Including
 pub mod Probing
 pub mod Conditions
 pub mod Directives
-pub mod ExecutesGroup
+pub mod Group
 pub mod Counts
 pub mod CommandFile
 pub mod Unit

@@ -45,13 +45,13 @@ before (Some t) None = None
 before (Some t) (Some ts) = Some (t ∷ ts)
 
 -- an `__has_include` whose `)` isn't reached, and the tokens after it so far, with the `(`
-pub record Begun : Type 0 where
+pub record PendingProbe : Type 0 where
   pub name : Token
   pub following : List Token
 
 -- the tokens with a number for each `__has_include` before a `(`, up to the first `)`; none if one has no `)` or names
 -- no header
-abbrev pub probed : Search → ℕ → Option Begun → List Token → Option (List Token)
+abbrev pub probed : Search → ℕ → Option PendingProbe → List Token → Option (List Token)
 probed search row None [] = Some []
 probed search row (Some b) [] = None
 probed search row None (t ∷ ts) =

@@ -19,7 +19,7 @@ pub record UnitContext : Type 0 where
   pub unit_directories : List (List ℕ)
   pub setting_directories : List (List ℕ)
 
--- what does not change within a unit: the names of all files, their profile, their known contents, and the directories
+-- the context of a unit, which stays constant: the names of all files, their profile, their known contents, and the directories
 -- that are searched, the unit's before the setting's
 pub record Context : Type 0 where
   pub names : List (List ℕ)

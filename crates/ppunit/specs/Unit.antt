@@ -14,7 +14,7 @@ use Rattle.ppunit.specs.declared.units.Setting.{Setting}
 use Rattle.ppunit.specs.declared.units.UnitOut.{UnitOut}
 use Rattle.ppunit.specs.States.{State, Context, Progress, running, stopped, output}
 use Rattle.ppunit.specs.Group.{ExecutesGroup, OpensFile}
-use Rattle.ppunit.specs.Counts.{count_group, count_opened}
+use Rattle.ppunit.specs.Counts.{count_group, count_opening}
 
 -- a unit begins with the predefined names (6.10.8.1) and nothing else
 abbrev pub initial_state : Setting → State
@@ -73,7 +73,7 @@ abbrev pub count_translates : {context : Context} {defines : List (List ℕ)} {r
     → Translates context defines row s m
     → ℕ
 count_translates (definitions_fault here) = count_defines here
-count_translates (translated here opens) = count_defines here + count_opened opens
+count_translates (translated here opens) = count_defines here + count_opening opens
 
 -- ---- the value
 
@@ -81,7 +81,7 @@ count_translates (translated here opens) = count_defines here + count_opened ope
 pub record IsUnit (names : List (List ℕ)) (files : Files) (setting : Setting) (unit : UnitOfList) (out : UnitOut) : Type 0 where
   pub progress : Progress
   pub translates : Translates (context_of_unit names files setting unit) unit.defines.texts unit.file (initial_state setting) progress
-  pub gives : out ≡ output progress
+  pub is_output : out ≡ output progress
 
 -- the number of replacements and opened files of a unit, including the main file
 abbrev pub count : {names : List (List ℕ)} {files : Files} {setting : Setting} {unit : UnitOfList} {out : UnitOut}

@@ -40,7 +40,7 @@ impl fmt::Debug for CommandMacros {
 }
 
 impl CommandMacros {
-    /// Reads the file that holds a line `#define `, text, new-line for each definition. The file may have at most
+    /// Reads the file that has, for each definition, a line of `#define `, the text, and a new-line. The file may have at most
     /// `LONGEST` bytes: see `fits_command`. Fails if an allocation fails.
     pub fn read(alloc: Global, texts: OwnedTexts, profile: Profile) -> Result<CommandMacros, Memory>
         requires { length (command_text texts) ≤ longest }

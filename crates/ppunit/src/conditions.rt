@@ -11,7 +11,7 @@ ghost use Rattle.ppunit.specs.States.{search_in_unit, with_remaining};
 
 use crate::directive_line::{DirectiveTokens, line_fault, one_identifier, refuse_unmatched_quote};
 use crate::open_file::UnitContext;
-use crate::probing::{is_probed, probe};
+use crate::probing::{needs_probing, probe};
 use crate::states::State;
 use ppexpr::evaluate;
 use ppmacro::Table;
@@ -72,7 +72,7 @@ fn by_condition<D: Disk>(
     let at = line.hash_place();
     let operands = line.operands();
     // Most conditions have no `__has_include`, so that their tokens are not copied.
-    if !is_probed(context.profile(), operands) {
+    if !needs_probing(context.profile(), operands) {
         return value(context.alloc, state, at, operands);
     }
     let Some(tokens) = probe(context, row, operands)? else {

@@ -66,7 +66,7 @@ impl<'x> DirectiveTokens<'x> {
     }
 }
 
-/// A directive line of the file at index `row`: its tokens, and its number in that file, from 1.
+/// A directive line of the file at index `row`: its directive, its tokens, and the number of the physical line that its new-line ends, from 1.
 #[derive(Drop)]
 pub(crate) struct DirectiveLine<'x> {
     pub row: usize,

@@ -7,7 +7,7 @@ use crate::states::{FileContext, State};
 use std::alloc::{AllocError, Global};
 use std::marker::Model;
 
-/// A suspended file: it includes the next one on the stack, or the file that is being processed. With its context.
+/// A suspended file, which includes the next file on the stack or the file that is being processed, and its context.
 #[derive(Drop)]
 pub(crate) struct SuspendedFile<'a> {
     pub file: OpenFile<'a>,
@@ -22,7 +22,7 @@ impl<'a> Model for SuspendedFile<'a> {
     ghost view = { λ w. record { file = w.file; file_context = w.file_context } };
 }
 
-/// The suspended files, each included by the one before it. Its model is their list from the last one on.
+/// The suspended files, each included by the one before it. Its model is their list in reverse order, the innermost first.
 #[derive(Drop)]
 pub(crate) struct Stack<'a> {
     files: Vec<SuspendedFile<'a>>,

@@ -41,7 +41,7 @@ fn inner(text: &[u8]) -> &[u8]
     }
 }
 
-/// Copies a name into a request of this form.
+/// Returns a header of this form whose name is a copy of `name`.
 fn copy_include_name(alloc: Global, form: Form, name: &[u8]) -> Result<IncludeName, AllocError>
     ensures { IfOk result (λ a. a ≡ record { form = form; name = name.now }) }
 {
@@ -73,7 +73,7 @@ fn name_of_header(alloc: Global, tokens: &[Token]) -> Result<Option<IncludeName>
     Ok(Some(copy_include_name(alloc, form_of(text), inner(text))?))
 }
 
-/// Returns the spelling of the tokens before `>`. The `>` must be the last token, and the only one.
+/// Returns the spelling of the tokens before the first `>`, or nothing if there is no `>` or if tokens follow it.
 fn angle_name(alloc: Global, tokens: &[Token]) -> Result<Option<Vec<u8>>, AllocError>
     ensures { IfOk result (λ n. option_map (λ v. v.items) n ≡ spec.angle_name tokens.now) }
 {

@@ -18,7 +18,7 @@ use std::alloc::{AllocError, Global};
 use std::marker::Model;
 
 /// The largest number that `#line` may give (6.10.4p3).
-const LAST_LINE: u64 = 2_147_483_647;
+const MAX_LINE_NUMBER: u64 = 2_147_483_647;
 
 /// The presumed number of a line, and the presumed name of its file as a string literal.
 #[derive(Drop)]
@@ -55,11 +55,11 @@ fn line_number(token: &Token) -> Option<u32>
             return None;
         }
         // A number that is too large stays too large.
-        if number <= LAST_LINE {
+        if number <= MAX_LINE_NUMBER {
             number = number * 10 + u64::from(*byte - b'0');
         }
     }
-    if number == 0 || number > LAST_LINE {
+    if number == 0 || number > MAX_LINE_NUMBER {
         return None;
     }
     Some(number as u32)
@@ -104,7 +104,7 @@ fn presumed_or_fault(
 }
 
 /// Gives the line after the physical line `physical` its presumed number, and the file its presumed name.
-fn present(env: &mut Env, presumed: Presumed, physical: u32)
+fn set_presumed(env: &mut Env, presumed: Presumed, physical: u32)
     ensures { env.new ≡ record env.old { name = spec.or_old env.old.name presumed.name; shift = pos presumed.number -ℤ pos (physical + 1) } }
 {
     env.shift = i64::from(presumed.number) - (i64::from(physical) + 1);
@@ -123,6 +123,6 @@ pub(crate) fn renumber<'x>(
 {
     let tokens = expand_operands(alloc, state, line.operands())?;
     let presumed = presumed_or_fault(alloc, line, tokens.as_slice())?;
-    present(&mut state.env, presumed, physical);
+    set_presumed(&mut state.env, presumed, physical);
     Ok(())
 }

@@ -14,7 +14,7 @@ ghost use Rattle.ppunit.specs.Group.{ExecutesControlLine, ExecutesInclude};
 ghost use Rattle.ppunit.specs.States.{Context, Progress, context_over, search_in_unit, with_remaining};
 ghost use Rattle.ppunit.specs.DirectiveLines.{directed};
 ghost use Rattle.ppunit.specs.code.Preprocessor.{KeepsContext};
-ghost use Rattle.ppunit.specs.code.Walk.{line_at, IsTextLine, IsRest, Outer, BranchesAt, TakesBranch, FindsBranch, Advances, Leads, Steps, Walks};
+ghost use Rattle.ppunit.specs.code.Walk.{line_at, IsTextLine, StartsWithoutTextLine, EnclosingSections, BranchesAt, TakesBranch, FindsBranch, Advances, Leads, Steps, Walks};
 
 use crate::conditions::decide;
 use crate::directive_line::{DirectiveLine, DirectiveTokens, line_fault, refuse_unmatched_quote};
@@ -22,7 +22,7 @@ use crate::directives::{control, emit_text, error};
 use crate::include_stack::Stack;
 use crate::including::read_include_name;
 use crate::line_access::{line, line_count, tokens_at, tokens_between};
-use crate::open_file::{Entered, OpenFile, Opening, UnitContext, resolve_in};
+use crate::open_file::{Entered, LocatedFile, OpenFile, UnitContext, resolve_in};
 use crate::preprocessor::Preprocessor;
 use crate::states::State;
 use ppshelf::Disk;
@@ -39,7 +39,7 @@ fn text_end(source: &Source, start: usize) -> usize
     ensures text_lines { (lines rest : List LogicalLine)
         → drop start source.now ≡ lines ++ rest
         → AllByRecursion IsTextLine lines
-        → IsRest rest
+        → StartsWithoutTextLine rest
         → (result ≡ start + length lines) × (drop result source.now ≡ rest) }
 {
     let lines = line_count(source);
@@ -86,7 +86,7 @@ fn find_branch<D: Disk>(
     requires start { start < length source.now }
     ensures further { IfOk result (λ next. start < next) }
     ensures found { UnlessOutOfMemory result (λ next.
-        (ps : GroupParts) (bs : Branches) (qs : GroupParts) (k : Outer)
+        (ps : GroupParts) (bs : Branches) (qs : GroupParts) (k : EnclosingSections)
         → BranchesAt source.now start ps bs qs k
         → FindsBranch (search_in_unit context.now) row source.now state.old state.new bs qs k next) }
 {
@@ -183,7 +183,7 @@ impl<'a> Model for NextLine<'a> {
     ghost view = { λ n. (n.index, n.entered) };
 }
 
-/// Returns that execution continues at the line at `index` of the current file.
+/// Returns the line at `index` of the current file as the next line, with no file entered.
 fn in_same_file<'a>(index: usize) -> NextLine<'a>
     ensures { result ≡ (index, None) }
 {
@@ -199,16 +199,16 @@ impl<'x, 'a: 'x, D: Disk> Preprocessor<'_, 'x, 'a, D> {
     fn include(
         &mut self,
         depth: u32,
-        from: Opening,
+        from: LocatedFile,
         tokens: &DirectiveTokens<'x>,
     ) -> Result<Option<Entered<'a>>, Error>
         requires depth { depth ≤ 200 }
-        ensures continues { KeepsContext self.old self.new }
-        ensures includes { UnlessOutOfMemory result (λ leads.
+        ensures keeps_context { KeepsContext self.old self.new }
+        ensures includes { UnlessOutOfMemory result (λ outcome.
             (directive : Directive) (number : ℕ)
             → Leads (context_over self.old.context.now) self.new.pass.now.files (suc depth)
             (λ (more : Files) (m : Progress). ExecutesInclude (context_over self.old.context.now more) depth from.row from.directory self.old.state (directed directive tokens.now number) m)
-            self.new.state leads) }
+            self.new.state outcome) }
     {
         let context = self.context;
         let include_name = read_include_name(context.alloc, &mut self.state, tokens)?;
@@ -216,7 +216,7 @@ impl<'x, 'a: 'x, D: Disk> Preprocessor<'_, 'x, 'a, D> {
             let name = include_name.name.as_bytes();
             return Err(Error::Fault(line_fault(context.alloc, 31, tokens, name)?));
         };
-        let opening = Opening {
+        let opening = LocatedFile {
             row,
             directory: Some(directory),
         };
@@ -232,11 +232,11 @@ impl<'x, 'a: 'x, D: Disk> Preprocessor<'_, 'x, 'a, D> {
         requires depth { depth ≤ 200 }
         requires opens { opens_section line.directive ≡ false }
         requires ends { ends_group line.directive ≡ false }
-        ensures continues { KeepsContext self.old self.new }
-        ensures control { UnlessOutOfMemory result (λ leads.
+        ensures keeps_context { KeepsContext self.old self.new }
+        ensures control { UnlessOutOfMemory result (λ outcome.
             Leads (context_over self.old.context.now) self.new.pass.now.files (suc depth)
             (λ (more : Files) (m : Progress). ExecutesControlLine (context_over self.old.context.now more) depth line.entry.row self.old.state (directed line.entry.directive line.entry.tokens line.entry.number) m)
-            self.new.state leads) }
+            self.new.state outcome) }
     {
         let context = self.context;
         match line.directive.class() {
@@ -246,7 +246,7 @@ impl<'x, 'a: 'x, D: Disk> Preprocessor<'_, 'x, 'a, D> {
                 refuse_unmatched_quote(&line.tokens)?;
                 let row = line.row;
                 let directory = previous_directory(include_next, &self.state);
-                self.include(depth, Opening { row, directory }, &line.tokens)
+                self.include(depth, LocatedFile { row, directory }, &line.tokens)
             }
             _ => {
                 refuse_unmatched_quote(&line.tokens)?;
@@ -260,7 +260,7 @@ impl<'x, 'a: 'x, D: Disk> Preprocessor<'_, 'x, 'a, D> {
     fn step(&mut self, depth: u32, file: &OpenFile<'x>) -> Result<NextLine<'a>, Error>
         requires depth { depth ≤ 200 }
         requires index { file.now.index < length file.now.lines }
-        ensures continues { KeepsContext self.old self.new }
+        ensures keeps_context { KeepsContext self.old self.new }
         ensures further { IfOk result (λ next. file.now.index < next.0) }
         ensures step { UnlessOutOfMemory result (λ found.
             Steps (context_over self.old.context.now) self.new.pass.now.files depth file.now.row file.now.lines file.now.index self.old.state self.new.state found) }
@@ -300,7 +300,7 @@ impl<'x, 'a: 'x, D: Disk> Preprocessor<'_, 'x, 'a, D> {
     /// Executes phase 4 on the lines of a file and of all files that they include, up to the first fault.
     pub(crate) fn walk(&mut self, first: OpenFile<'x>) -> Result<(), Error>
         requires begins { first.index ≡ 0 }
-        ensures continues { KeepsContext self.old self.new }
+        ensures keeps_context { KeepsContext self.old self.new }
         ensures walk { UnlessOutOfMemory result (λ r.
             Walks (context_over self.old.context.now) self.new.pass.now.files 0 first.entry.row first.entry.lines self.old.state
             (record { state = self.new.state; fault = result_err r })) }

@@ -154,13 +154,13 @@ impl<'a> Model for Entered<'a> {
 /// A file to open, or an open file: its index in the file table, and the number of the directory in which it was found.
 /// The main file has no such number.
 #[derive(Clone, Copy)]
-pub(crate) struct Opening {
+pub(crate) struct LocatedFile {
     pub row: usize,
     pub directory: Option<usize>,
 }
 
 /// Returns the predefined names at the beginning of a file.
-fn entering(alloc: Global, outer: &Env, name: &str) -> Result<Env, AllocError>
+fn file_env(alloc: Global, outer: &Env, name: &str) -> Result<Env, AllocError>
     ensures { IfOk result (λ e. e ≡ record outer.now { name = literal name.now; shift = pos 0 }) }
 {
     Ok(Env {
@@ -176,7 +176,7 @@ fn entering(alloc: Global, outer: &Env, name: &str) -> Result<Env, AllocError>
 /// unit's definitions isn't in the file table, and has no files next to it.
 pub(crate) fn resolve_in<D: Disk>(
     context: &UnitContext<'_, '_, D>,
-    from: Opening,
+    from: LocatedFile,
     include_name: &IncludeName,
 ) -> Result<Option<(usize, usize)>, Memory>
     requires { 0 < length context.now.shelf.names }
@@ -228,11 +228,11 @@ fn spend_opening<D: Disk>(
 /// Adds the file at index `row` to the dependencies. Returns whether it is marked by `#pragma once`.
 fn record_dependency(state: &mut State, row: usize) -> Result<bool, AllocError>
     ensures joins { OnOk result (state.new ≡ with_dependency state.old row) }
-    ensures known { IfOk result (λ known. known ≡ has_row row state.old.once) }
+    ensures is_once { IfOk result (λ is_once. is_once ≡ has_row row state.old.once) }
 {
-    let known = state.once.contains(row);
+    let is_once = state.once.contains(row);
     state.add_dependency(row)?;
-    Ok(known)
+    Ok(is_once)
 }
 
 /// Enters a file with this name and these lines, before its first line. Returns nothing if its include guard is
@@ -240,7 +240,7 @@ fn record_dependency(state: &mut State, row: usize) -> Result<bool, AllocError>
 fn begin<'a>(
     alloc: Global,
     state: &mut State,
-    opening: Opening,
+    opening: LocatedFile,
     name: &str,
     source: &'a Source,
 ) -> Result<Option<Entered<'a>>, AllocError>
@@ -249,7 +249,7 @@ fn begin<'a>(
     if is_left_out(state, source) {
         return Ok(None);
     }
-    let env = entering(alloc, &state.env, name)?;
+    let env = file_env(alloc, &state.env, name)?;
     let directory = opening.directory;
     let outer = state.enter(FileContext { env, directory });
     let file = OpenFile::new(opening.row, source);
@@ -260,7 +260,7 @@ impl<'a, D: Disk> Preprocessor<'_, '_, 'a, D> {
     /// Returns the lines of the file at index `row`. Fault 6 if it can't be read, or the fault of its own lines.
     fn source_of(&mut self, at: Place, row: usize) -> Result<&'a Source, Error>
         requires { row < length self.old.context.now.shelf.names }
-        ensures continues { KeepsContext self.old self.new }
+        ensures keeps_context { KeepsContext self.old self.new }
         ensures state { self.new.state ≡ self.old.state }
         ensures lines { IfOk result (λ source. HasLines self.old.context.now.shelf self.new.pass.now.files row source.now) }
         ensures fault { UnlessOutOfMemory result (λ r. IfErr r (λ f. HasFault self.old.context.now.shelf self.new.pass.now.files row at f)) }
@@ -287,14 +287,14 @@ impl<'a, D: Disk> Preprocessor<'_, '_, 'a, D> {
         &mut self,
         depth: u32,
         at: Place,
-        opening: Opening,
+        opening: LocatedFile,
     ) -> Result<Option<Entered<'a>>, Error>
         requires { opening.row < length self.old.context.now.shelf.names }
-        ensures continues { KeepsContext self.old self.new }
-        ensures opened { UnlessOutOfMemory result (λ leads.
+        ensures keeps_context { KeepsContext self.old self.new }
+        ensures opened { UnlessOutOfMemory result (λ outcome.
             Leads (context_over self.old.context.now) self.new.pass.now.files depth
             (λ (more : Files) (m : Progress). OpensFile (context_over self.old.context.now more) depth at self.old.state opening.row opening.directory m)
-            self.new.state leads) }
+            self.new.state outcome) }
     {
         let context = self.context;
         let row = opening.row;

@@ -14,7 +14,7 @@ ghost use Rattle.ppunit.specs.code.Walk.{DefinesOver};
 use crate::collections::{Items, Rows};
 use crate::command_macros::{COMMAND_FILE, CommandMacros};
 use crate::laws::{budget_caps_units, stays_in_budget};
-use crate::open_file::{OpenFile, Opening, UnitContext};
+use crate::open_file::{LocatedFile, OpenFile, UnitContext};
 use crate::preprocessor::Preprocessor;
 use crate::states::State;
 use crate::units::{Setting, Unit, UnitOut};
@@ -26,7 +26,7 @@ impl<'x, 'a: 'x, D: Disk> Preprocessor<'_, 'x, 'a, D> {
     /// Executes the unit's definitions.
     fn define_all(&mut self, defines: &'x CommandMacros) -> Result<(), Error>
         requires profile { defines.now.profile ≡ self.old.context.now.shelf.profile }
-        ensures continues { KeepsContext self.old self.new }
+        ensures keeps_context { KeepsContext self.old self.new }
         ensures defined { UnlessOutOfMemory result (λ r.
             DefinesOver (context_over self.old.context.now) self.new.pass.now.files defines.now.texts self.old.state
             (record { state = self.new.state; fault = result_err r })) }
@@ -43,7 +43,7 @@ impl<'x, 'a: 'x, D: Disk> Preprocessor<'_, 'x, 'a, D> {
     /// Processes the file at index `row`, with all that it includes.
     fn process(&mut self, row: usize) -> Result<(), Error>
         requires row { row < length self.old.context.now.shelf.names }
-        ensures continues { KeepsContext self.old self.new }
+        ensures keeps_context { KeepsContext self.old self.new }
         ensures opened { UnlessOutOfMemory result (λ r.
             (more : Files)
             → Extends more self.new.pass.now.files
@@ -56,7 +56,7 @@ impl<'x, 'a: 'x, D: Disk> Preprocessor<'_, 'x, 'a, D> {
             line: 1,
             col: 1,
         };
-        let opening = Opening {
+        let opening = LocatedFile {
             row,
             directory: None,
         };
@@ -72,7 +72,7 @@ impl<'x, 'a: 'x, D: Disk> Preprocessor<'_, 'x, 'a, D> {
     fn translate(&mut self, defines: &'x CommandMacros, row: usize) -> Result<(), Error>
         requires row { row < length self.old.context.now.shelf.names }
         requires profile { defines.now.profile ≡ self.old.context.now.shelf.profile }
-        ensures continues { KeepsContext self.old self.new }
+        ensures keeps_context { KeepsContext self.old self.new }
         ensures translated { UnlessOutOfMemory result (λ r.
             Translates (context_over self.old.context.now self.new.pass.now.files) defines.now.texts row self.old.state
             (record { state = self.new.state; fault = result_err r })) }
@@ -85,7 +85,7 @@ impl<'x, 'a: 'x, D: Disk> Preprocessor<'_, 'x, 'a, D> {
     fn first_fault(&mut self, unit: &'x Unit) -> Result<Option<Fault>, Memory>
         requires row { unit.now.file < length self.old.context.now.shelf.names }
         requires profile { unit.now.defines.profile ≡ self.old.context.now.shelf.profile }
-        ensures continues { KeepsContext self.old self.new }
+        ensures keeps_context { KeepsContext self.old self.new }
         ensures translated { IfOk result (λ fault.
             Translates (context_over self.old.context.now self.new.pass.now.files) unit.now.defines.texts unit.now.file self.old.state
             (record { state = self.new.state; fault = fault })) }
@@ -100,12 +100,12 @@ impl<'x, 'a: 'x, D: Disk> Preprocessor<'_, 'x, 'a, D> {
 fn unit_out<'x>(
     items: Items<'x>,
     deps: Rows,
-    ended: Result<Option<Fault>, Memory>,
+    outcome: Result<Option<Fault>, Memory>,
 ) -> Result<UnitOut<'x>, Memory>
     ensures { IfOk result (λ out.
-        (fault : Option Fault) × (ended ≡ Ok fault) × (out ≡ record { items = items.entry; deps = deps; fault = fault })) }
+        (fault : Option Fault) × (outcome ≡ Ok fault) × (out ≡ record { items = items.entry; deps = deps; fault = fault })) }
 {
-    let fault = ended?;
+    let fault = outcome?;
     Ok(UnitOut {
         items: items.trim(),
         deps,
@@ -116,10 +116,10 @@ fn unit_out<'x>(
 /// Returns the output of a unit that ends in this state.
 fn into_output<'x>(
     state: State<'x>,
-    ended: Result<Option<Fault>, Memory>,
+    outcome: Result<Option<Fault>, Memory>,
 ) -> Result<UnitOut<'x>, Memory>
     ensures { IfOk result (λ out.
-        (fault : Option Fault) × (ended ≡ Ok fault) × (out ≡ output (record { state = state.entry; fault = fault }))) }
+        (fault : Option Fault) × (outcome ≡ Ok fault) × (out ≡ output (record { state = state.entry; fault = fault }))) }
 {
     let State {
         macros: _,
@@ -130,7 +130,7 @@ fn into_output<'x>(
         env: _,
         directory: _,
     } = state;
-    unit_out(items, deps, ended)
+    unit_out(items, deps, outcome)
 }
 
 /// Returns the output of a unit over the files of `context`.
@@ -156,7 +156,7 @@ fn run_unit<'x, 'a: 'x, D: Disk>(
         pass,
         state,
     };
-    let ended = preprocessor.first_fault(unit);
+    let outcome = preprocessor.first_fault(unit);
     let Preprocessor {
         context: _,
         pass: lent,
@@ -164,13 +164,13 @@ fn run_unit<'x, 'a: 'x, D: Disk>(
     } = preprocessor;
     // For proofs: the pass is read once more, so that its last value is known.
     let _lent = &*lent;
-    into_output(state, ended)
+    into_output(state, outcome)
 }
 
 /// Executes translation phases 1 to 4 of a unit: its definitions, and then its file with all that it includes (5.1.1.2,
 /// 6.10).
 ///
-/// The value is that over the files that the pass has observed afterwards: those that `fill` put into the shelf, and
+/// The output is the value of the unit over the files that the pass has observed when the call returns: those that `fill` put into the shelf, and
 /// those that the disk returned. With a budget the unit's replacements and opened files total at most the budget, and
 /// its value is a prefix of the value without one: the whole of it exactly if the budget suffices, and otherwise ending
 /// in fault 35. Fails only if an allocation fails; the pass then has at least what it had observed before.

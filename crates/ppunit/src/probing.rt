@@ -9,7 +9,7 @@ ghost use Rattle.ppunit.specs.Probing as spec;
 ghost use Rattle.ppunit.specs.States.{search_in_unit};
 
 use crate::including::{IncludeName, name_of_tokens};
-use crate::open_file::{Opening, UnitContext, resolve_in};
+use crate::open_file::{LocatedFile, UnitContext, resolve_in};
 use ppshelf::Disk;
 use pptext::{Kind, Memory, Profile, Spelling, Token};
 use std::alloc::{AllocError, Global};
@@ -22,17 +22,17 @@ fn is_has_include(token: &Token) -> bool
 }
 
 /// Returns whether a token is the name `__has_include`.
-fn has_a_use(tokens: &[Token]) -> bool
+fn contains_has_include(tokens: &[Token]) -> bool
     ensures { result ≡ list_any spec.is_has_include tokens.now }
 {
     tokens.iter().any(|token| is_has_include(token))
 }
 
 /// Returns whether the operands have an `__has_include` that must be replaced before the condition is evaluated.
-pub(crate) fn is_probed(profile: Profile, operands: &[Token]) -> bool
+pub(crate) fn needs_probing(profile: Profile, operands: &[Token]) -> bool
     ensures { result ≡ (is_gnu profile && list_any spec.is_has_include operands.now) }
 {
-    profile.is_gnu() && has_a_use(operands)
+    profile.is_gnu() && contains_has_include(operands)
 }
 
 /// Returns whether the first token is `(`.
@@ -79,7 +79,7 @@ fn has_file<D: Disk>(
     requires { 0 < length context.now.shelf.names }
     ensures { IfOk result (λ found. found ≡ spec.has_file (search_in_unit context.now) row include_name.now) }
 {
-    let from = Opening {
+    let from = LocatedFile {
         row,
         directory: None,
     };

@@ -105,20 +105,20 @@ fn is_in_line(byte: u8) -> bool
 }
 
 /// The number of bytes in the line of a definition without its text: `#define ` and a new-line.
-const AROUND: usize = 9;
+const DEFINE_OVERHEAD: usize = 9;
 
-/// Returns whether the file that holds the definitions has at most `LONGEST` bytes. It has a line `#define `, text,
-/// new-line for each.
+/// Returns whether the file that holds the definitions has at most `LONGEST` bytes. For each definition it has one
+/// line: `#define `, the text, and a new-line.
 pub fn fits_command(defines: &[OwnedText]) -> bool
     ensures { result ≡ nat_le (length (command_text defines.now)) longest }
 {
     let mut capacity = LONGEST;
     for text in defines {
         let len = text.as_str().len();
-        if capacity < AROUND || capacity - AROUND < len {
+        if capacity < DEFINE_OVERHEAD || capacity - DEFINE_OVERHEAD < len {
             return false;
         }
-        capacity = capacity - AROUND - len;
+        capacity = capacity - DEFINE_OVERHEAD - len;
     }
     true
 }

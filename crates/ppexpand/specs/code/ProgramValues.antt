@@ -133,7 +133,7 @@ pub data ClosedStepsTo (macros : Macros) (env : Env) (level : ℕ) (invocation :
 -- one expansion step leads from the first list to the second, and emits these tokens
 pub record Advances (macros : Macros) (env : Env) (level : ℕ) (remaining : Option ℕ) (list : List Hiding) (remaining_after : Option ℕ)
     (next : List Hiding) (tokens : List Hiding) : Type 0 where
-  pub expansion_step : (n : ℕ) (out : Outcome)
+  pub prepends_step : (n : ℕ) (out : Outcome)
       → Expands macros env level remaining_after n next out
       → Expands macros env level remaining (suc n) list (record { tokens = tokens ++ out.tokens; fault = out.fault; remaining = out.remaining })
 
@@ -143,21 +143,21 @@ EndsWith macros env level remaining list f remaining_after = Expands macros env 
 
 -- one expansion step leads from a list to another, and appends the tokens that it emits
 abbrev pub HasAdvanced : Macros → Env → ℕ → Option ℕ → List Hiding → List Hiding → Option ℕ → List Hiding → List Hiding → Type 0
-HasAdvanced macros env level remaining list emitted remaining_after next more = (tokens : List Hiding)
-    × (more ≡ emitted ++ tokens)
+HasAdvanced macros env level remaining list emitted remaining_after next emitted_after = (tokens : List Hiding)
+    × (emitted_after ≡ emitted ++ tokens)
     × Advances macros env level remaining list remaining_after next tokens
 
 -- a list ended, with this fault or without one, and the emitted tokens did not change
 abbrev pub HasEnded : Macros → Env → ℕ → Option ℕ → List Hiding → List Hiding → Option Fault → Option ℕ → List Hiding → Type 0
-HasEnded macros env level remaining list emitted f remaining_after more = EndsWith macros env level remaining list f remaining_after × (more ≡ emitted)
+HasEnded macros env level remaining list emitted f remaining_after emitted_after = EndsWith macros env level remaining list f remaining_after × (emitted_after ≡ emitted)
 
 -- one expansion step was made: the list continues, or it ended, or it ended with this fault
-abbrev pub HasTaken : Macros → Env → ℕ → Option ℕ → List Hiding → List Hiding → Result Bool Fault → Option ℕ → List Hiding → List Hiding → Type 0
-HasTaken macros env level remaining list emitted (Ok true) remaining_after next more = HasAdvanced macros env level remaining list emitted remaining_after next more
-HasTaken macros env level remaining list emitted (Ok false) remaining_after next more = HasEnded macros env level remaining list emitted None remaining_after more
-HasTaken macros env level remaining list emitted (Err f) remaining_after next more = HasEnded macros env level remaining list emitted (Some f) remaining_after more
+abbrev pub HasStepped : Macros → Env → ℕ → Option ℕ → List Hiding → List Hiding → Result Bool Fault → Option ℕ → List Hiding → List Hiding → Type 0
+HasStepped macros env level remaining list emitted (Ok true) remaining_after next emitted_after = HasAdvanced macros env level remaining list emitted remaining_after next emitted_after
+HasStepped macros env level remaining list emitted (Ok false) remaining_after next emitted_after = HasEnded macros env level remaining list emitted None remaining_after emitted_after
+HasStepped macros env level remaining list emitted (Err f) remaining_after next emitted_after = HasEnded macros env level remaining list emitted (Some f) remaining_after emitted_after
 
 -- a list begins with this invocation, which is counted; nothing was emitted, and the list continues
 abbrev pub HasInvoked : Macros → Env → Option ℕ → List Hiding → List Hiding → Invocation → Result Bool Fault → Option ℕ → List Hiding → Type 0
-HasInvoked macros env remaining list emitted invocation r remaining_after more =
-    (step_in_budget macros env remaining list ≡ Invoked invocation) × (r ≡ Ok true) × (remaining_after ≡ spend_one remaining) × (more ≡ emitted)
+HasInvoked macros env remaining list emitted invocation r remaining_after emitted_after =
+    (step_in_budget macros env remaining list ≡ Invoked invocation) × (r ≡ Ok true) × (remaining_after ≡ spend_one remaining) × (emitted_after ≡ emitted)

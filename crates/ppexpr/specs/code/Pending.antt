@@ -53,42 +53,42 @@ reduced m p (f ∷ fs) z = if nat_le p (frame_level f) then reduced m p fs (comp
 abbrev pub State : Type 0 → Type 0
 State A = List (Frame A) × Option A
 
-abbrev pub signed : {A : Type 0} → List (Frame A) → Option Unary → Option (State A)
-signed fs None = None
-signed fs (Some o) = Some (Sign o ∷ fs, None)
+abbrev pub after_sign : {A : Type 0} → List (Frame A) → Option Unary → Option (State A)
+after_sign fs None = None
+after_sign fs (Some o) = Some (Sign o ∷ fs, None)
 
-abbrev pub operated : {A : Type 0} → Meaning A → List (Frame A) → A → Option Binary → Option (State A)
-operated m fs z None = None
-operated m fs z (Some o) = Some (Left o (reduced m (level_of o) fs z) ∷ unreduced (level_of o) fs, None)
+abbrev pub after_operator : {A : Type 0} → Meaning A → List (Frame A) → A → Option Binary → Option (State A)
+after_operator m fs z None = None
+after_operator m fs z (Some o) = Some (Left o (reduced m (level_of o) fs z) ∷ unreduced (level_of o) fs, None)
 
-abbrev pub between : {A : Type 0} → List (Frame A) → A → Option (State A)
-between (Test x ∷ fs) z = Some (Arms x z ∷ fs, None)
-between fs z = None
+abbrev pub after_colon : {A : Type 0} → List (Frame A) → A → Option (State A)
+after_colon (Test x ∷ fs) z = Some (Arms x z ∷ fs, None)
+after_colon fs z = None
 
-abbrev pub closed : {A : Type 0} → List (Frame A) → A → Option (State A)
-closed (Group ∷ fs) z = Some (fs, Some z)
-closed fs z = None
+abbrev pub after_close : {A : Type 0} → List (Frame A) → A → Option (State A)
+after_close (Group ∷ fs) z = Some (fs, Some z)
+after_close fs z = None
 
-abbrev pub ended : {A : Type 0} → List (Frame A) → A → Option A
-ended [] z = Some z
-ended (f ∷ fs) z = None
+abbrev pub after_last : {A : Type 0} → List (Frame A) → A → Option A
+after_last [] z = Some z
+after_last (f ∷ fs) z = None
 
 -- one more symbol
 abbrev pub step : {A : Type 0} → Meaning A → State A → Symbol → Option (State A)
 step m (fs, None) (Constant v) = Some (fs, Some (m.leaf v))
 step m (fs, None) Open = Some (Group ∷ fs, None)
-step m (fs, None) (Operator o) = signed fs (unary_of o)
+step m (fs, None) (Operator o) = after_sign fs (unary_of o)
 step m (fs, None) s = None
-step m (fs, Some z) (Operator o) = operated m fs z (binary_of o)
+step m (fs, Some z) (Operator o) = after_operator m fs z (binary_of o)
 step m (fs, Some z) Question = Some (Test (reduced m 2 fs z) ∷ unreduced 2 fs, None)
-step m (fs, Some z) Colon = between (unreduced 1 fs) (reduced m 1 fs z)
-step m (fs, Some z) Close = closed (unreduced 1 fs) (reduced m 1 fs z)
+step m (fs, Some z) Colon = after_colon (unreduced 1 fs) (reduced m 1 fs z)
+step m (fs, Some z) Close = after_close (unreduced 1 fs) (reduced m 1 fs z)
 step m (fs, Some z) s = None
 
 -- the parser reads the symbol, or there is no step
 abbrev pub ParserTakes : State Outcome → Symbol → Bool → State Outcome → Type 0
-ParserTakes old s more new = step outcomes old s ≡ (if more then Some new else None)
+ParserTakes old s accepted new = step outcomes old s ≡ (if accepted then Some new else None)
 
 abbrev pub finish : {A : Type 0} → Meaning A → State A → Option A
 finish m (fs, None) = None
-finish m (fs, Some z) = ended (unreduced 1 fs) (reduced m 1 fs z)
+finish m (fs, Some z) = after_last (unreduced 1 fs) (reduced m 1 fs z)

@@ -10,4 +10,4 @@ pub record Puts {V : Type 0} (written : V → Option (List ℕ)) (has_failed : V
   pub parts : p ++ text ≡ prefix ++ rest
   pub appends : Appends (written w) (written v) prefix
   pub unwritten : has_failed v ≡ false → rest ≡ q
-  pub stays : has_failed w ≡ true → (prefix ≡ []) × (has_failed v ≡ true)
+  pub stays_failed : has_failed w ≡ true → (prefix ≡ []) × (has_failed v ≡ true)

@@ -188,7 +188,7 @@ fn budget_at(value: &Value) -> Result<DraftBudget, ListFault>
     Ok(DraftBudget { written })
 }
 
-/// Returns a string.
+/// Returns the text of a JSON string.
 fn text_of(value: &Value) -> Result<&str, ListFault>
     ensures ok { IfOk result (λ t. as_str (view value.now) ≡ Some t.now) }
     ensures err { IfErr result (RefusedFor 2 (as_str (view value.now) ≡ None)) }
@@ -395,7 +395,7 @@ fn has_only(members: &Map<String, Value>, names: &[&str]) -> bool
 
 /// Returns whether the text is one of `names`.
 fn is_among(text: &str, names: &[&str]) -> bool
-    ensures { result ≡ shape.has_text text.now (map (λ n. n.now) names.now) }
+    ensures { result ≡ shape.is_one_of text.now (map (λ n. n.now) names.now) }
 {
     names.iter().any(|name| text == *name)
 }

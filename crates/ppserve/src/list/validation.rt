@@ -100,7 +100,7 @@ fn profile_if_choices_valid(draft: &Draft) -> Result<Profile, u8>
     Ok(profile)
 }
 
-/// Returns the indices of the file names.
+/// Builds an index of the file names.
 ///
 /// # Errors
 ///

@@ -23,43 +23,43 @@ abbrev pub line_at : List LogicalLine → ℕ → LogicalLine
 line_at lines index = slice_index_or lines index no_line
 
 -- The if-sections around a group, the innermost first: the branches after the group, and the parts after the section.
-abbrev pub Outer : Type 0
-Outer = List (Branches × GroupParts)
+abbrev pub EnclosingSections : Type 0
+EnclosingSections = List (Branches × GroupParts)
 
 -- the lines of parts in these sections, up to the end of the file
-abbrev pub lay : GroupParts → Outer → List LogicalLine
-lay ps [] = part_lines ps
-lay ps ((bs, qs) ∷ k) = part_lines ps ++ (branch_lines bs ++ lay qs k)
+abbrev pub lines_to_end : GroupParts → EnclosingSections → List LogicalLine
+lines_to_end ps [] = part_lines ps
+lines_to_end ps ((bs, qs) ∷ k) = part_lines ps ++ (branch_lines bs ++ lines_to_end qs k)
 
-abbrev pub AreOuter : Outer → Type 0
-AreOuter [] = Unit {0}
-AreOuter ((bs, qs) ∷ k) = ((last : Bool) × AreBranches last bs) × AreGroupParts qs × AreOuter k
+abbrev pub AreEnclosingSections : EnclosingSections → Type 0
+AreEnclosingSections [] = Unit {0}
+AreEnclosingSections ((bs, qs) ∷ k) = ((last : Bool) × AreBranches last bs) × AreGroupParts qs × AreEnclosingSections k
 
 -- the lines from this index on are those of parts in these sections
-pub record HasPartsAt (lines : List LogicalLine) (index : ℕ) (ps : GroupParts) (k : Outer) : Type 0 where
-  pub rest : drop index lines ≡ lay ps k
+pub record HasPartsAt (lines : List LogicalLine) (index : ℕ) (ps : GroupParts) (k : EnclosingSections) : Type 0 where
+  pub rest : drop index lines ≡ lines_to_end ps k
   pub parts : AreGroupParts ps
-  pub outer : AreOuter k
+  pub outer : AreEnclosingSections k
 
 -- phase 4 of the parts and of what is after them in these sections
-abbrev pub Ends : Context → ℕ → ℕ → Progress → GroupParts → Outer → Progress → Type 0
+abbrev pub Ends : Context → ℕ → ℕ → Progress → GroupParts → EnclosingSections → Progress → Type 0
 Ends context depth row m ps [] end = ExecutesGroup context depth row m ps end
 Ends context depth row m ps ((bs, qs) ∷ k) end = (n : Progress) × ExecutesGroup context depth row m ps n × Ends context depth row n qs k end
 
--- From the line at an index to the line at another, or to a fault: what the rest of the lines reaches from the new
--- state, all of them reach from the old one.
+-- From state s at the line at `index` to state t at the line at `next`, or to a fault: each result that the lines from
+-- `next` on have from t, the lines from `index` on have from s.
 abbrev pub Advances : (Files → Context) → Files → ℕ → ℕ → List LogicalLine → ℕ → State → State → Result ℕ Fault → Type 0
 Advances context files depth row lines index s t (Ok next) =
-    (ps : GroupParts) (k : Outer)
+    (ps : GroupParts) (k : EnclosingSections)
     → HasPartsAt lines index ps k
-    → (ps' : GroupParts) × (k' : Outer) × HasPartsAt lines next ps' k'
+    → (ps' : GroupParts) × (k' : EnclosingSections) × HasPartsAt lines next ps' k'
     × ((more : Files)
     → Extends more files
     → (end : Progress)
     → Ends (context more) depth row (running t) ps' k' end
     → Ends (context more) depth row (running s) ps k end)
 Advances context files depth row lines index s t (Err f) =
-    (ps : GroupParts) (k : Outer)
+    (ps : GroupParts) (k : EnclosingSections)
     → HasPartsAt lines index ps k
     → (more : Files)
     → Extends more files
@@ -92,9 +92,9 @@ Leads context files depth whole t (Err f) = (more : Files) → Extends more file
 
 -- From the control line at an index to the line at another: what the line and the rest of the lines reach, one after
 -- the other, all of them reach.
-abbrev pub PassesFrom : ℕ → ℕ → List LogicalLine → ℕ → State → ℕ → GroupParts → Outer → Type 0
+abbrev pub PassesFrom : ℕ → ℕ → List LogicalLine → ℕ → State → ℕ → GroupParts → EnclosingSections → Type 0
 PassesFrom depth row lines index s next ps k =
-    (ps' : GroupParts) × (k' : Outer) × HasPartsAt lines next ps' k'
+    (ps' : GroupParts) × (k' : EnclosingSections) × HasPartsAt lines next ps' k'
     × ((context : Context) (m end : Progress)
     → ExecutesControlLine context depth row s (line_at lines index) m
     → Ends context depth row m ps' k' end
@@ -102,7 +102,7 @@ PassesFrom depth row lines index s next ps k =
 
 abbrev pub Passes : ℕ → ℕ → List LogicalLine → ℕ → State → ℕ → Type 0
 Passes depth row lines index s next =
-    (ps : GroupParts) (k : Outer)
+    (ps : GroupParts) (k : EnclosingSections)
     → HasPartsAt lines index ps k
     → PassesFrom depth row lines index s next ps k
 
@@ -148,12 +148,12 @@ Walks context files depth row lines s end =
 
 -- At the index is a line that opens an if-section or a branch with a condition, then the parts of its group, and then
 -- these branches.
-pub record BranchesAt (lines : List LogicalLine) (index : ℕ) (ps : GroupParts) (bs : Branches) (qs : GroupParts) (k : Outer) : Type 0 where
+pub record BranchesAt (lines : List LogicalLine) (index : ℕ) (ps : GroupParts) (bs : Branches) (qs : GroupParts) (k : EnclosingSections) : Type 0 where
   pub line : LogicalLine
-  pub rest : drop index lines ≡ line ∷ lay ps ((bs, qs) ∷ k)
+  pub rest : drop index lines ≡ line ∷ lines_to_end ps ((bs, qs) ∷ k)
   pub next : (n : ℕ) (following : List LogicalLine) → next_branch n (role line) following ≡ branch_after 0 (n + 1) (map role following)
   pub parts : AreGroupParts ps
-  pub outer : AreOuter ((bs, qs) ∷ k)
+  pub outer : AreEnclosingSections ((bs, qs) ∷ k)
 
 -- whether processing continues after a branch line or `#endif` of the file at index `row`, or the line's fault, and the
 -- remaining budget; a condition decides if the line has one
@@ -169,9 +169,9 @@ abbrev pub TakesBranch : Search → ℕ → State → LogicalLine → Option ℕ
 TakesBranch search row s line remaining_after taken = ContinuesBy search row line.directive s line remaining_after taken
 
 -- the line at which processing continues after a group that isn't taken, and the state then
-abbrev pub FindsBranch : Search → ℕ → List LogicalLine → State → State → Branches → GroupParts → Outer → Result ℕ Fault → Type 0
+abbrev pub FindsBranch : Search → ℕ → List LogicalLine → State → State → Branches → GroupParts → EnclosingSections → Result ℕ Fault → Type 0
 FindsBranch search row lines s t bs qs k (Ok next) =
-    (ps : GroupParts) × (k' : Outer) × HasPartsAt lines next ps k'
+    (ps : GroupParts) × (k' : EnclosingSections) × HasPartsAt lines next ps k'
     × ((context : Context)
     → search_of context ≡ search
     → (depth : ℕ) (end : Progress)
@@ -187,9 +187,9 @@ abbrev pub IsTextLine : LogicalLine → Type 0
 IsTextLine line = line.directive ≡ None
 
 -- the first line isn't a text line
-abbrev pub IsRest : List LogicalLine → Type 0
-IsRest [] = Unit {0}
-IsRest (line ∷ following) = ¬ IsTextLine line
+abbrev pub StartsWithoutTextLine : List LogicalLine → Type 0
+StartsWithoutTextLine [] = Unit {0}
+StartsWithoutTextLine (line ∷ following) = ¬ IsTextLine line
 
 -- phases 1 to 4 of a unit's definitions, over these files and any larger set
 abbrev pub DefinesOver : (Files → Context) → Files → List (List ℕ) → State → Progress → Type 0

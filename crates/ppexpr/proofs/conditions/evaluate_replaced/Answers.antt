@@ -1,6 +1,6 @@
 use Rattle.std.proofs.Common.{refl, sym}
 use Rattle.std.proofs.lemmas.Result.{IfOk-weaker}
-use Rattle.ppexpr.specs.Conditions.{ill_formed, not_replaced, replaced}
+use Rattle.ppexpr.specs.Conditions.{ill_formed, expansion_fault, replaced}
 use Rattle.pptext.proofs.ErrorReturns.{split_memory-at_ok}
 use Rattle.ppexpr.proofs.conditions.evaluate_replaced.Goals as goal
 
@@ -12,7 +12,7 @@ returns-in_default c =
 pub returns-in-Some-fault : goal.returns-in-Some-fault
 returns-in-Some-fault c =
     let asks = rw c.in-Some.is at c.in_ok-without_defined.ensures in
-    not_replaced asks (rw c.as_slice-without_defined.ensures.value at c.in_ok-tokens.ensures) refl c.in-Some-fault.is
+    expansion_fault asks (rw c.as_slice-without_defined.ensures.value at c.in_ok-tokens.ensures) refl c.in-Some-fault.is
 
 pub returns : goal.returns
 returns c =

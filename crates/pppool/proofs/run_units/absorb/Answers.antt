@@ -35,8 +35,8 @@ returns-clause-slots_stay g c i h =
     let P : List (Option UnitOut) → Type 0 = λ l. IsSome (get_or l i None) in
     subst P (sym c.fill_slots.ensures) (placed_stays c.args.slots.now.items c.into_parts-seat.result.2.items i h)
 
-pub returns-clause-fill_slot : goal.returns-clause-fill_slot
-returns-clause-fill_slot g c i w h =
+pub returns-clause-claims_filled : goal.returns-clause-claims_filled
+returns-clause-claims_filled g c i w h =
     let job = c.args.job.now in
     let slots = c.args.slots.now.items in
     let P : List (Option UnitOut) → Type 0 = λ l. IsSome (get_or l i None) in

@@ -32,7 +32,7 @@ loop-finished-preserved g c =
       (λ row x h. e.grows row x (k.1 row x h)),
       subst P (sym pushed) (All-push At c.loop-finished.seats.items c.absorb-seat.result k.2 e.seat.0),
       e.slots,
-      filled_push (length job.units.now) job.block c.loop-finished.seats.items c.push.new.self.items c.absorb-seat.result c.loop-finished.slots.items c.absorb-seat.new.slots.items pushed k.4 e.slots_stay e.fill_slot,
+      filled_push (length job.units.now) job.block c.loop-finished.seats.items c.push.new.self.items c.absorb-seat.result c.loop-finished.slots.items c.absorb-seat.new.slots.items pushed k.4 e.slots_stay e.claims_filled,
       subst Q (sym pushed) (All-push Told c.loop-finished.seats.items c.absorb-seat.result k.5 e.seat.1),
       one_more _ _ _ _ _ pushed k.6,
     )

@@ -3,12 +3,12 @@ use Rattle.ppunit.proofs.LineDecisions.{decides_unprobed, decides_probed}
 use Rattle.ppunit.proofs.UnitValue.{on_settled}
 use Rattle.ppunit.proofs.conditions.by_condition.Goals as goal
 
-pub returns-then-not-is_probed-clause-is : goal.returns-then-not-is_probed-clause-is
-returns-then-not-is_probed-clause-is g c =
+pub returns-then-not-needs_probing-clause-is : goal.returns-then-not-needs_probing-clause-is
+returns-then-not-needs_probing-clause-is g c =
     on_settled c.value.result
     (λ taken. decides_unprobed (search_in_unit c.args.context.now) c.args.row c.args.state.now c.args.line.now c.operands-operands.result.now
     c.profile.result c.hash_place-at.result c.value.new.state.remaining taken c.profile.ensures c.operands-operands.ensures c.hash_place-at.ensures
-    c.if-not-is_probed.ensures)
+    c.if-not-needs_probing.ensures)
     c.value.ensures.is
 
 pub returns-clause-rest : goal.returns-clause-rest
@@ -19,5 +19,5 @@ returns-clause-is g c =
     on_settled c.value-2.result
     (λ taken. decides_probed (search_in_unit c.args.context.now) c.args.row c.args.state.now c.args.line.now c.operands-operands.result.now
     c.in-Some.tokens.items c.profile.result c.hash_place-at.result c.value-2.new.state.remaining taken c.profile.ensures c.operands-operands.ensures
-    c.hash_place-at.ensures c.if-not-is_probed.ensures (rw c.in-Some.is at c.in_ok-tokens.ensures))
+    c.hash_place-at.ensures c.if-not-needs_probing.ensures (rw c.in-Some.is at c.in_ok-tokens.ensures))
     (rw c.as_slice.ensures.value at c.value-2.ensures.is)

@@ -6,4 +6,4 @@ use Rattle.ppunit.proofs.preprocessing.into_output.Goals as goal
 pub returns : goal.returns
 returns c =
     subst (λ (z : State). IfOk c.unit_out.result (λ out.
-    (fault : Option Fault) × (c.args.ended ≡ Ok fault) × (out ≡ output (record { state = z; fault = fault })))) c.state.view_is c.unit_out.ensures
+    (fault : Option Fault) × (c.args.outcome ≡ Ok fault) × (out ≡ output (record { state = z; fault = fault })))) c.state.view_is c.unit_out.ensures

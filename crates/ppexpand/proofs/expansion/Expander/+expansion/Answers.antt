@@ -20,13 +20,13 @@ use Rattle.ppexpand.proofs.expansion.Expander.+expansion.Goals as goal
 
 -- ---- one step
 
-pub advance-returns-in_default-clause-on : goal.advance-returns-in_default-clause-on
-advance-returns-in_default-clause-on m c = (rw c.in_default.is at c.in_ok-continues.ensures.on) c.args.context.now.level
+pub advance-returns-in_default-clause-progress : goal.advance-returns-in_default-clause-progress
+advance-returns-in_default-clause-progress m c = (rw c.in_default.is at c.in_ok-continues.ensures.progress) c.args.context.now.level
 
-pub advance-returns-in_err-continues-clause-on : goal.advance-returns-in_err-continues-clause-on
-advance-returns-in_err-continues-clause-on m c =
+pub advance-returns-in_err-continues-clause-progress : goal.advance-returns-in_err-continues-clause-progress
+advance-returns-in_err-continues-clause-progress m c =
     let s = c.begin_step.new.self.replacer.sets in
-    stopped _ _ _ _ _ c.from_residual.ensures.1 c.in_err-continues.ensures.on (λ f begun.
+    stopped _ _ _ _ _ c.from_residual.ensures.1 c.in_err-continues.ensures.progress (λ f begun.
     begun_raises c.args.context.now.table.now.macros c.args.context.now.env.now c.args.context.now.level c.args.self.now.remaining (hidings c.args.self.now.replacer.sets c.args.list.now) (hidings c.args.self.now.replacer.sets c.args.emitted.now)
     c.begin_step.new.invocation (λ found. invocation_of s found c.begin_step.new.list) f c.begin_step.new.self.remaining (hidings s c.begin_step.new.list) (hidings s c.begin_step.new.emitted) begun)
 
@@ -37,21 +37,21 @@ advance-replace_invocation-requires m c =
       (c.requires.level, known),
     )
 
-pub advance-returns-in_err-replace_invocation-clause-on : goal.advance-returns-in_err-replace_invocation-clause-on
-advance-returns-in_err-replace_invocation-clause-on m c =
+pub advance-returns-in_err-replace_invocation-clause-progress : goal.advance-returns-in_err-replace_invocation-clause-progress
+advance-returns-in_err-replace_invocation-clause-progress m c =
     let s = c.begin_step.new.self.replacer.sets in
-    let closed_invocation_step = rw c.in-Some.is at c.in_ok-continues.ensures.on in
+    let closed_invocation_step = rw c.in-Some.is at c.in_ok-continues.ensures.progress in
     let invocation = invocation_of s c.in-Some.found c.begin_step.new.list in
     stopped _ _ _ _ _ c.from_residual-in_err-replace_invocation.ensures.1 c.in_err-replace_invocation.ensures.is (λ f steps.
     invocation_raises c.args.context.now.table.now.macros c.args.context.now.env.now c.args.context.now.level c.args.self.now.remaining (hidings c.args.self.now.replacer.sets c.args.list.now) invocation closed_invocation_step.0 _ _ f c.replace_invocation.new.self.remaining
     (hidings-keeps _ c.in_err-replace_invocation.ensures.keeps c.in_ok-continues.ensures.emitted_known ∙ closed_invocation_step.3)
     (subst (λ l. ClosedStepsTo c.args.context.now.table.now.macros c.args.context.now.env.now c.args.context.now.level invocation l c.replace_invocation.new.self.remaining (ReplacementFault f)) closed_invocation_step.2 steps))
 
-pub advance-returns-clause-on : goal.advance-returns-clause-on
-advance-returns-clause-on m c =
+pub advance-returns-clause-progress : goal.advance-returns-clause-progress
+advance-returns-clause-progress m c =
     let s = c.begin_step.new.self.replacer.sets in
     let t = c.replace_invocation.new.self.replacer.sets in
-    let closed_invocation_step = rw c.in-Some.is at c.in_ok-continues.ensures.on in
+    let closed_invocation_step = rw c.in-Some.is at c.in_ok-continues.ensures.progress in
     let invocation = invocation_of s c.in-Some.found c.begin_step.new.list in
     invocation_taken c.args.context.now.table.now.macros c.args.context.now.env.now c.args.context.now.level c.args.self.now.remaining (hidings c.args.self.now.replacer.sets c.args.list.now) invocation closed_invocation_step.0 t c.replace_invocation.new.list _ _ c.replace_invocation.new.self.remaining
     (hidings-keeps _ c.in_ok-replace_invocation.ensures.keeps c.in_ok-continues.ensures.emitted_known ∙ closed_invocation_step.3)
@@ -296,7 +296,7 @@ expand_list-returns-then-not-branch-clause-outcome m c =
     let emitted = c.emit_unexpanded.new.emitted in
     let here = follows_emit_unexpanded c.args.context.now.table.now.macros c.args.context.now.env.now c.args.context.now.level c.loop-named.self.remaining sets c.args.self.now.remaining start c.loop-named.list c.loop-named.emitted list emitted c.in_ok-named.ensures.skipped c.loop-named.invariant.follows in
     end_follows c.args.context.now.table.now.macros c.args.context.now.env.now c.args.context.now.level c.args.self.now.remaining start (hidings sets emitted) c.loop-named.self.remaining (hidings sets list) None c.advance-continues.new.self.remaining
-    (hidings c.advance-continues.new.self.replacer.sets c.advance-continues.new.emitted) here (rw c.if-not-branch.true at c.in_ok-continues.ensures.on)
+    (hidings c.advance-continues.new.self.replacer.sets c.advance-continues.new.emitted) here (rw c.if-not-branch.true at c.in_ok-continues.ensures.progress)
 
 pub expand_list-returns-in_err-continues-clause-outcome : goal.expand_list-returns-in_err-continues-clause-outcome
 expand_list-returns-in_err-continues-clause-outcome m c =
@@ -305,7 +305,7 @@ expand_list-returns-in_err-continues-clause-outcome m c =
     let list = c.emit_unexpanded.new.list in
     let emitted = c.emit_unexpanded.new.emitted in
     let here = follows_emit_unexpanded c.args.context.now.table.now.macros c.args.context.now.env.now c.args.context.now.level c.loop-named.self.remaining sets c.args.self.now.remaining start c.loop-named.list c.loop-named.emitted list emitted c.in_ok-named.ensures.skipped c.loop-named.invariant.follows in
-    stopped _ _ _ _ _ c.from_residual-in_err-continues.ensures.1 c.in_err-continues.ensures.on (λ f ended.
+    stopped _ _ _ _ _ c.from_residual-in_err-continues.ensures.1 c.in_err-continues.ensures.progress (λ f ended.
     end_follows c.args.context.now.table.now.macros c.args.context.now.env.now c.args.context.now.level c.args.self.now.remaining start (hidings sets emitted) c.loop-named.self.remaining (hidings sets list) (Some f) c.advance-continues.new.self.remaining
     (hidings c.advance-continues.new.self.replacer.sets c.advance-continues.new.emitted) here ended)
 
@@ -322,7 +322,7 @@ expand_list-loop-named-preserved m c =
       emitted_known = c.in_ok-continues.ensures.emitted_known;
       keeps = keeps-after c.loop-named.invariant.keeps c.in_ok-continues.ensures.keeps;
       follows = more_follows c.args.context.now.table.now.macros c.args.context.now.env.now c.args.context.now.level c.args.self.now.remaining start (hidings sets emitted) c.loop-named.self.remaining (hidings sets list) c.advance-continues.new.self.remaining
-          (hidings c.advance-continues.new.self.replacer.sets c.advance-continues.new.list) (hidings c.advance-continues.new.self.replacer.sets c.advance-continues.new.emitted) here (rw c.if-not-branch.false at c.in_ok-continues.ensures.on);
+          (hidings c.advance-continues.new.self.replacer.sets c.advance-continues.new.list) (hidings c.advance-continues.new.self.replacer.sets c.advance-continues.new.emitted) here (rw c.if-not-branch.false at c.in_ok-continues.ensures.progress);
     }
 
 pub expand_list-loop-named-smaller : goal.expand_list-loop-named-smaller
@@ -331,6 +331,6 @@ expand_list-loop-named-smaller m c =
     let list = c.emit_unexpanded.new.list in
     let emitted = c.emit_unexpanded.new.emitted in
     let remaining_after = more_falls c.args.context.now.table.now.macros c.args.context.now.env.now c.args.context.now.level c.loop-named.self.remaining (hidings sets list) (hidings sets emitted) c.advance-continues.new.self.remaining
-    (hidings c.advance-continues.new.self.replacer.sets c.advance-continues.new.list) (hidings c.advance-continues.new.self.replacer.sets c.advance-continues.new.emitted) (rw c.if-not-branch.false at c.in_ok-continues.ensures.on) in
+    (hidings c.advance-continues.new.self.replacer.sets c.advance-continues.new.list) (hidings c.advance-continues.new.self.replacer.sets c.advance-continues.new.emitted) (rw c.if-not-branch.false at c.in_ok-continues.ensures.progress) in
     let skipped = skip_falls c.args.context.now.table.now.macros c.args.context.now.env.now c.args.context.now.level c.loop-named.self.remaining sets c.loop-named.list c.loop-named.emitted list emitted c.in_ok-named.ensures.skipped in
     omega (arith, remaining_after, skipped)

@@ -81,8 +81,8 @@ loop-other-preserved c =
       front_all c.args.self c.loop-other.seats.items c.pop-in-loop-other.new.self.items c.in-Some-pop.other p.items k.8,
     )
 
-pub returns-clause-apart : goal.returns-clause-apart
-returns-clause-apart c x =
+pub returns-clause-no_repeats : goal.returns-clause-no_repeats
+returns-clause-no_repeats c x =
     let k = c.loop-other.invariant in
     let v = c.close_with.ensures.values.2 in
     let a = at_most_once c.self.inside.table.shared.key v.0 c.loop-other.all.id c.loop-other.all.me.0 v.1.0 v.1.1 x in

@@ -23,5 +23,5 @@ loop-number-preserved g c =
       e.results,
       all_answered_push (length c.args.job.now.units.now) c.args.job.now.block c.in-Some.number c.loop-number.self.seat.claims c.work_block.new.self.seat.claims
           (result_units c.loop-number.self.results.items) (result_units c.work_block.new.self.results.items)
-          claims k.3 e.stay e.block,
+          claims k.3 e.stay e.block_complete,
     )

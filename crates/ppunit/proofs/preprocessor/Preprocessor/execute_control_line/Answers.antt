@@ -45,7 +45,7 @@ returns-in_ok-refuse_unmatched_quote-in-Includes-clause-control g c =
 
 pub returns-in_err-refuse_unmatched_quote-in_default : goal.returns-in_err-refuse_unmatched_quote-in_default
 returns-in_err-refuse_unmatched_quote-in_default g c = record {
-  continues = record { context = refl; pass = refl; grows = λ row content known. known };
+  keeps_context = record { context = refl; pass = refl; grows = λ row content known. known };
   control = stopped _ _ _ _ c.from_residual-in_err-refuse_unmatched_quote-in_default.ensures.1 c.in_err-refuse_unmatched_quote-in_default.ensures (λ fault quote more grows.
       ExecutesControlLine.quote_fault
       (other_looks (class_of c.args.line.directive) (λ e. c.in_default.not-Error (c.class.ensures ∙ e)) (λ e. c.in_default.not-Ignored (c.class.ensures ∙ e)))
@@ -57,7 +57,7 @@ returns-in_err-control-in_default g c =
     let alone = sym c.in_ok-refuse_unmatched_quote-in_default.ensures in
     let line = directed c.args.line.directive c.args.line.tokens c.args.line.number in
     record {
-      continues = record { context = refl; pass = refl; grows = λ row content known. known };
+      keeps_context = record { context = refl; pass = refl; grows = λ row content known. known };
       control = stopped _ _ _ _ c.from_residual-in_err-control-in_default.ensures.1 c.in_err-control-in_default.ensures (λ fault gives more grows.
           other_control (context_over c.args.self.now.context.now more) c.args.depth c.args.line.row c.profile.result c.args.self.now.state c.control.new.state
           c.args.line.directive line (Some fault) c.profile.ensures refl alone gives);
@@ -68,7 +68,7 @@ returns-in_ok-control-in_default g c =
     let alone = sym c.in_ok-refuse_unmatched_quote-in_default.ensures in
     let line = directed c.args.line.directive c.args.line.tokens c.args.line.number in
     record {
-      continues = record { context = refl; pass = refl; grows = λ row content known. known };
+      keeps_context = record { context = refl; pass = refl; grows = λ row content known. known };
       control = λ more grows. other_control (context_over c.args.self.now.context.now more) c.args.depth c.args.line.row c.profile.result c.args.self.now.state
           c.control.new.state c.args.line.directive line None c.profile.ensures refl alone c.in_ok-control-in_default.ensures;
     }

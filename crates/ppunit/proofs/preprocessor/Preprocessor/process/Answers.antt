@@ -25,5 +25,5 @@ returns-clause-opened g c =
     (record { state = z; fault = result_err r })) (sym c.restore_context.ensures)
     (entered_file (context_over c.args.self.now.context.now) c.open.new.self.pass.now.files c.walk-walked.new.self.pass.now.files 0
     (λ more m. OpensFile (context_over c.args.self.now.context.now more) 0 (first_place c.args.row) c.args.self.now.state c.args.row None m) c.open.new.self.state
-    c.walk-walked.new.self.state _ (result_err r) c.walk-walked.ensures.continues.grows takes_branch walks more grows))
-    (rw c.open.ensures.continues.context at c.walk-walked.ensures.walk)
+    c.walk-walked.new.self.state _ (result_err r) c.walk-walked.ensures.keeps_context.grows takes_branch walks more grows))
+    (rw c.open.ensures.keeps_context.context at c.walk-walked.ensures.walk)

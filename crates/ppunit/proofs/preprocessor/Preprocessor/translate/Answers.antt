@@ -11,5 +11,5 @@ returns-in_err-define_all-clause-translated g c =
 pub returns-clause-translated : goal.returns-clause-translated
 returns-clause-translated g c =
     on_settled c.process.result (λ r. translated_unit _ c.define_all.new.self.pass.now.files c.process.new.self.pass.now.files c.args.defines.now.texts c.args.row
-    c.args.self.now.state c.define_all.new.self.state c.process.new.self.state (result_err r) c.in_ok-define_all.ensures.defined c.process.ensures.continues.grows)
-    (rw c.define_all.ensures.continues.context at c.process.ensures.opened)
+    c.args.self.now.state c.define_all.new.self.state c.process.new.self.state (result_err r) c.in_ok-define_all.ensures.defined c.process.ensures.keeps_context.grows)
+    (rw c.define_all.ensures.keeps_context.context at c.process.ensures.opened)

@@ -12,7 +12,7 @@ pub loop-file-init : goal.loop-file-init
 loop-file-init g c =
     let none : c.new-suspended.result ≡ [] = c.new-suspended.ensures in
     record {
-      continues = record { context = refl; pass = refl; grows = λ row content known. known };
+      keeps_context = record { context = refl; pass = refl; grows = λ row content known. known };
       depth = omega (arith, ap length none);
       walked =
           subst (λ (z : List SuspendedFile). StackSoFar (context_over c.args.self.now.context.now) c.args.self.now.pass.now.files c.args.first.row c.args.first.lines
@@ -41,10 +41,10 @@ loop-file-preserved g c =
     let there : c.loop-file.suspended ≡ outer ∷ c.pop.new.self = rw (← c.outer.view_is) at c.in-Some-pop.ensures in
     let over = subst (λ (z : OpenFile). length z.lines ≤ z.index) c.file.view_is (omega (arith, c.line_count.ensures, c.if-file-line_count.false)) in
     record {
-      continues = record {
-        context = c.loop-file.invariant.continues.context;
-        pass = c.loop-file.invariant.continues.pass;
-        grows = c.loop-file.invariant.continues.grows;
+      keeps_context = record {
+        context = c.loop-file.invariant.keeps_context.context;
+        pass = c.loop-file.invariant.keeps_context.pass;
+        grows = c.loop-file.invariant.keeps_context.grows;
       };
       depth = omega (arith, ap length there, c.loop-file.invariant.depth);
       walked =
@@ -58,7 +58,7 @@ loop-file-preserved g c =
 
 pub loop-file-smaller-in-Some : goal.loop-file-smaller-in-Some
 loop-file-smaller-in-Some g c =
-    let step = rw (c.in-Ok.is, c.depth.ensures, ← c.next.view_is, c.loop-file.invariant.continues.context) at c.step.ensures.step in
+    let step = rw (c.in-Ok.is, c.depth.ensures, ← c.next.view_is, c.loop-file.invariant.keeps_context.context) at c.step.ensures.step in
     let further = rw (c.in-Ok.is, ← c.next.view_is) at c.step.ensures.further in
     let within = subst (λ (z : OpenFile). z.index < length z.lines) c.file.view_is (omega (arith, c.line_count.ensures, c.if-file-line_count.true)) in
     let less = work_next (context_over c.args.self.now.context.now) c.step.new.self.pass.now.files c.loop-file.file.row c.loop-file.file.lines
@@ -69,10 +69,10 @@ loop-file-smaller-in-Some g c =
 
 pub loop-file-preserved-in-Some : goal.loop-file-preserved-in-Some
 loop-file-preserved-in-Some g c =
-    let step = rw (c.in-Ok.is, c.depth.ensures, ← c.next.view_is, c.loop-file.invariant.continues.context) at c.step.ensures.step in
+    let step = rw (c.in-Ok.is, c.depth.ensures, ← c.next.view_is, c.loop-file.invariant.keeps_context.context) at c.step.ensures.step in
     let moved = ap (λ (z : OpenFile). record z { index = c.next.inside.index }) c.file.view_is in
     record {
-      continues = continues_on c.args.self.now c.loop-file.self c.step.new.self c.loop-file.invariant.continues c.step.ensures.continues;
+      keeps_context = continues_on c.args.self.now c.loop-file.self c.step.new.self c.loop-file.invariant.keeps_context c.step.ensures.keeps_context;
       depth =
           rw c.in_ok-file-in-Ok.ensures.suspended (rw c.in-Some.is at
           (next_depth (context_over c.args.self.now.context.now) c.step.new.self.pass.now.files c.loop-file.file.row c.loop-file.file.lines
@@ -82,12 +82,12 @@ loop-file-preserved-in-Some g c =
           rw (c.in_ok-file-in-Ok.ensures.file, c.in_ok-file-in-Ok.ensures.suspended, moved) (rw c.in-Some.is at
           (stack_next (context_over c.args.self.now.context.now) c.loop-file.self.pass.now.files c.step.new.self.pass.now.files c.args.first.row c.args.first.lines
           c.args.self.now.state c.loop-file.self.state c.step.new.self.state c.loop-file.suspended c.loop-file.file c.next.inside.index c.next.inside.entered c.loop-file.invariant.walked
-          c.step.ensures.continues.grows step));
+          c.step.ensures.keeps_context.grows step));
     }
 
 pub loop-file-smaller-in_default : goal.loop-file-smaller-in_default
 loop-file-smaller-in_default g c =
-    let step = rw (c.in-Ok.is, c.depth.ensures, ← c.next.view_is, c.loop-file.invariant.continues.context) at c.step.ensures.step in
+    let step = rw (c.in-Ok.is, c.depth.ensures, ← c.next.view_is, c.loop-file.invariant.keeps_context.context) at c.step.ensures.step in
     let further = rw (c.in-Ok.is, ← c.next.view_is) at c.step.ensures.further in
     let within = subst (λ (z : OpenFile). z.index < length z.lines) c.file.view_is (omega (arith, c.line_count.ensures, c.if-file-line_count.true)) in
     let less = work_next (context_over c.args.self.now.context.now) c.step.new.self.pass.now.files c.loop-file.file.row c.loop-file.file.lines
@@ -98,10 +98,10 @@ loop-file-smaller-in_default g c =
 
 pub loop-file-preserved-in_default : goal.loop-file-preserved-in_default
 loop-file-preserved-in_default g c =
-    let step = rw (c.in-Ok.is, c.depth.ensures, ← c.next.view_is, c.loop-file.invariant.continues.context) at c.step.ensures.step in
+    let step = rw (c.in-Ok.is, c.depth.ensures, ← c.next.view_is, c.loop-file.invariant.keeps_context.context) at c.step.ensures.step in
     let moved = ap (λ (z : OpenFile). record z { index = c.next.inside.index }) c.file.view_is in
     record {
-      continues = continues_on c.args.self.now c.loop-file.self c.step.new.self c.loop-file.invariant.continues c.step.ensures.continues;
+      keeps_context = continues_on c.args.self.now c.loop-file.self c.step.new.self c.loop-file.invariant.keeps_context c.step.ensures.keeps_context;
       depth =
           rw c.in_default.is at
           (next_depth (context_over c.args.self.now.context.now) c.step.new.self.pass.now.files c.loop-file.file.row c.loop-file.file.lines
@@ -111,18 +111,18 @@ loop-file-preserved-in_default g c =
           rw moved (rw c.in_default.is at
           (stack_next (context_over c.args.self.now.context.now) c.loop-file.self.pass.now.files c.step.new.self.pass.now.files c.args.first.row c.args.first.lines
           c.args.self.now.state c.loop-file.self.state c.step.new.self.state c.loop-file.suspended c.loop-file.file c.next.inside.index c.next.inside.entered c.loop-file.invariant.walked
-          c.step.ensures.continues.grows step));
+          c.step.ensures.keeps_context.grows step));
     }
 
 pub returns-in-Err-clause-walk : goal.returns-in-Err-clause-walk
 returns-in-Err-clause-walk g c =
-    let step = rw (c.in-Err.is, c.depth.ensures, c.loop-file.invariant.continues.context) at c.step.ensures.step in
+    let step = rw (c.in-Err.is, c.depth.ensures, c.loop-file.invariant.keeps_context.context) at c.step.ensures.step in
     halted (Err c.in-Err.error) c.in-Err.error _ _ refl step (λ fault steps.
     subst (λ (z : State). Walks (context_over c.args.self.now.context.now) c.step.new.self.pass.now.files 0 c.args.first.row c.args.first.lines c.args.self.now.state
     (stopped z fault)) (sym c.unwind.ensures)
     (stack_stops (context_over c.args.self.now.context.now) c.loop-file.self.pass.now.files c.step.new.self.pass.now.files c.args.first.row c.args.first.lines
     c.args.self.now.state c.loop-file.self.state c.step.new.self.state fault c.loop-file.suspended c.loop-file.file c.loop-file.invariant.walked
-    c.step.ensures.continues.grows steps))
+    c.step.ensures.keeps_context.grows steps))
 
 pub depth-requires : goal.depth-requires
 depth-requires g c = c.loop-file.invariant.depth
@@ -133,13 +133,13 @@ step-requires-clause-depth g c = omega (arith, c.depth.ensures, c.loop-file.inva
 pub step-requires-clause-index : goal.step-requires-clause-index
 step-requires-clause-index g c = subst (λ (z : OpenFile). z.index < length z.lines) c.file.view_is (omega (arith, c.line_count.ensures, c.if-file-line_count.true))
 
-pub returns-in-Err-clause-continues : goal.returns-in-Err-clause-continues
-returns-in-Err-clause-continues g c =
-    let k = continues_on c.args.self.now c.loop-file.self c.step.new.self c.loop-file.invariant.continues c.step.ensures.continues in
+pub returns-in-Err-clause-keeps_context : goal.returns-in-Err-clause-keeps_context
+returns-in-Err-clause-keeps_context g c =
+    let k = continues_on c.args.self.now c.loop-file.self c.step.new.self c.loop-file.invariant.keeps_context c.step.ensures.keeps_context in
     record { context = k.context; pass = k.pass; grows = k.grows }
 
-pub returns-in_err-file-in-Ok-clause-continues : goal.returns-in_err-file-in-Ok-clause-continues
-returns-in_err-file-in-Ok-clause-continues g c = continues_on c.args.self.now c.loop-file.self c.step.new.self c.loop-file.invariant.continues c.step.ensures.continues
+pub returns-in_err-file-in-Ok-clause-keeps_context : goal.returns-in_err-file-in-Ok-clause-keeps_context
+returns-in_err-file-in-Ok-clause-keeps_context g c = continues_on c.args.self.now c.loop-file.self c.step.new.self c.loop-file.invariant.keeps_context c.step.ensures.keeps_context
 
-pub returns-in_default-pop-clause-continues : goal.returns-in_default-pop-clause-continues
-returns-in_default-pop-clause-continues g c = c.loop-file.invariant.continues
+pub returns-in_default-pop-clause-keeps_context : goal.returns-in_default-pop-clause-keeps_context
+returns-in_default-pop-clause-keeps_context g c = c.loop-file.invariant.keeps_context

@@ -7,7 +7,7 @@ use Rattle.ppunit.proofs.preprocessor.Preprocessor.walk.Given as goal
 
 abbrev pub invariant-loop-file : goal.invariant-loop-file
 invariant-loop-file g l = record {
-  continues : KeepsContext l.fn.self l.self;
+  keeps_context : KeepsContext l.fn.self l.self;
   depth : length l.suspended ≤ 200;
   walked : StackSoFar (context_over l.fn.self.context.now) l.self.pass.now.files l.fn.first.row l.fn.first.lines l.fn.self.state l.suspended l.file l.self.state;
 }
