@@ -8,7 +8,7 @@ use Rattle.ppmacro.specs.HideSetPool.{HideSetPool}
 use Rattle.ppmacro.specs.Hiding.{Hiding}
 use Rattle.ppmacro.specs.HideSets.{hidings, AllKnown, KeepsSets}
 use Rattle.ppmacro.specs.Chains.{parameter_names, chains_of}
-use Rattle.ppmacro.specs.Substituting.{lists_of, ListsKnown, option_of}
+use Rattle.ppmacro.specs.Substituting.{lists_of, ListsKnown, expansion_if_computed}
 use Rattle.ppmacro.specs.Substitution.{argument_at}
 use Rattle.std.specs.Option.{option_map}
 use Rattle.ppmacro.specs.declared.hidden_token.ArgumentExpansion.{ArgumentExpansion}
@@ -86,9 +86,9 @@ module _ (macros : Macros) (env : Env) (level : ℕ) (first remaining between : 
   abbrev argument : List Hidden
   argument = argument_at (lists_of vs) i
 
-  pushed : (x : HideSetPool) (e : ArgumentExpansion) → length done ≡ i → items ≡ done ++ e ∷ [] → expanded_in x vs items ≡ expanded_in x vs done ++ option_map (hidings x) (option_of argument e) ∷ []
+  pushed : (x : HideSetPool) (e : ArgumentExpansion) → length done ≡ i → items ≡ done ++ e ∷ [] → expanded_in x vs items ≡ expanded_in x vs done ++ option_map (hidings x) (expansion_if_computed argument e) ∷ []
   pushed x e count appended =
-      ap (expanded_in x vs) appended ∙ expanded_in-push x vs done e ∙ ap (λ n. expanded_in x vs done ++ option_map (hidings x) (option_of (argument_at (lists_of vs) n) e) ∷ []) count
+      ap (expanded_in x vs) appended ∙ expanded_in-push x vs done e ∙ ap (λ n. expanded_in x vs done ++ option_map (hidings x) (expansion_if_computed (argument_at (lists_of vs) n) e) ∷ []) count
 
   pub follows_unused : i < length names → length done ≡ i → pre_expands i cs ≡ false → items ≡ done ++ Unused ∷ [] → Here
       → ArgumentsFollow macros env level invocation first all (expanded_in u vs items) remaining Behind
@@ -107,7 +107,7 @@ module _ (macros : Macros) (env : Env) (level : ℕ) (first remaining between : 
       → KeepsSets u w
       → ListsKnown u vs
       → ExpansionsKnown u done
-      → option_map (hidings w) (option_of argument e) ≡ Some tokens
+      → option_map (hidings w) (expansion_if_computed argument e) ≡ Some tokens
       → ExpandsArgument macros env level invocation.name_token.token remaining (hidings s argument) between (Ok tokens)
       → Here
       → ArgumentsFollow macros env level invocation first all (expanded_in w vs items) between Behind

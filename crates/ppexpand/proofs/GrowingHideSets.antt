@@ -6,7 +6,7 @@ use Rattle.ppmacro.specs.Names.{HideSet}
 use Rattle.ppmacro.specs.HideSetPool.{HideSetPool}
 use Rattle.ppmacro.specs.HideSets.{set_at, hiding, hidings, HasSets, AllKnown, KeepsSets}
 use Rattle.ppmacro.specs.Substitution.{argument_at, expanded_at}
-use Rattle.ppmacro.specs.Substituting.{lists_of, option_of, options_of, ListsKnown, ArgumentsKnown}
+use Rattle.ppmacro.specs.Substituting.{lists_of, expansion_if_computed, expansions_if_computed, ListsKnown, ArgumentsKnown}
 use Rattle.ppmacro.specs.declared.hidden_token.Hidden.{Hidden}
 use Rattle.ppmacro.specs.declared.hidden_token.ArgumentExpansion.{ArgumentExpansion}
 use Rattle.ppmacro.specs.declared.hidden_token.ArgumentExpansion.TheVariants.{Unused, AsGiven, Owned}
@@ -26,7 +26,7 @@ given_known-keeps (v ∷ vs) k h =
     let rest = given_known-keeps vs k (record { each = h.each.1 }) in
     record { each = (known-keeps v.items k h.each.0, rest.each) }
 
-option-keeps : {s t : HideSetPool} (given : List Hidden) (e : ArgumentExpansion) → KeepsSets s t → AllKnown s given → AllKnown s (owned_tokens e) → option_map (hidings t) (option_of given e) ≡ option_map (hidings s) (option_of given e)
+option-keeps : {s t : HideSetPool} (given : List Hidden) (e : ArgumentExpansion) → KeepsSets s t → AllKnown s given → AllKnown s (owned_tokens e) → option_map (hidings t) (expansion_if_computed given e) ≡ option_map (hidings s) (expansion_if_computed given e)
 option-keeps given Unused k g h = refl
 option-keeps given AsGiven k g h = ap Some (hidings-keeps given k g)
 option-keeps given (Owned v) k g h = ap Some (hidings-keeps v.items k h)
@@ -50,18 +50,18 @@ expanded_known-push (x ∷ es) e h here =
 
 -- Appending an expansion appends its value. An absent argument counts as empty.
 pub expanded_in-push : (s : HideSetPool) (vs : List (Vec Hidden Global)) (es : List ArgumentExpansion) (e : ArgumentExpansion)
-    → expanded_in s vs (es ++ e ∷ []) ≡ expanded_in s vs es ++ option_map (hidings s) (option_of (argument_at (lists_of vs) (length es)) e) ∷ []
+    → expanded_in s vs (es ++ e ∷ []) ≡ expanded_in s vs es ++ option_map (hidings s) (expansion_if_computed (argument_at (lists_of vs) (length es)) e) ∷ []
 expanded_in-push s [] [] e = refl
 expanded_in-push s (v ∷ vs) [] e = refl
-expanded_in-push s [] (x ∷ es) e = ap (λ xs. option_map (hidings s) (option_of [] x) ∷ xs) (expanded_in-push s [] es e)
-expanded_in-push s (v ∷ vs) (x ∷ es) e = ap (λ xs. option_map (hidings s) (option_of v.items x) ∷ xs) (expanded_in-push s vs es e)
+expanded_in-push s [] (x ∷ es) e = ap (λ xs. option_map (hidings s) (expansion_if_computed [] x) ∷ xs) (expanded_in-push s [] es e)
+expanded_in-push s (v ∷ vs) (x ∷ es) e = ap (λ xs. option_map (hidings s) (expansion_if_computed v.items x) ∷ xs) (expanded_in-push s vs es e)
 
-option-at : {s : HideSetPool} (given : List Hidden) (e : ArgumentExpansion) → AllKnown s given → AllKnown s (owned_tokens e) → AllKnown s (unwrap_or (option_of given e) [])
+option-at : {s : HideSetPool} (given : List Hidden) (e : ArgumentExpansion) → AllKnown s given → AllKnown s (owned_tokens e) → AllKnown s (unwrap_or (expansion_if_computed given e) [])
 option-at given Unused g h = h
 option-at given AsGiven g h = g
 option-at given (Owned v) g h = h
 
-expanded-at : {s : HideSetPool} (vs : List (Vec Hidden Global)) (es : List ArgumentExpansion) → ListsKnown s vs → ExpansionsKnown s es → (i : ℕ) → AllKnown s (expanded_at (options_of vs es) i)
+expanded-at : {s : HideSetPool} (vs : List (Vec Hidden Global)) (es : List ArgumentExpansion) → ListsKnown s vs → ExpansionsKnown s es → (i : ℕ) → AllKnown s (expanded_at (expansions_if_computed vs es) i)
 expanded-at vs [] g h i = record { each = tt }
 expanded-at [] (e ∷ es) g h zero = option-at [] e (record { each = tt }) h.each.0
 expanded-at (v ∷ vs) (e ∷ es) g h zero = option-at v.items e g.each.0 h.each.0

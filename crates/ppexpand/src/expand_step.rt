@@ -8,7 +8,7 @@ ghost use Rattle.ppmacro.specs.HideSets.{set_at, IsKnown, HasSets, hide_of, hidi
 ghost use Rattle.ppmacro.specs.Substituting.{ArgumentsKnown, arguments_in, tokens_of};
 ghost use Rattle.ppmacro.specs.Chains.{chains_of};
 ghost use Rattle.ppmacro.specs.PasteFree.{lone_chain};
-ghost use Rattle.ppmacro.specs.Patterns.{listed};
+ghost use Rattle.ppmacro.specs.Patterns.{pattern_chains};
 ghost use Rattle.ppmacro.specs.Substitution.{Arguments as ArgumentTokens, unhidden, with_space, hsadd, macro_replacement, chains_replacement};
 ghost use Rattle.ppexpand.specs.Arguments.{gather, separators};
 ghost use Rattle.ppexpand.specs.declared.env.Env.{Env};
@@ -278,7 +278,7 @@ impl<'x> Replacer<'x> {
         requires base { IsKnown self.old.sets base }
         requires list { AllKnown self.old.sets list.old }
         ensures is { IfOk result (λ r. replaced_in self.new.sets list.new r
-            ≡ replaced_by (chains_replacement (listed pattern.now) (arguments_in self.old.sets arguments.entry.given.now arguments.entry.expanded.now)
+            ≡ replaced_by (chains_replacement (pattern_chains pattern.now) (arguments_in self.old.sets arguments.entry.given.now arguments.entry.expanded.now)
             (set.insert (set_at self.old.sets base) name_token.now.token.text) name_token.now.token.used name_token.now.token.space)
             (hidings self.old.sets list.old)) }
         ensures known { IfOk result (λ r. OnOk r (AllKnown self.new.sets list.new)) }
@@ -528,7 +528,7 @@ impl<'x> Replacer<'x> {
         fault: &mut Option<Fault>,
     ) -> Result<(), Stop>
         requires invocation { InvocationKnown self.old.sets invocation.now.name_token invocation.now.arguments.items invocation.now.base }
-        requires chains { listed pattern.now ≡ chains_of invocation.now.definition.now }
+        requires chains { pattern_chains pattern.now ≡ chains_of invocation.now.definition.now }
         requires expanded { ExpansionsKnown self.old.sets expanded.now }
         requires list { AllKnown self.old.sets list.old }
         ensures is { UnlessFailed result fault.new (λ r. replaced_in self.new.sets list.new r

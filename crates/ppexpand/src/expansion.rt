@@ -3,7 +3,7 @@ ghost use Rattle.std.specs.Prelude.{◌≡◌, ℕ, ◌≤◌, ◌++◌, [], Lis
 ghost use Rattle.std.specs.Result.{result_err, result_and};
 ghost use Rattle.ppexpand.specs.code.Stops.{UnlessFailed};
 ghost use Rattle.ppmacro.specs.Chains.{chains_of};
-ghost use Rattle.ppmacro.specs.Patterns.{listed};
+ghost use Rattle.ppmacro.specs.Patterns.{pattern_chains};
 ghost use Rattle.std.specs.Option.{option_copied};
 ghost use Rattle.ppmacro.specs.Substituting.{tokens_of, lists_of};
 ghost use Rattle.ppmacro.specs.HideSets.{hidings, AllKnown, KeepsSets};
@@ -253,7 +253,7 @@ impl<'x> Expander<'x> {
     ) -> Result<(), Stop>
         requires level { context.now.level ≤ 256 }
         requires known { InvocationKnown self.old.replacer.sets invocation.now.name_token invocation.now.arguments.items invocation.now.base }
-        requires chains { listed pattern.now ≡ chains_of invocation.now.definition.now }
+        requires chains { pattern_chains pattern.now ≡ chains_of invocation.now.definition.now }
         requires none { expanded.old.items ≡ [] }
         ensures is { UnlessFailed result self.new.fault (λ r. (following : List Hidden) → ExpandsInvocationArguments context.now.table.now.macros context.now.env.now context.now.level
             (invocation_in self.old.replacer.sets invocation.now.name_token invocation.now.definition.now invocation.now.arguments.items invocation.now.base following) self.old.remaining self.new.remaining

@@ -1,7 +1,7 @@
 //! Finds the parameters whose arguments are pre-expanded: those that a replacement list uses without `#` and `##` (6.10.3.1).
 ghost use Rattle.std.specs.Prelude.{◌≡◌, ◌<◌, ◌||◌, ℕ, false, IfOk, get_or, length, map};
 ghost use Rattle.ppmacro.specs.Chains.{parameter_names};
-ghost use Rattle.ppmacro.specs.Patterns.{entry_chain, listed};
+ghost use Rattle.ppmacro.specs.Patterns.{entry_chain, pattern_chains};
 ghost use Rattle.ppexpand.specs.ExpansionStep.{is_lone_parameter, pre_expands};
 
 use ppmacro::{Chain, Entry, Macro, MacroKind, Operand, Pattern};
@@ -69,7 +69,7 @@ pub(crate) fn pre_expanded_parameters(
     pattern: &Pattern,
 ) -> Result<Vec<bool>, AllocError>
     ensures len { IfOk result (λ v. length v.items ≡ length (parameter_names definition.now.kind)) }
-    ensures pre_expanded { IfOk result (λ v. (i : ℕ) → i < length (parameter_names definition.now.kind) → get_or v.items i false ≡ pre_expands i (listed pattern.now)) }
+    ensures pre_expanded { IfOk result (λ v. (i : ℕ) → i < length (parameter_names definition.now.kind) → get_or v.items i false ≡ pre_expands i (pattern_chains pattern.now)) }
 {
     let parameters = parameter_count(definition);
     match pattern {

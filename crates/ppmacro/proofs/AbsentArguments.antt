@@ -18,7 +18,7 @@ use Rattle.ppmacro.specs.declared.macros.MacroKind.TheVariants.{ObjectLike, Func
 use Rattle.ppmacro.specs.declared.macros.Macro.{Macro}
 use Rattle.ppmacro.specs.declared.macros.Chain.{Chain}
 use Rattle.ppmacro.specs.declared.macros.Operand.{Operand}
-use Rattle.ppmacro.specs.Chains.{HashSign, ChainPart, Operates, Joins, hash_sign, parameter_of, is_operator_hash, plain_part, stringized_part, parts_at, parts_after, begins_joined, join_first, group_parts, lenient_parameter, with_variadic, chains_of}
+use Rattle.ppmacro.specs.Chains.{HashSign, ChainPart, OperandPart, PastePart, hash_sign, parameter_of, is_operator_hash, plain_part, stringized_part, parts_at, parts_after, begins_joined, join_first, group_parts, lenient_parameter, with_variadic, chains_of}
 use Rattle.ppmacro.specs.Define.{Named, Refusal, ParameterList, Spacing, VariableArguments, repeats, has_variable_arguments, all_parameters, variadic_by, function_like, read_parameter_list, read_definition, refusal_of, unless_refused, check_body, with_macro_name, is_reserved, check_define}
 use Rattle.ppmacro.specs.Laws.{is_variadic, holds_variadic}
 
@@ -94,8 +94,8 @@ strict p macros at line n g e = subst NamesStrict e (judged_strict p macros at l
 -- ---- chains
 
 abbrev is_variadic_part : ChainPart → Bool
-is_variadic_part (Operates space o) = is_variadic o
-is_variadic_part Joins = false
+is_variadic_part (OperandPart space o) = is_variadic o
+is_variadic_part PastePart = false
 
 plain_whole : (o : Option ℕ) (t : Token) → is_variadic_part (plain_part o t) ≡ false
 plain_whole None t = refl
@@ -136,8 +136,8 @@ first_whole false space o cs e h = rw e h
 
 grouped_whole : (is : List ChainPart) → list_any is_variadic_part is ≡ false → list_any holds_variadic (group_parts is) ≡ false
 grouped_whole [] h = refl
-grouped_whole (Joins ∷ is) h = grouped_whole is h
-grouped_whole (Operates space o ∷ is) h =
+grouped_whole (PastePart ∷ is) h = grouped_whole is h
+grouped_whole (OperandPart space o ∷ is) h =
     let both = or_parts (is_variadic o) (list_any is_variadic_part is) h in
     first_whole (begins_joined is) space o (group_parts is) both.0 (grouped_whole is both.1)
 

@@ -5,15 +5,15 @@ use Rattle.std.proofs.lemmas.Bool.{eqb-true, eq-eqb, and_parts}
 use Rattle.ppmacro.specs.code.Nodes.{Node, member, word, IsPool, KeepsNodes}
 use Rattle.ppmacro.specs.code.Operations.{Operation, Union, Intersection, member_rule, word_rule, known}
 use Rattle.ppmacro.specs.PairCache.{CachedPairs, same_pair, cached_result}
-use Rattle.ppmacro.specs.code.PoolInvariant.{IsAnswer, AreAnswers}
+use Rattle.ppmacro.specs.code.PoolInvariant.{IsCachedResult, AreCachedResults}
 use Rattle.std.specs.Int.RustNames.{bit_or, bit_and}
 use Rattle.ppmacro.proofs.Tries.{member-keeps, length-keeps, member-none, word-none, or_none, none_or, or_self, none_and, and_none, and_self}
 
-pub answer-put : (ps : CachedPairs) (a b n : ℕ) → cached_result ps a b ≡ None → cached_result (ps ++ ((a, b), n) ∷ []) a b ≡ Some n
-answer-put [] a b n h = ap (λ t. cond t (Some n) None) (λ i. eq-eqb a a refl i && eq-eqb b b refl i)
-answer-put (e ∷ ps) a b n h = elim (same_pair (a, b) e.0) as (λ t. cond t (Some e.1) (cached_result ps a b) ≡ None → cond t (Some e.1) (cached_result (ps ++ ((a, b), n) ∷ []) a b) ≡ Some n) [
+pub combined-put : (ps : CachedPairs) (a b n : ℕ) → cached_result ps a b ≡ None → cached_result (ps ++ ((a, b), n) ∷ []) a b ≡ Some n
+combined-put [] a b n h = ap (λ t. cond t (Some n) None) (λ i. eq-eqb a a refl i && eq-eqb b b refl i)
+combined-put (e ∷ ps) a b n h = elim (same_pair (a, b) e.0) as (λ t. cond t (Some e.1) (cached_result ps a b) ≡ None → cond t (Some e.1) (cached_result (ps ++ ((a, b), n) ∷ []) a b) ≡ Some n) [
   | true ↦ λ g. absurd (cc g)
-  | false ↦ λ g. answer-put ps a b n g
+  | false ↦ λ g. combined-put ps a b n g
 ] h
 
 -- A pair that is neither trivial nor cached.
@@ -58,10 +58,10 @@ known-by Intersection old new a b n u h = rw (u.left, u.right, u.apart) h
 
 -- ---- results
 
-pub answers-keep : (op : Bool → Bool → Bool) (old new : List Node) (ps : CachedPairs) → IsPool old → KeepsNodes old new → AreAnswers op old ps → AreAnswers op new ps
-answers-keep op old new [] p k h = record { each = tt }
-answers-keep op old new (e ∷ ps) p k h =
-    let rest = answers-keep op old new ps p k (record { each = h.each.1 }) in
+pub results-keep : (op : Bool → Bool → Bool) (old new : List Node) (ps : CachedPairs) → IsPool old → KeepsNodes old new → AreCachedResults op old ps → AreCachedResults op new ps
+results-keep op old new [] p k h = record { each = tt }
+results-keep op old new (e ∷ ps) p k h =
+    let rest = results-keep op old new ps p k (record { each = h.each.1 }) in
     let a = h.each.0 in
     record {
       each = (
@@ -75,20 +75,20 @@ answers-keep op old new (e ∷ ps) p k h =
       );
     }
 
-pub answers-put : (op : Bool → Bool → Bool) (ns : List Node) (ps : CachedPairs) (e : (ℕ × ℕ) × ℕ) → AreAnswers op ns ps → IsAnswer op ns e → AreAnswers op ns (ps ++ e ∷ [])
-answers-put op ns [] e h k = record { each = (k, tt) }
-answers-put op ns (f ∷ ps) e h k =
-    let rest = answers-put op ns ps e (record { each = h.each.1 }) k in
+pub results-put : (op : Bool → Bool → Bool) (ns : List Node) (ps : CachedPairs) (e : (ℕ × ℕ) × ℕ) → AreCachedResults op ns ps → IsCachedResult op ns e → AreCachedResults op ns (ps ++ e ∷ [])
+results-put op ns [] e h k = record { each = (k, tt) }
+results-put op ns (f ∷ ps) e h k =
+    let rest = results-put op ns ps e (record { each = h.each.1 }) k in
     record { each = (h.each.0, rest.each) }
 
-found : (op : Bool → Bool → Bool) (ns : List Node) (ps : CachedPairs) (a b n : ℕ) → AreAnswers op ns ps → cached_result ps a b ≡ Some n → IsAnswer op ns ((a, b), n)
+found : (op : Bool → Bool → Bool) (ns : List Node) (ps : CachedPairs) (a b n : ℕ) → AreCachedResults op ns ps → cached_result ps a b ≡ Some n → IsCachedResult op ns ((a, b), n)
 found op ns [] a b n h e = absurd (cc e)
-found op ns (f ∷ ps) a b n h e = elim (same_pair (a, b) f.0) as (λ t. same_pair (a, b) f.0 ≡ t → cond t (Some f.1) (cached_result ps a b) ≡ Some n → IsAnswer op ns ((a, b), n)) [
+found op ns (f ∷ ps) a b n h e = elim (same_pair (a, b) f.0) as (λ t. same_pair (a, b) f.0 ≡ t → cond t (Some f.1) (cached_result ps a b) ≡ Some n → IsCachedResult op ns ((a, b), n)) [
   | true ↦ λ p g. (let parts = and_parts (nat_eq a f.0.0) (nat_eq b f.0.1) p in
       let one : a ≡ f.0.0 = eqb-true a f.0.0 parts.0 in
       let two : b ≡ f.0.1 = eqb-true b f.0.1 parts.1 in
       let three : f.1 ≡ n = cc g in
-      subst (λ z. IsAnswer op ns ((a, b), z)) three (subst (λ z. IsAnswer op ns ((a, z), f.1)) (sym two) (subst (λ z. IsAnswer op ns ((z, f.0.1), f.1)) (sym one) h.each.0)))
+      subst (λ z. IsCachedResult op ns ((a, b), z)) three (subst (λ z. IsCachedResult op ns ((a, z), f.1)) (sym two) (subst (λ z. IsCachedResult op ns ((z, f.0.1), f.1)) (sym one) h.each.0)))
   | false ↦ λ p g. found op ns ps a b n (record { each = h.each.1 }) g
 ] refl e
 
@@ -116,7 +116,7 @@ by-case P a b p q r n o first second same other e = at (nat_eq a 0) (nat_eq b 0)
 none-at : (ns : List Node) (a x : ℕ) → IsPool ns → a ≡ 0 → member ns a x ≡ false
 none-at ns a x pool e = (λ i. member ns (e i) x) ∙ member-none ns x pool.empty
 
-pub known-is : (o : Operation) (ns : List Node) (ps : CachedPairs) (a b n : ℕ) → IsPool ns → AreAnswers (member_rule o) ns ps → a < length ns → b < length ns → known o ps a b ≡ Some n → IsMade (member_rule o) ns a b n
+pub known-is : (o : Operation) (ns : List Node) (ps : CachedPairs) (a b n : ℕ) → IsPool ns → AreCachedResults (member_rule o) ns ps → a < length ns → b < length ns → known o ps a b ≡ Some n → IsMade (member_rule o) ns a b n
 known-is Union ns ps a b n pool h la lb = by-case (IsMade (member_rule Union) ns a b) a b b a a n (cached_result ps a b)
     (λ e. record { within = lb; is = λ x i. sym (none-at ns a x pool e) i || member ns b x })
     (λ e. record { within = la; is = λ x. sym (bool.or-false (member ns a x)) ∙ (λ i. member ns a x || sym (none-at ns b x pool e) i) })
@@ -128,15 +128,15 @@ known-is Intersection ns ps a b n pool h la lb = by-case (IsMade (member_rule In
     (λ e. record { within = la; is = λ x. sym (bool.and_self (member ns a x)) ∙ (λ i. member ns a x && member ns (e i) x) })
     (λ e. let k = found (member_rule Intersection) ns ps a b n h e in record { within = k.within; is = k.is })
 
-pub is-answer : (op : Bool → Bool → Bool) (old new : List Node) (a b n : ℕ)
+pub is-combined : (op : Bool → Bool → Bool) (old new : List Node) (a b n : ℕ)
     → IsPool old
     → KeepsNodes old new
     → a < length old
     → b < length old
     → n < length new
     → ((x : ℕ) → member new n x ≡ op (member old a x) (member old b x))
-    → IsAnswer op new ((a, b), n)
-is-answer op old new a b n p k la lb ln is = record {
+    → IsCachedResult op new ((a, b), n)
+is-combined op old new a b n p k la lb ln is = record {
   left = length-keeps old new a k la;
   right = length-keeps old new b k lb;
   within = ln;

@@ -10,7 +10,7 @@ use Rattle.ppmacro.specs.HideSetPool.{HideSetPool}
 use Rattle.ppmacro.specs.Hiding.{Hiding}
 use Rattle.ppmacro.specs.HideSets.{set_at, IsKnown, hiding, hidings, HasSets, AllKnown, KeepsSets}
 use Rattle.ppmacro.specs.Substitution.{Arguments, Replacement, after_ok, argument_at, expanded_at, chain_tokens, space_first, chains_tokens, hsadd}
-use Rattle.ppmacro.specs.Substituting.{lists_of, options_of, ArgumentsKnown, arguments_in, pushed, IsSubset}
+use Rattle.ppmacro.specs.Substituting.{lists_of, expansions_if_computed, ArgumentsKnown, arguments_in, pushed, IsSubset}
 use Rattle.ppmacro.specs.declared.hidden_token.Hidden.{Hidden}
 use Rattle.ppmacro.specs.declared.hidden_token.ArgumentExpansion.{ArgumentExpansion}
 use Rattle.ppmacro.specs.declared.macros.Chain.{Chain}
@@ -50,7 +50,7 @@ expanded-keeps [] k known = refl
 expanded-keeps (o ∷ os) k known = λ i. option-keeps o os k (known 0) i ∷ expanded-keeps os k (λ n. known (suc n)) i
 
 pub arguments-keeps : {s t : HideSetPool} (given : List (Vec Hidden Global)) (expanded : List ArgumentExpansion) → KeepsSets s t → ArgumentsKnown s given expanded → arguments_in t given expanded ≡ arguments_in s given expanded
-arguments-keeps given expanded k known = λ i. record { given = given-keeps given k known.given_known i; expanded = expanded-keeps (options_of given expanded) k known.expanded_known i }
+arguments-keeps given expanded k known = λ i. record { given = given-keeps given k known.given_known i; expanded = expanded-keeps (expansions_if_computed given expanded) k known.expanded_known i }
 
 pub arguments-known : {s t : HideSetPool} (given : List (Vec Hidden Global)) (expanded : List ArgumentExpansion) → KeepsSets s t → ArgumentsKnown s given expanded → ArgumentsKnown t given expanded
 arguments-known given expanded k known = record { given_known = λ i. known-keeps _ k (known.given_known i); expanded_known = λ i. known-keeps _ k (known.expanded_known i) }

@@ -5,9 +5,9 @@ use Rattle.std.proofs.lemmas.Bool.{and_parts, and_right, or_parts, not-true}
 use Rattle.pptext.specs.declared.tokens.Token.{Token}
 use Rattle.pptext.specs.Tokens.{is_identifier, is_punct}
 use Rattle.ppmacro.specs.HashOperators.{is_hash, is_paste}
-use Rattle.ppmacro.specs.Chains.{ChainPart, Operates, Joins, parameter_named, parameter_of, is_function_like, is_operator_hash, parts_after, begins_joined, join_first, group_parts, lenient_parameter, with_variadic, chains_of}
+use Rattle.ppmacro.specs.Chains.{ChainPart, OperandPart, PastePart, parameter_named, parameter_of, is_function_like, is_operator_hash, parts_after, begins_joined, join_first, group_parts, lenient_parameter, with_variadic, chains_of}
 use Rattle.ppmacro.specs.Define.{is_empty, misplaces_paste, begins_with_parameter, misplaces_hash}
-use Rattle.ppmacro.specs.Laws.{IsOperand, token, parameter, stringized, AreJoined, last, pasted, AreChains, none, chain, places_operators}
+use Rattle.ppmacro.specs.Laws.{IsOperand, token, parameter, stringized, AreJoined, last, pasted, AreChains, none, chain, has_valid_operators}
 use Rattle.ppmacro.specs.declared.macros.MacroKind.{MacroKind}
 use Rattle.ppmacro.specs.declared.macros.Macro.{Macro}
 use Rattle.ppmacro.specs.declared.macros.Chain.{Chain}
@@ -49,36 +49,36 @@ at_token : (kind : MacroKind) (t : Token) (rest : List Token)
     → is_paste t ≡ false
     → is_operator_hash kind t ≡ false
     → parameter_of kind t ≡ None
-    → parts_after kind None (t ∷ rest) ≡ Operates t.space (Tok t) ∷ parts_after kind None rest
+    → parts_after kind None (t ∷ rest) ≡ OperandPart t.space (Tok t) ∷ parts_after kind None rest
 at_token kind t rest p h e = rw (parts_after, p, h, e) refl
 
 at_parameter : (kind : MacroKind) (t : Token) (i : ℕ) (rest : List Token)
     → is_paste t ≡ false
     → is_operator_hash kind t ≡ false
     → parameter_of kind t ≡ Some i
-    → parts_after kind None (t ∷ rest) ≡ Operates t.space (Param i) ∷ parts_after kind None rest
+    → parts_after kind None (t ∷ rest) ≡ OperandPart t.space (Param i) ∷ parts_after kind None rest
 at_parameter kind t i rest p h e = rw (parts_after, p, h, e) refl
 
 at_hash : (kind : MacroKind) (hash t : Token) (i : ℕ) (rest : List Token)
     → is_paste hash ≡ false
     → is_operator_hash kind hash ≡ true
     → parameter_of kind t ≡ Some i
-    → parts_after kind None (hash ∷ (t ∷ rest)) ≡ Operates hash.space (Str i hash.at) ∷ parts_after kind None rest
+    → parts_after kind None (hash ∷ (t ∷ rest)) ≡ OperandPart hash.space (Str i hash.at) ∷ parts_after kind None rest
 at_hash kind hash t i rest p h e = rw (parts_after, p, h, e) refl
 
-at_paste : (kind : MacroKind) (p : Token) (ts : List Token) → is_paste p ≡ true → parts_after kind None (p ∷ ts) ≡ Joins ∷ parts_after kind None ts
+at_paste : (kind : MacroKind) (p : Token) (ts : List Token) → is_paste p ≡ true → parts_after kind None (p ∷ ts) ≡ PastePart ∷ parts_after kind None ts
 at_paste kind p ts e = rw (parts_after, e) refl
 
 module _ (kind : MacroKind) where
   abbrev items : List Token → List ChainPart
   items ts = parts_after kind None ts
 
-  operand_items : {space : Bool} {ts : List Token} {o : Operand} → IsOperand kind space ts o → (rest : List Token) → items (ts ++ rest) ≡ Operates space o ∷ items rest
+  operand_items : {space : Bool} {ts : List Token} {o : Operand} → IsOperand kind space ts o → (rest : List Token) → items (ts ++ rest) ≡ OperandPart space o ∷ items rest
   operand_items (token {t = t} p h e) rest = at_token kind t rest p h e
   operand_items (parameter {t = t} {i = i} e) rest = at_parameter kind t i rest (parameter_no_paste kind t i e) (parameter_no_hash kind t i e) e
   operand_items (stringized {hash = hash} {t = t} {i = i} h e) rest = at_hash kind hash t i rest (hash_no_paste kind hash h) h e
 
-  paste_items : (p : Token) (ts : List Token) → is_paste p ≡ true → items (p ∷ ts) ≡ Joins ∷ items ts
+  paste_items : (p : Token) (ts : List Token) → is_paste p ≡ true → items (p ∷ ts) ≡ PastePart ∷ items ts
   paste_items p ts e = at_paste kind p ts e
 
   unjoined : {space : Bool} {ts : List Token} {os : List Operand} → AreJoined kind space ts os → (rest : List Token) → begins_joined (items (ts ++ rest)) ≡ false
@@ -99,7 +99,7 @@ module _ (kind : MacroKind) where
   joined_grouped (pasted {space = space} {o = o} ts p more other is s j) rest cs b e =
       ap (λ xs. group_parts (items xs)) (append_assoc ts (p ∷ more) rest)
       ∙ ap group_parts (operand_items is (p ∷ (more ++ rest)))
-      ∙ ap (λ ys. group_parts (Operates space o ∷ ys)) (paste_items p (more ++ rest) s)
+      ∙ ap (λ ys. group_parts (OperandPart space o ∷ ys)) (paste_items p (more ++ rest) s)
       ∙ ap (join_first space o) (joined_grouped j rest cs b e)
 
   -- The chain after `with_variadic`: its last operand may become a `VariadicAfterComma`.
@@ -219,7 +219,7 @@ module _ (kind : MacroKind) where
       let less : length f.rest < length (t ∷ ts) = f.less in
       subst Laid (sym f.laid_out) (lay_behind f.front f.rest f.is (λ us short' m' s'. lay n us (omega arith) m' s') f.pastes f.hashes)
 
-pub lays_out : (d : Macro) → places_operators d ≡ true → AreChains d.kind d.body (chains_of d)
+pub lays_out : (d : Macro) → has_valid_operators d ≡ true → AreChains d.kind d.body (chains_of d)
 lays_out d e =
     let parts = and_parts (not (misplaces_paste true d.body)) (not (is_function_like d.kind && misplaces_hash d.kind d.body)) e in
     let l : Laid d.kind d.body = lay d.kind (suc (length d.body)) d.body (omega arith) (not-true _ parts.0) (not-true _ parts.1) in

@@ -3,9 +3,9 @@ use Rattle.std.proofs.Common.{◌≡◌, ℕ, zero, suc, ◌<◌, ◌+◌, ◌-�
 use Rattle.std.proofs.lemmas.Nat.{and_le_l, or_lt, pow_below}
 use Rattle.std.specs.Int.RustNames.{bit_or}
 use Rattle.ppmacro.specs.code.Operations.{Operation, Union, Intersection, member_rule, word_rule}
-use Rattle.ppmacro.specs.code.Nodes.{Node, node_at, made, word, word_with, member, IsPool}
-use Rattle.ppmacro.proofs.Tries.{or_none, differs, node-same, word-made, word-odd, word-even, word-lt, words-sets_are_unique, words-of, within-at, pos-of}
-use Rattle.ppmacro.proofs.Tries.{made-odd, made-even, one-left, one-right, inserted-bits, member_rule-bits}
+use Rattle.ppmacro.specs.code.Nodes.{Node, node_at, node_word, word, word_with, member, IsPool}
+use Rattle.ppmacro.proofs.Tries.{or_none, differs, node-same, word-node_word, word-odd, word-even, word-lt, words-sets_are_unique, words-of, within-at, pos-of}
+use Rattle.ppmacro.proofs.Tries.{node_word-odd, node_word-even, one-left, one-right, inserted-bits, member_rule-bits}
 
 -- The words of the set n are those of another set with one more bit.
 abbrev pub HasMore : List Node → ℕ → ℕ → ℕ → ℕ → Type 0
@@ -28,7 +28,7 @@ node-by : (ns : List Node) (n here l r : ℕ)
 node-by ns n here l r p ln ll lr h left right =
     let s = node_at ns n in
     let w = within-at ns n p ln in
-    node-same s (record { here = here; left = l; right = r }) (sym (word-made ns n 0) ∙ h)
+    node-same s (record { here = here; left = l; right = r }) (sym (word-node_word ns n 0) ∙ h)
     (words-sets_are_unique ns s.left l p w.left ll (λ y. sym (word-odd ns n y) ∙ left y))
     (words-sets_are_unique ns s.right r p w.right lr (λ y. sym (word-even ns n y) ∙ right y))
 
@@ -41,7 +41,7 @@ here-there ns n set bit p ln ls h =
     let s = node_at ns set in
     let w = within-at ns set p ls in
     node-by ns n (bit_or s.here (2 ^ bit)) s.left s.right p ln w.left w.right
-    (h 0 ∙ (λ i. bit_or (word-made ns set 0 i) (2 ^ bit)))
+    (h 0 ∙ (λ i. bit_or (word-node_word ns set 0 i) (2 ^ bit)))
     (λ y. h (suc (2 * y)) ∙ (λ i. bit_or (word-odd ns set y i) (past (2 * y) i)) ∙ or_none (word ns s.left y))
     (λ y. h (suc (2 * y + 1)) ∙ (λ i. bit_or (word-even ns set y i) (past (2 * y + 1) i)) ∙ or_none (word ns s.right y))
   where
@@ -53,7 +53,7 @@ pub left-more : (ns : List Node) (n set index bit : ℕ) → 0 < index → (inde
 left-more ns n set zero bit pos even h = absurd (omega (arith, pos))
 left-more ns n set (suc j) bit pos even h = λ y.
     let same : suc j - 1 ≡ j = omega arith in
-    let one = one-left j bit (suc (2 * y)) (subst (λ z. z % 2 ≡ 0) same even) ∙ made-odd 0 (word_with (j / 2) bit) (λ _. 0) y in
+    let one = one-left j bit (suc (2 * y)) (subst (λ z. z % 2 ≡ 0) same even) ∙ node_word-odd 0 (word_with (j / 2) bit) (λ _. 0) y in
     sym (word-odd ns n y)
     ∙ h (suc (2 * y))
     ∙ (λ i. bit_or (word-odd ns set y i) (one i))
@@ -65,12 +65,12 @@ left-there ns n set zero bit p ln ls pos even h = absurd (omega (arith, pos))
 left-there ns n set (suc j) bit p ln ls pos even h =
     let s = node_at ns set in
     let same : suc j - 1 ≡ j = omega arith in
-    let one : (x : ℕ) → word_with (suc j) bit x ≡ made 0 (word_with (j / 2) bit) (λ _. 0) x = λ x. one-left j bit x (subst (λ z. z % 2 ≡ 0) same even) in
+    let one : (x : ℕ) → word_with (suc j) bit x ≡ node_word 0 (word_with (j / 2) bit) (λ _. 0) x = λ x. one-left j bit x (subst (λ z. z % 2 ≡ 0) same even) in
     node-by ns n s.here (node_at ns n).left s.right p ln (within-at ns n p ln).left (within-at ns set p ls).right
-    (h 0 ∙ (λ i. bit_or (word-made ns set 0 i) (one 0 i)) ∙ or_none s.here)
+    (h 0 ∙ (λ i. bit_or (word-node_word ns set 0 i) (one 0 i)) ∙ or_none s.here)
     (λ y. word-odd ns n y)
     (λ y. h (suc (2 * y + 1))
-    ∙ (λ i. bit_or (word-even ns set y i) ((one (suc (2 * y + 1)) ∙ made-even 0 (word_with (j / 2) bit) (λ _. 0) y) i))
+    ∙ (λ i. bit_or (word-even ns set y i) ((one (suc (2 * y + 1)) ∙ node_word-even 0 (word_with (j / 2) bit) (λ _. 0) y) i))
     ∙ or_none (word ns s.right y))
 
 -- If the bit is in a word of the right part, the right part of n is the old one with one more bit.
@@ -78,7 +78,7 @@ pub right-more : (ns : List Node) (n set index bit : ℕ) → 0 < index → (¬ 
 right-more ns n set zero bit pos odd h = absurd (omega (arith, pos))
 right-more ns n set (suc j) bit pos odd h = λ y.
     let same : suc j - 1 ≡ j = omega arith in
-    let one = one-right j bit (suc (2 * y + 1)) (subst (λ z. ¬ (z % 2 ≡ 0)) same odd) ∙ made-even 0 (λ _. 0) (word_with (j / 2) bit) y in
+    let one = one-right j bit (suc (2 * y + 1)) (subst (λ z. ¬ (z % 2 ≡ 0)) same odd) ∙ node_word-even 0 (λ _. 0) (word_with (j / 2) bit) y in
     sym (word-even ns n y)
     ∙ h (suc (2 * y + 1))
     ∙ (λ i. bit_or (word-even ns set y i) (one i))
@@ -90,11 +90,11 @@ right-there ns n set zero bit p ln ls pos odd h = absurd (omega (arith, pos))
 right-there ns n set (suc j) bit p ln ls pos odd h =
     let s = node_at ns set in
     let same : suc j - 1 ≡ j = omega arith in
-    let one : (x : ℕ) → word_with (suc j) bit x ≡ made 0 (λ _. 0) (word_with (j / 2) bit) x = λ x. one-right j bit x (subst (λ z. ¬ (z % 2 ≡ 0)) same odd) in
+    let one : (x : ℕ) → word_with (suc j) bit x ≡ node_word 0 (λ _. 0) (word_with (j / 2) bit) x = λ x. one-right j bit x (subst (λ z. ¬ (z % 2 ≡ 0)) same odd) in
     node-by ns n s.here s.left (node_at ns n).right p ln (within-at ns set p ls).left (within-at ns n p ln).right
-    (h 0 ∙ (λ i. bit_or (word-made ns set 0 i) (one 0 i)) ∙ or_none s.here)
+    (h 0 ∙ (λ i. bit_or (word-node_word ns set 0 i) (one 0 i)) ∙ or_none s.here)
     (λ y. h (suc (2 * y))
-    ∙ (λ i. bit_or (word-odd ns set y i) ((one (suc (2 * y)) ∙ made-odd 0 (λ _. 0) (word_with (j / 2) bit) y) i))
+    ∙ (λ i. bit_or (word-odd ns set y i) ((one (suc (2 * y)) ∙ node_word-odd 0 (λ _. 0) (word_with (j / 2) bit) y) i))
     ∙ or_none (word ns s.left y))
     (λ y. word-even ns n y)
 
@@ -185,7 +185,7 @@ pub combine-there : (op : ℕ → ℕ → ℕ) (ns : List Node) (n one two : ℕ
 combine-there op ns n one two h =
     let s = node_at ns n in
     node-same s (record { here = op (node_at ns one).here (node_at ns two).here; left = s.left; right = s.right })
-    (sym (word-made ns n 0) ∙ h 0 ∙ (λ i. op (word-made ns one 0 i) (word-made ns two 0 i))) refl refl
+    (sym (word-node_word ns n 0) ∙ h 0 ∙ (λ i. op (word-node_word ns one 0 i) (word-node_word ns two 0 i))) refl refl
 
 -- Both parts of n exist and are the results of `op` on the parts. Thus n has the node of the result.
 pub lefts-asked : (op : ℕ → ℕ → ℕ) (ns : List Node) (n one two : ℕ) (first second : Node)

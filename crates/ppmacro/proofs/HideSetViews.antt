@@ -6,15 +6,15 @@ use Rattle.ppmacro.specs.declared.hide_sets.HideSets.TheInside.{Inside}
 use Rattle.ppmacro.specs.Names.{Name}
 use Rattle.ppmacro.specs.code.Nodes as nodes
 use Rattle.ppmacro.specs.code.Nodes.{Node, IsPool, member, IsBounded}
-use Rattle.ppmacro.specs.code.Members.{same_name, hide_set, hide_sets, counted}
+use Rattle.ppmacro.specs.code.Members.{same_name, hide_set, hide_sets, tabulated}
 use Rattle.ppmacro.specs.code.Operations.{Operation, Union, Intersection, member_rule}
 use Rattle.ppmacro.specs.PairCache.{CachedPairs, KeepsPairs}
 use Rattle.ppmacro.specs.HideSetPool.{HideSetPool}
 use Rattle.ppmacro.specs.HideSets.{set_at, IsKnown, KeepsSets}
-use Rattle.ppmacro.specs.code.PoolInvariant.{AreAnswers, IsPoolKept}
+use Rattle.ppmacro.specs.code.PoolInvariant.{AreCachedResults, IsConsistentPool}
 use Rattle.ppmacro.proofs.NodeHideSets.{IsNamed, made_of, set-at, known-at, at-known, sets-keep, past-by, made-is, sets_are_unique-names, sets-named, bounded-more, insert-is, set-named, hide-none, made-members, more-members}
 use Rattle.ppmacro.proofs.PoolGrowthLemmas.{pairs-are}
-use Rattle.ppmacro.proofs.CachedResults.{answers-keep}
+use Rattle.ppmacro.proofs.CachedResults.{results-keep}
 use Rattle.ppmacro.proofs.Tries.{member-none}
 
 -- A known number is the number of a node.
@@ -31,7 +31,7 @@ set-seen names ns v n m is same l = sym (set-at names ns n l) ∙ (λ i. get_or 
 pub empty-seen : (names : List Name) (ns : List Node) (v : HideSetPool) (m : ℕ) → hide_sets names ns ≡ v.sets → 0 ≡ m → IsPool ns → set_at v m ≡ set.empty
 empty-seen names ns v m is same p = sym (set-seen names ns v 0 m is same p.some) ∙ hide-none names ns 0 (λ x. member-none ns x p.empty)
 
-pub sets_are_unique-seen : (names : List Name) (ns : List Node) (us ms : CachedPairs) (v : HideSetPool) (m n : ℕ) → hide_sets names ns ≡ v.sets → IsPoolKept names ns us ms → IsKnown v m → IsKnown v n → set_at v m ≡ set_at v n → m ≡ n
+pub sets_are_unique-seen : (names : List Name) (ns : List Node) (us ms : CachedPairs) (v : HideSetPool) (m n : ℕ) → hide_sets names ns ≡ v.sets → IsConsistentPool names ns us ms → IsKnown v m → IsKnown v n → set_at v m ≡ set_at v n → m ≡ n
 sets_are_unique-seen names ns us ms v m n is k km kn e =
     let named : IsNamed names ns = record { distinct = k.distinct; within = λ n x l e. k.bounded.each n x l e } in
     let lm = node-known names ns v m m is refl km in
@@ -56,8 +56,8 @@ pub keeps-seen : (s : Inside) (new : List Node) {v : HideSetPool} {us ms : Cache
     → KeepsPairs s.intersections ms
     → KeepsSets v (record { sets = hide_sets s.names new; unions = us; intersections = ms })
 keeps-seen s new {us = us} {ms = ms} is p k unions intersections = record {
-  more = counted (hide_set s.names new) (past-by 0 s.nodes.keys) k.more;
-  is = sets-keep s.names s.nodes.keys new p k ∙ ap (λ v. v.sets ++ counted (hide_set s.names new) (past-by 0 s.nodes.keys) k.more) is;
+  more = tabulated (hide_set s.names new) (past-by 0 s.nodes.keys) k.more;
+  is = sets-keep s.names s.nodes.keys new p k ∙ ap (λ v. v.sets ++ tabulated (hide_set s.names new) (past-by 0 s.nodes.keys) k.more) is;
   unions = subst (λ ps. KeepsPairs ps us) (ap (λ v. v.unions) is) unions;
   intersections = subst (λ ps. KeepsPairs ps ms) (ap (λ v. v.intersections) is) intersections;
 }
@@ -81,20 +81,20 @@ made-seen o s new {v = v} {a = a} {b = b} {n = n} is d sa sb ka kb ln h =
 
 -- The invariant of the fields holds for new nodes, and for new cached pairs of this operation.
 abbrev AreKeptThen : Operation → Inside → List Node → CachedPairs → Type 0
-AreKeptThen Union s new ps = IsPoolKept s.names new ps s.intersections
-AreKeptThen Intersection s new ps = IsPoolKept s.names new s.unions ps
+AreKeptThen Union s new ps = IsConsistentPool s.names new ps s.intersections
+AreKeptThen Intersection s new ps = IsConsistentPool s.names new s.unions ps
 
 pub selected-made : (o : Operation) (s : Inside) {new : List Node} {ps : CachedPairs}
-    → IsPoolKept s.names s.nodes.keys s.unions s.intersections
+    → IsConsistentPool s.names s.nodes.keys s.unions s.intersections
     → IsPool new
     → nodes.KeepsNodes s.nodes.keys new
     → ((limit : ℕ) → IsBounded limit s.nodes.keys → IsBounded limit new)
-    → AreAnswers (member_rule o) new ps
+    → AreCachedResults (member_rule o) new ps
     → AreKeptThen o s new ps
-selected-made Union s {new = new} k p keeps bounded answers =
-    record { distinct = k.distinct; pool = p; bounded = bounded (length s.names) k.bounded; unions = answers; intersections = answers-keep (member_rule Intersection) s.nodes.keys new s.intersections k.pool keeps k.intersections }
-selected-made Intersection s {new = new} k p keeps bounded answers =
-    record { distinct = k.distinct; pool = p; bounded = bounded (length s.names) k.bounded; unions = answers-keep (member_rule Union) s.nodes.keys new s.unions k.pool keeps k.unions; intersections = answers }
+selected-made Union s {new = new} k p keeps bounded results =
+    record { distinct = k.distinct; pool = p; bounded = bounded (length s.names) k.bounded; unions = results; intersections = results-keep (member_rule Intersection) s.nodes.keys new s.intersections k.pool keeps k.intersections }
+selected-made Intersection s {new = new} k p keeps bounded results =
+    record { distinct = k.distinct; pool = p; bounded = bounded (length s.names) k.bounded; unions = results-keep (member_rule Union) s.nodes.keys new s.unions k.pool keeps k.unions; intersections = results }
 
 -- ---- names and nodes are added
 
@@ -102,13 +102,13 @@ pub keeps-named : (names more after : List Name) (old new : List Node) (us ms : 
     → after ≡ names ++ more
     → record { sets = hide_sets names old; unions = us; intersections = ms } ≡ v
     → record { sets = hide_sets after new; unions = us; intersections = ms } ≡ w
-    → IsPoolKept names old us ms
+    → IsConsistentPool names old us ms
     → nodes.KeepsNodes old new
     → KeepsSets v w
 keeps-named names more after old new us ms v w grown is now p k = record {
-  more = counted (hide_set after new) (past-by 0 old) k.more;
+  more = tabulated (hide_set after new) (past-by 0 old) k.more;
   is = sym (ap (λ w. w.sets) now) ∙ sets-keep after old new p.pool k
-      ∙ ap (λ ss. ss ++ counted (hide_set after new) (past-by 0 old) k.more) ((λ i. hide_sets (grown i) old) ∙ sets-named names more old p.bounded ∙ ap (λ v. v.sets) is);
+      ∙ ap (λ ss. ss ++ tabulated (hide_set after new) (past-by 0 old) k.more) ((λ i. hide_sets (grown i) old) ∙ sets-named names more old p.bounded ∙ ap (λ v. v.sets) is);
   unions = pairs-are (sym (ap (λ v. v.unions) is) ∙ ap (λ w. w.unions) now);
   intersections = pairs-are (sym (ap (λ v. v.intersections) is) ∙ ap (λ w. w.intersections) now);
 }
@@ -117,17 +117,17 @@ pub selected-named : (names more after : List Name) (old new : List Node) (us ms
     → after ≡ names ++ more
     → IsDistinct same_name after
     → n < length after
-    → IsPoolKept names old us ms
+    → IsConsistentPool names old us ms
     → IsPool new
     → nodes.KeepsNodes old new
     → ((limit : ℕ) → n < limit → IsBounded limit old → IsBounded limit new)
-    → IsPoolKept after new us ms
+    → IsConsistentPool after new us ms
 selected-named names more after old new us ms n grown d l k p keeps bounded = record {
   distinct = d;
   pool = p;
   bounded = bounded (length after) l (subst (λ ms. IsBounded (length ms) old) (sym grown) (bounded-more names more old k.bounded));
-  unions = answers-keep (member_rule Union) old new us k.pool keeps k.unions;
-  intersections = answers-keep (member_rule Intersection) old new ms k.pool keeps k.intersections;
+  unions = results-keep (member_rule Union) old new us k.pool keeps k.unions;
+  intersections = results-keep (member_rule Intersection) old new ms k.pool keeps k.intersections;
 }
 
 pub with-seen : (names more after : List Name) (old new : List Node) (v : HideSetPool) (a a' x n : ℕ) (q : Name)
@@ -148,7 +148,7 @@ with-seen names more after old new v a a' x n q grown d lx at is bounded same la
 
 -- ---- sets that exist already
 
-named-by : {names : List Name} {ns : List Node} {us ms : CachedPairs} → IsPoolKept names ns us ms → IsNamed names ns
+named-by : {names : List Name} {ns : List Node} {us ms : CachedPairs} → IsConsistentPool names ns us ms → IsNamed names ns
 named-by k = record { distinct = k.distinct; within = λ n x l e. k.bounded.each n x l e }
 
 -- The set with one more name, if it exists already.
@@ -167,7 +167,7 @@ more-there s {v = v} {a = a} {a' = a'} n q is same ka kn e =
 
 pub more-seen : (s : Inside) {v : HideSetPool} {a a' : ℕ} (n x : ℕ) (q : Name)
     → seen s ≡ v
-    → IsPoolKept s.names s.nodes.keys s.unions s.intersections
+    → IsConsistentPool s.names s.nodes.keys s.unions s.intersections
     → a ≡ a'
     → IsKnown v a'
     → IsKnown v n
@@ -182,7 +182,7 @@ more-seen s {a = a} n x q is k same ka kn lx at e =
 -- The result of an operation on two sets, if it exists already.
 pub both-seen : (o : Operation) (s : Inside) {v : HideSetPool} {a b a' b' : ℕ} (n : ℕ)
     → seen s ≡ v
-    → IsPoolKept s.names s.nodes.keys s.unions s.intersections
+    → IsConsistentPool s.names s.nodes.keys s.unions s.intersections
     → a ≡ a'
     → b ≡ b'
     → IsKnown v a'

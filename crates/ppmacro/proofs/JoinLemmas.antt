@@ -9,7 +9,7 @@ use Rattle.ppmacro.specs.HideSetPool.{HideSetPool}
 use Rattle.ppmacro.specs.Hiding.{Hiding}
 use Rattle.ppmacro.specs.HideSets.{hiding, hidings, HasSets, AllKnown, KeepsSets}
 use Rattle.ppmacro.specs.Substitution.{after_ok, pasted, join, join_all, argument_at, expanded_at}
-use Rattle.ppmacro.specs.Substituting.{tokens_of, lists_of, option_of, options_of}
+use Rattle.ppmacro.specs.Substituting.{tokens_of, lists_of, expansion_if_computed, expansions_if_computed}
 use Rattle.ppmacro.specs.declared.hidden_token.Hidden.{Hidden}
 use Rattle.ppmacro.specs.declared.hidden_token.ArgumentExpansion.{ArgumentExpansion}
 use Rattle.ppmacro.proofs.PoolGrowthLemmas.{hidings-keeps, known-keeps, known-append, known-front, known-rest}
@@ -34,14 +34,14 @@ argument-absent (v ∷ vs) (suc i) h = argument-absent vs i (omega arith)
 pub expansion-at : (given : List (Vec Hidden Global)) (es : List ArgumentExpansion) (i : ℕ) (e : ArgumentExpansion)
     → i < length es
     → e ≡ get_or es i e
-    → unwrap_or (option_of (argument_at (lists_of given) i) e) [] ≡ expanded_at (options_of given es) i
+    → unwrap_or (expansion_if_computed (argument_at (lists_of given) i) e) [] ≡ expanded_at (expansions_if_computed given es) i
 expansion-at given [] i e h is = absurd (omega arith)
-expansion-at [] (x ∷ es) zero e h is = ap (λ y. unwrap_or (option_of [] y) []) is
-expansion-at (v ∷ vs) (x ∷ es) zero e h is = ap (λ y. unwrap_or (option_of v.items y) []) is
+expansion-at [] (x ∷ es) zero e h is = ap (λ y. unwrap_or (expansion_if_computed [] y) []) is
+expansion-at (v ∷ vs) (x ∷ es) zero e h is = ap (λ y. unwrap_or (expansion_if_computed v.items y) []) is
 expansion-at [] (x ∷ es) (suc i) e h is = expansion-at [] es i e (omega arith) is
 expansion-at (v ∷ vs) (x ∷ es) (suc i) e h is = expansion-at vs es i e (omega arith) is
 
-pub expansion-following : (given : List (Vec Hidden Global)) (es : List ArgumentExpansion) (i : ℕ) → length es ≤ i → [] ≡ expanded_at (options_of given es) i
+pub expansion-following : (given : List (Vec Hidden Global)) (es : List ArgumentExpansion) (i : ℕ) → length es ≤ i → [] ≡ expanded_at (expansions_if_computed given es) i
 expansion-following given [] i h = refl
 expansion-following given (x ∷ es) zero h = absurd (omega arith)
 expansion-following [] (x ∷ es) (suc i) h = expansion-following [] es i (omega arith)

@@ -9,20 +9,20 @@ use Rattle.std.proofs.lemmas.Slice.Eq.{bytes_eq-Decides}
 use Rattle.std.proofs.lemmas.Cmp.{nat_list_cmp_total}
 use Rattle.ppmacro.specs.declared.macros.Macro.{Macro}
 use Rattle.ppmacro.specs.Names.{Name, Macros}
-use Rattle.ppmacro.specs.code.NameFilter.{at, RejectsOnlyUnknown}
+use Rattle.ppmacro.specs.code.NameFilter.{slot_of, RejectsOnlyUnknown}
 
 -- A filter with more nonzero slots still rejects only unknown names.
-pub marked-grown : (old new : List ℕ) (m : Macros) → ((n : Name) → at new n ≡ 0 → at old n ≡ 0) → RejectsOnlyUnknown old m → RejectsOnlyUnknown new m
+pub marked-grown : (old new : List ℕ) (m : Macros) → ((n : Name) → slot_of new n ≡ 0 → slot_of old n ≡ 0) → RejectsOnlyUnknown old m → RejectsOnlyUnknown new m
 marked-grown old new m grows h n e = h n (grows n e)
 
 -- A filter still rejects only unknown names after a name with a nonzero slot is inserted in the table.
-pub marked-insert : (filter : List ℕ) (m : Macros) (name : Name) (d : Macro) → 0 < at filter name → RejectsOnlyUnknown filter m → RejectsOnlyUnknown filter (table.insert m name d)
+pub marked-insert : (filter : List ℕ) (m : Macros) (name : Name) (d : Macro) → 0 < slot_of filter name → RejectsOnlyUnknown filter m → RejectsOnlyUnknown filter (table.insert m name d)
 marked-insert filter m name d here h n e = table.get-insert nat_list_cmp_total m name d n ∙ go (eq_by_cmp (slice_cmp nat_cmp) n name) refl
   where
     go : (b : Bool) → eq_by_cmp (slice_cmp nat_cmp) n name ≡ b → cond b (Some d) (table.get m n) ≡ None
     go true is =
         let same : n ≡ name = (bytes_eq-Decides n name).0 (sym (is_eq-slice_cmp n name) ∙ is) in
-        absurd (let zero : at filter name ≡ 0 = ap (at filter) (sym same) ∙ e in omega arith)
+        absurd (let zero : slot_of filter name ≡ 0 = ap (slot_of filter) (sym same) ∙ e in omega arith)
     go false is = h n e
 
 -- A filter still rejects only unknown names after a name is removed from the table.

@@ -12,7 +12,7 @@ use Rattle.std.proofs.lemmas.Cmp.{nat_list_cmp_total}
 use Rattle.ppmacro.specs.code.Operations.{Operation, Union, Intersection, member_rule}
 use Rattle.ppmacro.specs.code.Nodes.{Node, member, IsPool, KeepsNodes, IsBounded}
 use Rattle.ppmacro.specs.Names.{Name, HideSet}
-use Rattle.ppmacro.specs.code.Members.{same_name, selected, hide_set, counted, hide_sets}
+use Rattle.ppmacro.specs.code.Members.{same_name, selected, hide_set, tabulated, hide_sets}
 use Rattle.ppmacro.proofs.Tries.{member-keeps, sets_are_unique, differs}
 
 -- The names are distinct, and each member of a set is the number of a name.
@@ -127,22 +127,22 @@ sets_are_unique-names names ns m n p d lm ln e = sets_are_unique ns m n p lm ln 
 
 -- ---- the list of all sets
 
-pub length-counted : (f : ℕ → HideSet) (i : ℕ) (ns : List Node) → length (counted f i ns) ≡ length ns
-length-counted f i [] = refl
-length-counted f i (x ∷ ns) = ap suc (length-counted f (suc i) ns)
+pub length-tabulated : (f : ℕ → HideSet) (i : ℕ) (ns : List Node) → length (tabulated f i ns) ≡ length ns
+length-tabulated f i [] = refl
+length-tabulated f i (x ∷ ns) = ap suc (length-tabulated f (suc i) ns)
 
-pub at-counted : (f : ℕ → HideSet) (i n : ℕ) (ns : List Node) → n < length ns → get_or (counted f i ns) n set.empty ≡ f (i + n)
-at-counted f i n [] l = absurd (omega (arith, l))
-at-counted f i zero (x ∷ ns) l = ap f (omega arith)
-at-counted f i (suc n) (x ∷ ns) l = at-counted f (suc i) n ns (omega (arith, l)) ∙ ap f (omega arith)
+pub at-tabulated : (f : ℕ → HideSet) (i n : ℕ) (ns : List Node) → n < length ns → get_or (tabulated f i ns) n set.empty ≡ f (i + n)
+at-tabulated f i n [] l = absurd (omega (arith, l))
+at-tabulated f i zero (x ∷ ns) l = ap f (omega arith)
+at-tabulated f i (suc n) (x ∷ ns) l = at-tabulated f (suc i) n ns (omega (arith, l)) ∙ ap f (omega arith)
 
 abbrev pub past-by : ℕ → List Node → ℕ
 past-by i [] = i
 past-by i (x ∷ xs) = past-by (suc i) xs
 
-pub counted-more : (f g : ℕ → HideSet) (i : ℕ) (xs ys : List Node) → ((k : ℕ) → i ≤ k → k < i + length xs → g k ≡ f k) → counted g i (xs ++ ys) ≡ counted f i xs ++ counted g (past-by i xs) ys
-counted-more f g i [] ys h = refl
-counted-more f g i (x ∷ xs) ys h = λ j. h i (omega arith) (omega arith) j ∷ counted-more f g (suc i) xs ys (λ k a b. h k (omega (arith, a)) (omega (arith, b))) j
+pub tabulated-more : (f g : ℕ → HideSet) (i : ℕ) (xs ys : List Node) → ((k : ℕ) → i ≤ k → k < i + length xs → g k ≡ f k) → tabulated g i (xs ++ ys) ≡ tabulated f i xs ++ tabulated g (past-by i xs) ys
+tabulated-more f g i [] ys h = refl
+tabulated-more f g i (x ∷ xs) ys h = λ j. h i (omega arith) (omega arith) j ∷ tabulated-more f g (suc i) xs ys (λ k a b. h k (omega (arith, a)) (omega (arith, b))) j
 
 -- ---- whether a set has a name
 
@@ -164,17 +164,17 @@ pub hide_set-keeps : (names : List Name) (old new : List Node) (n : ℕ) → IsP
 hide_set-keeps names old new n p k l = (λ j. set.from_list (selected (λ x. member-keeps old new n x p k l j) 0 names))
 
 pub set-at : (names : List Name) (ns : List Node) (n : ℕ) → n < length ns → get_or (hide_sets names ns) n set.empty ≡ hide_set names ns n
-set-at names ns n l = let e : 0 + n ≡ n = omega arith in at-counted (hide_set names ns) 0 n ns l ∙ ap (hide_set names ns) e
+set-at names ns n l = let e : 0 + n ≡ n = omega arith in at-tabulated (hide_set names ns) 0 n ns l ∙ ap (hide_set names ns) e
 
 pub known-at : (names : List Name) (ns : List Node) (n : ℕ) → n < length ns → n < length (hide_sets names ns)
-known-at names ns n l = subst (λ k. n < k) (sym (length-counted (hide_set names ns) 0 ns)) l
+known-at names ns n l = subst (λ k. n < k) (sym (length-tabulated (hide_set names ns) 0 ns)) l
 
 pub at-known : (names : List Name) (ns : List Node) (n : ℕ) → n < length (hide_sets names ns) → n < length ns
-at-known names ns n l = subst (λ k. n < k) (length-counted (hide_set names ns) 0 ns) l
+at-known names ns n l = subst (λ k. n < k) (length-tabulated (hide_set names ns) 0 ns) l
 
-pub sets-keep : (names : List Name) (old new : List Node) → IsPool old → (k : KeepsNodes old new) → hide_sets names new ≡ hide_sets names old ++ counted (hide_set names new) (past-by 0 old) k.more
+pub sets-keep : (names : List Name) (old new : List Node) → IsPool old → (k : KeepsNodes old new) → hide_sets names new ≡ hide_sets names old ++ tabulated (hide_set names new) (past-by 0 old) k.more
 sets-keep names old new p k =
-    (λ j. counted (hide_set names new) 0 (k.is j)) ∙ counted-more (hide_set names old) (hide_set names new) 0 old k.more (λ n a b. hide_set-keeps names old new n p k (omega (arith, b)))
+    (λ j. tabulated (hide_set names new) 0 (k.is j)) ∙ tabulated-more (hide_set names old) (hide_set names new) 0 old k.more (λ n a b. hide_set-keeps names old new n p k (omega (arith, b)))
 
 -- New names are in no existing set.
 selected-append : (p : ℕ → Bool) (i : ℕ) (xs ys : List Name) → ((k : ℕ) → i + length xs ≤ k → p k ≡ false) → selected p i (xs ++ ys) ≡ selected p i xs
@@ -191,11 +191,11 @@ pub set-named : (names more : List Name) (ns : List Node) (n : ℕ) → IsBounde
 set-named names more ns n b l = ap set.from_list (selected-append (member ns n) 0 names more (λ k past. not-true (member ns n k) (λ e. let w = b.each n k l e in absurd (omega (arith, w, past)))))
 
 pub sets-named : (names more : List Name) (ns : List Node) → IsBounded (length names) ns → hide_sets (names ++ more) ns ≡ hide_sets names ns
-sets-named names more ns b = counted-same (hide_set (names ++ more) ns) (hide_set names ns) 0 ns (λ n a l. set-named names more ns n b (omega (arith, l)))
+sets-named names more ns b = tabulated-same (hide_set (names ++ more) ns) (hide_set names ns) 0 ns (λ n a l. set-named names more ns n b (omega (arith, l)))
   where
-    counted-same : (f g : ℕ → HideSet) (i : ℕ) (xs : List Node) → ((k : ℕ) → i ≤ k → k < i + length xs → f k ≡ g k) → counted f i xs ≡ counted g i xs
-    counted-same f g i [] h = refl
-    counted-same f g i (x ∷ xs) h = λ j. h i (omega arith) (omega arith) j ∷ counted-same f g (suc i) xs (λ k a b. h k (omega (arith, a)) (omega (arith, b))) j
+    tabulated-same : (f g : ℕ → HideSet) (i : ℕ) (xs : List Node) → ((k : ℕ) → i ≤ k → k < i + length xs → f k ≡ g k) → tabulated f i xs ≡ tabulated g i xs
+    tabulated-same f g i [] h = refl
+    tabulated-same f g i (x ∷ xs) h = λ j. h i (omega arith) (omega arith) j ∷ tabulated-same f g (suc i) xs (λ k a b. h k (omega (arith, a)) (omega (arith, b))) j
 
 pub bounded-more : (names more : List Name) (ns : List Node) → IsBounded (length names) ns → IsBounded (length (names ++ more)) ns
 bounded-more names more ns b = record { each = λ n x l e. let w = b.each n x l e in omega (arith, w, length-append names more) }

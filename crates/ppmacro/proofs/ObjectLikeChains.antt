@@ -11,7 +11,7 @@ use Rattle.ppmacro.specs.HashOperators.{is_paste}
 use Rattle.ppmacro.specs.declared.macros.MacroKind.{MacroKind}
 use Rattle.ppmacro.specs.declared.macros.MacroKind.TheVariants.{Predefined, ObjectLike, FunctionLike}
 use Rattle.ppmacro.specs.declared.macros.Operand.TheVariants.{Tok}
-use Rattle.ppmacro.specs.Chains.{ChainPart, Operates, parts_at, parts_after, plain_part, parameter_of, begins_joined, group_parts, hash_sign, with_variadic}
+use Rattle.ppmacro.specs.Chains.{ChainPart, OperandPart, parts_at, parts_after, plain_part, parameter_of, begins_joined, group_parts, hash_sign, with_variadic}
 use Rattle.ppmacro.specs.PasteFree.{is_object_like, lone_chain}
 use Rattle.ppmacro.specs.Substitution.{Arguments, unhidden, with_space, hsadd, chains_tokens, chains_replacement}
 use Rattle.ppmacro.proofs.ChainLemmas.{group_parts-alone}
@@ -26,7 +26,7 @@ unnamed t = elim (is_identifier t) as (λ b. if◌then◌else◌ {A = Option ℕ
 abbrev after_hash : Token → List Token → List ChainPart
 after_hash t ts = parts_after ObjectLike (Some (hash_sign t)) ts
 
-one_item : (t : Token) (ts : List Token) → is_paste t ≡ false → parts_after ObjectLike None (t ∷ ts) ≡ Operates t.space (Tok t) ∷ parts_after ObjectLike None ts
+one_item : (t : Token) (ts : List Token) → is_paste t ≡ false → parts_after ObjectLike None (t ∷ ts) ≡ OperandPart t.space (Tok t) ∷ parts_after ObjectLike None ts
 one_item t ts h =
     (λ i. parts_at (h i) false (plain_part (parameter_of ObjectLike t) t) (parts_after ObjectLike None ts) (after_hash t ts))
     ∙ (λ i. plain_part (unnamed t i) t ∷ parts_after ObjectLike None ts)

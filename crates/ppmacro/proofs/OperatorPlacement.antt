@@ -6,7 +6,7 @@ use Rattle.pptext.specs.Tokens.{is_punct}
 use Rattle.ppmacro.specs.HashOperators.{is_hash, is_paste}
 use Rattle.ppmacro.specs.Chains.{parameter_of, is_function_like, is_operator_hash, chains_of}
 use Rattle.ppmacro.specs.Define.{is_empty, misplaces_paste, begins_with_parameter, misplaces_hash}
-use Rattle.ppmacro.specs.Laws.{IsOperand, token, parameter, stringized, AreJoined, last, pasted, AreChains, none, chain, places_operators}
+use Rattle.ppmacro.specs.Laws.{IsOperand, token, parameter, stringized, AreJoined, last, pasted, AreChains, none, chain, has_valid_operators}
 use Rattle.ppmacro.specs.declared.macros.MacroKind.{MacroKind}
 use Rattle.ppmacro.specs.declared.macros.Macro.{Macro}
 use Rattle.ppmacro.specs.declared.macros.Chain.{Chain}
@@ -105,8 +105,8 @@ module _ (kind : MacroKind) where
   chains_hash none = nothing_stands (is_function_like kind)
   chains_hash (chain ts rest j more) = joined_hashes j rest (chains_hash more)
 
-pub in_place : (d : Macro) (cs : List Chain) → AreChains d.kind d.body cs → places_operators d ≡ true
+pub in_place : (d : Macro) (cs : List Chain) → AreChains d.kind d.body cs → has_valid_operators d ≡ true
 in_place d cs l = ap (λ b. not b && not (is_function_like d.kind && misplaces_hash d.kind d.body)) (chains_paste d.kind l true) ∙ ap not (chains_hash d.kind l)
 
-pub exactly : (d : Macro) → (places_operators d ≡ true) ↔ ((cs : List Chain) × AreChains d.kind d.body cs)
+pub exactly : (d : Macro) → (has_valid_operators d ≡ true) ↔ ((cs : List Chain) × AreChains d.kind d.body cs)
 exactly d = (λ e. (chains_of d, lays_out d e), λ l. in_place d l.0 l.1)

@@ -30,31 +30,31 @@ carried_kind text more k e rest =
     one_lexing (text ++ more) (kind_of (text ++ more)) (Some k) (kind_of_is.each (text ++ more)) (continued_token text more k one.0 rest)
 
 -- If a text continues a token, appending it is the paste, and the token keeps its kind.
-module _ (last first grown turned : Hidden) (n : ℕ) (used : Place) (whole : HasSpelledKind last)
+module _ (last first grown turned : Hidden) (n : ℕ) (used : Place) (has_spelled_kind : HasSpelledKind last)
     (rest : ContinuesToken last.token.kind last.token.text first.token.text) (is_grown : grown ≡ extended last first.token.text)
     (is_turned : turned ≡ record { token = record grown.token { used = used }; hide = n; extra = None }) where
-  still-whole : kind_of (last.token.text ++ first.token.text) ≡ Some last.token.kind
-  still-whole = carried_kind last.token.text first.token.text last.token.kind whole rest
+  still-has_spelled_kind : kind_of (last.token.text ++ first.token.text) ≡ Some last.token.kind
+  still-has_spelled_kind = carried_kind last.token.text first.token.text last.token.kind has_spelled_kind rest
 
-  pub carried-whole : HasSpelledKind turned
-  carried-whole =
-      subst HasSpelledKind (sym is_turned) (subst (λ h. kind_of h.token.text ≡ Some h.token.kind) (sym is_grown) still-whole)
+  pub carried-has_spelled_kind : HasSpelledKind turned
+  carried-has_spelled_kind =
+      subst HasSpelledKind (sym is_turned) (subst (λ h. kind_of h.token.text ≡ Some h.token.kind) (sym is_grown) still-has_spelled_kind)
 
   pub carried-pasted : (s t : HideSetPool) → set_at t n ≡ set.intersection (hide_of s grown) (hide_of s first) → Ok (hiding t turned) ≡ pasted (hiding s last) (hiding s first) used
   carried-pasted s t met =
       ap (λ h. Ok (hiding t h)) is_turned
       ∙ ap (λ names. Ok (record { token = record grown.token { used = used }; hide = names })) met
       ∙ ap (λ h. Ok (record { token = record h.token { used = used }; hide = set.intersection (hide_of s h) (hide_of s first) })) is_grown
-      ∙ ap (λ k. pasted_as k (hiding s last) (hiding s first) used) (sym still-whole)
+      ∙ ap (λ k. pasted_as k (hiding s last) (hiding s first) used) (sym still-has_spelled_kind)
 
 -- The result of `##` has the kind of its spelling.
-pasted-whole : (k : Option Kind) (l r h : Hiding) (used : Place) → k ≡ kind_of (l.token.text ++ r.token.text) → Ok h ≡ pasted_as k l r used → kind_of h.token.text ≡ Some h.token.kind
-pasted-whole None l r h used is e = absurd (cc e)
-pasted-whole (Some k) l r h used is e = subst (λ t. kind_of t.token.text ≡ Some t.token.kind) (sym (ok-same e)) (sym is)
+pasted-has_spelled_kind : (k : Option Kind) (l r h : Hiding) (used : Place) → k ≡ kind_of (l.token.text ++ r.token.text) → Ok h ≡ pasted_as k l r used → kind_of h.token.text ≡ Some h.token.kind
+pasted-has_spelled_kind None l r h used is e = absurd (cc e)
+pasted-has_spelled_kind (Some k) l r h used is e = subst (λ t. kind_of t.token.text ≡ Some t.token.kind) (sym (ok-same e)) (sym is)
 
-pub paste-whole : (s t : HideSetPool) (l r : Hidden) (used : Place) (m : Result Hidden Error) → Returns m (hiding t) (pasted (hiding s l) (hiding s r) used) → IfOk m HasSpelledKind
-paste-whole s t l r used (Ok h) e = pasted-whole _ (hiding s l) (hiding s r) (hiding t h) used refl e
-paste-whole s t l r used (Err m) e = tt
+pub paste-has_spelled_kind : (s t : HideSetPool) (l r : Hidden) (used : Place) (m : Result Hidden Error) → Returns m (hiding t) (pasted (hiding s l) (hiding s r) used) → IfOk m HasSpelledKind
+paste-has_spelled_kind s t l r used (Ok h) e = pasted-has_spelled_kind _ (hiding s l) (hiding s r) (hiding t h) used refl e
+paste-has_spelled_kind s t l r used (Err m) e = tt
 
 -- ---- the last token of a list
 
@@ -66,10 +66,10 @@ last-same xs ys x y e =
     let last : x ∷ [] ≡ y ∷ [] = sym (drop_at xs (x ∷ []) (length ys) same) ∙ ap (drop (length ys)) e ∙ drop_at ys (y ∷ []) (length ys) refl in
     cc
 
-pub ends-whole : (ls : List Hidden) (h : Hidden) (rest : List Hidden) → length rest ≡ 0 → HasSpelledKind h → EndsWithSpelledKind (ls ++ h ∷ rest)
-ends-whole ls h [] e whole = λ front last is. subst HasSpelledKind (last-same ls front h last is) whole
-ends-whole ls h (r ∷ rest) e whole = absurd (omega arith)
+pub ends-has_spelled_kind : (ls : List Hidden) (h : Hidden) (rest : List Hidden) → length rest ≡ 0 → HasSpelledKind h → EndsWithSpelledKind (ls ++ h ∷ rest)
+ends-has_spelled_kind ls h [] e has_spelled_kind = λ front last is. subst HasSpelledKind (last-same ls front h last is) has_spelled_kind
+ends-has_spelled_kind ls h (r ∷ rest) e has_spelled_kind = absurd (omega arith)
 
-pub nothing-whole : EndsWithSpelledKind []
-nothing-whole [] last e = absurd (cc e)
-nothing-whole (x ∷ front) last e = absurd (cc e)
+pub nothing-has_spelled_kind : EndsWithSpelledKind []
+nothing-has_spelled_kind [] last e = absurd (cc e)
+nothing-has_spelled_kind (x ∷ front) last e = absurd (cc e)

@@ -8,7 +8,7 @@ use Rattle.ppmacro.specs.HideSetPool.{HideSetPool}
 use Rattle.ppmacro.specs.Hiding.{Hiding}
 use Rattle.ppmacro.specs.HideSets.{hiding}
 use Rattle.ppmacro.specs.Substitution.{Replacement}
-use Rattle.ppmacro.specs.Substituting.{hidden_in, left_with, replacement_in}
+use Rattle.ppmacro.specs.Substituting.{hidden_in, as_replacement, replacement_in}
 use Rattle.ppmacro.specs.declared.hidden_token.Hidden.{Hidden}
 use Rattle.pptext.specs.Errors.{Returns, split_memory}
 
@@ -18,7 +18,7 @@ split_memory-answers sets (Err (Faulted f)) v e = e
 split_memory-answers sets (Err OutOfMemory) v e = tt
 
 pub split_memory-marked : (sets : HideSetPool) (r : Result (Vec Hidden Global × Bool) Error) (v : Result Replacement Fault)
-    → Returns r (λ m. left_with sets m.0.items m.1) v → IfOk (split_memory r) (λ a. replacement_in sets a ≡ v)
+    → Returns r (λ m. as_replacement sets m.0.items m.1) v → IfOk (split_memory r) (λ a. replacement_in sets a ≡ v)
 split_memory-marked sets (Ok m) v e = e
 split_memory-marked sets (Err (Faulted f)) v e = e
 split_memory-marked sets (Err OutOfMemory) v e = tt

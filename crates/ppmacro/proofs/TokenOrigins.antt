@@ -208,7 +208,7 @@ module _ (args : Arguments) (added : HideSet) (used : Place) (space : Bool) wher
       prefix = t ∷ ts;
       own = u;
       more = us;
-      gives = e;
+      chain_tokens_are = e;
       count = count;
       pending = pending;
       is_pending = w;
@@ -240,7 +240,7 @@ module _ (args : Arguments) (added : HideSet) (used : Place) (space : Bool) wher
         prefix = [];
         own = t;
         more = ts;
-        gives = e;
+        chain_tokens_are = e;
         count = count;
         pending = pending;
         is_pending = w;

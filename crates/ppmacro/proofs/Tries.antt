@@ -14,7 +14,7 @@ use Rattle.std.specs.List.{list_any, position}
 use Rattle.std.specs.Bool.{Decides}
 use Rattle.indexmap.specs.IndexSet.{insert_key}
 use Rattle.ppmacro.specs.code.Operations.{Operation, Union, Intersection, member_rule, word_rule}
-use Rattle.ppmacro.specs.code.Nodes.{Node, no_node, node_at, made, word_below, word, word_with, has_bit, member, PointsBelow, IsPool, KeepsNodes, IsBounded, first}
+use Rattle.ppmacro.specs.code.Nodes.{Node, no_node, node_at, node_word, word_below, word, word_with, has_bit, member, PointsBelow, IsPool, KeepsNodes, IsBounded, initial_nodes}
 
 -- ---- words
 
@@ -99,27 +99,27 @@ half_less k = omega arith
 -- ---- sets made of a word and two parts
 
 -- A word of a set depends only on words with smaller indices in its parts.
-pub made-same : (h : ℕ) (f g f' g' : ℕ → ℕ) (x : ℕ) → ((y : ℕ) → y < x → f y ≡ f' y) → ((y : ℕ) → y < x → g y ≡ g' y) → made h f g x ≡ made h f' g' x
-made-same h f g f' g' zero p q = refl
-made-same h f g f' g' (suc k) p q = (λ i. if nat_eq (k % 2) 0 then p (k / 2) (half_less k) i else q (k / 2) (half_less k) i)
+pub node_word-same : (h : ℕ) (f g f' g' : ℕ → ℕ) (x : ℕ) → ((y : ℕ) → y < x → f y ≡ f' y) → ((y : ℕ) → y < x → g y ≡ g' y) → node_word h f g x ≡ node_word h f' g' x
+node_word-same h f g f' g' zero p q = refl
+node_word-same h f g f' g' (suc k) p q = (λ i. if nat_eq (k % 2) 0 then p (k / 2) (half_less k) i else q (k / 2) (half_less k) i)
 
-pub made-odd : (h : ℕ) (f g : ℕ → ℕ) (y : ℕ) → made h f g (suc (2 * y)) ≡ f y
-made-odd h f g y = (λ i. if odd_rest y i then f (odd_half y i) else g (odd_half y i))
+pub node_word-odd : (h : ℕ) (f g : ℕ → ℕ) (y : ℕ) → node_word h f g (suc (2 * y)) ≡ f y
+node_word-odd h f g y = (λ i. if odd_rest y i then f (odd_half y i) else g (odd_half y i))
 
-pub made-even : (h : ℕ) (f g : ℕ → ℕ) (y : ℕ) → made h f g (suc (2 * y + 1)) ≡ g y
-made-even h f g y = (λ i. if even_rest y i then f (even_half y i) else g (even_half y i))
+pub node_word-even : (h : ℕ) (f g : ℕ → ℕ) (y : ℕ) → node_word h f g (suc (2 * y + 1)) ≡ g y
+node_word-even h f g y = (λ i. if even_rest y i then f (even_half y i) else g (even_half y i))
 
 chosen : (op : ℕ → ℕ → ℕ) (b : Bool) (x y u v : ℕ) → (if b then op x y else op u v) ≡ op (if b then x else u) (if b then y else v)
 chosen op true x y u v = refl
 chosen op false x y u v = refl
 
-pub made-both : (op : ℕ → ℕ → ℕ) (h h' : ℕ) (f g f' g' : ℕ → ℕ) (x : ℕ) → made (op h h') (λ y. op (f y) (f' y)) (λ y. op (g y) (g' y)) x ≡ op (made h f g x) (made h' f' g' x)
-made-both op h h' f g f' g' zero = refl
-made-both op h h' f g f' g' (suc k) = chosen op (nat_eq (k % 2) 0) (f (k / 2)) (f' (k / 2)) (g (k / 2)) (g' (k / 2))
+pub node_word-both : (op : ℕ → ℕ → ℕ) (h h' : ℕ) (f g f' g' : ℕ → ℕ) (x : ℕ) → node_word (op h h') (λ y. op (f y) (f' y)) (λ y. op (g y) (g' y)) x ≡ op (node_word h f g x) (node_word h' f' g' x)
+node_word-both op h h' f g f' g' zero = refl
+node_word-both op h h' f g f' g' (suc k) = chosen op (nat_eq (k % 2) 0) (f (k / 2)) (f' (k / 2)) (g (k / 2)) (g' (k / 2))
 
-made-below : (h : ℕ) (f g : ℕ → ℕ) (x : ℕ) → h < 2 ^ 64 → ((y : ℕ) → f y < 2 ^ 64) → ((y : ℕ) → g y < 2 ^ 64) → made h f g x < 2 ^ 64
-made-below h f g zero p q r = p
-made-below h f g (suc k) p q r = at (nat_eq (k % 2) 0)
+node_word-below : (h : ℕ) (f g : ℕ → ℕ) (x : ℕ) → h < 2 ^ 64 → ((y : ℕ) → f y < 2 ^ 64) → ((y : ℕ) → g y < 2 ^ 64) → node_word h f g x < 2 ^ 64
+node_word-below h f g zero p q r = p
+node_word-below h f g (suc k) p q r = at (nat_eq (k % 2) 0)
   where
     at : (b : Bool) → (if b then f (k / 2) else g (k / 2)) < 2 ^ 64
     at true = q (k / 2)
@@ -131,39 +131,39 @@ pub below-enough : (ns : List Node) (f g n x : ℕ) → x < f → x < g → word
 below-enough ns zero g n x p q = absurd (omega (arith, p))
 below-enough ns (suc f) zero n x p q = absurd (omega (arith, q))
 below-enough ns (suc f) (suc g) n x p q = let s = node_at ns n in
-    made-same s.here (word_below ns f s.left) (word_below ns f s.right) (word_below ns g s.left) (word_below ns g s.right) x
+    node_word-same s.here (word_below ns f s.left) (word_below ns f s.right) (word_below ns g s.left) (word_below ns g s.right) x
     (λ y l. below-enough ns f g s.left y (omega (arith, l, p)) (omega (arith, l, q)))
     (λ y l. below-enough ns f g s.right y (omega (arith, l, p)) (omega (arith, l, q)))
 
-pub word-made : (ns : List Node) (n x : ℕ) → word ns n x ≡ made (node_at ns n).here (word ns (node_at ns n).left) (word ns (node_at ns n).right) x
+pub word-node_word : (ns : List Node) (n x : ℕ) → word ns n x ≡ node_word (node_at ns n).here (word ns (node_at ns n).left) (word ns (node_at ns n).right) x
 unfolding word
-word-made ns n x = let s = node_at ns n in
-    made-same s.here (word_below ns x s.left) (word_below ns x s.right) (word ns s.left) (word ns s.right) x
+word-node_word ns n x = let s = node_at ns n in
+    node_word-same s.here (word_below ns x s.left) (word_below ns x s.right) (word ns s.left) (word ns s.right) x
     (λ y l. below-enough ns x (suc y) s.left y l (omega arith))
     (λ y l. below-enough ns x (suc y) s.right y l (omega arith))
 
 pub word-odd : (ns : List Node) (n y : ℕ) → word ns n (suc (2 * y)) ≡ word ns (node_at ns n).left y
-word-odd ns n y = word-made ns n (suc (2 * y)) ∙ made-odd (node_at ns n).here (word ns (node_at ns n).left) (word ns (node_at ns n).right) y
+word-odd ns n y = word-node_word ns n (suc (2 * y)) ∙ node_word-odd (node_at ns n).here (word ns (node_at ns n).left) (word ns (node_at ns n).right) y
 
 pub word-even : (ns : List Node) (n y : ℕ) → word ns n (suc (2 * y + 1)) ≡ word ns (node_at ns n).right y
-word-even ns n y = word-made ns n (suc (2 * y + 1)) ∙ made-even (node_at ns n).here (word ns (node_at ns n).left) (word ns (node_at ns n).right) y
+word-even ns n y = word-node_word ns n (suc (2 * y + 1)) ∙ node_word-even (node_at ns n).here (word ns (node_at ns n).left) (word ns (node_at ns n).right) y
 
-made-none : (f g : ℕ → ℕ) (x : ℕ) → ((y : ℕ) → f y ≡ 0) → ((y : ℕ) → g y ≡ 0) → made 0 f g x ≡ 0
-made-none f g x p q = made-same 0 f g (λ _. 0) (λ _. 0) x (λ y _. p y) (λ y _. q y) ∙ none x
+node_word-none : (f g : ℕ → ℕ) (x : ℕ) → ((y : ℕ) → f y ≡ 0) → ((y : ℕ) → g y ≡ 0) → node_word 0 f g x ≡ 0
+node_word-none f g x p q = node_word-same 0 f g (λ _. 0) (λ _. 0) x (λ y _. p y) (λ y _. q y) ∙ none x
   where
     same : (b : Bool) (z : ℕ) → (if b then z else z) ≡ z
     same true z = refl
     same false z = refl
 
-    none : (x : ℕ) → made 0 (λ _. 0) (λ _. 0) x ≡ 0
+    none : (x : ℕ) → node_word 0 (λ _. 0) (λ _. 0) x ≡ 0
     none zero = refl
     none (suc k) = same (nat_eq (k % 2) 0) 0
 
 below-none : (ns : List Node) (f x : ℕ) → node_at ns 0 ≡ no_node → word_below ns f 0 x ≡ 0
 below-none ns zero x e = refl
 below-none ns (suc f) x e =
-    (λ i. made (e i).here (word_below ns f (e i).left) (word_below ns f (e i).right) x)
-    ∙ made-none (word_below ns f 0) (word_below ns f 0) x (λ y. below-none ns f y e) (λ y. below-none ns f y e)
+    (λ i. node_word (e i).here (word_below ns f (e i).left) (word_below ns f (e i).right) x)
+    ∙ node_word-none (word_below ns f 0) (word_below ns f 0) x (λ y. below-none ns f y e) (λ y. below-none ns f y e)
 
 pub word-none : (ns : List Node) (x : ℕ) → node_at ns 0 ≡ no_node → word ns 0 x ≡ 0
 unfolding word
@@ -205,8 +205,8 @@ below-keeps old new (suc f) n x p k l =
     let e = at-keeps old new n k l in
     let w = within-at old n p l in
     let s = node_at old n in
-    (λ i. made (e i).here (word_below new f (e i).left) (word_below new f (e i).right) x)
-    ∙ made-same s.here (word_below new f s.left) (word_below new f s.right) (word_below old f s.left) (word_below old f s.right) x (λ y _. below-keeps old new f s.left y p k w.left) (λ y _. below-keeps old new f s.right y p k w.right)
+    (λ i. node_word (e i).here (word_below new f (e i).left) (word_below new f (e i).right) x)
+    ∙ node_word-same s.here (word_below new f s.left) (word_below new f s.right) (word_below old f s.left) (word_below old f s.right) x (λ y _. below-keeps old new f s.left y p k w.left) (λ y _. below-keeps old new f s.right y p k w.right)
 
 pub word-keeps : (old new : List Node) (n x : ℕ) → IsPool old → KeepsNodes old new → n < length old → word new n x ≡ word old n x
 unfolding word
@@ -221,7 +221,7 @@ below-lt ns zero n x p l = omega arith
 below-lt ns (suc f) n x p l =
     let w = within-at ns n p l in
     let s = node_at ns n in
-    made-below s.here (word_below ns f s.left) (word_below ns f s.right) x w.here (λ y. below-lt ns f s.left y p w.left) (λ y. below-lt ns f s.right y p w.right)
+    node_word-below s.here (word_below ns f s.left) (word_below ns f s.right) x w.here (λ y. below-lt ns f s.left y p w.left) (λ y. below-lt ns f s.right y p w.right)
 
 pub word-lt : (ns : List Node) (n x : ℕ) → IsPool ns → n < length ns → word ns n x < 2 ^ 64
 unfolding word
@@ -258,7 +258,7 @@ sets_are_unique-step ns k m n below p lm ln a b u v h =
     let wt = within-at ns n p ln in
     let cs = child ns k m n p lm a b u in
     let ct = child ns k n m p ln b a v in
-    p.different m n lm ln (node-same s t (sym (word-made ns m 0) ∙ h 0 ∙ word-made ns n 0)
+    p.different m n lm ln (node-same s t (sym (word-node_word ns m 0) ∙ h 0 ∙ word-node_word ns n 0)
     (below s.left t.left ws.left wt.left cs.left ct.left (λ y. sym (word-odd ns m y) ∙ h (suc (2 * y)) ∙ word-odd ns n y))
     (below s.right t.right ws.right wt.right cs.right ct.right (λ y. sym (word-even ns m y) ∙ h (suc (2 * y + 1)) ∙ word-even ns n y)))
 
@@ -371,7 +371,7 @@ keeps-insert_node = keeps-insert same_node same_node-Decides
 -- ---- a word of a set is a word of its left or right part
 
 below-step : (ns : List Node) (n k : ℕ) → word ns n (suc k) ≡ (if nat_eq (k % 2) 0 then word ns (node_at ns n).left (k / 2) else word ns (node_at ns n).right (k / 2))
-below-step ns n k = word-made ns n (suc k)
+below-step ns n k = word-node_word ns n (suc k)
 
 pub word-left : (ns : List Node) (n x : ℕ) → 0 < x → (x - 1) % 2 ≡ 0 → word ns n x ≡ word ns (node_at ns n).left ((x - 1) / 2)
 word-left ns n zero z e = absurd (omega (arith, z))
@@ -406,7 +406,7 @@ half-same j k a b c = omega (arith, a, b, c)
 half-alike : (j k : ℕ) → (¬ (j % 2 ≡ 0)) → (¬ (k % 2 ≡ 0)) → j / 2 ≡ k / 2 → suc j ≡ suc k
 half-alike j k a b c = omega (arith, a, b, c)
 
-pub one-left : (k bit x : ℕ) → k % 2 ≡ 0 → word_with (suc k) bit x ≡ made 0 (word_with (k / 2) bit) (λ _. 0) x
+pub one-left : (k bit x : ℕ) → k % 2 ≡ 0 → word_with (suc k) bit x ≡ node_word 0 (word_with (k / 2) bit) (λ _. 0) x
 one-left k bit zero e = λ i. if differs 0 (suc k) (λ h. omega (arith, h)) i then 2 ^ bit else 0
 one-left k bit (suc j) e = elim (nat_eq (j % 2) 0) as (λ t. nat_eq (j % 2) 0 ≡ t → word_with (suc k) bit (suc j) ≡ (if t then word_with (k / 2) bit (j / 2) else 0)) [
   | true ↦ λ h. ap (λ t. if t then 2 ^ bit else 0) (same-tests (nat_eq (suc j) (suc k)) (nat_eq (j / 2) (k / 2))
@@ -415,7 +415,7 @@ one-left k bit (suc j) e = elim (nat_eq (j % 2) 0) as (λ t. nat_eq (j % 2) 0 �
   | false ↦ λ h. (λ i. if differs (suc j) (suc k) (λ s. true≢false (sym (eq-eqb (j % 2) 0 (omega (arith, s, e))) ∙ h)) i then 2 ^ bit else 0)
 ] refl
 
-pub one-right : (k bit x : ℕ) → (¬ (k % 2 ≡ 0)) → word_with (suc k) bit x ≡ made 0 (λ _. 0) (word_with (k / 2) bit) x
+pub one-right : (k bit x : ℕ) → (¬ (k % 2 ≡ 0)) → word_with (suc k) bit x ≡ node_word 0 (λ _. 0) (word_with (k / 2) bit) x
 one-right k bit zero e = λ i. if differs 0 (suc k) (λ h. omega (arith, h)) i then 2 ^ bit else 0
 one-right k bit (suc j) e = elim (nat_eq (j % 2) 0) as (λ t. nat_eq (j % 2) 0 ≡ t → word_with (suc k) bit (suc j) ≡ (if t then 0 else word_with (k / 2) bit (j / 2))) [
   | true ↦ λ h. (λ i. if differs (suc j) (suc k) (λ s. let f = eqb-true (j % 2) 0 h in e (omega (arith, s, f))) i then 2 ^ bit else 0)
@@ -425,8 +425,8 @@ one-right k bit (suc j) e = elim (nat_eq (j % 2) 0) as (λ t. nat_eq (j % 2) 0 �
 ] refl
 
 -- A word of a set by the fields of its node.
-at-node : (ns : List Node) (n : ℕ) (node : Node) (x : ℕ) → node_at ns n ≡ node → word ns n x ≡ made node.here (word ns node.left) (word ns node.right) x
-at-node ns n node x e = word-made ns n x ∙ (λ i. made (e i).here (word ns (e i).left) (word ns (e i).right) x)
+at-node : (ns : List Node) (n : ℕ) (node : Node) (x : ℕ) → node_at ns n ≡ node → word ns n x ≡ node_word node.here (word ns node.left) (word ns node.right) x
+at-node ns n node x e = word-node_word ns n x ∙ (λ i. node_word (e i).here (word ns (e i).left) (word ns (e i).right) x)
 
 pub insert-here : (old new : List Node) (set n bit x : ℕ)
     → IsPool old
@@ -439,16 +439,16 @@ insert-here old new set n bit x p l k e =
     let w = within-at old set p l in
     let here = bit_or s.here (2 ^ bit) in
     at-node new n (record { here = here; left = s.left; right = s.right }) x e
-    ∙ made-same here (word new s.left) (word new s.right) (word old s.left) (word old s.right) x (λ y _. word-keeps old new s.left y p k w.left) (λ y _. word-keeps old new s.right y p k w.right)
+    ∙ node_word-same here (word new s.left) (word new s.right) (word old s.left) (word old s.right) x (λ y _. word-keeps old new s.left y p k w.left) (λ y _. word-keeps old new s.right y p k w.right)
     ∙ zeroth x
-    ∙ (λ i. bit_or (sym (word-made old set x) i) (word_with 0 bit x))
+    ∙ (λ i. bit_or (sym (word-node_word old set x) i) (word_with 0 bit x))
   where
     zeroth : (x : ℕ)
-        → made (bit_or (node_at old set).here (2 ^ bit)) (word old (node_at old set).left) (word old (node_at old set).right) x
-        ≡ bit_or (made (node_at old set).here (word old (node_at old set).left) (word old (node_at old set).right) x) (word_with 0 bit x)
+        → node_word (bit_or (node_at old set).here (2 ^ bit)) (word old (node_at old set).left) (word old (node_at old set).right) x
+        ≡ bit_or (node_word (node_at old set).here (word old (node_at old set).left) (word old (node_at old set).right) x) (word_with 0 bit x)
     zeroth zero = refl
     zeroth (suc j) =
-        let m = made (node_at old set).here (word old (node_at old set).left) (word old (node_at old set).right) (suc j) in
+        let m = node_word (node_at old set).here (word old (node_at old set).left) (word old (node_at old set).right) (suc j) in
         sym ((λ i. bit_or m (if differs (suc j) 0 (λ h. omega (arith, h)) i then 2 ^ bit else 0)) ∙ or_none m)
 
 pub insert-left : (old mid new : List Node) (set l n index bit x : ℕ)
@@ -469,12 +469,12 @@ insert-left old mid new set l n (suc j) bit x p q k kl km kn pos even is e =
     let w = within-at old set p k in
     let same : suc j - 1 ≡ j = omega arith in
     at-node new n (record { here = s.here; left = l; right = s.right }) x e
-    ∙ made-same s.here (word new l) (word new s.right) (λ y. bit_or (word old s.left y) (word_with (j / 2) bit y)) (λ y. bit_or (word old s.right y) 0) x
+    ∙ node_word-same s.here (word new l) (word new s.right) (λ y. bit_or (word old s.left y) (word_with (j / 2) bit y)) (λ y. bit_or (word old s.right y) 0) x
     (λ y _. word-keeps mid new l y q kn kl ∙ is y ∙ (λ i. bit_or (word old s.left y) (word_with (same i / 2) bit y)))
     (λ y _. word-keeps mid new s.right y q kn (length-keeps old mid s.right km w.right) ∙ word-keeps old mid s.right y p km w.right ∙ sym (or_none (word old s.right y)))
-    ∙ (λ i. made (sym (or_none s.here) i) (λ y. bit_or (word old s.left y) (word_with (j / 2) bit y)) (λ y. bit_or (word old s.right y) 0) x)
-    ∙ made-both bit_or s.here 0 (word old s.left) (word old s.right) (word_with (j / 2) bit) (λ _. 0) x
-    ∙ (λ i. bit_or (sym (word-made old set x) i) (sym (one-left j bit x (subst (λ z. z % 2 ≡ 0) same even)) i))
+    ∙ (λ i. node_word (sym (or_none s.here) i) (λ y. bit_or (word old s.left y) (word_with (j / 2) bit y)) (λ y. bit_or (word old s.right y) 0) x)
+    ∙ node_word-both bit_or s.here 0 (word old s.left) (word old s.right) (word_with (j / 2) bit) (λ _. 0) x
+    ∙ (λ i. bit_or (sym (word-node_word old set x) i) (sym (one-left j bit x (subst (λ z. z % 2 ≡ 0) same even)) i))
 
 pub insert-right : (old mid new : List Node) (set r n index bit x : ℕ)
     → IsPool old
@@ -494,12 +494,12 @@ insert-right old mid new set r n (suc j) bit x p q k kr km kn pos odd is e =
     let w = within-at old set p k in
     let same : suc j - 1 ≡ j = omega arith in
     at-node new n (record { here = s.here; left = s.left; right = r }) x e
-    ∙ made-same s.here (word new s.left) (word new r) (λ y. bit_or (word old s.left y) 0) (λ y. bit_or (word old s.right y) (word_with (j / 2) bit y)) x
+    ∙ node_word-same s.here (word new s.left) (word new r) (λ y. bit_or (word old s.left y) 0) (λ y. bit_or (word old s.right y) (word_with (j / 2) bit y)) x
     (λ y _. word-keeps mid new s.left y q kn (length-keeps old mid s.left km w.left) ∙ word-keeps old mid s.left y p km w.left ∙ sym (or_none (word old s.left y)))
     (λ y _. word-keeps mid new r y q kn kr ∙ is y ∙ (λ i. bit_or (word old s.right y) (word_with (same i / 2) bit y)))
-    ∙ (λ i. made (sym (or_none s.here) i) (λ y. bit_or (word old s.left y) 0) (λ y. bit_or (word old s.right y) (word_with (j / 2) bit y)) x)
-    ∙ made-both bit_or s.here 0 (word old s.left) (word old s.right) (λ _. 0) (word_with (j / 2) bit) x
-    ∙ (λ i. bit_or (sym (word-made old set x) i) (sym (one-right j bit x (subst (λ z. ¬ (z % 2 ≡ 0)) same odd)) i))
+    ∙ (λ i. node_word (sym (or_none s.here) i) (λ y. bit_or (word old s.left y) 0) (λ y. bit_or (word old s.right y) (word_with (j / 2) bit y)) x)
+    ∙ node_word-both bit_or s.here 0 (word old s.left) (word old s.right) (λ _. 0) (word_with (j / 2) bit) x
+    ∙ (λ i. bit_or (sym (word-node_word old set x) i) (sym (one-right j bit x (subst (λ z. ¬ (z % 2 ≡ 0)) same odd)) i))
 
 -- `word_with index bit` has only the member index * 64 + bit.
 with-is : (index bit x : ℕ) → bit < 64 → has_bit (word_with index bit (x / 64)) (x % 64) ≡ nat_eq x (index * 64 + bit)
@@ -560,11 +560,11 @@ combine-set op old mid after new one two l r n x p q u k1 k2 kl kr km ka kn isl 
     let ws = within-at old one p k1 in
     let wt = within-at old two p k2 in
     at-node new n (record { here = op s.here t.here; left = l; right = r }) x e
-    ∙ made-same (op s.here t.here) (word new l) (word new r) (λ y. op (word old s.left y) (word old t.left y)) (λ y. op (word old s.right y) (word old t.right y)) x
+    ∙ node_word-same (op s.here t.here) (word new l) (word new r) (λ y. op (word old s.left y) (word old t.left y)) (λ y. op (word old s.right y) (word old t.right y)) x
     (λ y _. word-keeps after new l y u kn (length-keeps mid after l ka kl) ∙ word-keeps mid after l y q ka kl ∙ isl y)
     (λ y _. word-keeps after new r y u kn kr ∙ isr y ∙ (λ i. op (word-keeps old mid s.right y p km ws.right i) (word-keeps old mid t.right y p km wt.right i)))
-    ∙ made-both op s.here t.here (word old s.left) (word old s.right) (word old t.left) (word old t.right) x
-    ∙ (λ i. op (sym (word-made old one x) i) (sym (word-made old two x) i))
+    ∙ node_word-both op s.here t.here (word old s.left) (word old s.right) (word old t.left) (word old t.right) x
+    ∙ (λ i. op (sym (word-node_word old one x) i) (sym (word-node_word old two x) i))
 
 -- The bits of the union or intersection of two sets' words.
 pub member_rule-bits : (o : Operation) (ns : List Node) (one two x : ℕ) → has_bit (word_rule o (word ns one (x / 64)) (word ns two (x / 64))) (x % 64) ≡ member_rule o (member ns one x) (member ns two x)
@@ -580,7 +580,7 @@ unfolding member
 member-member_rule o old new one two n is x = (λ i. has_bit (is (x / 64) i) (x % 64)) ∙ member_rule-bits o old one two x
 
 pub word-zero : (ns : List Node) (n x : ℕ) → x ≤ 0 → word ns n x ≡ (node_at ns n).here
-word-zero ns n zero h = word-made ns n 0
+word-zero ns n zero h = word-node_word ns n 0
 word-zero ns n (suc k) h = absurd (omega (arith, h))
 
 pub pos-of : (n : ℕ) → (¬ (n ≡ 0)) → 0 < n
@@ -670,8 +670,8 @@ half-below index bit limit l = omega (arith, l)
 
 -- ---- the first pool
 
-pub pool-first : IsPool first
-pool-first = record {
+pub pool-initial_nodes : IsPool initial_nodes
+pool-initial_nodes = record {
   some = omega arith;
   few = omega arith;
   empty = refl;
@@ -679,8 +679,8 @@ pool-first = record {
   different = λ m n lm ln e. omega (arith, lm, ln);
 }
 
-pub bounded-first : IsBounded 0 first
-bounded-first = record { each = λ n x l e. let z : n ≡ 0 = omega (arith, l) in absurd (true≢false (sym e ∙ (λ i. member first (z i) x) ∙ member-none first x refl)) }
+pub bounded-initial_nodes : IsBounded 0 initial_nodes
+bounded-initial_nodes = record { each = λ n x l e. let z : n ≡ 0 = omega (arith, l) in absurd (true≢false (sym e ∙ (λ i. member initial_nodes (z i) x) ∙ member-none initial_nodes x refl)) }
 
 -- ---- an existing node
 

@@ -21,8 +21,8 @@ pub record HashSign : Type 0 where
 
 -- A part of a replacement list: an operand with the leading-space flag of its first token, or `##`.
 pub data ChainPart : Type 0 where
-  Operates : Bool → Operand → ChainPart
-  Joins : ChainPart
+  OperandPart : Bool → Operand → ChainPart
+  PastePart : ChainPart
 
 -- The names of the parameters. The name of the variable argument is the last.
 abbrev pub parameter_names : MacroKind → List Name
@@ -46,12 +46,12 @@ abbrev pub is_operator_hash : MacroKind → Token → Bool
 is_operator_hash kind t = is_function_like kind && is_hash t
 
 abbrev pub plain_part : Option ℕ → Token → ChainPart
-plain_part (Some i) t = Operates t.space (Param i)
-plain_part None t = Operates t.space (Tok t)
+plain_part (Some i) t = OperandPart t.space (Param i)
+plain_part None t = OperandPart t.space (Tok t)
 
 -- The part that a token after `#` becomes.
 abbrev pub stringized_part : Option ℕ → HashSign → Token → ChainPart
-stringized_part (Some i) hash t = Operates hash.space (Str i hash.at)
+stringized_part (Some i) hash t = OperandPart hash.space (Str i hash.at)
 stringized_part None hash t = plain_part None t
 
 abbrev pub hash_sign : Token → HashSign
@@ -60,7 +60,7 @@ hash_sign t = record { space = t.space; at = t.at }
 -- The parts from a token on. The token is `##` (`paste`), or the operator `#` (`hash`), or an operand. `following` are the parts
 -- after it, if it isn't `#`; `after_hash` are those if it is.
 abbrev pub parts_at : (paste hash : Bool) → ChainPart → List ChainPart → List ChainPart → List ChainPart
-parts_at true hash operand following after_hash = Joins ∷ following
+parts_at true hash operand following after_hash = PastePart ∷ following
 parts_at false true operand following after_hash = after_hash
 parts_at false false operand following after_hash = operand ∷ following
 
@@ -74,7 +74,7 @@ parts_after kind None (t ∷ ts) =
     (parts_after kind (Some (hash_sign t)) ts)
 
 abbrev pub begins_joined : List ChainPart → Bool
-begins_joined (Joins ∷ is) = true
+begins_joined (PastePart ∷ ps) = true
 begins_joined _ = false
 
 -- Joins an operand to the first of these chains.
@@ -84,8 +84,8 @@ join_first space o (c ∷ cs) = record { space = space; operands = o ∷ c.opera
 
 abbrev pub group_parts : List ChainPart → List Chain
 group_parts [] = []
-group_parts (Joins ∷ is) = group_parts is
-group_parts (Operates space o ∷ is) = elim (begins_joined is) [ true ↦ join_first space o (group_parts is) | false ↦ record { space = space; operands = o ∷ [] } ∷ group_parts is ]
+group_parts (PastePart ∷ ps) = group_parts ps
+group_parts (OperandPart space o ∷ ps) = elim (begins_joined ps) [ true ↦ join_first space o (group_parts ps) | false ↦ record { space = space; operands = o ∷ [] } ∷ group_parts ps ]
 
 -- ---- a comma before a variable argument that may be absent (gcc's manual, "Variadic Macros")
 
@@ -98,7 +98,7 @@ abbrev pub is_comma : Operand → Bool
 is_comma (Tok t) = is_punct (codes ",") t
 is_comma _ = false
 
--- The last operand of a chain, after another operand. It is a variable argument after a comma if it is parameter i and that is `,`.
+-- The last operand of a chain, after another operand. It becomes a variable argument after a comma if it is parameter i and the other operand is `,`.
 abbrev pub variadic_after : ℕ → Operand → Operand → Operand
 variadic_after i o (Param j) = if is_comma o && i == j then VariadicAfterComma i else Param j
 variadic_after i o p = p

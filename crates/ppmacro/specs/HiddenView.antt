@@ -3,7 +3,7 @@ use Rattle.std.specs.Prelude.{ℕ, Bool, List, ◌++◌, Option, Some, None, if�
 use Rattle.pptext.specs.declared.tokens.Token.{Token}
 use Rattle.pptext.specs.declared.tokens.Place.{Place}
 
--- A token with the number of a hide set, and of an extra one, if there are two. No name in either is replaced at it.
+-- A token with the number of a hide set, and of an extra one, if there are two. A macro whose name is in either set may not replace it.
 pub record HiddenView : Type 0 where
   pub token : Token
   pub hide : ℕ

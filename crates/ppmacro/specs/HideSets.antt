@@ -9,8 +9,8 @@ use Rattle.ppmacro.specs.PairCache.{KeepsPairs}
 use Rattle.ppmacro.specs.declared.hidden_token.Hidden.{Hidden}
 
 -- The pool with only the empty set.
-abbrev pub starting : HideSetPool
-starting = record { sets = set.empty ∷ []; unions = []; intersections = [] }
+abbrev pub initial_pool : HideSetPool
+initial_pool = record { sets = set.empty ∷ []; unions = []; intersections = [] }
 
 -- The set with this number.
 abbrev pub set_at : HideSetPool → ℕ → HideSet

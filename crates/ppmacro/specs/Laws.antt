@@ -97,8 +97,8 @@ pub data AreChains (kind : MacroKind) : List Token → List Chain → Type 0 whe
       → AreChains kind (ts ++ rest) (with_variadic (lenient_parameter kind) (record { space = space; operands = os }) ∷ cs)
 
 -- `##` and `#` are in valid positions (6.10.3.2p1, 6.10.3.3p1, p3).
-abbrev pub places_operators : Macro → Bool
-places_operators d = not (misplaces_paste true d.body) && not (is_function_like d.kind && misplaces_hash d.kind d.body)
+abbrev pub has_valid_operators : Macro → Bool
+has_valid_operators d = not (misplaces_paste true d.body) && not (is_function_like d.kind && misplaces_hash d.kind d.body)
 
 -- ---- variable arguments that may be absent (gcc's manual, "Variadic Macros")
 

@@ -48,7 +48,7 @@ pub data ComesFrom (args : Arguments) (used : Place) (operands : List Operand) :
         hide = set.intersection left.hide right.hide;
       })
 
--- The flag of a chain after these. That of the first chain of the replacement list doesn't count.
+-- The leading-space flag of a chain that follows these chains. The flag of the first chain of the replacement list doesn't count.
 abbrev pub own_space : List Chain → Chain → Bool
 own_space [] c = false
 own_space (b ∷ bs) c = c.space
@@ -83,7 +83,7 @@ pub record IsReplacementToken (chains : List Chain) (args : Arguments) (added : 
   pub prefix : List Hiding
   pub own : Hiding
   pub more : List Hiding
-  pub gives : chain_tokens args used chain ≡ Ok (prefix ++ own ∷ more)
+  pub chain_tokens_are : chain_tokens args used chain ≡ Ok (prefix ++ own ∷ more)
   pub count : ℕ
   pub pending : Bool
   pub is_pending : LeavesPending args used space before count pending

@@ -28,6 +28,6 @@ entry_chain (Tok t) = record { space = t.space; operands = operand.Tok t ∷ [] 
 entry_chain (Param space i) = record { space = space; operands = operand.Param i ∷ [] }
 
 -- The chains of a replacement list.
-abbrev pub listed : Pattern → List Chain
-listed (Plain entries) = map entry_chain entries.items
-listed (Pasted chains) = chains
+abbrev pub pattern_chains : Pattern → List Chain
+pattern_chains (Plain entries) = map entry_chain entries.items
+pattern_chains (Pasted chains) = chains

@@ -34,16 +34,16 @@ abbrev pub lists_of : List (Vec Hidden Global) → List (List Hidden)
 lists_of vs = map (λ v. v.items) vs
 
 -- The expansion of an argument, if it is computed.
-abbrev pub option_of : List Hidden → ArgumentExpansion → Option (List Hidden)
-option_of given Unused = None
-option_of given AsGiven = Some given
-option_of given (Owned v) = Some v.items
+abbrev pub expansion_if_computed : List Hidden → ArgumentExpansion → Option (List Hidden)
+expansion_if_computed given Unused = None
+expansion_if_computed given AsGiven = Some given
+expansion_if_computed given (Owned v) = Some v.items
 
 -- The expansion of each argument.
-abbrev pub options_of : List (Vec Hidden Global) → List ArgumentExpansion → List (Option (List Hidden))
-options_of given [] = []
-options_of [] (e ∷ es) = option_of [] e ∷ options_of [] es
-options_of (v ∷ vs) (e ∷ es) = option_of v.items e ∷ options_of vs es
+abbrev pub expansions_if_computed : List (Vec Hidden Global) → List ArgumentExpansion → List (Option (List Hidden))
+expansions_if_computed given [] = []
+expansions_if_computed [] (e ∷ es) = expansion_if_computed [] e ∷ expansions_if_computed [] es
+expansions_if_computed (v ∷ vs) (e ∷ es) = expansion_if_computed v.items e ∷ expansions_if_computed vs es
 
 -- The numbers of the hide sets in all lists are known.
 pub record ListsKnown (sets : HideSetPool) (vs : List (Vec Hidden Global)) : Type 0 where
@@ -52,10 +52,10 @@ pub record ListsKnown (sets : HideSetPool) (vs : List (Vec Hidden Global)) : Typ
 -- The numbers of the hide sets in all arguments are known.
 pub record ArgumentsKnown (sets : HideSetPool) (given : List (Vec Hidden Global)) (expanded : List ArgumentExpansion) : Type 0 where
   pub given_known : (i : ℕ) → AllKnown sets (argument_at (lists_of given) i)
-  pub expanded_known : (i : ℕ) → AllKnown sets (expanded_at (options_of given expanded) i)
+  pub expanded_known : (i : ℕ) → AllKnown sets (expanded_at (expansions_if_computed given expanded) i)
 
 abbrev pub arguments_in : HideSetPool → List (Vec Hidden Global) → List ArgumentExpansion → Arguments
-arguments_in sets given expanded = record { given = map (hidings sets) (lists_of given); expanded = map (λ o. option_map (hidings sets) o) (options_of given expanded) }
+arguments_in sets given expanded = record { given = map (hidings sets) (lists_of given); expanded = map (λ o. option_map (hidings sets) o) (expansions_if_computed given expanded) }
 
 abbrev pub replacement_in : HideSetPool → Result (Vec Hidden Global × Bool) Fault → Result Replacement Fault
 replacement_in sets (Ok m) = Ok (record { tokens = hidings sets m.0.items; pending = m.1 })
@@ -67,8 +67,8 @@ pushed front space (Ok ts) = Ok (record { tokens = front ++ (space_first space t
 pushed front space (Err f) = Err f
 
 -- The tokens that a call leaves, with the pending flag that it returns.
-abbrev pub left_with : HideSetPool → List Hidden → Bool → Replacement
-left_with sets hs pending = record { tokens = hidings sets hs; pending = pending }
+abbrev pub as_replacement : HideSetPool → List Hidden → Bool → Replacement
+as_replacement sets hs pending = record { tokens = hidings sets hs; pending = pending }
 
 -- The set with number n is a subset of the set with number `added`.
 abbrev pub IsSubset : HideSetPool → ℕ → ℕ → Type 0

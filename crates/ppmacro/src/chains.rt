@@ -4,7 +4,7 @@ ghost use Rattle.std.specs.Str.{bytes_eq};
 ghost use Rattle.std.specs.Option.{option_map};
 ghost use Rattle.ppmacro.specs.Chains as specification;
 ghost use Rattle.ppmacro.specs.Chains.{parameter_names, parameter_named, parameter_of, is_function_like, is_operator_hash, plain_part, stringized_part, parts_after, group_parts, lenient_parameter, with_variadic, chains_of};
-ghost use Rattle.ppmacro.specs.code.ChainParts.{led_by, resumed};
+ghost use Rattle.ppmacro.specs.code.ChainParts.{with_first_part, append_parts};
 ghost use Rattle.pptext.specs.declared.tokens.Token.{Token};
 
 use crate::hash_operators::{is_hash, is_paste};
@@ -37,8 +37,8 @@ impl Model for HashSign {
 /// A part of a replacement list: an operand with the leading-space flag of its first token, or `##`.
 #[derive(Drop)]
 pub(crate) enum ChainPart<'a> {
-    Operates(bool, Operand<'a>),
-    Joins,
+    OperandPart(bool, Operand<'a>),
+    PastePart,
 }
 
 /// The kind of a macro, with an index of its parameters if there are many. Contracts see only the kind.
@@ -72,18 +72,18 @@ pub(crate) fn parameter_names(kind: &MacroKind) -> &[Spelling]
 }
 
 impl<'p> Parameters<'p> {
-    /// Creates the parameters of a macro of kind `kind`. `compared` is the number of tokens that are going to be looked up. The
+    /// Creates the parameters of a macro of kind `kind`. `token_count` is the number of tokens that are going to be looked up. The
     /// names are indexed, with hash function `hashing`, only if there are many names and many tokens.
     pub(crate) fn new(
         alloc: Global,
         kind: &'p MacroKind,
-        compared: usize,
+        token_count: usize,
         hashing: Hashing,
     ) -> Result<Parameters<'p>, AllocError>
         ensures { IfOk result (λ p. p ≡ kind.now) }
     {
         let names = parameter_names(kind);
-        if names.len() <= MAX_SCANNED || compared <= MAX_SCANNED {
+        if names.len() <= MAX_SCANNED || token_count <= MAX_SCANNED {
             return Ok(Parameters { kind, index: None });
         }
         let index = index_names(alloc, names, hashing)?;
@@ -139,7 +139,7 @@ pub(crate) fn is_operator_hash(kind: &Parameters, token: &Token) -> bool
 
 /// Returns a token as an operand, with its leading-space flag.
 fn plain_operand<'a>(kind: &Parameters, token: &'a Token) -> (bool, Operand<'a>)
-    ensures { specification.Operates result.0 result.1 ≡ plain_part (parameter_of kind.now token.now) token.now }
+    ensures { specification.OperandPart result.0 result.1 ≡ plain_part (parameter_of kind.now token.now) token.now }
 {
     let Some(index) = parameter_of(kind, token) else {
         return (token.space, Operand::Tok(BodyToken::new(token)));
@@ -153,7 +153,7 @@ fn stringized_operand<'a>(
     hash: HashSign,
     token: &'a Token,
 ) -> (bool, Operand<'a>)
-    ensures { specification.Operates result.0 result.1 ≡ stringized_part (parameter_of kind.now token.now) hash token.now }
+    ensures { specification.OperandPart result.0 result.1 ≡ stringized_part (parameter_of kind.now token.now) hash token.now }
 {
     let Some(index) = parameter_of(kind, token) else {
         return (token.space, Operand::Tok(BodyToken::new(token)));
@@ -167,21 +167,21 @@ fn next_part<'a>(
     hash: Option<HashSign>,
     token: &'a Token,
 ) -> Option<ChainPart<'a>>
-    ensures { (ts : List Token) → parts_after kind.now hash (token.now ∷ ts) ≡ led_by kind.now token.now
-        (option_map (elim [ ChainPart.Operates space operand ↦ specification.Operates space operand | ChainPart.Joins ↦ specification.Joins ]) result) ts }
+    ensures { (ts : List Token) → parts_after kind.now hash (token.now ∷ ts) ≡ with_first_part kind.now token.now
+        (option_map (elim [ ChainPart.OperandPart space operand ↦ specification.OperandPart space operand | ChainPart.PastePart ↦ specification.PastePart ]) result) ts }
 {
     if let Some(sign) = hash {
         let (space, operand) = stringized_operand(kind, sign, token);
-        return Some(ChainPart::Operates(space, operand));
+        return Some(ChainPart::OperandPart(space, operand));
     }
     if is_paste(token) {
-        return Some(ChainPart::Joins);
+        return Some(ChainPart::PastePart);
     }
     if is_operator_hash(kind, token) {
         return None;
     }
     let (space, operand) = plain_operand(kind, token);
-    Some(ChainPart::Operates(space, operand))
+    Some(ChainPart::OperandPart(space, operand))
 }
 
 /// Appends a chain of one operand.
@@ -204,8 +204,8 @@ fn put<'a>(
     space: bool,
     operand: Operand<'a>,
 ) -> Result<(), AllocError>
-    ensures { OnOk result ((is : List specification.ChainPart) →
-        resumed false chains.new.items is ≡ resumed joined chains.old.items (specification.Operates space operand.entry ∷ is)) }
+    ensures { OnOk result ((ps : List specification.ChainPart) →
+        append_parts false chains.new.items ps ≡ append_parts joined chains.old.items (specification.OperandPart space operand.entry ∷ ps)) }
 {
     if !joined {
         return begin_chain(chains, space, operand);
@@ -225,10 +225,10 @@ fn put_part<'a>(
     joined: bool,
     item: ChainPart<'a>,
 ) -> Result<bool, AllocError>
-    ensures { IfOk result (λ j. (is : List specification.ChainPart) → resumed j chains.new.items is ≡ resumed joined chains.old.items
-        ((elim item.entry [ ChainPart.Operates space operand ↦ specification.Operates space operand | ChainPart.Joins ↦ specification.Joins ]) ∷ is)) }
+    ensures { IfOk result (λ j. (ps : List specification.ChainPart) → append_parts j chains.new.items ps ≡ append_parts joined chains.old.items
+        ((elim item.entry [ ChainPart.OperandPart space operand ↦ specification.OperandPart space operand | ChainPart.PastePart ↦ specification.PastePart ]) ∷ ps)) }
 {
-    let ChainPart::Operates(space, operand) = item else {
+    let ChainPart::OperandPart(space, operand) = item else {
         return Ok(true);
     };
     put(chains, joined, space, operand)?;

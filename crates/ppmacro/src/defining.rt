@@ -25,7 +25,7 @@ use std::marker::Model;
 
 /// The ways in which a definition with a permitted name is invalid.
 #[derive(Clone, Copy)]
-enum Wrong {
+enum RefusalReason {
     ParameterList,
     Spacing,
     Pasting,
@@ -37,16 +37,16 @@ enum Wrong {
 /// The reason why a definition with a permitted name is invalid.
 #[derive(Drop)]
 pub(crate) struct Refusal {
-    wrong: Wrong,
+    reason: RefusalReason,
 }
 
 impl Model for Refusal {
     ghost use Rattle.ppmacro.specs.Define as specification;
-    ghost use Rattle.ppmacro.specs.declared.defining.Wrong.TheVariants.{ParameterList, Spacing, Pasting, Stringizing, VariableArguments, Redefinition};
+    ghost use Rattle.ppmacro.specs.declared.defining.RefusalReason.TheVariants.{ParameterList, Spacing, Pasting, Stringizing, VariableArguments, Redefinition};
 
     ghost Value = { specification.Refusal };
 
-    ghost view = { λ r. elim r.wrong [
+    ghost view = { λ r. elim r.reason [
       | ParameterList ↦ specification.ParameterList
       | Spacing ↦ specification.Spacing
       | Pasting ↦ specification.Pasting
@@ -85,13 +85,13 @@ impl Refusal {
     fn of<'a>(&self, name: &'a Token) -> FaultParts<'a>
         ensures { result ≡ (number_of self.now, name.now.text) }
     {
-        let number = match self.wrong {
-            Wrong::ParameterList => 11,
-            Wrong::Spacing => 12,
-            Wrong::Pasting => 13,
-            Wrong::Stringizing => 14,
-            Wrong::VariableArguments => 15,
-            Wrong::Redefinition => 16,
+        let number = match self.reason {
+            RefusalReason::ParameterList => 11,
+            RefusalReason::Spacing => 12,
+            RefusalReason::Pasting => 13,
+            RefusalReason::Stringizing => 14,
+            RefusalReason::VariableArguments => 15,
+            RefusalReason::Redefinition => 16,
         };
         FaultParts {
             number,
@@ -126,17 +126,17 @@ fn function_like<'a>(
 {
     let Some(parsed) = read_parameter_list(alloc, profile, line)? else {
         return Ok(Err(Refusal {
-            wrong: Wrong::ParameterList,
+            reason: RefusalReason::ParameterList,
         }));
     };
     if repeats(alloc, parsed.names.as_slice(), hashing)? {
         return Ok(Err(Refusal {
-            wrong: Wrong::ParameterList,
+            reason: RefusalReason::ParameterList,
         }));
     }
     if has_variable_arguments(parsed.names.as_slice()) {
         return Ok(Err(Refusal {
-            wrong: Wrong::VariableArguments,
+            reason: RefusalReason::VariableArguments,
         }));
     }
     Ok(Ok(Macro {
@@ -175,7 +175,7 @@ fn read_definition<'a>(
     }
     if !first.is_punct(b"(") {
         return Ok(Err(Refusal {
-            wrong: Wrong::Spacing,
+            reason: RefusalReason::Spacing,
         }));
     }
     function_like(alloc, profile, &line[1..], hashing)
@@ -195,22 +195,22 @@ fn refusal_of(
     let body = definition.body.as_slice();
     if misplaces_variable_arguments(kind, body) {
         return Ok(Some(Refusal {
-            wrong: Wrong::VariableArguments,
+            reason: RefusalReason::VariableArguments,
         }));
     }
     if misplaces_paste(body) {
         return Ok(Some(Refusal {
-            wrong: Wrong::Pasting,
+            reason: RefusalReason::Pasting,
         }));
     }
     if is_function_like(kind) && misplaces_hash(alloc, kind, body, table.hashing())? {
         return Ok(Some(Refusal {
-            wrong: Wrong::Stringizing,
+            reason: RefusalReason::Stringizing,
         }));
     }
     if !profile.is_gnu() && is_conflicting(table, name, definition) {
         return Ok(Some(Refusal {
-            wrong: Wrong::Redefinition,
+            reason: RefusalReason::Redefinition,
         }));
     }
     Ok(None)
@@ -314,7 +314,7 @@ pub fn define<'a>(
             insert_definition(table, named)?;
             Ok(Ok(()))
         }
-        Err(refused) => Ok(Err(refused.fault_at(alloc, at)?)),
+        Err(fault_parts) => Ok(Err(fault_parts.fault_at(alloc, at)?)),
     }
 }
 
@@ -370,6 +370,6 @@ pub fn undef<'a>(
             table.remove(name.bytes());
             Ok(Ok(()))
         }
-        Err(refused) => Ok(Err(refused.fault_at(alloc, at)?)),
+        Err(fault_parts) => Ok(Err(fault_parts.fault_at(alloc, at)?)),
     }
 }

@@ -130,7 +130,7 @@ impl<'a> StoredToken<'a> {
     }
 }
 
-/// A token with one hide set or two; no name in either is replaced at it. Carrying two sets costs less than computing their
+/// A token with one hide set or two; a macro whose name is in either may not replace it. Carrying two sets costs less than computing their
 /// union, which is needed for few tokens.
 #[derive(Drop)]
 pub struct Hidden<'a> {

@@ -1,7 +1,7 @@
 //! Hide sets: the names of the macros that may not replace a token (Prosser's algorithm).
 ghost use Rattle.std.specs.Prelude.{◌≡◌, ◌↔◌, IsTrue, ℕ, Some, Ok, IfOk, OnErr};
 ghost use Rattle.std.specs.FinSet as set;
-ghost use Rattle.ppmacro.specs.HideSets.{set_at, IsKnown, KeepsSets, starting};
+ghost use Rattle.ppmacro.specs.HideSets.{set_at, IsKnown, KeepsSets, initial_pool};
 ghost use Rattle.ppmacro.specs.PairCache.{union_known, intersection_known, KeepsPairs};
 
 mod names;
@@ -46,7 +46,7 @@ pub struct HideSets {
 impl Model for HideSets {
     ghost use Rattle.ppmacro.specs.code.Members.{hide_sets};
     ghost use Rattle.ppmacro.specs.HideSetPool.{HideSetPool, numbered_code};
-    ghost use Rattle.ppmacro.specs.code.PoolInvariant.{IsPoolKept};
+    ghost use Rattle.ppmacro.specs.code.PoolInvariant.{IsConsistentPool};
 
     ghost Value = { HideSetPool };
 
@@ -54,20 +54,20 @@ impl Model for HideSets {
 
     ghost view = { λ s. record { sets = hide_sets s.names s.nodes.keys; unions = s.unions; intersections = s.intersections } };
 
-    ghost invariant = { λ s. IsPoolKept s.names s.nodes.keys s.unions s.intersections };
+    ghost invariant = { λ s. IsConsistentPool s.names s.nodes.keys s.unions s.intersections };
 }
 
 impl HideSets {
     /// Creates a pool with only the empty set. The hash function has a fixed key: see `with_hasher` for untrusted names.
     pub fn new(alloc: Global) -> Result<HideSets, Memory>
-        ensures { IfOk result (λ s. s ≡ starting) }
+        ensures { IfOk result (λ s. s ≡ initial_pool) }
     {
         HideSets::with_hasher(alloc, Hashing::fixed())
     }
 
     /// Creates a pool with only the empty set. Names, nodes and cached pairs are hashed with `hashing`.
     pub fn with_hasher(alloc: Global, hashing: Hashing) -> Result<HideSets, Memory>
-        ensures { IfOk result (λ s. s ≡ starting) }
+        ensures { IfOk result (λ s. s ≡ initial_pool) }
     {
         Ok(HideSets {
             alloc,
@@ -142,7 +142,7 @@ impl HideSets {
         ensures known { IfOk result (λ s. IsKnown self.new s) }
         ensures keeps { KeepsSets self.old self.new }
         ensures remembered { IfOk result (λ n. union_known self.new.unions left right ≡ Some n) }
-        ensures again { (n : ℕ) → union_known self.old.unions left right ≡ Some n → (result ≡ Ok n) × (self.new ≡ self.old) }
+        ensures if_cached { (n : ℕ) → union_known self.old.unions left right ≡ Some n → (result ≡ Ok n) × (self.new ≡ self.old) }
         ensures unions { KeepsPairs self.old.unions self.new.unions }
         ensures intersections { self.new.intersections ≡ self.old.intersections }
         ensures there { (n : ℕ) → IsKnown self.old n → set_at self.old n ≡ set.union (set_at self.old left) (set_at self.old right)
@@ -165,7 +165,7 @@ impl HideSets {
         ensures known { IfOk result (λ s. IsKnown self.new s) }
         ensures keeps { KeepsSets self.old self.new }
         ensures remembered { IfOk result (λ n. intersection_known self.new.intersections left right ≡ Some n) }
-        ensures again { (n : ℕ) → intersection_known self.old.intersections left right ≡ Some n → (result ≡ Ok n) × (self.new ≡ self.old) }
+        ensures if_cached { (n : ℕ) → intersection_known self.old.intersections left right ≡ Some n → (result ≡ Ok n) × (self.new ≡ self.old) }
         ensures intersections { KeepsPairs self.old.intersections self.new.intersections }
         ensures unions { self.new.unions ≡ self.old.unions }
         ensures there { (n : ℕ) → IsKnown self.old n → set_at self.old n ≡ set.intersection (set_at self.old left) (set_at self.old right)

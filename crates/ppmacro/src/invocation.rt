@@ -12,10 +12,10 @@ pub struct Arguments<'s, 'x> {
     pub expanded: &'s [ArgumentExpansion<'x>],
 }
 
-/// The macro name token of an invocation. Each token of the replacement is hidden by `name` and by the names of `base`.
+/// The macro name token of an invocation. `name` and the names of `base` are added to the hide set of each token of the replacement.
 #[derive(Clone, Copy)]
 pub struct MacroName<'n> {
-    /// The names that hide the invocation.
+    /// The hide set of the invocation, to which `name` is added.
     pub base: Set,
     pub name: &'n [u8],
     /// The location of the macro name, which is the expansion location of each token of the replacement.

@@ -14,7 +14,7 @@ ghost use Rattle.ppmacro.specs.declared.macros.Macro.{Macro};
 ghost use Rattle.ppmacro.specs.declared.macros.Chain.{Chain};
 ghost use Rattle.ppmacro.specs.Substitution.{Arguments, Replacement, chain_tokens, chains_replacement};
 ghost use Rattle.ppmacro.specs.Origins.{ComesFrom, LeavesPending, IsReplacementToken};
-ghost use Rattle.ppmacro.specs.Laws.{IsParameterList, AreChains, places_operators, holds_variadic};
+ghost use Rattle.ppmacro.specs.Laws.{IsParameterList, AreChains, has_valid_operators, holds_variadic};
 
 /// Proves that a parameter list is read exactly if it has the syntax of 6.10.3: names with commas between them, then `...` or
 /// not, then `)`. In GNU C a name and `...` without a comma between them is permitted, too.
@@ -23,12 +23,12 @@ pub fn reads_parameter_lists()
 {}
 
 /// Proves that the chains of a valid replacement list are the list: laid end to end, with `##` between the operands of each
-/// (6.10.3.2, 6.10.3.3). No other chains are. There are such chains exactly if `##` and `#` are in valid positions. So faults 13
+/// (6.10.3.2, 6.10.3.3). No other list of chains is. There are such chains exactly if `##` and `#` are in valid positions. So faults 13
 /// and 14 reject no list that has chains.
 pub fn lays_out_chains()
-    ensures laid_out { (definition : Macro) → places_operators definition ≡ true → AreChains definition.kind definition.body (chains_of definition) }
+    ensures laid_out { (definition : Macro) → has_valid_operators definition ≡ true → AreChains definition.kind definition.body (chains_of definition) }
     ensures only { (definition : Macro) (chains : List Chain) → AreChains definition.kind definition.body chains → chains_of definition ≡ chains }
-    ensures exactly { (definition : Macro) → (places_operators definition ≡ true) ↔ ((chains : List Chain) × AreChains definition.kind definition.body chains) }
+    ensures exactly { (definition : Macro) → (has_valid_operators definition ≡ true) ↔ ((chains : List Chain) × AreChains definition.kind definition.body chains) }
 {}
 
 /// Proves that no variable argument may be absent without the rules of GNU C. No chain of a macro without such an argument has
@@ -50,7 +50,7 @@ pub fn traces_origins()
     ensures is_pending { (chains : List Chain) (args : Arguments) (added : HideSet) (used : Place) (space : Bool) (whole : Replacement)
         → chains_replacement chains args added used space ≡ Ok whole
         → LeavesPending args used space chains (length whole.tokens) whole.pending }
-    ensures comes { (args : Arguments) (used : Place) (chain : Chain) (tokens : List Hiding)
+    ensures comes_from { (args : Arguments) (used : Place) (chain : Chain) (tokens : List Hiding)
         → chain_tokens args used chain ≡ Ok tokens
         → AllByRecursion (ComesFrom args used chain.operands) tokens }
 {}

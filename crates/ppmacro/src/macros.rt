@@ -5,7 +5,7 @@ ghost use Rattle.std.specs.Option.{option_copied};
 ghost use Rattle.ppmacro.specs.Chains.{is_comma, variadic_after, ending_in_variadic, chains_of};
 ghost use Rattle.ppmacro.specs.declared.macros.Operand.TheVariants.{VariadicAfterComma};
 ghost use Rattle.ppmacro.specs.PasteFree.{is_object_like, lone_tokens, lone_chain};
-ghost use Rattle.ppmacro.specs.Patterns.{listed};
+ghost use Rattle.ppmacro.specs.Patterns.{pattern_chains};
 ghost use Rattle.ppmacro.specs.HashOperators.{is_paste};
 
 use crate::chains::chains_of;
@@ -246,7 +246,7 @@ impl<'a> Macro<'a> {
     /// Returns the replacement list for `substitute_pattern`: chains only if it contains `#` or `##`. Many parameters are indexed
     /// with hash function `hashing`.
     pub fn pattern(&self, alloc: Global, hashing: Hashing) -> Result<Pattern<'a>, AllocError>
-        ensures { IfOk result (λ p. listed p ≡ chains_of self.now) }
+        ensures { IfOk result (λ p. pattern_chains p ≡ chains_of self.now) }
     {
         pattern_of(alloc, self, hashing)
     }

@@ -1,7 +1,7 @@
 //! A filter of fingerprints of macro names. It rejects most identifiers that name no macro, and guesses the index of a macro in
 //! the table.
 ghost use Rattle.std.specs.Prelude.{◌≡◌, ◌+◌, ◌<◌, ℕ, List, length, min};
-ghost use Rattle.ppmacro.specs.code.NameFilter.{fingerprint_of, short_fingerprint, at};
+ghost use Rattle.ppmacro.specs.code.NameFilter.{fingerprint_of, short_fingerprint, slot_of};
 
 use pptext::u32_at;
 use std::alloc::{AllocError, Global};
@@ -77,16 +77,16 @@ impl NameFilter {
     }
 
     /// Returns the slot for a name.
-    pub(crate) fn at(&self, name: &[u8]) -> u16
-        ensures { result ≡ at self.now name.now }
+    pub(crate) fn slot_of(&self, name: &[u8]) -> u16
+        ensures { result ≡ slot_of self.now name.now }
     {
         self.filter[fingerprint_of(name)]
     }
 
     /// Inserts a name that has this table index.
     pub(crate) fn put(&mut self, name: &[u8], position: usize)
-        ensures here { 0 < at self.new name.now }
-        ensures grows { (other : List ℕ) → at self.new other ≡ 0 → at self.old other ≡ 0 }
+        ensures here { 0 < slot_of self.new name.now }
+        ensures grows { (other : List ℕ) → slot_of self.new other ≡ 0 → slot_of self.old other ≡ 0 }
     {
         self.filter[fingerprint_of(name)] = slot_value(position);
     }

@@ -2,7 +2,7 @@
 use std::hash::{Hash, Hasher};
 use std::marker::Model;
 
-/// A macro's name. Contracts see its bytes. It is hashed in one call; a slice would be hashed byte by byte.
+/// The name of a macro or of a parameter. Contracts see its bytes. It is hashed in one call; a slice would be hashed byte by byte.
 #[derive(Drop)]
 pub(crate) struct NameKey<'a> {
     pub(crate) bytes: &'a [u8],

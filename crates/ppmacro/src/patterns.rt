@@ -2,7 +2,7 @@
 ghost use Rattle.std.specs.Prelude.{◌≡◌, ◌++◌, IfOk, OnOk, map};
 ghost use Rattle.std.specs.List.{list_any};
 ghost use Rattle.ppmacro.specs.Chains.{parameter_of, chains_of};
-ghost use Rattle.ppmacro.specs.Patterns.{is_operator, entry_of, entry_chain, listed};
+ghost use Rattle.ppmacro.specs.Patterns.{is_operator, entry_of, entry_chain, pattern_chains};
 
 use crate::chains::{Parameters, chains_of, parameter_of};
 use crate::hash_operators::{is_hash, is_paste};
@@ -109,7 +109,7 @@ pub(crate) fn pattern_of<'a>(
     definition: &Macro<'a>,
     hashing: Hashing,
 ) -> Result<Pattern<'a>, AllocError>
-    ensures { IfOk result (λ p. listed p ≡ chains_of definition.now) }
+    ensures { IfOk result (λ p. pattern_chains p ≡ chains_of definition.now) }
 {
     if has_operator(definition.body.as_slice()) {
         return Ok(Pattern::Pasted(chains_of(alloc, definition, hashing)?));

@@ -5,7 +5,7 @@ ghost use Rattle.ppmacro.specs.HideSetPool.{HideSetPool};
 ghost use Rattle.ppmacro.specs.HideSets.{set_at, IsKnown, hidings, AllKnown, KeepsSets};
 ghost use Rattle.ppmacro.specs.Substitution.{is_joined, before_variadic, variadic_of, with_variadic_tokens, chain_tokens, space_first, with_space, unhidden, chains_tokens, chains_replacement};
 ghost use Rattle.pptext.specs.Errors.{Returns};
-ghost use Rattle.ppmacro.specs.Substituting.{lists_of, ArgumentsKnown, arguments_in, replacement_in, pushed, left_with};
+ghost use Rattle.ppmacro.specs.Substituting.{lists_of, ArgumentsKnown, arguments_in, replacement_in, pushed, as_replacement};
 
 mod entries;
 mod hsadd;
@@ -147,7 +147,7 @@ fn push_chain<'x, 'a: 'x>(
 ) -> Result<bool, Error>
     requires arguments { ArgumentsKnown sets.old arguments.given.now arguments.expanded.now }
     requires tokens { AllKnown sets.old tokens.old.items }
-    ensures is { Returns result (left_with sets.new tokens.new.items)
+    ensures is { Returns result (as_replacement sets.new tokens.new.items)
         (pushed (hidings sets.old tokens.old.items) space (chain_tokens (arguments_in sets.old arguments.entry.given.now arguments.entry.expanded.now) used chain.now)) }
     ensures known { OnOk result (AllKnown sets.new tokens.new.items) }
     ensures keeps { KeepsSets sets.old sets.new }
@@ -193,7 +193,7 @@ fn chains_tokens<'x, 'a: 'x>(
     chains: &[Chain<'a>],
 ) -> Result<(Vec<Hidden<'x>>, bool), Error>
     requires { ArgumentsKnown sets.old arguments.given.now arguments.expanded.now }
-    ensures is { Returns result (λ m. left_with sets.new m.0.items m.1)
+    ensures is { Returns result (λ m. as_replacement sets.new m.0.items m.1)
         (chains_tokens (arguments_in sets.old arguments.entry.given.now arguments.entry.expanded.now) used space true chains.now) }
     ensures known { IfOk result (λ m. AllKnown sets.new m.0.items) }
     ensures keeps { KeepsSets sets.old sets.new }
@@ -228,7 +228,7 @@ fn chains_replacement<'x, 'a: 'x>(
 ) -> Result<(Vec<Hidden<'x>>, bool), Error>
     requires arguments { ArgumentsKnown sets.old arguments.given.now arguments.expanded.now }
     requires base { IsKnown sets.old macro_name.now.base }
-    ensures is { Returns result (λ m. left_with sets.new m.0.items m.1)
+    ensures is { Returns result (λ m. as_replacement sets.new m.0.items m.1)
         (chains_replacement chains.now (arguments_in sets.old arguments.entry.given.now arguments.entry.expanded.now) (set.insert (set_at sets.old macro_name.now.base) macro_name.now.name.now) macro_name.now.used macro_name.now.space) }
     ensures known { IfOk result (λ m. AllKnown sets.new m.0.items) }
     ensures keeps { KeepsSets sets.old sets.new }

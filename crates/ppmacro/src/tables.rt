@@ -148,7 +148,7 @@ impl<'a> Table<'a> {
         ensures { option_copied result ≡ table.get self.now.macros name.now }
     {
         // Fast path: the filter rejects most names without a call.
-        let slot = self.filter.at(name);
+        let slot = self.filter.slot_of(name);
         if slot == 0 {
             return None;
         }
@@ -190,7 +190,7 @@ impl<'a> Table<'a> {
         is_fixed(profile.is_gnu(), self.get(name)) || is_barred(name)
     }
 
-    /// Inserts a macro, in place of the one before.
+    /// Inserts a macro. It replaces an earlier macro with that name.
     pub(crate) fn insert(&mut self, name: &'a [u8], definition: Macro<'a>) -> Result<(), AllocError>
         ensures ok { OnOk result (self.new.macros ≡ table.insert self.old.macros name.now definition.entry) }
         ensures hashing { self.new.hashing ≡ self.old.hashing }

@@ -17,7 +17,7 @@ pub record Turned (profile : Profile) (gives : ℕ → List ℕ → Content → 
   pub rows : (row : ℕ) → row < length old → FilledRow (gives row) profile row (get_or old row no_row_state) (get_or new row no_row_state)
 
 pub record Filling (profile : Profile) (gives : ℕ → List ℕ → Content → Type 0) (old new : List RowState) (n : ℕ) : Type 0 where
-  pub turned : Turned profile gives old new
+  pub fill_effect : Turned profile gives old new
   pub full : (row : ℕ) → row < n → IsSome (get_or new row no_row_state).filled
   pub ahead : (row : ℕ) → n ≤ row → get_or new row no_row_state ≡ get_or old row no_row_state
 
@@ -25,7 +25,7 @@ untouched_row : (profile : Profile) (gives : ℕ → List ℕ → Content → Ty
 untouched_row profile gives row s = record { name = refl; cell = refl; stays = λ h e. e; put = λ h a b. absurd (none-some h (sym a ∙ b)) }
 
 pub none_filled : (profile : Profile) (gives : ℕ → List ℕ → Content → Type 0) (old : List RowState) → Filling profile gives old old 0
-none_filled profile gives old = record { turned = record { len = refl; rows = λ row w. untouched_row profile gives row (get_or old row no_row_state) }; full = λ row w. absurd (omega arith); ahead = λ row w. refl }
+none_filled profile gives old = record { fill_effect = record { len = refl; rows = λ row w. untouched_row profile gives row (get_or old row no_row_state) }; full = λ row w. absurd (omega arith); ahead = λ row w. refl }
 
 pub turned_set : (profile : Profile) (gives : ℕ → List ℕ → Content → Type 0) (old new : List RowState) (n : ℕ) (mine s : RowState)
     → Filling profile gives old new n
@@ -33,8 +33,8 @@ pub turned_set : (profile : Profile) (gives : ℕ → List ℕ → Content → T
     → mine ≡ get_or new n mine
     → FilledRow (gives n) profile n mine s
     → Turned profile gives old (set new n s)
-turned_set profile gives old new n mine s f w read turned =
-    let len = f.turned.len in
+turned_set profile gives old new n mine s f w read fill_effect =
+    let len = f.fill_effect.len in
     let at : mine ≡ get_or old n no_row_state = get_or_read new n mine (omega arith) read no_row_state ∙ f.ahead n (omega arith) in
     record {
       len = length-set new n s ∙ len;
@@ -44,10 +44,10 @@ turned_set profile gives old new n mine s f w read turned =
                 let P : ℕ → Type 0 = λ k. FilledRow (gives k) profile k (get_or old k no_row_state) (get_or (set new n s) k no_row_state) in
                 let Q : RowState → Type 0 = λ x. FilledRow (gives n) profile n (get_or old n no_row_state) x in
                 let R : RowState → Type 0 = λ x. FilledRow (gives n) profile n x s in
-                subst P (sym e) (subst Q (sym (get_or-set_same new n s no_row_state (omega arith))) (subst R at turned))
+                subst P (sym e) (subst Q (sym (get_or-set_same new n s no_row_state (omega arith))) (subst R at fill_effect))
             | inr e ↦
                 let Q : RowState → Type 0 = λ x. FilledRow (gives row) profile row (get_or old row no_row_state) x in
-                subst Q (sym (get_or-set_other new n row s no_row_state e)) (f.turned.rows row below)
+                subst Q (sym (get_or-set_other new n row s no_row_state e)) (f.fill_effect.rows row below)
           ];
     }
 
@@ -58,8 +58,8 @@ pub filling_more : (profile : Profile) (gives : ℕ → List ℕ → Content →
     → FilledRow (gives n) profile n mine s
     → IsSome s.filled
     → Filling profile gives old (set new n s) (n + 1)
-filling_more profile gives old new n mine s f w read turned some = let len = f.turned.len in record {
-  turned = turned_set profile gives old new n mine s f w read turned;
+filling_more profile gives old new n mine s f w read fill_effect some = let len = f.fill_effect.len in record {
+  fill_effect = turned_set profile gives old new n mine s f w read fill_effect;
   full = λ row below.
       elim (cases_eq row n) [
         | inl e ↦
@@ -162,7 +162,7 @@ full_turned profile hashing gives old new n past f row below =
     let filled : RowState → Option Content = λ s. option_map (λ (h : LoadedView). h.content) s.filled in
     let within : row < length new = let l = length-map new (λ (s : RowState). s.name) in omega arith in
     let P : Option Content → Type 0 = λ o. IsSome o in
-    subst P (sym (get_or-map filled new row no_row_state None within)) (some_content (get_or new row no_row_state).filled (f.full row (let l = f.turned.len in omega arith)))
+    subst P (sym (get_or-map filled new row no_row_state None within)) (some_content (get_or new row no_row_state).filled (f.full row (let l = f.fill_effect.len in omega arith)))
 
 shelf_turned : (profile : Profile) (gives : ℕ → List ℕ → Content → Type 0) (names : List (List ℕ)) (old new : List RowState) → IsShelf profile names old → Turned profile gives old new → IsShelf profile names new
 shelf_turned profile gives names old new s t = record {
@@ -222,7 +222,7 @@ pub lawful_here : (profile : Profile) (may : List ℕ → Content → Type 0) (g
     → bytes ≡ theirs
     → IsPermitted may (name_in (names_of old) row) (readable theirs) → IsPermitted may mine.name (readable bytes)
 lawful_here profile may gives old new row mine bytes theirs f w read same contents_permitted =
-    let len = f.turned.len in
+    let len = f.fill_effect.len in
     let at : mine ≡ get_or old row no_row_state = get_or_read new row mine (omega arith) read no_row_state ∙ f.ahead row (omega arith) in
     let P : List ℕ → Type 0 = λ b. IsPermitted may mine.name (readable b) in
     let Q : List ℕ → Type 0 = λ n. IsPermitted may n (readable theirs) in

@@ -6,7 +6,7 @@ use Rattle.std.proofs.Math.ListN.{get_or-map}
 use Rattle.std.proofs.lemmas.List.{length-map}
 use Rattle.std.proofs.lemmas.Option.{none-some}
 use Rattle.ppshelf.specs.Content.{Content, readable}
-use Rattle.ppshelf.specs.MemoryFiles.{IsFile}
+use Rattle.ppshelf.specs.MemoryFiles.{IsFileContent}
 use Rattle.ppshelf.specs.Names.{AreNames}
 use Rattle.ppshelf.specs.Files.{Files, max_rows}
 use Rattle.pptext.specs.declared.sources.Profile.{Profile}
@@ -19,11 +19,11 @@ cons_at files i f w read =
     let next : suc i ≡ i + 1 = omega arith in
     ap (λ x. x ∷ drop (i + 1) files) read ∙ (ap (λ k. get_or files i f ∷ drop k files) (sym next) ∙ sym (drop-cons files i f w))
 
-pub found : (files : List File) (i : ℕ) (f : File) (name : List ℕ) (c : Content) → i < length files → f ≡ get_or files i f → string_bytes f.name ≡ name → c ≡ readable f.bytes.items → IsFile (drop i files) name c
-found files i f name c w read e is = let P : List File → Type 0 = λ xs. IsFile xs name c in subst P (cons_at files i f w read) ((λ _. is), (λ no. absurd (no e)))
+pub found : (files : List File) (i : ℕ) (f : File) (name : List ℕ) (c : Content) → i < length files → f ≡ get_or files i f → string_bytes f.name ≡ name → c ≡ readable f.bytes.items → IsFileContent (drop i files) name c
+found files i f name c w read e is = let P : List File → Type 0 = λ xs. IsFileContent xs name c in subst P (cons_at files i f w read) ((λ _. is), (λ no. absurd (no e)))
 
-pub skipped : (files : List File) (i : ℕ) (f : File) (name : List ℕ) (c : Content) → i < length files → f ≡ get_or files i f → string_bytes f.name ≢ name → IsFile (drop (i + 1) files) name c → IsFile (drop i files) name c
-skipped files i f name c w read other later = let P : List File → Type 0 = λ xs. IsFile xs name c in subst P (cons_at files i f w read) ((λ e. absurd (other e)), (λ _. later))
+pub skipped : (files : List File) (i : ℕ) (f : File) (name : List ℕ) (c : Content) → i < length files → f ≡ get_or files i f → string_bytes f.name ≢ name → IsFileContent (drop (i + 1) files) name c → IsFileContent (drop i files) name c
+skipped files i f name c w read other later = let P : List File → Type 0 = λ xs. IsFileContent xs name c in subst P (cons_at files i f w read) ((λ e. absurd (other e)), (λ _. later))
 
 pub none_placed : (profile : Profile) (stock : List RowState) (n : ℕ) → filled_of stock ≡ replicate n None → Placed profile stock
 none_placed profile stock n e row h is =

@@ -115,7 +115,7 @@ abbrev pub claims_of : List Caller → List ℕ
 claims_of [] = []
 claims_of (k ∷ ks) = k.claims ++ claims_of ks
 
--- The blocks that callers claimed are those below the next one, each once. If one of them found that none is left, they
+-- The blocks that callers claimed are all blocks before the next one, each claimed once. If a caller found that none is left, they
 -- are all blocks.
 abbrev pub EachBlockOnce : Type 0
 EachBlockOnce =

@@ -35,9 +35,9 @@ impl<R: Files> Drop for DirDisk<'_, R> {
 impl<R: Files> Disk for DirDisk<'_, R> {
     ghost may = { λ name c. Unit {0} };
 
-    ghost gives = { λ disk name c. Unit {0} };
+    ghost may_return = { λ disk name c. Unit {0} };
 
-    ghost gives_may = { λ disk name c h. tt };
+    ghost may_return_by_type = { λ disk name c h. tt };
 
     fn read(&self, alloc: Global, name: &str) -> Result<Vec<u8>, ReadFault> {
         let Ok(path) = path_in_directory(alloc, self.directory, name) else {

@@ -21,7 +21,7 @@ pub trait Disk {
     ghost may: { List ℕ → Content → Type 0 };
 
     /// What this disk may return for a name.
-    ghost gives: { Self → List ℕ → Content → Type 0 };
+    ghost may_return: { Self → List ℕ → Content → Type 0 };
 
     /// Reads the file of this name. A file of more than `LONGEST` bytes may be cut off anywhere above that length.
     ///
@@ -30,9 +30,9 @@ pub trait Disk {
     /// `Unreadable` if there is no such file or it can't be read. `Memory` if the system lacks memory or something else
     /// that a read needs.
     fn read(&self, alloc: Global, name: &str) -> Result<Vec<u8>, ReadFault>
-        ensures bytes { IfOk result (λ v. gives self.now name.now (readable v.items)) }
-        ensures fault { IfErr result (λ e. IfUnreadable e (gives self.now name.now unreadable)) };
+        ensures bytes { IfOk result (λ v. may_return self.now name.now (readable v.items)) }
+        ensures fault { IfErr result (λ e. IfUnreadable e (may_return self.now name.now unreadable)) };
 
     /// What one disk may return, some disk of its type may return.
-    ghost gives_may: { (disk : Self) (name : List ℕ) (c : Content) → gives disk name c → may name c };
+    ghost may_return_by_type: { (disk : Self) (name : List ℕ) (c : Content) → may_return disk name c → may name c };
 }

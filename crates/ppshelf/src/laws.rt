@@ -23,7 +23,7 @@ pub fn next_ends_search()
 {}
 
 /// A search after a directory finds a file in a directory with a larger number.
-pub fn next_goes_on()
+pub fn next_advances()
     ensures { (names unit setting : List (List ℕ)) (text : List ℕ) (number row directory : ℕ)
         → IsFirstRow names (candidates_after number unit setting text) (Some (row, directory)) → number < directory }
 {}

@@ -18,7 +18,7 @@ pub use dir_disk::DirDisk;
 pub use disk::{Disk, ReadFault};
 pub use index::Index;
 pub use laws::{
-    callers_agree, each_block_once, names_decide, next_ends_search, next_goes_on, observed_stays,
+    callers_agree, each_block_once, names_decide, next_advances, next_ends_search, observed_stays,
     one_row, some_row,
 };
 pub use loaded::Loaded;

@@ -27,7 +27,7 @@ pub struct Loaded<D: Disk> {
     name: String,
     profile: Profile,
     parsed: Option<Parsed>,
-    of: PhantomData<D>,
+    disk: PhantomData<D>,
 }
 
 impl<D: Disk> Model for Loaded<D> {
@@ -58,7 +58,7 @@ impl<D: Disk> Drop for Loaded<D> {
             name: _,
             profile: _,
             parsed: _,
-            of: _,
+            disk: _,
         } = self;
     }
 }
@@ -88,7 +88,7 @@ fn read_parsed<D: Disk>(
     name: &str,
 ) -> Result<Option<Parsed>, Memory>
     requires { row < max_rows }
-    ensures content { IfOk result (λ parsed. IsPermitted (D.gives disk.now) name.now (content_of (option_map (λ p. p.bytes.items) parsed))) }
+    ensures content { IfOk result (λ parsed. IsPermitted (D.may_return disk.now) name.now (content_of (option_map (λ p. p.bytes.items) parsed))) }
     ensures reading { IfOk result (λ parsed. IfSome parsed (λ p. Reads profile row p.bytes.items p.lines)) }
 {
     match disk.read(alloc, name) {
@@ -114,7 +114,7 @@ impl<D: Disk> Loaded<D> {
     ) -> Result<Loaded<D>, Memory>
         requires { row < max_rows }
         ensures place { IfOk result (λ l. IsPlaced profile row name.now l) }
-        ensures content { IfOk result (λ l. IsPermitted (D.gives disk.now) name.now l.content) }
+        ensures content { IfOk result (λ l. IsPermitted (D.may_return disk.now) name.now l.content) }
     {
         let parsed = read_parsed(alloc, disk, profile, row, name)?;
         let name = String::from_str(alloc, name)?;
@@ -123,7 +123,7 @@ impl<D: Disk> Loaded<D> {
             name,
             profile,
             parsed,
-            of: PhantomData,
+            disk: PhantomData,
         })
     }
 
@@ -147,7 +147,7 @@ impl<D: Disk> Loaded<D> {
             name,
             profile,
             parsed: Some(parsed),
-            of: PhantomData,
+            disk: PhantomData,
         })
     }
 

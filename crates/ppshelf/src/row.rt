@@ -99,7 +99,7 @@ impl<D: Disk> Row<D> {
         disk: &D,
     ) -> Result<(), Memory>
         requires { row < max_rows }
-        ensures turned { FilledRow (IsPermitted (D.gives disk.now)) profile row self.old self.new }
+        ensures fill_effect { FilledRow (IsPermitted (D.may_return disk.now)) profile row self.old self.new }
         ensures full { OnOk result (IsSome self.new.filled) }
     {
         if self.filled.is_none() {
@@ -119,7 +119,7 @@ impl<D: Disk> Row<D> {
     ) -> Result<(), Memory>
         requires row { row < max_rows }
         requires contents_permitted { IsPermitted D.may self.old.name (readable bytes.items) }
-        ensures turned { FilledRow (λ name c. c ≡ readable bytes.items) profile row self.old self.new }
+        ensures fill_effect { FilledRow (λ name c. c ≡ readable bytes.items) profile row self.old self.new }
         ensures full { OnOk result (IsSome self.new.filled) }
     {
         if self.filled.is_some() {
@@ -133,7 +133,7 @@ impl<D: Disk> Row<D> {
     /// Returns the row's content to a caller, and records that it was observed.
     pub(crate) fn look<'a>(
         &'a self,
-        seen: &mut RowObservation<'a, D>,
+        observation: &mut RowObservation<'a, D>,
         alloc: Global,
         profile: Profile,
         row: usize,
@@ -141,23 +141,23 @@ impl<D: Disk> Row<D> {
     ) -> Result<&'a Loaded<D>, Memory>
         requires row { row < max_rows }
         requires placed { (h : LoadedView) → self.now.filled ≡ Some h → IsPlaced profile row self.now.name h }
-        requires fits { FitsRow D.may profile row self.now seen.old }
-        ensures fits { FitsRow D.may profile row self.now seen.new }
-        ensures shown { IfOk result (λ l. seen.new.shown ≡ Some l.now) }
-        ensures stays { IfSome seen.old.shown (λ h. IsOkAnd result (λ l. l.now ≡ h)) }
+        requires fits { FitsRow D.may profile row self.now observation.old }
+        ensures fits { FitsRow D.may profile row self.now observation.new }
+        ensures shown { IfOk result (λ l. observation.new.shown ≡ Some l.now) }
+        ensures stays { IfSome observation.old.shown (λ h. IsOkAnd result (λ l. l.now ≡ h)) }
         ensures filled { IfSome self.now.filled (λ h. IsOkAnd result (λ l. l.now ≡ h)) }
-        ensures err { OnErr result (seen.new.shown ≡ seen.old.shown) }
+        ensures err { OnErr result (observation.new.shown ≡ observation.old.shown) }
     {
-        if let Some(loaded) = seen.shown {
+        if let Some(loaded) = observation.shown {
             return Ok(loaded);
         }
         if let Some(loaded) = &self.filled {
             loaded.show_permitted();
-            seen.shown = Some(loaded);
+            observation.shown = Some(loaded);
             return Ok(loaded);
         }
-        let loaded = self.cached(&mut seen.note, alloc, profile, row, disk)?;
-        seen.shown = Some(loaded);
+        let loaded = self.cached(&mut observation.note, alloc, profile, row, disk)?;
+        observation.shown = Some(loaded);
         Ok(loaded)
     }
 
@@ -181,11 +181,11 @@ impl<D: Disk> Row<D> {
         if let Some(loaded) = self.cell.get_as(note) {
             return loaded.verify(profile, row, self.name.as_str());
         }
-        let made = Loaded::read(alloc, disk, profile, row, self.name.as_str())?;
-        let Ok(made) = Box::new(alloc, made) else {
+        let new_content = Loaded::read(alloc, disk, profile, row, self.name.as_str())?;
+        let Ok(new_content) = Box::new(alloc, new_content) else {
             return Err(Memory);
         };
-        let _lost = self.cell.set_as(made, note);
+        let _lost = self.cell.set_as(new_content, note);
         match self.cell.get_as(note) {
             Some(loaded) => loaded.verify(profile, row, self.name.as_str()),
             None => unreachable!(),
@@ -195,10 +195,10 @@ impl<D: Disk> Row<D> {
 
 impl<'a, D: Disk> RowObservation<'a, D> {
     /// Adds what another caller has observed of the same row.
-    pub(crate) fn merge(&mut self, place: &Row<D>, profile: Profile, row: usize, other: Self)
-        requires mine { FitsRow D.may profile row place.now self.old }
-        requires theirs { FitsRow D.may profile row place.now other }
-        ensures fits { FitsRow D.may profile row place.now self.new }
+    pub(crate) fn merge(&mut self, shelf_row: &Row<D>, profile: Profile, row: usize, other: Self)
+        requires mine { FitsRow D.may profile row shelf_row.now self.old }
+        requires theirs { FitsRow D.may profile row shelf_row.now other }
+        ensures fits { FitsRow D.may profile row shelf_row.now self.new }
         ensures agree { (h k : LoadedView) → self.old.shown ≡ Some h → other.entry.shown ≡ Some k → h ≡ k }
         ensures shown { self.new.shown ≡ or_else self.old.shown other.entry.shown }
     {

@@ -172,7 +172,7 @@ fn row_in_directories<D: Disk>(
     Ok(None)
 }
 
-/// Returns the row of the name in this directory. Fast path: if no segment of either begins with `.`, the two are
+/// Returns the row of the name in this directory. Fast path: if each segment of both has a first byte that is no `.`, the two are
 /// joined without taking them apart.
 fn row_in_directory<D: Disk>(
     alloc: Global,

@@ -185,7 +185,7 @@ impl<D: Disk> Shelf<D> {
         self.rows[row].name()
     }
 
-    /// Shows proofs that a shelf's names are in normal form, each once, and that `fill` has a content or none for each.
+    /// Shows proofs that a shelf's names are in normal form, each once, and that its list of filled contents has one entry for each name.
     /// Does nothing.
     pub fn contents_permitted(&self)
         ensures names { AreNames self.now.names }
@@ -203,7 +203,7 @@ impl<D: Disk> Shelf<D> {
         ensures shelf { (self.new.names ≡ self.old.names) × (self.new.profile ≡ self.old.profile) × (self.new.cells ≡ self.old.cells) }
         ensures hashing { self.new.hashing ≡ self.old.hashing }
         ensures filled { (row : ℕ) → row < length self.old.names
-            → Filled (IsPermitted (D.gives disk.now) (name_in self.old.names row)) (file_at self.old.filled row) (file_at self.new.filled row) }
+            → Filled (IsPermitted (D.may_return disk.now) (name_in self.old.names row)) (file_at self.old.filled row) (file_at self.new.filled row) }
         ensures len { length self.new.filled ≡ length self.old.names }
         ensures full { OnOk result (IsFull self.new) }
     {
@@ -276,7 +276,7 @@ impl<D: Disk> Shelf<D> {
         ensures shelf { pass.new.shelf ≡ self.now }
         ensures place { IfOk result (λ l. (l.now.row ≡ row) × (l.now.name ≡ name_in self.now.names row) × (l.now.profile ≡ self.now.profile)) }
         ensures known { IfOk result (λ l. pass.new.files ≡ slice_set pass.old.files row (Some l.now.content)) }
-        ensures knows { IfOk result (λ l. file_at pass.new.files row ≡ Some l.now.content) }
+        ensures row_observed { IfOk result (λ l. file_at pass.new.files row ≡ Some l.now.content) }
         ensures grows { Extends pass.new.files pass.old.files }
         ensures stays { IfSome (file_at pass.old.files row) (λ c. IsOkAnd result (λ l. l.now.content ≡ c)) }
         ensures from_fill { IfSome (file_at self.now.filled row) (λ c. IsOkAnd result (λ l. l.now.content ≡ c)) }
@@ -285,9 +285,9 @@ impl<D: Disk> Shelf<D> {
         ensures filled { Agree self.now.filled pass.new.files }
     {
         pass.contents_permitted();
-        let shown = pass.look_at_row(self, row, disk);
+        let look_result = pass.look_at_row(self, row, disk);
         pass.contents_permitted();
-        let Ok(loaded) = shown else {
+        let Ok(loaded) = look_result else {
             return Err(LookFault::Memory);
         };
         Ok(loaded)
@@ -351,8 +351,9 @@ impl<'a, D: Disk> Pass<'a, D> {
         ensures from_fill { IfSome (file_at shelf.now.filled row) (λ c. IsOkAnd result (λ l. l.now.content ≡ c)) }
         ensures err { OnErr result (self.new ≡ self.old) }
     {
-        let seen = &mut self.rows[row];
-        let Ok(loaded) = shelf.rows[row].look(seen, shelf.alloc, shelf.profile, row, disk) else {
+        let observation = &mut self.rows[row];
+        let Ok(loaded) = shelf.rows[row].look(observation, shelf.alloc, shelf.profile, row, disk)
+        else {
             return Err(LookFault::Memory);
         };
         Ok(loaded)

@@ -9,7 +9,7 @@ use Rattle.pptext.specs.declared.tokens.Place.{Place}
 use Rattle.pptext.specs.declared.characters.Char.{Char}
 use Rattle.pptext.specs.Clean.{codes_of, head_code, is_return_at, without_returns, trigraph, trigraph_at, trigraphs_after, trigraphs, splices, splice_at_end}
 use Rattle.pptext.specs.code.Steps.{CharStep, Code, Removed, lacks_newline, leading_trigraph, leading_crlf, leading_newline, spliced, coded, step_of}
-use Rattle.pptext.specs.code.CleanedText.{supply, logical}
+use Rattle.pptext.specs.code.CleanedText.{supply, unspliced}
 
 -- The tests on bytes equal the tests on characters.
 pub return_same : (cs : List Char) → leading_crlf (codes_of cs) ≡ is_return_at cs
@@ -95,11 +95,11 @@ trigraph_kept s e c (a ∷ cs) = by (is_return_at (a ∷ cs)) refl
         ∙ ap (λ n. if c.code == 63 && a.code == 63 then n else 0) (third_same s e cs)
         ∙ sym (third c a cs)
 
--- One step of `logical`: a CR that is removed, or a character that is kept.
-pub return_step : (s : Bool) (e : Place) (c : Char) (cs : List Char) → is_return_at (c ∷ cs) ≡ true → logical s e (c ∷ cs) ≡ logical s e cs
+-- One step of `unspliced`: a CR that is removed, or a character that is kept.
+pub return_step : (s : Bool) (e : Place) (c : Char) (cs : List Char) → is_return_at (c ∷ cs) ≡ true → unspliced s e (c ∷ cs) ≡ unspliced s e cs
 return_step s e c cs h = ap (λ z. trigraphs (z ++ supply s e)) (dropped c cs h)
 
-pub own_step : (s : Bool) (e : Place) (c : Char) (cs : List Char) → is_return_at (c ∷ cs) ≡ false → trigraph_at (c ∷ cs) ≡ 0 → logical s e (c ∷ cs) ≡ c ∷ logical s e cs
+pub own_step : (s : Bool) (e : Place) (c : Char) (cs : List Char) → is_return_at (c ∷ cs) ≡ false → trigraph_at (c ∷ cs) ≡ 0 → unspliced s e (c ∷ cs) ≡ c ∷ unspliced s e cs
 own_step s e c cs h t =
     let k = trigraph_kept s e c cs ∙ t in
     ap (λ z. trigraphs (z ++ supply s e)) (kept c cs h) ∙ rw k refl
@@ -133,7 +133,7 @@ three a (b ∷ c ∷ cs) h =
       kept = mark_kept a (b ∷ c ∷ cs) (eqb-true a.code 63 q.0) ∙ ap (λ z. a ∷ z) (mark_kept b (c ∷ cs) (eqb-true b.code 63 q.1) ∙ ap (λ z. b ∷ z) (kept c cs (no_return c cs (no_trigraph_cr c.code m.1))));
     }
 
-trigraph_step : (s : Bool) (e : Place) (a : Char) (cs : List Char) → (trigraph_at (a ∷ cs) ≡ 0 → ⊥) → logical s e (a ∷ cs) ≡ record { code = trigraph_at (a ∷ cs); at = a.at } ∷ logical s e (drop 2 cs)
+trigraph_step : (s : Bool) (e : Place) (a : Char) (cs : List Char) → (trigraph_at (a ∷ cs) ≡ 0 → ⊥) → unspliced s e (a ∷ cs) ≡ record { code = trigraph_at (a ∷ cs); at = a.at } ∷ unspliced s e (drop 2 cs)
 trigraph_step s e a [] h = absurd (h refl)
 trigraph_step s e a (b ∷ []) h = absurd (h refl)
 trigraph_step s e a (b ∷ c ∷ cs) h =
@@ -143,14 +143,14 @@ trigraph_step s e a (b ∷ c ∷ cs) h =
 -- The text begins with a new-line of m bytes. If m is 0, the text is empty and the new-line is supplied.
 record NewLine (s : Bool) (e : Place) (cs : List Char) (m : ℕ) : Type 0 where
   fits : m ≤ length cs
-  more : 0 < m → (nl : Char) × (nl.code ≡ 10) × (logical s e cs ≡ nl ∷ logical s e (drop m cs))
+  more : 0 < m → (nl : Char) × (nl.code ≡ 10) × (unspliced s e cs ≡ nl ∷ unspliced s e (drop m cs))
   none : m ≡ 0 → (cs ≡ []) × (s ≡ true)
   last : 0 < m → m ≡ length cs → lacks_newline (codes_of cs) ≡ false
 
 some_is : (m n : ℕ) → Some m ≡ Some n → m ≡ n
 some_is m n e = cc
 
-plain_lf : (s : Bool) (e : Place) (c : Char) (cs : List Char) → c.code ≡ 10 → logical s e (c ∷ cs) ≡ c ∷ logical s e cs
+plain_lf : (s : Bool) (e : Place) (c : Char) (cs : List Char) → c.code ≡ 10 → unspliced s e (c ∷ cs) ≡ c ∷ unspliced s e cs
 plain_lf s e c cs h = own_step s e c cs (lf_kept c cs h) (no_mark c cs (λ q. cc))
   where
     no_mark : (a : Char) (xs : List Char) → (a.code ≡ 63 → ⊥) → trigraph_at (a ∷ xs) ≡ 0
@@ -181,7 +181,7 @@ newline_at s e (c ∷ cs) m h = by (c.code == 10) refl
             let lf = (return_is c (b ∷ xs) r).lf in
             record {
               fits = omega arith;
-              more = λ lt. (b, lf, return_step s e c (b ∷ xs) r ∙ plain_lf s e b xs lf ∙ ap (λ n. b ∷ logical s e (drop n (c ∷ b ∷ xs))) z);
+              more = λ lt. (b, lf, return_step s e c (b ∷ xs) r ∙ plain_lf s e b xs lf ∙ ap (λ n. b ∷ unspliced s e (drop n (c ∷ b ∷ xs))) z);
               none = λ q2. absurd (omega arith);
               last = λ lt. λ l. last_lf b xs lf (omega arith);
             }
@@ -192,7 +192,7 @@ newline_at s e (c ∷ cs) m h = by (c.code == 10) refl
         let z = some_is 1 m (rw q at h) in
         record {
           fits = omega arith;
-          more = λ lt. (c, lf, plain_lf s e c cs lf ∙ ap (λ n. c ∷ logical s e (drop n (c ∷ cs))) z);
+          more = λ lt. (c, lf, plain_lf s e c cs lf ∙ ap (λ n. c ∷ unspliced s e (drop n (c ∷ cs))) z);
           none = λ r. absurd (omega arith);
           last = λ lt. λ l. last_lf c cs lf (omega arith);
         }
@@ -223,26 +223,26 @@ some_not n e = cc
 abbrev two_bytes : Option ℕ
 two_bytes = Some 2
 
-no_newline : (s : Bool) (e : Place) (cs : List Char) → leading_newline s (codes_of cs) ≡ None → (head_code (logical s e cs) == 10) ≡ false
+no_newline : (s : Bool) (e : Place) (cs : List Char) → leading_newline s (codes_of cs) ≡ None → (head_code (unspliced s e cs) == 10) ≡ false
 no_newline true e [] h = cc
 no_newline false e [] h = refl
 no_newline s e (c ∷ cs) h = by (c.code == 10) refl
   where
-    own : (n : ℕ) → trigraph_at (c ∷ cs) ≡ n → (n == 0) ≡ true → (c.code == 10) ≡ false → is_return_at (c ∷ cs) ≡ false → (head_code (logical s e (c ∷ cs)) == 10) ≡ false
+    own : (n : ℕ) → trigraph_at (c ∷ cs) ≡ n → (n == 0) ≡ true → (c.code == 10) ≡ false → is_return_at (c ∷ cs) ≡ false → (head_code (unspliced s e (c ∷ cs)) == 10) ≡ false
     own n t z q r = rw (own_step s e c cs r (t ∙ eqb-true n 0 z)) q
 
-    three_bytes : (trigraph_at (c ∷ cs) == 0) ≡ false → (head_code (logical s e (c ∷ cs)) == 10) ≡ false
+    three_bytes : (trigraph_at (c ∷ cs) == 0) ≡ false → (head_code (unspliced s e (c ∷ cs)) == 10) ≡ false
     three_bytes z = rw (trigraph_step s e c cs (λ k. false≢true (sym z ∙ rw k refl))) (trigraph_at_not (c ∷ cs))
 
-    kinds : (t : Bool) → (trigraph_at (c ∷ cs) == 0) ≡ t → (c.code == 10) ≡ false → is_return_at (c ∷ cs) ≡ false → (head_code (logical s e (c ∷ cs)) == 10) ≡ false
+    kinds : (t : Bool) → (trigraph_at (c ∷ cs) == 0) ≡ t → (c.code == 10) ≡ false → is_return_at (c ∷ cs) ≡ false → (head_code (unspliced s e (c ∷ cs)) == 10) ≡ false
     kinds true z q r = own (trigraph_at (c ∷ cs)) refl z q r
     kinds false z q r = three_bytes z
 
-    two : (t : Bool) → leading_crlf (codes_of (c ∷ cs)) ≡ t → (if t then two_bytes else None) ≡ None → (c.code == 10) ≡ false → (head_code (logical s e (c ∷ cs)) == 10) ≡ false
+    two : (t : Bool) → leading_crlf (codes_of (c ∷ cs)) ≡ t → (if t then two_bytes else None) ≡ None → (c.code == 10) ≡ false → (head_code (unspliced s e (c ∷ cs)) == 10) ≡ false
     two true r k q = absurd (some_not 2 k)
     two false r k q = kinds (trigraph_at (c ∷ cs) == 0) refl q (sym (return_same (c ∷ cs)) ∙ r)
 
-    by : (t : Bool) → (c.code == 10) ≡ t → (head_code (logical s e (c ∷ cs)) == 10) ≡ false
+    by : (t : Bool) → (c.code == 10) ≡ t → (head_code (unspliced s e (c ∷ cs)) == 10) ≡ false
     by true q =
         absurd (some_not 1 (rw q at h))
     by false q = two (leading_crlf (codes_of (c ∷ cs))) refl (rw q at h) q
@@ -270,15 +270,15 @@ not_end x ys h = rw (h, and-false (length ys == 1)) refl
 pub record CodeStep (s : Bool) (e : Place) (c : Char) (cs : List Char) (code n : ℕ) : Type 0 where
   pub some : 0 < n
   pub fits : n ≤ suc (length cs)
-  pub text : splices (logical s e (c ∷ cs)) ≡ record { code = code; at = c.at } ∷ splices (logical s e (drop n (c ∷ cs)))
-  pub ends : splice_at_end (logical s e (c ∷ cs)) ≡ splice_at_end (logical s e (drop n (c ∷ cs)))
+  pub text : splices (unspliced s e (c ∷ cs)) ≡ record { code = code; at = c.at } ∷ splices (unspliced s e (drop n (c ∷ cs)))
+  pub ends : splice_at_end (unspliced s e (c ∷ cs)) ≡ splice_at_end (unspliced s e (drop n (c ∷ cs)))
 
 pub record RemovedStep (s : Bool) (e : Place) (c : Char) (cs : List Char) (n : ℕ) : Type 0 where
   pub some : 0 < n
   pub fits : n ≤ suc (length cs)
-  pub text : n < suc (length cs) → splices (logical s e (c ∷ cs)) ≡ splices (logical s e (drop n (c ∷ cs)))
-  pub ends : n < suc (length cs) → splice_at_end (logical s e (c ∷ cs)) ≡ splice_at_end (logical s e (drop n (c ∷ cs)))
-  pub last : n ≡ suc (length cs) → s ≡ lacks_newline (codes_of (c ∷ cs)) → splice_at_end (logical s e (c ∷ cs)) ≡ Some c.at
+  pub text : n < suc (length cs) → splices (unspliced s e (c ∷ cs)) ≡ splices (unspliced s e (drop n (c ∷ cs)))
+  pub ends : n < suc (length cs) → splice_at_end (unspliced s e (c ∷ cs)) ≡ splice_at_end (unspliced s e (drop n (c ∷ cs)))
+  pub last : n ≡ suc (length cs) → s ≡ lacks_newline (codes_of (c ∷ cs)) → splice_at_end (unspliced s e (c ∷ cs)) ≡ Some c.at
 
 abbrev pub Outcome : Bool → Place → Char → List Char → CharStep → Type 0
 Outcome s e c cs (Code code n) = CodeStep s e c cs code n
@@ -298,7 +298,7 @@ trigraphs_some [] lt = absurd (omega arith)
 trigraphs_some (c ∷ cs) lt =
     elim (trigraph_at (c ∷ cs) == 0) as (λ t. 0 < length (if t then c ∷ trigraphs_after 0 cs else record { code = trigraph_at (c ∷ cs); at = c.at } ∷ trigraphs_after 2 cs)) [ true ↦ omega arith | false ↦ omega arith ]
 
-logical_some : (s : Bool) (e : Place) (cs : List Char) → 0 < length cs → 0 < length (logical s e cs)
+logical_some : (s : Bool) (e : Place) (cs : List Char) → 0 < length cs → 0 < length (unspliced s e cs)
 logical_some s e cs lt =
     let w = returns_some cs lt in
     trigraphs_some (without_returns cs ++ supply s e) (omega (arith, length-append (without_returns cs) (supply s e)))
@@ -317,11 +317,11 @@ no_line : (x : Char) (ys : List Char) → (head_code ys == 10) ≡ false → (x.
 no_line x ys h = rw (h, and-false (x.code == 92)) refl
 
 -- A character that does not begin a splice is kept.
-as_code : (s : Bool) (e : Place) (c : Char) (cs : List Char) (code k : ℕ) → 0 < k → k ≤ suc (length cs) → logical s e (c ∷ cs) ≡ record { code = code; at = c.at } ∷ logical s e (drop k (c ∷ cs))
-    → (code == 92 && head_code (logical s e (drop k (c ∷ cs))) == 10) ≡ false → CodeStep s e c cs code k
+as_code : (s : Bool) (e : Place) (c : Char) (cs : List Char) (code k : ℕ) → 0 < k → k ≤ suc (length cs) → unspliced s e (c ∷ cs) ≡ record { code = code; at = c.at } ∷ unspliced s e (drop k (c ∷ cs))
+    → (code == 92 && head_code (unspliced s e (drop k (c ∷ cs))) == 10) ≡ false → CodeStep s e c cs code k
 as_code s e c cs code k lt fits is other =
     let x : Char = record { code = code; at = c.at } in
-    let ys = logical s e (drop k (c ∷ cs)) in
+    let ys = unspliced s e (drop k (c ∷ cs)) in
     record {
       some = lt;
       fits = fits;
@@ -332,11 +332,11 @@ as_code s e c cs code k lt fits is other =
 -- A backslash and a new-line after it are removed. The new-line may be the supplied one.
 splice_more : (s : Bool) (e : Place) (c : Char) (cs : List Char) (code k m : ℕ)
     → k ≤ suc (length cs)
-    → logical s e (c ∷ cs) ≡ record { code = code; at = c.at } ∷ logical s e (drop k (c ∷ cs))
+    → unspliced s e (c ∷ cs) ≡ record { code = code; at = c.at } ∷ unspliced s e (drop k (c ∷ cs))
     → code ≡ 92
     → NewLine s e (drop k (c ∷ cs)) m
     → k + m < suc (length cs)
-    → (splices (logical s e (c ∷ cs)) ≡ splices (logical s e (drop (k + m) (c ∷ cs)))) × (splice_at_end (logical s e (c ∷ cs)) ≡ splice_at_end (logical s e (drop (k + m) (c ∷ cs))))
+    → (splices (unspliced s e (c ∷ cs)) ≡ splices (unspliced s e (drop (k + m) (c ∷ cs)))) × (splice_at_end (unspliced s e (c ∷ cs)) ≡ splice_at_end (unspliced s e (drop (k + m) (c ∷ cs))))
 splice_more s e c cs code k zero fits is p line lt =
     let l = length-drop k (c ∷ cs) in
     let z : length (drop k (c ∷ cs)) ≡ 0 = ap length (line.none refl).0 in
@@ -347,25 +347,25 @@ splice_more s e c cs code k (suc m) fits is p line lt =
     let l = length-drop k (c ∷ cs) in
     let l2 = length-drop (suc m) rest in
     let f = line.more (omega arith) in
-    let ys = logical s e (drop (suc m) rest) in
+    let ys = unspliced s e (drop (suc m) rest) in
     let same = drop-drop (suc m) k (c ∷ cs) in (
-      ap splices (is ∙ ap (λ z. x ∷ z) f.2) ∙ splice_yes x f.0 ys p f.1 ∙ ap (λ z. splices (logical s e z)) same,
-      ap splice_at_end (is ∙ ap (λ z. x ∷ z) f.2) ∙ end_more x f.0 ys f.1 (logical_some s e (drop (suc m) rest) (omega arith)) ∙ ap (λ z. splice_at_end (logical s e z)) same,
+      ap splices (is ∙ ap (λ z. x ∷ z) f.2) ∙ splice_yes x f.0 ys p f.1 ∙ ap (λ z. splices (unspliced s e z)) same,
+      ap splice_at_end (is ∙ ap (λ z. x ∷ z) f.2) ∙ end_more x f.0 ys f.1 (logical_some s e (drop (suc m) rest) (omega arith)) ∙ ap (λ z. splice_at_end (unspliced s e z)) same,
     )
 
 splice_last : (s : Bool) (e : Place) (c : Char) (cs : List Char) (code k m : ℕ)
     → k ≤ suc (length cs)
-    → logical s e (c ∷ cs) ≡ record { code = code; at = c.at } ∷ logical s e (drop k (c ∷ cs))
+    → unspliced s e (c ∷ cs) ≡ record { code = code; at = c.at } ∷ unspliced s e (drop k (c ∷ cs))
     → code ≡ 92
     → NewLine s e (drop k (c ∷ cs)) m
     → k + m ≡ suc (length cs)
     → s ≡ lacks_newline (codes_of (c ∷ cs))
-    → splice_at_end (logical s e (c ∷ cs)) ≡ Some c.at
+    → splice_at_end (unspliced s e (c ∷ cs)) ≡ Some c.at
 splice_last s e c cs code k zero fits is p line lt o =
     let x : Char = record { code = code; at = c.at } in
     let nl : Char = record { code = 10; at = e } in
     let n = line.none refl in
-    ap splice_at_end (is ∙ ap (λ z. x ∷ logical s e z) n.0 ∙ ap (λ t. x ∷ logical t e []) n.1) ∙ end_here x nl p refl
+    ap splice_at_end (is ∙ ap (λ z. x ∷ unspliced s e z) n.0 ∙ ap (λ t. x ∷ unspliced t e []) n.1) ∙ end_here x nl p refl
 splice_last s e c cs code k (suc m) fits is p line lt o =
     let x : Char = record { code = code; at = c.at } in
     let rest = drop k (c ∷ cs) in
@@ -375,12 +375,12 @@ splice_last s e c cs code k (suc m) fits is p line lt o =
     let in_bounds : k < length (codes_of (c ∷ cs)) = rw (length-map (c ∷ cs) (λ (y : Char). y.code)) (omega arith) in
     let closed : s ≡ false = o ∙ sym (open_end_drop k (codes_of (c ∷ cs)) in_bounds) ∙ ap lacks_newline (drop-map (λ (y : Char). y.code) k (c ∷ cs)) ∙ lf in
     let none = drop_all (suc m) rest (omega arith) in
-    ap splice_at_end (is ∙ ap (λ z. x ∷ z) f.2 ∙ ap (λ z. x ∷ f.0 ∷ logical s e z) none ∙ ap (λ t. x ∷ f.0 ∷ logical t e []) closed) ∙ end_here x f.0 p f.1
+    ap splice_at_end (is ∙ ap (λ z. x ∷ z) f.2 ∙ ap (λ z. x ∷ f.0 ∷ unspliced s e z) none ∙ ap (λ t. x ∷ f.0 ∷ unspliced t e []) closed) ∙ end_here x f.0 p f.1
 
 as_splice : (s : Bool) (e : Place) (c : Char) (cs : List Char) (code k m : ℕ)
     → 0 < k
     → k ≤ suc (length cs)
-    → logical s e (c ∷ cs) ≡ record { code = code; at = c.at } ∷ logical s e (drop k (c ∷ cs))
+    → unspliced s e (c ∷ cs) ≡ record { code = code; at = c.at } ∷ unspliced s e (drop k (c ∷ cs))
     → code ≡ 92
     → NewLine s e (drop k (c ∷ cs)) m
     → RemovedStep s e c cs (k + m)
@@ -399,7 +399,7 @@ as_splice s e c cs code k m lt fits is p line =
 as_coded : (s : Bool) (e : Place) (c : Char) (cs : List Char) (code k : ℕ)
     → 0 < k
     → k ≤ suc (length cs)
-    → logical s e (c ∷ cs) ≡ record { code = code; at = c.at } ∷ logical s e (drop k (c ∷ cs))
+    → unspliced s e (c ∷ cs) ≡ record { code = code; at = c.at } ∷ unspliced s e (drop k (c ∷ cs))
     → Outcome s e c cs (coded s (codes_of (c ∷ cs)) code k)
 as_coded s e c cs code k lt fits is = by (code == 92) refl
   where
@@ -411,12 +411,12 @@ as_coded s e c cs code k lt fits is = by (code == 92) refl
 
     line : code ≡ 92 → (found : Option ℕ) → leading_newline s (drop k (codes_of (c ∷ cs))) ≡ found → Outcome s e c cs (spliced found code k)
     line p None h =
-        as_code s e c cs code k lt fits is (no_line x (logical s e rest) (no_newline s e rest (ap (leading_newline s) (sym (drop-map (λ (y : Char). y.code) k (c ∷ cs))) ∙ h)))
+        as_code s e c cs code k lt fits is (no_line x (unspliced s e rest) (no_newline s e rest (ap (leading_newline s) (sym (drop-map (λ (y : Char). y.code) k (c ∷ cs))) ∙ h)))
     line p (Some m) h = as_splice s e c cs code k m lt fits is p (newline_at s e rest m (ap (leading_newline s) (sym (drop-map (λ (y : Char). y.code) k (c ∷ cs))) ∙ h))
 
     by : (t : Bool) → (code == 92) ≡ t → Outcome s e c cs (if t then spliced (leading_newline s (drop k (codes_of (c ∷ cs)))) code k else Code code k)
     by true h = line (eqb-true code 92 h) (leading_newline s (drop k (codes_of (c ∷ cs)))) refl
-    by false h = as_code s e c cs code k lt fits is (no_code x (logical s e rest) h)
+    by false h = as_code s e c cs code k lt fits is (no_code x (unspliced s e rest) h)
 
 -- A CR directly before an LF is removed.
 as_return : (s : Bool) (e : Place) (c : Char) (cs : List Char) → is_return_at (c ∷ cs) ≡ true → RemovedStep s e c cs 1

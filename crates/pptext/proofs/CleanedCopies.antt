@@ -8,7 +8,7 @@ use Rattle.pptext.specs.declared.characters.Char.{Char}
 use Rattle.pptext.specs.Clean.{cleaned, codes_of, newline, with_locations, place, next_col, without_returns, is_return_at, missing_newline, splices, splice_at_end, trigraphs, unless_at, without_bom}
 use Rattle.pptext.specs.code.LineNotes.{IsTable, OwnPrefix, PlainRun, step_len}
 use Rattle.pptext.specs.code.Steps.{CharStep, Code, Removed, lacks_newline, step_of, after_byte, place_after}
-use Rattle.pptext.specs.code.CleanedText.{supply, logical, start, logical_from, text_from, end_from, EndsAt, HasLineNotes, IsChangedText}
+use Rattle.pptext.specs.code.CleanedText.{supply, unspliced, start, unspliced_from, text_from, end_from, EndsAt, HasLineNotes, IsChangedText}
 use Rattle.pptext.proofs.CleanSteps.{CodeStep, RemovedStep, Outcome, outcome, open_end_drop, dropped, kept, returns_some}
 use Rattle.pptext.proofs.LineNoteLemmas.{Begun, begun_all, begun_more, begun_none}
 use Rattle.pptext.proofs.Offsets.{Here, here, placed_at, placed_codes, placed_tail}
@@ -40,11 +40,11 @@ step_here file raw offset h step is =
     let same : step_of (lacks_newline raw) (codes_of (h.head ∷ h.rest)) ≡ step = ap (step_of (lacks_newline raw)) h.codes ∙ is in
     subst (Outcome (lacks_newline raw) (end_place file raw) h.head h.rest) same (outcome (lacks_newline raw) (end_place file raw) h.head h.rest)
 
-behind : (file : ℕ) (raw : List ℕ) (offset : ℕ) (h : Here file raw offset) (n : ℕ) → logical (lacks_newline raw) (end_place file raw) (drop n (h.head ∷ h.rest)) ≡ logical_from file raw (offset + n)
-behind file raw offset h n = ap (λ z. logical (lacks_newline raw) (end_place file raw) z) (ap (drop n) (sym h.is) ∙ drop-drop n offset (with_locations file 1 1 raw))
+behind : (file : ℕ) (raw : List ℕ) (offset : ℕ) (h : Here file raw offset) (n : ℕ) → unspliced (lacks_newline raw) (end_place file raw) (drop n (h.head ∷ h.rest)) ≡ unspliced_from file raw (offset + n)
+behind file raw offset h n = ap (λ z. unspliced (lacks_newline raw) (end_place file raw) z) (ap (drop n) (sym h.is) ∙ drop-drop n offset (with_locations file 1 1 raw))
 
-prefix : (file : ℕ) (raw : List ℕ) (offset : ℕ) (h : Here file raw offset) → logical_from file raw offset ≡ logical (lacks_newline raw) (end_place file raw) (h.head ∷ h.rest)
-prefix file raw offset h = ap (λ z. logical (lacks_newline raw) (end_place file raw) z) h.is
+prefix : (file : ℕ) (raw : List ℕ) (offset : ℕ) (h : Here file raw offset) → unspliced_from file raw offset ≡ unspliced (lacks_newline raw) (end_place file raw) (h.head ∷ h.rest)
+prefix file raw offset h = ap (λ z. unspliced (lacks_newline raw) (end_place file raw) z) h.is
 
 pub code_at : (file : ℕ) (raw : List ℕ) (offset code n : ℕ) → offset < length raw → step_of (lacks_newline raw) (drop offset raw) ≡ Code code n → CodeAt file raw offset code n
 code_at file raw offset code n lt is =
@@ -56,7 +56,7 @@ code_at file raw offset code n lt is =
       fits = omega (arith, o.fits);
       text = ap splices (prefix file raw offset h)
           ∙ o.text
-          ∙ ap (λ (p : Place). record { code = code; at = p } ∷ splices (logical (lacks_newline raw) (end_place file raw) (drop n (h.head ∷ h.rest)))) h.at
+          ∙ ap (λ (p : Place). record { code = code; at = p } ∷ splices (unspliced (lacks_newline raw) (end_place file raw) (drop n (h.head ∷ h.rest)))) h.at
           ∙ ap (λ z. record { code = code; at = place_after (start file) (take offset raw) } ∷ splices z) (behind file raw offset h n);
       ends = ap splice_at_end (prefix file raw offset h) ∙ o.ends ∙ ap splice_at_end (behind file raw offset h n);
     }
@@ -76,12 +76,12 @@ removed_at file raw offset n lt is =
     }
 
 -- After the last byte there is only the new-line, if it is supplied.
-pub at_end : (file : ℕ) (raw : List ℕ) → logical_from file raw (length raw) ≡ supply (lacks_newline raw) (end_place file raw)
+pub at_end : (file : ℕ) (raw : List ℕ) → unspliced_from file raw (length raw) ≡ supply (lacks_newline raw) (end_place file raw)
 at_end file raw =
     let l : length (with_locations file 1 1 raw) ≡ length raw = sym (length-map (with_locations file 1 1 raw) (λ (y : Char). y.code)) ∙ ap length (placed_codes raw (start file)) in
-    ap (λ z. logical (lacks_newline raw) (end_place file raw) z) (drop_all (length raw) (with_locations file 1 1 raw) (omega arith)) ∙ alone (lacks_newline raw)
+    ap (λ z. unspliced (lacks_newline raw) (end_place file raw) z) (drop_all (length raw) (with_locations file 1 1 raw) (omega arith)) ∙ alone (lacks_newline raw)
   where
-    alone : (t : Bool) → logical t (end_place file raw) [] ≡ supply t (end_place file raw)
+    alone : (t : Bool) → unspliced t (end_place file raw) [] ≡ supply t (end_place file raw)
     alone true = refl
     alone false = refl
 

@@ -33,7 +33,7 @@ record Stopped (os : List Open) (lines : List LogicalLine) : Type 0 where
   last : List Open
   number : ℕ
   whole : lines ≡ before ++ line ∷ rest
-  advance_over_notes : Walk os before last
+  walk : Walk os before last
   fault : (after_line (role line) line last).0 ≡ Some number
 
 outcome : (os : List Open) (lines : List LogicalLine) → ((last : List Open) × Walk os lines last) ⊎ Stopped os lines
@@ -49,13 +49,13 @@ outcome os (r ∷ rs) = cases (after_line (role r) r os) refl (λ next. outcome 
       last = s.last;
       number = s.number;
       whole = ap (λ (z : List LogicalLine). r ∷ z) s.whole;
-      advance_over_notes = over e s.advance_over_notes;
+      walk = over e s.walk;
       fault = s.fault;
     })
 
     cases : (step : Option ℕ × List Open) → after_line (role r) r os ≡ step → ((next : List Open) → ((last : List Open) × Walk next rs last) ⊎ Stopped next rs) → ((last : List Open) × Walk os (r ∷ rs) last) ⊎ Stopped os (r ∷ rs)
     cases (None, next) e later = further next e (later next)
-    cases (Some n, next) e later = inr (record { before = []; line = r; rest = rs; last = os; number = n; whole = refl; advance_over_notes = stay; fault = ap (λ (z : Option ℕ × List Open). z.0) e })
+    cases (Some n, next) e later = inr (record { before = []; line = r; rest = rs; last = os; number = n; whole = refl; walk = stay; fault = ap (λ (z : Option ℕ × List Open). z.0) e })
 
 -- ---- walks and trees
 
@@ -91,7 +91,7 @@ begins_walk prefix begins = cases (outcome [] prefix) begins
     cases (inl w) b = w
     cases (inr s) (rest, tree) =
         let split : prefix ++ rest ≡ (s.before ++ s.line ∷ []) ++ (s.rest ++ rest) = ap (λ (z : List LogicalLine). z ++ rest) s.whole ∙ simp append_assoc in
-        absurd (stopped_wrong s.last s.before s.line s.number s.advance_over_notes s.fault (s.rest ++ rest, subst HasTree split tree))
+        absurd (stopped_wrong s.last s.before s.line s.number s.walk s.fault (s.rest ++ rest, subst HasTree split tree))
 
 tree_begins : (lines : List LogicalLine) → HasTree lines → BeginsTree lines
 tree_begins lines tree = ([], subst HasTree (sym (append-nil lines)) tree)
@@ -123,20 +123,20 @@ which_number Closes r (o ∷ os) n e = cc
 stopped_fault : (lines : List LogicalLine) (s : Stopped [] lines) → group_fault [] lines ≡ Some (fault_at s.number s.line)
 stopped_fault lines s =
     ap (group_fault []) s.whole
-    ∙ walk_fault (s.line ∷ s.rest) s.advance_over_notes
+    ∙ walk_fault (s.line ∷ s.rest) s.walk
     ∙ ap (λ (z : Option ℕ). fault_or s.line z (group_fault (after_line (role s.line) s.line s.last).1 s.rest)) s.fault
 
 wrong_there : (lines : List LogicalLine) (s : Stopped [] lines) → FirstWrong lines s.before s.line
-wrong_there lines s = record { rest = s.rest; whole = s.whole; begins = walk_begins s.advance_over_notes; wrong = stopped_wrong s.last s.before s.line s.number s.advance_over_notes s.fault }
+wrong_there lines s = record { rest = s.rest; whole = s.whole; begins = walk_begins s.walk; wrong = stopped_wrong s.last s.before s.line s.number s.walk s.fault }
 
 stopped_is : (lines : List LogicalLine) (s : Stopped [] lines) → IsGroupFault lines (fault_at s.number s.line)
 stopped_is lines s = cases (which_number (role s.line) s.line s.last s.number s.fault)
   where
     cases : ((s.last ≡ []) × (s.number ≡ 3)) ⊎ ((s.last ≢ []) × (s.number ≡ 4)) → IsGroupFault lines (fault_at s.number s.line)
     cases (inl (none, three)) =
-        subst (λ n. IsGroupFault lines (fault_at n s.line)) (sym three) (no_section (wrong_there lines s) (closed_tree (subst (λ (z : List Open). Walk [] s.before z) none s.advance_over_notes)))
+        subst (λ n. IsGroupFault lines (fault_at n s.line)) (sym three) (no_section (wrong_there lines s) (closed_tree (subst (λ (z : List Open). Walk [] s.before z) none s.walk)))
     cases (inr (some, four)) =
-        subst (λ n. IsGroupFault lines (fault_at n s.line)) (sym four) (after_else (wrong_there lines s) (λ tree. some (tree_closed s.last s.before s.advance_over_notes tree)))
+        subst (λ n. IsGroupFault lines (fault_at n s.line)) (sym four) (after_else (wrong_there lines s) (λ tree. some (tree_closed s.last s.before s.walk tree)))
 
 -- ---- fault 5
 
@@ -361,7 +361,7 @@ wrong_fault lines before line n b number = of_walk (begins_walk before b.begins)
         cases (None, next) e = absurd (b.wrong (walk_begins (walk_more line w e)))
         cases (Some m, next) e =
             let fault : (after_line (role line) line last).0 ≡ Some m = ap (λ (z : Option ℕ × List Open). z.0) e in
-            let s : Stopped [] lines = record { before = before; line = line; rest = b.rest; last = last; number = m; whole = b.whole; advance_over_notes = w; fault = fault } in
+            let s : Stopped [] lines = record { before = before; line = line; rest = b.rest; last = last; number = m; whole = b.whole; walk = w; fault = fault } in
             stopped_fault lines s ∙ ap (λ z. Some (fault_at z line)) (number last w m (which_number (role line) line last m fault))
 
 has_fault : (lines : List LogicalLine) (fault : Fault) → IsGroupFault lines fault → group_fault [] lines ≡ Some fault

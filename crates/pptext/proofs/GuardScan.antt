@@ -96,7 +96,7 @@ module _ (ts : List Token) (ls : List Line) (lines : AreLines ts ls) where
         last = line_from ts (get_or ls last f);
         rest = drop (last + 1) rs;
         next = sym (next_is at d l opens) ∙ e ∙ ap Some (sym n);
-        there = drop-drop (last - (at + 1)) (at + 1) rs ∙ ap (λ (z : ℕ). drop z rs) n ∙ rest_at last f w.1;
+        after_skipped = drop-drop (last - (at + 1)) (at + 1) rs ∙ ap (λ (z : ℕ). drop z rs) n ∙ rest_at last f w.1;
         closes = role_is last f w.1 ∙ closes;
         blank = blank_if_none (drop (last + 1) rs) (omega arith);
       }
@@ -113,7 +113,7 @@ module _ (ts : List Token) (ls : List Line) (lines : AreLines ts ls) where
       let next : Some (at + 1 + closed.skipped) ≡ Some last = sym closed.next ∙ sym (next_is at d l opens) ∙ e in
       let n : at + 1 + closed.skipped ≡ last = cc in
       let s : suc last ≡ last + 1 = omega arith in
-      let cons : closed.last ∷ closed.rest ≡ line_from ts (get_or ls last f) ∷ drop (last + 1) rs = sym closed.there ∙ drop-drop closed.skipped (at + 1) rs ∙ ap (λ (z : ℕ). drop z rs) n ∙ rest_at last f w.1 in
+      let cons : closed.last ∷ closed.rest ≡ line_from ts (get_or ls last f) ∷ drop (last + 1) rs = sym closed.after_skipped ∙ drop-drop closed.skipped (at + 1) rs ∙ ap (λ (z : ℕ). drop z rs) n ∙ rest_at last f w.1 in
       let head : line_from ts (get_or ls last f) ≡ closed.last = cc in
       let tail : closed.rest ≡ drop (last + 1) rs = cc in
       let none : length (tokens_of (drop (last + 1) rs)) ≡ 0 = ap (λ (z : List LogicalLine). length (tokens_of z)) (sym tail) ∙ no_tokens closed.rest closed.blank in

@@ -97,7 +97,7 @@ closed_section ps qs e k are closes blank = record {
   last = e;
   rest = part_lines qs;
   next = behind_parts ps 0 k (e ∷ part_lines qs) are ∙ one_role 0 (k + length (part_lines ps)) e (part_lines qs) Closes closes;
-  there = drop_at (part_lines ps) (e ∷ part_lines qs) (length (part_lines ps)) refl;
+  after_skipped = drop_at (part_lines ps) (e ∷ part_lines qs) (length (part_lines ps)) refl;
   closes = closes;
   blank = blank_lines qs blank;
 }
@@ -128,7 +128,7 @@ closed_first ps h rest k are here closed =
     let next : Some (k + n) ≡ Some (k + closed.skipped) = sym (behind_parts ps 0 k (h ∷ rest) are ∙ here (k + n)) ∙ closed.next in
     let same : k + n ≡ k + closed.skipped = cc in
     let skipped : n ≡ closed.skipped = omega arith in
-    let cons : h ∷ rest ≡ closed.last ∷ closed.rest = sym (drop_at (part_lines ps) (h ∷ rest) closed.skipped skipped) ∙ closed.there in
+    let cons : h ∷ rest ≡ closed.last ∷ closed.rest = sym (drop_at (part_lines ps) (h ∷ rest) closed.skipped skipped) ∙ closed.after_skipped in
     let head : h ≡ closed.last = cc in
     let tail : closed.rest ≡ rest = cc in
     (ap role head ∙ closed.closes, subst (AllByRecursion IsBlankLine) tail closed.blank)

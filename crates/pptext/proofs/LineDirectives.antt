@@ -26,4 +26,4 @@ module _ (profile : Profile) where
 
   -- Each line of a file that was read has the directive of its tokens.
   pub lines_are_directed : (file : ℕ) (bytes : List ℕ) (lines : List LogicalLine) → Reads profile file bytes (Ok lines) → AllByRecursion (IsDirected profile) lines
-  lines_are_directed file bytes lines source = subst (AllByRecursion (IsDirected profile)) (sym source.same) (pieces_are_directed source.lexemes)
+  lines_are_directed file bytes lines source = subst (AllByRecursion (IsDirected profile)) (sym source.lines_are) (pieces_are_directed source.lexemes)

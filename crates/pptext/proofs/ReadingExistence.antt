@@ -18,7 +18,7 @@ use Rattle.pptext.specs.Clean.{cleaned, codes_of}
 use Rattle.pptext.specs.Languages.{Longest, NoPrefix}
 use Rattle.pptext.specs.Kinds.{spelled_kind}
 use Rattle.pptext.specs.Spellings.{is_blank, IsBetween, IsHeader, IsSpelling}
-use Rattle.pptext.specs.Lexemes.{LexemeKind, NewLine, Blank, Comment, Spelled, Lexeme, characters_of, with_lexeme, awaits, AwaitsHeader, OpensBlock, OpensLine, ClosesAt, HeaderAt, IsLexemeAt, AreLexemes, Tokenizes, TokenizesPrefix, Unclosed, head_place}
+use Rattle.pptext.specs.Lexemes.{LexemeKind, NewLine, Blank, Comment, Spelled, Lexeme, characters_of, with_lexeme, takes_header, AwaitsHeader, OpensBlock, OpensLine, ClosesAt, HeaderAt, IsLexemeAt, AreLexemes, Tokenizes, TokenizesPrefix, Unclosed, head_place}
 use Rattle.pptext.specs.Lines.{LogicalLine, lines_of}
 use Rattle.pptext.specs.Tree.{group_fault}
 use Rattle.pptext.specs.Sources.{spliced_end, open_comment, bad_groups, Reads, file_fault}
@@ -119,7 +119,7 @@ awaits_told : (profile : Profile) (line : List (List ℕ)) → Told (AwaitsHeade
 awaits_told profile [] = inr (λ e. e)
 awaits_told profile (a ∷ []) = inr (λ e. e)
 awaits_told profile (a ∷ b ∷ c ∷ more) = inr (λ e. e)
-awaits_told profile (a ∷ b ∷ []) = passes_told ((bytes_eq a (codes "#") || bytes_eq a (codes "%:")) && awaits profile b)
+awaits_told profile (a ∷ b ∷ []) = passes_told ((bytes_eq a (codes "#") || bytes_eq a (codes "%:")) && takes_header profile b)
 
 -- Whether `*/` occurs at index k can be decided.
 closes_told : (hay : List ℕ) (k : ℕ) → Told (OccursAt hay (codes "*/") k)
@@ -204,11 +204,11 @@ record Ended (profile : Profile) (line : List (List ℕ)) (cs : List Char) : Typ
   stops : (rest ≡ []) ⊎ (OpensBlock (codes_of rest) × ClosesAt (codes_of rest) None)
 
 grow : (profile : Profile) (line : List (List ℕ)) (cs : List Char) (m : ℕ) (s : LexemeKind) → m ≤ length cs → IsLexemeAt profile line (codes_of cs) m s → Ended profile (with_lexeme line (record { kind = s; chars = take m cs }) s) (drop m cs) → Ended profile line cs
-grow profile line cs m s fits stands more =
+grow profile line cs m s fits is_lexeme more =
     let p : Lexeme = record { kind = s; chars = take m cs } in
     let whole : take m cs ++ (characters_of more.lexemes ++ more.rest) ≡ cs = ap (λ z. take m cs ++ z) more.whole ∙ take-append-drop m cs in
     let len : length (take m cs) ≡ m = length-take-le m cs fits in
-    let here : IsLexemeAt profile line (codes_of (take m cs ++ (characters_of more.lexemes ++ more.rest))) (length (take m cs)) s = rw (whole, len) stands in
+    let here : IsLexemeAt profile line (codes_of (take m cs ++ (characters_of more.lexemes ++ more.rest))) (length (take m cs)) s = rw (whole, len) is_lexeme in
     record {
       lexemes = p ∷ more.lexemes;
       rest = more.rest;
@@ -223,11 +223,11 @@ ended profile zero line (c ∷ cs) le = absurd (omega arith)
 ended profile (suc n) line (c ∷ cs) le = cases (ended profile n) (some_found profile line c.code (codes_of cs))
   where
     cases : ((l : List (List ℕ)) (ds : List Char) → length ds ≤ n → Ended profile l ds) → Found profile line (codes_of (c ∷ cs)) → Ended profile line (c ∷ cs)
-    cases later (inl (m, s, fits, stands)) =
-        let some : 0 < m = some_piece profile line (codes_of (c ∷ cs)) m s stands in
+    cases later (inl (m, s, fits, is_lexeme)) =
+        let some : 0 < m = some_piece profile line (codes_of (c ∷ cs)) m s is_lexeme in
         let codes_length : length (codes_of (c ∷ cs)) ≡ length (c ∷ cs) = length-map (c ∷ cs) (λ (z : Char). z.code) in
         let d : length (drop m (c ∷ cs)) ≡ length (c ∷ cs) - m = length-drop m (c ∷ cs) in
-        grow profile line (c ∷ cs) m s (omega arith) stands (later (with_lexeme line (record { kind = s; chars = take m (c ∷ cs) }) s) (drop m (c ∷ cs)) (omega arith))
+        grow profile line (c ∷ cs) m s (omega arith) is_lexeme (later (with_lexeme line (record { kind = s; chars = take m (c ∷ cs) }) s) (drop m (c ∷ cs)) (omega arith))
     cases later (inr opens) = record { lexemes = []; rest = c ∷ cs; whole = refl; each = tt; stops = inr opens }
 
 -- A text has a tokenization or an unclosed comment.
@@ -239,7 +239,7 @@ some_cut profile cs = cases (ended profile (length cs) [] cs (omega arith))
       where
         stop : (e.rest ≡ []) ⊎ (OpensBlock (codes_of e.rest) × ClosesAt (codes_of e.rest) None) → ((ps : List Lexeme) × Tokenizes profile cs ps) ⊎ ((p : Place) × Unclosed profile cs p)
         stop (inl none) = inl (e.lexemes, subst (λ (z : List Char). TokenizesPrefix profile cs e.lexemes z) none (record { whole = e.whole; each = e.each }))
-        stop (inr opens) = inr (head_place e.rest, record { lexemes = e.lexemes; rest = e.rest; tokenized = record { whole = e.whole; each = e.each }; opens = opens.0; never = opens.1; here = refl })
+        stop (inr opens) = inr (head_place e.rest, record { lexemes = e.lexemes; rest = e.rest; tokenized = record { whole = e.whole; each = e.each }; opens = opens.0; not_closed = opens.1; at_is = refl })
 
 -- A text has a tokenization exactly if it has no unclosed comment.
 pub tokenizes_unless_unclosed : (profile : Profile) (chars : List Char) → ((lexemes : List Lexeme) × Tokenizes profile chars lexemes) ↔ ((at : Place) → ¬ Unclosed profile chars at)
@@ -255,7 +255,7 @@ module _ (profile : Profile) (file : ℕ) (bytes : List ℕ) where
   SomeReading = (r : Result (List LogicalLine) Fault) × Reads profile file bytes r
 
   of_groups : (chars : List Char) (ps : List Lexeme) → cleaned file bytes ≡ Ok chars → Tokenizes profile chars ps → (o : Option Fault) → group_fault [] (lines_of profile ps) ≡ o → SomeReading
-  of_groups chars ps e tokenized None g = (Ok (lines_of profile ps), record { chars = chars; lexemes = ps; cleaned = e; tokenized = tokenized; grouped = g; same = refl })
+  of_groups chars ps e tokenized None g = (Ok (lines_of profile ps), record { chars = chars; lexemes = ps; cleaned = e; tokenized = tokenized; grouped = g; lines_are = refl })
   of_groups chars ps e tokenized (Some f) g = (Err f, bad_groups e tokenized g)
 
   of_cut : (chars : List Char) → cleaned file bytes ≡ Ok chars → ((ps : List Lexeme) × Tokenizes profile chars ps) ⊎ ((p : Place) × Unclosed profile chars p) → SomeReading

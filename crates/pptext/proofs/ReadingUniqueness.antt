@@ -36,7 +36,7 @@ module _ (profile : Profile) (file : ℕ) (bytes : List ℕ) where
 
   one_source : (a b : List LogicalLine) → IsSource profile file bytes a → IsSource profile file bytes b → a ≡ b
   one_source a b s t =
-      s.same ∙ ap (lines_of profile) (one_lines s.chars t.chars s.lexemes t.lexemes s.cleaned t.cleaned s.tokenized t.tokenized) ∙ sym t.same
+      s.lines_are ∙ ap (lines_of profile) (one_lines s.chars t.chars s.lexemes t.lexemes s.cleaned t.cleaned s.tokenized t.tokenized) ∙ sym t.lines_are
 
   one_fault : (f g : Fault) → IsFaultOf profile file bytes f → IsFaultOf profile file bytes g → f ≡ g
   one_fault f g (spliced_end {p = p} e) (spliced_end {p = q} h) =

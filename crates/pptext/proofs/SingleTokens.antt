@@ -74,8 +74,8 @@ pub relexes_tokens : (profile : Profile) (chars : List Char) (lexemes : List Lex
 relexes_tokens profile chars lexemes tokenized p k (i, lt, e) kind plain =
     let found = stands_within profile [] lexemes [] i p tokenized.each lt e in
     let whole : codes_of (p.chars ++ found.1) ≡ codes_of p.chars ++ codes_of found.1 = map-append (λ (c : Char). c.code) p.chars found.1 in
-    let stands : IsLexemeAt profile found.0 (codes_of (p.chars ++ found.1)) (length p.chars) (Spelled k) = subst (IsLexemeAt profile found.0 (codes_of (p.chars ++ found.1)) (length p.chars)) kind found.2 in
-    let here : IsLexemeAt profile found.0 (codes_of p.chars ++ codes_of found.1) (length (codes_of p.chars)) (Spelled k) = rw (length-map p.chars (λ (c : Char). c.code), ← whole) stands in
+    let is_lexeme : IsLexemeAt profile found.0 (codes_of (p.chars ++ found.1)) (length p.chars) (Spelled k) = subst (IsLexemeAt profile found.0 (codes_of (p.chars ++ found.1)) (length p.chars)) kind found.2 in
+    let here : IsLexemeAt profile found.0 (codes_of p.chars ++ codes_of found.1) (length (codes_of p.chars)) (Spelled k) = rw (length-map p.chars (λ (c : Char). c.code), ← whole) is_lexeme in
     stands_one_token (codes_of p.chars) k (stands_alone profile found.0 (codes_of p.chars) (codes_of found.1) k plain here)
 
 first_blank : (text : List ℕ) (n : ℕ) → 0 < n → n ≤ length text → AreBlanks n text → IsLexemeAt C11 [] text 1 Blank

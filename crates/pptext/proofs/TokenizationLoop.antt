@@ -221,4 +221,4 @@ module _ (profile : Profile) (chars : List Char) where
       → p ≡ head_place (drop at chars)
       → OpensBlock (drop at (codes_of chars)) × ClosesAt (drop at (codes_of chars)) None
       → Unclosed profile chars p
-  left_unclosed at start space ts ls p st is open_block = record { lexemes = st.lexemes; rest = drop at chars; tokenized = st.tokenized; opens = rw (codes_from chars at) open_block.0; never = rw (codes_from chars at) open_block.1; here = is }
+  left_unclosed at start space ts ls p st is open_block = record { lexemes = st.lexemes; rest = drop at chars; tokenized = st.tokenized; opens = rw (codes_from chars at) open_block.0; not_closed = rw (codes_from chars at) open_block.1; at_is = is }

@@ -14,11 +14,11 @@ Halts profile rest = (line : List (List ℕ)) (n : ℕ) (s : LexemeKind) → n �
 
 halts_here : (profile : Profile) (line : List (List ℕ)) (p : Lexeme) (ps : List Lexeme) (rest here : List Char) → Halts profile here → here ≡ characters_of (p ∷ ps) ++ rest → IsLexemeAt profile line (codes_of (p.chars ++ (characters_of ps ++ rest))) (length p.chars) p.kind → ⊥
 unfolding Halts
-halts_here profile line p ps rest here halts e stands =
+halts_here profile line p ps rest here halts e is_lexeme =
     let whole : here ≡ p.chars ++ (characters_of ps ++ rest) = e ∙ append_assoc p.chars (characters_of ps) rest in
     let l = length-append p.chars (characters_of ps ++ rest) in
     let h = ap length whole in
-    halts line (length p.chars) p.kind (omega arith) (subst (λ z. IsLexemeAt profile line (codes_of z) (length p.chars) p.kind) (sym whole) stands)
+    halts line (length p.chars) p.kind (omega arith) (subst (λ z. IsLexemeAt profile line (codes_of z) (length p.chars) p.kind) (sym whole) is_lexeme)
 
 same_piece : (p q : Lexeme) → p.chars ≡ q.chars → p.kind ≡ q.kind → p ≡ q
 same_piece p q chars kind = ap (λ (z : List Char). record { kind = p.kind; chars = z }) chars ∙ ap (λ (z : LexemeKind). record { kind = z; chars = q.chars }) kind
@@ -41,11 +41,11 @@ one_each profile line (p ∷ ps) (q ∷ qs) r s a b x y e =
 
 end_halts : (profile : Profile) → Halts profile []
 unfolding Halts
-end_halts profile line n s le stands = let some = some_piece profile line [] n s stands in omega arith
+end_halts profile line n s le is_lexeme = let some = some_piece profile line [] n s is_lexeme in omega arith
 
 open_halts : (profile : Profile) (rest : List Char) → OpensBlock (codes_of rest) → ClosesAt (codes_of rest) None → Halts profile rest
 unfolding Halts
-open_halts profile rest opens never line n s le stands = no_piece_open profile line (codes_of rest) n s opens never stands
+open_halts profile rest opens never line n s le is_lexeme = no_piece_open profile line (codes_of rest) n s opens never is_lexeme
 
 pub one_tokenization : (profile : Profile) (chars : List Char) (a b : List Lexeme) → Tokenizes profile chars a → Tokenizes profile chars b → a ≡ b
 one_tokenization profile chars a b x y = (one_each profile [] a b [] [] x.each y.each (end_halts profile) (end_halts profile) (x.whole ∙ sym y.whole)).0
@@ -53,12 +53,12 @@ one_tokenization profile chars a b x y = (one_each profile [] a b [] [] x.each y
 -- A text that has a tokenization has no unclosed comment.
 pub cut_closed : (profile : Profile) (chars : List Char) (ps : List Lexeme) (p : Place) → Tokenizes profile chars ps → Unclosed profile chars p → ⊥
 cut_closed profile chars ps p x u =
-    let same : u.rest ≡ [] = (one_each profile [] u.lexemes ps u.rest [] u.tokenized.each x.each (open_halts profile u.rest u.opens u.never) (end_halts profile) (u.tokenized.whole ∙ sym x.whole)).1 in
+    let same : u.rest ≡ [] = (one_each profile [] u.lexemes ps u.rest [] u.tokenized.each x.each (open_halts profile u.rest u.opens u.not_closed) (end_halts profile) (u.tokenized.whole ∙ sym x.whole)).1 in
     let opens : OpensBlock [] = subst (λ z. OpensBlock (codes_of z)) same u.opens in
     cc
 
 -- The location of an unclosed comment is unique.
 pub one_unclosed : (profile : Profile) (chars : List Char) (p q : Place) → Unclosed profile chars p → Unclosed profile chars q → p ≡ q
 one_unclosed profile chars p q u v =
-    let same : u.rest ≡ v.rest = (one_each profile [] u.lexemes v.lexemes u.rest v.rest u.tokenized.each v.tokenized.each (open_halts profile u.rest u.opens u.never) (open_halts profile v.rest v.opens v.never) (u.tokenized.whole ∙ sym v.tokenized.whole)).1 in
-    u.here ∙ ap head_place same ∙ sym v.here
+    let same : u.rest ≡ v.rest = (one_each profile [] u.lexemes v.lexemes u.rest v.rest u.tokenized.each v.tokenized.each (open_halts profile u.rest u.opens u.not_closed) (open_halts profile v.rest v.opens v.not_closed) (u.tokenized.whole ∙ sym v.tokenized.whole)).1 in
+    u.at_is ∙ ap head_place same ∙ sym v.at_is

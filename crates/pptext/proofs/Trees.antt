@@ -34,10 +34,10 @@ mutual
       ∙ branches_pass bs r false os (part_lines qs ++ rest) are.2
       ∙ parts_pass qs os rest are.3
 
-  branches_pass : (bs : Branches) (o : LogicalLine) (last : Bool) (os : List Open) (rest : List LogicalLine) → AreBranches last bs → group_fault ((o, last) ∷ os) (branch_lines bs ++ rest) ≡ group_fault os rest
-  branches_pass (End r) o last os rest are = one_line ((o, last) ∷ os) r rest Closes are
-  branches_pass (Branch r ps bs) o last os rest (first, final, is, parts, more) =
-      ap (group_fault ((o, last) ∷ os)) (branch_line r ps bs rest)
+  branches_pass : (bs : Branches) (o : LogicalLine) (has_else : Bool) (os : List Open) (rest : List LogicalLine) → AreBranches has_else bs → group_fault ((o, has_else) ∷ os) (branch_lines bs ++ rest) ≡ group_fault os rest
+  branches_pass (End r) o has_else os rest are = one_line ((o, has_else) ∷ os) r rest Closes are
+  branches_pass (Branch r ps bs) o has_else os rest (first, final, is, parts, more) =
+      ap (group_fault ((o, has_else) ∷ os)) (branch_line r ps bs rest)
       ∙ ap (λ (z : Bool). group_fault ((o, z) ∷ os) (r ∷ part_lines ps ++ (branch_lines bs ++ rest))) first
       ∙ one_line ((o, false) ∷ os) r (part_lines ps ++ (branch_lines bs ++ rest)) (Elses final) is
       ∙ parts_pass ps ((o, final) ∷ os) (branch_lines bs ++ rest) parts
@@ -177,9 +177,9 @@ mutual
       (read_parts ps (branch_lines b ++ (part_lines qs ++ rest)) ((b, qs) ∷ bs) are.1
       (read_branches b false (part_lines qs ++ rest) qs bs are.2 (read_parts qs rest bs are.3 e)))
 
-  read_branches : (b : Branches) (last : Bool) (rest : List LogicalLine) (qs : GroupParts) (bs : List (Branches × GroupParts)) → AreBranches last b → read rest ≡ (qs, bs) → read (branch_lines b ++ rest) ≡ (Done, (b, qs) ∷ bs)
-  read_branches (End r) last rest qs bs are e = read_line r rest Closes (qs, bs) are e
-  read_branches (Branch r ps b) last rest qs bs (first, final, is, parts, more) e =
+  read_branches : (b : Branches) (has_else : Bool) (rest : List LogicalLine) (qs : GroupParts) (bs : List (Branches × GroupParts)) → AreBranches has_else b → read rest ≡ (qs, bs) → read (branch_lines b ++ rest) ≡ (Done, (b, qs) ∷ bs)
+  read_branches (End r) has_else rest qs bs are e = read_line r rest Closes (qs, bs) are e
+  read_branches (Branch r ps b) has_else rest qs bs (first, final, is, parts, more) e =
       ap read (branch_line r ps b rest)
       ∙ read_line r (part_lines ps ++ (branch_lines b ++ rest)) (Elses final) (ps, (b, qs) ∷ bs) is
       (read_parts ps (branch_lines b ++ rest) ((b, qs) ∷ bs) parts (read_branches b final rest qs bs more e))

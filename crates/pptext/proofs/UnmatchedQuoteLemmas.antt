@@ -16,8 +16,8 @@ pub knows_nothing : (text : List ℕ) (n : ℕ) → n ≡ length text → KnowsU
 knows_nothing text n e = record { single = λ r lt q. absurd (omega arith); double = λ r lt q. absurd (omega arith) }
 
 -- Unmatched quotes of a text are also unmatched in its suffixes.
-lone_behind : (quote : ℕ) (text : List ℕ) (n left : ℕ) → AreUnmatched quote text (length text - left) → AreUnmatched quote (drop n text) (length (drop n text) - left)
-lone_behind quote text n left h r lt e =
+lone_behind : (quote : ℕ) (text : List ℕ) (n unknown_len : ℕ) → AreUnmatched quote text (length text - unknown_len) → AreUnmatched quote (drop n text) (length (drop n text) - unknown_len)
+lone_behind quote text n unknown_len h r lt e =
     let d : length (drop n text) ≡ length text - n = length-drop n text in
     let same : (n + r) + 1 ≡ n + (r + 1) = omega arith in
     subst (λ t. NoPrefix (IsQuoted quote) t) (ap (λ i. drop i text) same ∙ sym (drop-drop (r + 1) n text)) (h (n + r) (omega (arith, d)) (sym (get_or-drop n text r 0) ∙ e))

@@ -23,13 +23,13 @@ class_of Ignored = class.Ignored
 class_of d = class.Control
 
 -- what the condition of a line asks, where it has one
-abbrev pub asked_by : Class → Option Question
-asked_by (class.Opens q) = Some q
-asked_by (class.Elifs q) = Some q
-asked_by c = None
+abbrev pub question_in : Class → Option Question
+question_in (class.Opens q) = Some q
+question_in (class.Elifs q) = Some q
+question_in c = None
 
 abbrev pub question_of : Directive → Option Question
-question_of d = asked_by (class_of d)
+question_of d = question_in (class_of d)
 
 -- of the directive of a line, where it is one
 abbrev pub class_by : Option Directive → Option Class

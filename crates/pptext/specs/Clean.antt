@@ -34,7 +34,7 @@ with_locations file line col [] = []
 with_locations file line col (b ∷ bs) =
     record { code = b; at = place file line col } ∷ (if b == newline then with_locations file (line + 1) 1 bs else with_locations file line (col + 1) bs)
 
--- the bytes after a byte order mark
+-- the bytes after the byte order mark, if there is one
 abbrev pub without_bom : List ℕ → List ℕ
 without_bom (a ∷ b ∷ c ∷ bs) = if a == 0xef && (b == 0xbb && c == 0xbf) then bs else a ∷ b ∷ c ∷ bs
 without_bom bs = bs
@@ -49,7 +49,7 @@ abbrev pub without_returns : List Char → List Char
 without_returns [] = []
 without_returns (c ∷ cs) = if is_return_at (c ∷ cs) then without_returns cs else c ∷ without_returns cs
 
--- a new-line directly after the last byte, if there is text and it has none
+-- the new-line that is supplied after the last byte, if the text is not empty and does not end in one
 abbrev pub missing_newline : List Char → List Char
 missing_newline [] = []
 missing_newline (c ∷ []) = if c.code == newline then [] else record { code = newline; at = next_col c.at } ∷ []
@@ -58,7 +58,7 @@ missing_newline (c ∷ d ∷ cs) = missing_newline (d ∷ cs)
 abbrev pub terminated : List Char → List Char
 terminated cs = cs ++ missing_newline cs
 
--- the first of three functions on lists: line ends
+-- the first of the three steps of phases 1 and 2: the bytes with their locations, each line ended by one LF
 abbrev pub line_ends : ℕ → List ℕ → List Char
 line_ends file bytes = terminated (without_returns (with_locations file 1 1 (without_bom bytes)))
 
@@ -75,7 +75,7 @@ only_code cs = 0
 
 abbrev pub replaced_by : List (List ℕ × List ℕ) → ℕ → ℕ
 replaced_by [] c = 0
-replaced_by ((third, whole) ∷ more) c = if c == only_code third then only_code whole else replaced_by more c
+replaced_by ((third, replacement) ∷ more) c = if c == only_code third then only_code replacement else replaced_by more c
 
 -- the character that replaces `??` and this character, or 0
 abbrev pub trigraph : ℕ → ℕ
@@ -86,7 +86,7 @@ abbrev pub trigraph_at : List Char → ℕ
 trigraph_at (a ∷ b ∷ c ∷ cs) = if a.code == 63 && b.code == 63 then trigraph c.code else 0
 trigraph_at cs = 0
 
--- Trigraphs are replaced from the left. The next `skip` characters belong to the one before.
+-- Replaces trigraphs from left to right. The next `skip` characters belong to a trigraph that has been replaced.
 abbrev pub trigraphs_after : ℕ → List Char → List Char
 trigraphs_after skip [] = []
 trigraphs_after (suc skip) (c ∷ cs) = trigraphs_after skip cs
@@ -94,7 +94,7 @@ trigraphs_after zero (c ∷ cs) =
     let r = trigraph_at (c ∷ cs) in
     if r == 0 then c ∷ trigraphs_after 0 cs else record { code = r; at = c.at } ∷ trigraphs_after 2 cs
 
--- the second function: trigraphs
+-- the second step: each trigraph is replaced
 abbrev pub trigraphs : List Char → List Char
 trigraphs cs = trigraphs_after 0 cs
 
@@ -108,7 +108,7 @@ splices_after skip [] = []
 splices_after (suc skip) (c ∷ cs) = splices_after skip cs
 splices_after zero (c ∷ cs) = if splice_at (c ∷ cs) then splices_after 1 cs else c ∷ splices_after 0 cs
 
--- the third function: each backslash directly before a new-line is deleted with it
+-- the third step: each backslash directly before a new-line is deleted, and the new-line with it
 abbrev pub splices : List Char → List Char
 splices cs = splices_after 0 cs
 

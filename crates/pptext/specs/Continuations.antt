@@ -31,7 +31,7 @@ EndsInUniversal text = (prefix name : List ℕ) × (text ≡ prefix ++ name) × 
 abbrev pub EndsInExponent : List ℕ → Type 0
 EndsInExponent text = IsTrue (is_exponent (last_of text)) × (¬ EndsInUniversal text)
 
--- more of this kind; a sign continues a number only after an exponent's letter
+-- `more` continues a token of this kind with the spelling `text`; a sign continues a number only after an exponent's letter
 abbrev pub ContinuesToken : Kind → List ℕ → List ℕ → Type 0
 ContinuesToken Ident text more = IsIdentRest more
 ContinuesToken Number text more = IsNumberRest more ⊎ (EndsInExponent text × IsSignedRest more)

@@ -5,7 +5,7 @@ use Rattle.pptext.specs.declared.tokens.Memory.{Memory}
 use Rattle.pptext.specs.declared.error.Error.{Error}
 use Rattle.pptext.specs.declared.error.Error.TheVariants.{Fault as Faulted, Memory as OutOfMemory}
 
--- a value has this meaning, and a fault is the fault. Nothing is said of a failed allocation.
+-- The result agrees with the specified one: a value by its meaning, and a fault exactly. After a failed allocation, nothing is required.
 abbrev pub Returns : {A B : Type 0} → Result A Error → (A → B) → Result B Fault → Type 0
 Returns (Ok a) meaning value = Ok (meaning a) ≡ value
 Returns (Err (Faulted f)) meaning value = Err f ≡ value

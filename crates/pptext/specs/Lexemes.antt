@@ -36,12 +36,12 @@ with_lexeme line p Comment = line
 with_lexeme line p (Spelled k) = line ++ codes_of p.chars ∷ []
 
 -- the names of the directives whose operand may be a header name: `include` (6.10.2), and in GNU C `include_next` (gcc's manual, "Wrapper Headers")
-abbrev pub awaits : Profile → List ℕ → Bool
-awaits profile name = bytes_eq name (codes "include") || (is_gnu profile && bytes_eq name (codes "include_next"))
+abbrev pub takes_header : Profile → List ℕ → Bool
+takes_header profile name = bytes_eq name (codes "include") || (is_gnu profile && bytes_eq name (codes "include_next"))
 
 -- a header name may follow: the line so far is `#` or `%:` and then the name of such a directive (6.4.7)
 abbrev pub AwaitsHeader : Profile → List (List ℕ) → Type 0
-AwaitsHeader profile (hash ∷ name ∷ []) = IsTrue ((bytes_eq hash (codes "#") || bytes_eq hash (codes "%:")) && awaits profile name)
+AwaitsHeader profile (hash ∷ name ∷ []) = IsTrue ((bytes_eq hash (codes "#") || bytes_eq hash (codes "%:")) && takes_header profile name)
 AwaitsHeader profile line = ⊥
 
 abbrev pub BeginsWith : List ℕ → List ℕ → Type 0
@@ -107,5 +107,5 @@ pub record Unclosed (profile : Profile) (chars : List Char) (at : Place) : Type 
   pub rest : List Char
   pub tokenized : TokenizesPrefix profile chars lexemes rest
   pub opens : OpensBlock (codes_of rest)
-  pub never : ClosesAt (codes_of rest) None
-  pub here : at ≡ head_place rest
+  pub not_closed : ClosesAt (codes_of rest) None
+  pub at_is : at ≡ head_place rest

@@ -3,7 +3,7 @@ use Rattle.std.specs.Prelude.{◌≡◌, ℕ, List, Option, None, Some}
 use Rattle.pptext.specs.declared.tokens.Kind.{Kind}
 use Rattle.pptext.specs.Sources.{IsOneToken, IsUnmatchedQuote}
 
--- the text is one token of this kind, and no unmatched quote; or it is no such token
+-- Some: the text is one token of this kind, and no unmatched quote. None: it is not one token, or it is an unmatched quote.
 abbrev pub Lexes : List ℕ → Option Kind → Type 0
 Lexes text None = (k : Kind) → IsOneToken text k → IsUnmatchedQuote text
 Lexes text (Some k) = IsOneToken text k × (¬ IsUnmatchedQuote text)

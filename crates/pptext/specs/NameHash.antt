@@ -16,7 +16,7 @@ unfoldable pub words : List ℕ → ℕ → ℕ → ℕ → ℕ
 words bs factor state zero = state
 words bs factor state (suc n) = hash_step factor (words bs factor state n) (read_u64 bs (8 * n))
 
--- the hash after a text. Its last word is its last eight bytes, or all if it has fewer. The factor is the key with the length.
+-- the hash after a text. Its last word is its last eight bytes, or all if it has fewer. The factor is the exclusive or of the key and the length.
 unfoldable pub hash_after : ℕ → ℕ → List ℕ → ℕ
 hash_after state factor bs =
     if nat_lt (length bs) 8 then hash_step factor state (read_short bs)
@@ -25,6 +25,6 @@ hash_after state factor bs =
 abbrev pub write : NameHasher → List ℕ → NameHasher
 write h bs = record { state = hash_after h.state (bit_xor h.key (length bs)) bs; key = h.key }
 
--- the number with this index that a drawn key gives
+-- the word with this index that is derived from a random key
 abbrev pub key_word : RandomState → ℕ → ℕ
-key_word key place = sip.finish (fold sip.write (initial_hasher key) (u64 place))
+key_word key index = sip.finish (fold sip.write (initial_hasher key) (u64 index))

@@ -3,7 +3,7 @@ use Rattle.std.specs.Prelude.{Bool, true, false}
 use Rattle.pptext.specs.declared.sources.Profile.{Profile}
 use Rattle.pptext.specs.declared.sources.Profile.TheVariants.{C11, Later, Gnu}
 
--- whether it has the directives that ISO/IEC 9899:2024 added, and `#pragma once`
+-- whether the profile has `#elifdef` and `#elifndef` of ISO/IEC 9899:2024, and `#pragma once`
 abbrev pub has_later : Profile → Bool
 has_later C11 = false
 has_later Later = true

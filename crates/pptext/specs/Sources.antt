@@ -31,7 +31,7 @@ spans k start (r ∷ rs) =
 abbrev pub tokens_of : List LogicalLine → List Token
 tokens_of rs = flat_map (λ r. r.tokens) rs
 
--- the lines that these spans of the tokens are
+-- the lines into which these spans divide the tokens
 abbrev pub lines_from : List Token → List Line → List LogicalLine
 lines_from ts ls = map (λ l. record { tokens = take (l.end - l.start) (drop l.start ts); number = l.number; directive = l.directive }) ls
 
@@ -45,7 +45,7 @@ pub record IsSource (profile : Profile) (file : ℕ) (bytes : List ℕ) (lines :
   pub cleaned : cleaned file bytes ≡ Ok chars
   pub tokenized : Tokenizes profile chars lexemes
   pub grouped : group_fault [] (lines_of profile lexemes) ≡ None
-  pub same : lines ≡ lines_of profile lexemes
+  pub lines_are : lines ≡ lines_of profile lexemes
 
 -- the first fault of a file
 pub data IsFaultOf (profile : Profile) (file : ℕ) (bytes : List ℕ) : Fault → Type 0 where

@@ -44,7 +44,7 @@ is_ident_byte c = is_nondigit c || is_digit c
 abbrev pub IsIdent : List ℕ → Type 0
 IsIdent = Then IsNondigit (Repeated (Either IsNondigit (One is_digit)))
 
--- what follows the first digit of a number (6.4.8)
+-- one of the parts that follow the first digit of a number (6.4.8)
 abbrev pub IsNumberPart : List ℕ → Type 0
 IsNumberPart = Either IsNondigit (Either (One (λ c. is_digit c || c == 46)) (Then (One is_exponent) (One is_sign)))
 

@@ -1,4 +1,4 @@
--- The groups of a file by the grammar of 6.10, by the classes of its directives alone.
+-- The groups of a file by the grammar of 6.10. They depend only on the classes of its directives.
 use Rattle.std.specs.Prelude.{◌≡◌, ◌≢◌, ℕ, zero, suc, ◌+◌, List, [], ◌∷◌, ◌++◌, Bool, true, false, Option, None, Some}
 use Rattle.std.specs.List.{AllByRecursion}
 use Rattle.pptext.specs.declared.tokens.Place.{Place}
@@ -28,12 +28,12 @@ role_in class.Else = Elses true
 role_in class.Endif = Closes
 role_in c = ControlLine
 
-abbrev pub role_named : Directive → Role
-role_named d = role_in (class_of d)
+abbrev pub role_of_directive : Directive → Role
+role_of_directive d = role_in (class_of d)
 
 abbrev pub role_by : Option Directive → Role
 role_by None = TextLine
-role_by (Some d) = role_named d
+role_by (Some d) = role_of_directive d
 
 abbrev pub role : LogicalLine → Role
 role r = role_by r.directive
@@ -67,7 +67,7 @@ abbrev pub BeginsTextLines : GroupParts → Type 0
 BeginsTextLines (TextLines rs ps) = Unit {0}
 BeginsTextLines ps = ⊥
 
--- Each line is where its directive's name puts it, text lines stand together as far as possible, and only `#endif` follows `#else`.
+-- Each line has the role that its position requires, consecutive text lines form one part, and only `#endif` follows the group of `#else`.
 abbrev mutual
   pub AreGroupParts : GroupParts → Type 0
   AreGroupParts Done = Unit {0}
@@ -76,8 +76,8 @@ abbrev mutual
   AreGroupParts (Section r ps bs qs) = (role r ≡ Opens) × AreGroupParts ps × AreBranches false bs × AreGroupParts qs
 
   pub AreBranches : Bool → Branches → Type 0
-  AreBranches last (End r) = role r ≡ Closes
-  AreBranches last (Branch r ps bs) = (last ≡ false) × (final : Bool) × (role r ≡ Elses final) × AreGroupParts ps × AreBranches final bs
+  AreBranches has_else (End r) = role r ≡ Closes
+  AreBranches has_else (Branch r ps bs) = (has_else ≡ false) × (final : Bool) × (role r ≡ Elses final) × AreGroupParts ps × AreBranches final bs
 
 -- the tree of a file
 pub record Tree (lines : List LogicalLine) (parts : GroupParts) : Type 0 where

@@ -184,12 +184,12 @@ impl TextCursor {
 }
 
 /// Returns the number of bytes before this line note, or before the end of the file if there is none.
-fn plain_run_at(line_notes: &[u32], at: usize, last: usize) -> usize
-    ensures { result ≡ slice_index_or line_notes.now at last }
+fn plain_run_at(line_notes: &[u32], at: usize, to_end: usize) -> usize
+    ensures { result ≡ slice_index_or line_notes.now at to_end }
 {
     match line_notes.get(at) {
         Some(len) => *len as usize,
-        None => last,
+        None => to_end,
     }
 }
 
@@ -230,7 +230,7 @@ impl<'a> CleanedText<'a> {
     /// change anything.
     pub(crate) fn new(file: u32, raw: &'a [u8], cleaned: Option<ChangedText>) -> CleanedText<'a>
         requires small { length raw.now ≤ longest }
-        requires made { MatchOption cleaned (IsChangedText raw.now raw.now []) (λ c. IsChangedText raw.now c.codes.items c.line_notes.items) }
+        requires is_cleaned { MatchOption cleaned (IsChangedText raw.now raw.now []) (λ c. IsChangedText raw.now c.codes.items c.line_notes.items) }
         ensures { result ≡ text_from file raw.now 0 }
     {
         CleanedText { file, raw, cleaned }

@@ -11,7 +11,7 @@ use crate::tokens::{Token, is_spelled};
 /// What the condition of a line asks (6.10.1).
 #[derive(Clone, Copy, PartialEq, Eq, Debug)]
 pub enum Question {
-    /// Whether a name is a macro's, or where false, whether it isn't.
+    /// Whether a name is defined as a macro (true), or is not defined (false).
     Defined(bool),
     /// Whether an expression isn't 0.
     Value,
@@ -28,7 +28,7 @@ pub enum Class {
     Else,
     /// `#endif` (6.10.1)
     Endif,
-    /// A file is included: `#include` (6.10.2), or where true, `#include_next` (GNU C).
+    /// A file is included: `#include` (false, 6.10.2) or `#include_next` (true, GNU C).
     Includes(bool),
     /// The tokens are a message: `#error` (6.10.5).
     Error,
@@ -167,7 +167,7 @@ fn plain_directive(name: &[u8]) -> Directive
     Directive::Unknown
 }
 
-/// Returns the directive that a name is, of those that C23 added.
+/// Returns the directive with this name, if it is one of the branches that C23 added.
 fn later_directive(name: &[u8]) -> Directive
     ensures { result ≡ named_in later_names name.now }
 {
@@ -180,7 +180,7 @@ fn later_directive(name: &[u8]) -> Directive
     Directive::Unknown
 }
 
-/// Returns the directive that a name is, of those that GNU C adds to C23.
+/// Returns the directive with this name, if it is one that only the profile `Gnu` has.
 fn gnu_directive(name: &[u8]) -> Directive
     ensures { result ≡ named_in gnu_names name.now }
 {

@@ -40,7 +40,7 @@ impl From<Memory> for Error {
 }
 
 /// Moves a fault from the error to the value, so that a failed allocation is the only error. Public functions other than
-/// `read_source` return results of this form.
+/// `read_source` return results of this form if they can find a fault.
 pub fn split_memory<T>(outcome: Result<T, Error>) -> Result<Result<T, Fault>, Memory>
     ensures { result ≡ split_memory outcome }
 {

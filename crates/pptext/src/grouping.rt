@@ -38,7 +38,7 @@ pub(crate) fn group_lines(
     tokens: Vec<Token>,
     lines: Vec<Line>,
 ) -> Result<Source, Error>
-    requires are_drafts { AreLineSpans tokens.items lines.items }
+    requires are_line_spans { AreLineSpans tokens.items lines.items }
     requires few { length lines.items < 2 ^ 32 }
     ensures { UnlessOutOfMemory result (GroupsInto (lines_from tokens.items lines.items)) }
 {

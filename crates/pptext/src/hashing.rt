@@ -6,24 +6,24 @@ ghost use Rattle.pptext.specs.NameHash.{hash_after, key_word};
 
 use std::hash::{BuildHasher, Hasher, RandomState};
 
-/// A hash function for the names of a table, with a secret or a public key. The key affects how long the table takes,
-/// and nothing that it returns. Whoever knows the key can choose names that collide.
+/// A hash function for the names of a table, with a secret or a public key. The key affects how long operations take,
+/// and not their results. Whoever knows the key can choose names that collide.
 ///
 /// The function multiplies the name by the key, eight bytes at a time, and folds each product by exclusive or. It
 /// resists names that were chosen before the key was drawn. It is no cryptographic hash, and nothing is proved about
 /// how rarely names collide.
 #[derive(Clone, Copy)]
 pub struct Hashing {
-    first: NameHasher,
+    initial: NameHasher,
 }
 
 impl Hashing {
     /// Creates a hash function with a public key.
     pub fn fixed() -> Hashing
-        ensures { result.first ≡ record { state = 0x243f_6a88_85a3_08d3; key = 0x9e37_79b9_7f4a_7c15 } }
+        ensures { result.initial ≡ record { state = 0x243f_6a88_85a3_08d3; key = 0x9e37_79b9_7f4a_7c15 } }
     {
         Hashing {
-            first: NameHasher {
+            initial: NameHasher {
                 state: 0x243f_6a88_85a3_08d3,
                 key: 0x9e37_79b9_7f4a_7c15,
             },
@@ -32,10 +32,10 @@ impl Hashing {
 
     /// Creates a hash function with this key.
     pub fn keyed(key: RandomState) -> Hashing
-        ensures { result.first ≡ record { state = key_word key 0; key = key_word key 1 } }
+        ensures { result.initial ≡ record { state = key_word key 0; key = key_word key 1 } }
     {
         Hashing {
-            first: NameHasher {
+            initial: NameHasher {
                 state: key.hash_one(0u64),
                 key: key.hash_one(1u64),
             },
@@ -46,10 +46,10 @@ impl Hashing {
 impl BuildHasher for Hashing {
     type Hasher = NameHasher;
 
-    ghost build_hasher = { λ h. h.first };
+    ghost build_hasher = { λ h. h.initial };
 
     fn build_hasher(&self) -> NameHasher {
-        self.first
+        self.initial
     }
 }
 

@@ -2,7 +2,7 @@
 ghost use Rattle.std.specs.Prelude.{◌≡◌, ◌≢◌, ◌↔◌, ◌<◌, ◌≤◌, ℕ, length, take, IsTrue, IfNone, IfSome, slice_index, false};
 ghost use Rattle.pptext.specs.Languages.{Longest, NoPrefix};
 ghost use Rattle.pptext.specs.Spellings.{IsCharConst, IsSpelling, IsStr, Spells, is_blank};
-ghost use Rattle.pptext.specs.Lexemes.{OpensBlock, OpensLine, awaits, AwaitsHeader, HeaderAt, IsLexemeAt, Spelled};
+ghost use Rattle.pptext.specs.Lexemes.{OpensBlock, OpensLine, takes_header, AwaitsHeader, HeaderAt, IsLexemeAt, Spelled};
 ghost use Rattle.pptext.specs.code.UnmatchedQuotes.{KnowsUnmatched};
 ghost use Rattle.pptext.specs.Tokens.{spelled};
 
@@ -16,8 +16,8 @@ use crate::sources::Profile;
 use crate::tokens::{Kind, Token, is_spelled};
 
 /// Returns whether a header name may follow this directive's name: `include` (6.10.2), and in GNU C `include_next`.
-fn awaits(profile: Profile, name: &[u8]) -> bool
-    ensures { result ≡ awaits profile name.now }
+fn takes_header(profile: Profile, name: &[u8]) -> bool
+    ensures { result ≡ takes_header profile name.now }
 {
     is_spelled(name, b"include") || (profile.is_gnu() && is_spelled(name, b"include_next"))
 }
@@ -32,7 +32,7 @@ fn awaits_header(profile: Profile, line: &[Token]) -> bool
     if !is_hash(line[0].text.as_bytes()) {
         return false;
     }
-    awaits(profile, line[1].text.as_bytes())
+    takes_header(profile, line[1].text.as_bytes())
 }
 
 /// Returns the length of the header name that begins the text, after these tokens of its line, or 0.
@@ -46,7 +46,7 @@ fn header_at(text: &[u8], line: &[Token], profile: Profile) -> usize
     header_len(text)
 }
 
-/// Returns the kind and length of the literal that begins the text. The first byte of most texts shows that none does.
+/// Returns the kind and length of the literal that begins the text. Usually the first byte shows that there is none.
 fn literal_at(text: &[u8], unmatched: &mut UnmatchedQuotes) -> Option<(Kind, usize)>
     requires some { 0 < length text.now }
     requires unmatched { KnowsUnmatched text.now unmatched.old.single unmatched.old.double }

@@ -39,7 +39,7 @@ fn begins_with_hexes(text: &[u8], n: usize) -> bool
     n <= text.len() && text[..n].iter().all(|c| is_hex(*c))
 }
 
-/// Returns the number of digits that a universal character name has after this beginning, or 0 if none begins here.
+/// Returns the number of digits that must follow the `\u` or `\U` that begins the text, or 0 if neither begins it.
 fn universal_digits(text: &[u8]) -> usize
     ensures short { result ≡ 4 → BeginsWith text.now (92 ∷ 117 ∷ []) }
     ensures long { result ≡ 8 → BeginsWith text.now (92 ∷ 85 ∷ []) }

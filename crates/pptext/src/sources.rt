@@ -21,7 +21,7 @@ pub enum Profile {
 }
 
 impl Profile {
-    /// Returns whether the profile has the directives that ISO/IEC 9899:2024 added, and `#pragma once`.
+    /// Returns whether the profile has `#elifdef` and `#elifndef` of ISO/IEC 9899:2024, and `#pragma once`.
     pub fn has_later(self) -> bool
         ensures { result ≡ has_later self }
     {

@@ -10,7 +10,7 @@ pub struct OwnedText {
     text: String,
 }
 
-/// Texts. Its model is the list of their bytes.
+/// A sequence of texts. Its model is the list of the models of the texts.
 pub type OwnedTexts = Sequence<OwnedText>;
 
 impl Model for OwnedText {

@@ -74,7 +74,7 @@ opens_faulty library files more depth row directory at s t f (fits, some, new, i
 tree_of : (profile : Profile) (row : ℕ) (bytes : List ℕ) (lines : List LogicalLine)
     → IsSource profile row bytes lines
     → (parts : GroupParts) × Tree lines parts
-tree_of profile row bytes lines source = a_tree lines (ap (group_fault []) source.same ∙ source.grouped)
+tree_of profile row bytes lines source = a_tree lines (ap (group_fault []) source.lines_are ∙ source.grouped)
 
 -- the state when a file is entered: the predefined names and the directory number are its own
 entering_is : (context : Context) (row : ℕ) (directory : Option ℕ) (s a t : State) (name : List ℕ)

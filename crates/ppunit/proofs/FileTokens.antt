@@ -75,7 +75,7 @@ pub source_spelled : (profile : Profile) (file : ℕ) (bytes : List ℕ) (lines 
     → IsSource profile file bytes lines
     → AllByRecursion (IsSpelledLine profile) lines
 source_spelled profile file bytes lines is =
-    subst (AllByRecursion (IsSpelledLine profile)) (sym is.same) (lines_spelled profile [] true [] is.lexemes [] tt is.tokenized.each)
+    subst (AllByRecursion (IsSpelledLine profile)) (sym is.lines_are) (lines_spelled profile [] true [] is.lexemes [] tt is.tokenized.each)
 
 -- ---- the kind of a spelling
 

@@ -16,7 +16,7 @@ use Rattle.pptext.specs.declared.sources.Profile.TheVariants.{C11, Later, Gnu}
 use Rattle.pptext.specs.Profiles.{is_gnu}
 use Rattle.pptext.specs.Spellings.{Spells}
 use Rattle.pptext.specs.Lines.{LogicalLine, directive_of, directive_named}
-use Rattle.pptext.specs.Tree.{role, role_by, role_named}
+use Rattle.pptext.specs.Tree.{role, role_by, role_of_directive}
 use Rattle.pptext.specs.Guard.{named, is_not_defined, are_parentheses, ident_if, guard_name}
 use Rattle.pptext.proofs.KindUniqueness.{begins}
 use Rattle.pptext.specs.Tokens.{is_identifier_kind}
@@ -216,7 +216,7 @@ by_parenthesized search row s profile h d n f l t r x sn sf sl sr hash g known =
 
 guard_decides : (search : Search) (row : ℕ) (s : State) (profile : Profile) (tokens : List Token) (x : List ℕ)
     → AreSpelled tokens
-    → role_by (directive_of profile tokens) ≡ role_named If
+    → role_by (directive_of profile tokens) ≡ role_of_directive If
     → guard_name tokens ≡ Some x
     → is_macro_name s.macros x ≡ true
     → Skips search row s (directive_of profile tokens) tokens
@@ -237,7 +237,7 @@ guard_decides search row s profile (a ∷ b ∷ c ∷ d ∷ e ∷ f ∷ g ∷ h 
 -- If the guard is defined, the opening line of the file skips its group, at no cost.
 pub guard_line : (search : Search) (row : ℕ) (s : State) (profile : Profile) (r : LogicalLine) (x : List ℕ)
     → IsSpelledLine profile r
-    → role r ≡ role_named If
+    → role r ≡ role_of_directive If
     → guard_name r.tokens ≡ Some x
     → is_macro_name s.macros x ≡ true
     → (h : Decides search row s r s.remaining (Ok false)) × (count_decides search row s r s.remaining (Ok false) h ≡ 0)

@@ -9,7 +9,7 @@ use Rattle.pptext.specs.declared.sources.Profile.{Profile}
 use Rattle.pptext.specs.declared.sources.Directive.{Directive}
 use Rattle.pptext.specs.declared.directives.Class.{Class}
 use Rattle.pptext.specs.declared.directives.Class.TheVariants as class
-use Rattle.pptext.specs.Classes.{class_of, asked_by, elifs, begins_elif_group}
+use Rattle.pptext.specs.Classes.{class_of, question_in, elifs, begins_elif_group}
 use Rattle.pptext.specs.Lines.{LogicalLine}
 use Rattle.ppunit.specs.States.{Search, State}
 use Rattle.ppunit.specs.Conditions.{DecidesOf, Decides, DecidesUnless, IsConditional}
@@ -57,7 +57,7 @@ enters_asked search row s r d tokens remaining_after taken is same e decides =
     subst (λ (z : Option Directive). ContinuesBy search row z s r remaining_after taken) (sym is)
     (enters_by_condition search row d s r remaining_after taken e (decides_at search row s r d tokens remaining_after taken is same decides))
 
-elif_asks : (c : Class) → elifs c ≡ true → IsSome (asked_by c)
+elif_asks : (c : Class) → elifs c ≡ true → IsSome (question_in c)
 elif_asks (class.Elifs q) e = refl
 elif_asks c e = absurd (cc)
 

@@ -10,7 +10,7 @@ use Rattle.pptext.specs.declared.tokens.Kind.{Kind}
 use Rattle.pptext.specs.declared.tokens.Kind.TheVariants.{Ident, Number, CharConst, Str, Punct, Header, Other}
 use Rattle.pptext.specs.declared.sources.Directive.{Directive}
 use Rattle.pptext.specs.declared.sources.Directive.TheVariants.{If}
-use Rattle.pptext.specs.Tree.{role_by, role_named}
+use Rattle.pptext.specs.Tree.{role_by, role_of_directive}
 use Rattle.pptext.specs.Guard.{named}
 use Rattle.pptext.specs.Tokens.{is_identifier_kind, is_other_kind, is_unmatched_quote}
 use Rattle.ppunit.specs.Quotes.{quote_fault, unmatched_quote}
@@ -52,7 +52,7 @@ hash_unquoted t e = cases (bytes_eq t.text (codes "#")) refl e
     cases false is h = text_unquoted t (codes "%:") (named_is t (codes "%:") h) refl
 
 -- A line that opens an if-section begins with `#`.
-pub opens_by : (b : Bool) (d : Directive) → role_by (if b then Some d else None) ≡ role_named If → b ≡ true
+pub opens_by : (b : Bool) (d : Directive) → role_by (if b then Some d else None) ≡ role_of_directive If → b ≡ true
 opens_by true d e = refl
 opens_by false d e = absurd (cc)
 

@@ -11,7 +11,7 @@ use Rattle.pptext.specs.declared.directives.Question.{Question}
 use Rattle.pptext.specs.declared.directives.Question.TheVariants.{Defined, Value}
 use Rattle.pptext.specs.declared.directives.Class.{Class}
 use Rattle.pptext.specs.declared.directives.Class.TheVariants as class
-use Rattle.pptext.specs.Classes.{class_of, asked_by, class_by, question_by}
+use Rattle.pptext.specs.Classes.{class_of, question_in, class_by, question_by}
 use Rattle.pptext.specs.Lines.{LogicalLine}
 use Rattle.pptext.specs.Sources.{Reads, IsSource}
 use Rattle.pptext.specs.Tokens.{fault}
@@ -65,7 +65,7 @@ SomeTree = (lines : List LogicalLine) → group_fault [] lines ≡ None → (par
 abbrev HasCondition : Option Directive → Type 0
 HasCondition d = IsSome (question_by d)
 
-opens_asks : (c : Class) → role_in c ≡ Opens → IsSome (asked_by c)
+opens_asks : (c : Class) → role_in c ≡ Opens → IsSome (question_in c)
 opens_asks (class.Opens q) e = refl
 opens_asks c e = absurd (cc)
 
@@ -73,7 +73,7 @@ opens_conditional : (d : Option Directive) → role_by d ≡ Opens → HasCondit
 opens_conditional None e = absurd (cc)
 opens_conditional (Some d) e = opens_asks (class_of d) e
 
-elif_asks : (c : Class) → role_in c ≡ Elses false → IsSome (asked_by c)
+elif_asks : (c : Class) → role_in c ≡ Elses false → IsSome (question_in c)
 elif_asks (class.Elifs q) e = refl
 elif_asks c e = absurd (cc)
 
@@ -287,7 +287,7 @@ module _ (expansions : SomeExpansion) (decisions : SomeDecision) where
       -- ---- a file
 
       tree_of : (profile : Profile) (row : ℕ) (bytes : List ℕ) (lines : List LogicalLine) → IsSource profile row bytes lines → (parts : GroupParts) × Tree lines parts
-      tree_of profile row bytes lines is = trees lines (ap (λ x. group_fault [] x) is.same ∙ is.grouped)
+      tree_of profile row bytes lines is = trees lines (ap (λ x. group_fault [] x) is.lines_are ∙ is.grouped)
 
       reading_file : (at : Place) (s : State) (row : ℕ) (directory : Option ℕ) (bytes : List ℕ)
           → depth ≤ depth_limit

@@ -27,7 +27,7 @@ TreesUnlessFault = (lines : List LogicalLine) → (group_fault [] lines ≡ None
 pub source_tree : TreesUnlessFault → (profile : Profile) (file : ℕ) (bytes : List ℕ) (lines : List LogicalLine)
     → IsSource profile file bytes lines
     → (parts : GroupParts) × Tree lines parts
-source_tree trees profile file bytes lines is = (trees lines).0 (ap (group_fault []) is.same ∙ is.grouped)
+source_tree trees profile file bytes lines is = (trees lines).0 (ap (group_fault []) is.lines_are ∙ is.grouped)
 
 pub defines_walked : TreesUnlessFault → (context : Files → Context) (files : Files) (profile : Profile) (defines : List (List ℕ))
     (x : Result (List LogicalLine) Fault) (lines : List LogicalLine) (s : State) (r : Progress)

@@ -12,7 +12,7 @@ use Rattle.ppmacro.specs.Names.{Macros}
 use Rattle.ppmacro.specs.HideSetPool.{HideSetPool}
 use Rattle.ppmacro.specs.Hiding.{Hiding}
 use Rattle.ppmacro.specs.HideSets.{set_at, IsKnown, hiding, hidings, HasSets, AllKnown}
-use Rattle.ppmacro.specs.Substituting.{lists_of, option_of, options_of, ListsKnown}
+use Rattle.ppmacro.specs.Substituting.{lists_of, expansion_if_computed, expansions_if_computed, ListsKnown}
 use Rattle.ppmacro.specs.declared.macros.Macro.{Macro}
 use Rattle.ppmacro.specs.declared.hidden_token.Hidden.{Hidden}
 use Rattle.ppmacro.specs.declared.hidden_token.ArgumentExpansion.{ArgumentExpansion}
@@ -29,7 +29,7 @@ abbrev pub given_in : HideSetPool → List (Vec Hidden Global) → List (List Hi
 given_in sets given = map (hidings sets) (lists_of given)
 
 abbrev pub expanded_in : HideSetPool → List (Vec Hidden Global) → List ArgumentExpansion → List (Option (List Hiding))
-expanded_in sets given expanded = map (λ o. option_map (hidings sets) o) (options_of given expanded)
+expanded_in sets given expanded = map (λ o. option_map (hidings sets) o) (expansions_if_computed given expanded)
 
 abbrev pub fitting_in : HideSetPool → Option (Vec (Vec Hidden Global) Global) → Option (List (List Hiding))
 fitting_in sets None = None
@@ -112,7 +112,7 @@ pub data ExpandsArgument (macros : Macros) (env : Env) (level : ℕ) (name_token
 -- fault
 abbrev pub HasExpanded : Macros → Env → ℕ → Token → Option ℕ → Option ℕ → HideSetPool → HideSetPool → List Hidden → Result ArgumentExpansion Fault → Type 0
 HasExpanded macros env level name_token remaining remaining_after before sets given (Ok e) = (tokens : List Hiding)
-    × (option_map (hidings sets) (option_of given e) ≡ Some tokens)
+    × (option_map (hidings sets) (expansion_if_computed given e) ≡ Some tokens)
     × ExpandsArgument macros env level name_token remaining (hidings before given) remaining_after (Ok tokens)
 HasExpanded macros env level name_token remaining remaining_after before sets given (Err f) = ExpandsArgument macros env level name_token remaining (hidings before given) remaining_after (Err f)
 

@@ -19,10 +19,10 @@ abbrev pub hide_set : List Name → List Node → ℕ → HideSet
 hide_set names ns n = set.from_list (selected (member ns n) 0 names)
 
 -- f i, f (i + 1), and so on, one for each element.
-abbrev pub counted : (ℕ → HideSet) → ℕ → List Node → List HideSet
-counted f i [] = []
-counted f i (x ∷ xs) = f i ∷ counted f (suc i) xs
+abbrev pub tabulated : (ℕ → HideSet) → ℕ → List Node → List HideSet
+tabulated f i [] = []
+tabulated f i (x ∷ xs) = f i ∷ tabulated f (suc i) xs
 
 -- The sets in the order of their numbers.
 abbrev pub hide_sets : List Name → List Node → List HideSet
-hide_sets names ns = counted (hide_set names ns) 0 ns
+hide_sets names ns = tabulated (hide_set names ns) 0 ns

@@ -19,14 +19,14 @@ abbrev pub node_at : List Node → ℕ → Node
 node_at ns n = slice_index_or ns n no_node
 
 -- The words of a node: word 0 is `here`, word 2w + 1 is `left w`, and word 2w + 2 is `right w`.
-abbrev pub made : ℕ → (ℕ → ℕ) → (ℕ → ℕ) → ℕ → ℕ
-made here left right zero = here
-made here left right (suc y) = if nat_eq (y % 2) 0 then left (y / 2) else right (y / 2)
+abbrev pub node_word : ℕ → (ℕ → ℕ) → (ℕ → ℕ) → ℕ → ℕ
+node_word here left right zero = here
+node_word here left right (suc y) = if nat_eq (y % 2) 0 then left (y / 2) else right (y / 2)
 
 -- The word w of a set, if w is below `limit`.
 abbrev pub word_below : List Node → ℕ → ℕ → ℕ → ℕ
 word_below ns zero n w = 0
-word_below ns (suc limit) n w = made (node_at ns n).here (word_below ns limit (node_at ns n).left) (word_below ns limit (node_at ns n).right) w
+word_below ns (suc limit) n w = node_word (node_at ns n).here (word_below ns limit (node_at ns n).left) (word_below ns limit (node_at ns n).right) w
 
 -- A word of a set.
 unfoldable pub word : List Node → ℕ → ℕ → ℕ
@@ -65,8 +65,8 @@ pub record IsBounded (limit : ℕ) (ns : List Node) : Type 0 where
   pub each : (n x : ℕ) → n < length ns → member ns n x ≡ true → x < limit
 
 -- The pool with only the empty set.
-abbrev pub first : List Node
-first = no_node ∷ []
+abbrev pub initial_nodes : List Node
+initial_nodes = no_node ∷ []
 
 -- The words of the set with only this bit in the word with this index.
 abbrev pub word_with : ℕ → ℕ → ℕ → ℕ

@@ -9,19 +9,19 @@ use Rattle.ppmacro.specs.code.Operations.{Union, Intersection, member_rule}
 use Rattle.ppmacro.specs.PairCache.{CachedPairs}
 
 -- A cached result of a pair is the set that `op` makes of both.
-pub record IsAnswer (op : Bool → Bool → Bool) (ns : List Node) (e : (ℕ × ℕ) × ℕ) : Type 0 where
+pub record IsCachedResult (op : Bool → Bool → Bool) (ns : List Node) (e : (ℕ × ℕ) × ℕ) : Type 0 where
   pub left : e.0.0 < length ns
   pub right : e.0.1 < length ns
   pub within : e.1 < length ns
   pub is : (x : ℕ) → member ns e.1 x ≡ op (member ns e.0.0 x) (member ns e.0.1 x)
 
-pub record AreAnswers (op : Bool → Bool → Bool) (ns : List Node) (ps : CachedPairs) : Type 0 where
-  pub each : AllByRecursion (IsAnswer op ns) ps
+pub record AreCachedResults (op : Bool → Bool → Bool) (ns : List Node) (ps : CachedPairs) : Type 0 where
+  pub each : AllByRecursion (IsCachedResult op ns) ps
 
 -- The invariant of the pool.
-pub record IsPoolKept (names : List Name) (ns : List Node) (us ms : CachedPairs) : Type 0 where
+pub record IsConsistentPool (names : List Name) (ns : List Node) (us ms : CachedPairs) : Type 0 where
   pub distinct : IsDistinct same_name names
   pub pool : IsPool ns
   pub bounded : IsBounded (length names) ns
-  pub unions : AreAnswers (member_rule Union) ns us
-  pub intersections : AreAnswers (member_rule Intersection) ns ms
+  pub unions : AreCachedResults (member_rule Union) ns us
+  pub intersections : AreCachedResults (member_rule Intersection) ns ms

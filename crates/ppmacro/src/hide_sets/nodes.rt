@@ -2,10 +2,10 @@
 //! common parts.
 ghost use Rattle.std.specs.Prelude.{◌≡◌, Some, None, Ok, ◌<◌, ◌||◌, ◌+◌, ◌*◌, ℕ, IfOk, IfSome, OnErr, ◌≤◌, [], length, nat_eq};
 ghost use Rattle.std.specs.Int.RustNames.{bit_or};
-ghost use Rattle.ppmacro.specs.code.Nodes.{node_at, word, word_with, member, IsPool, KeepsNodes, PointsBelow, IsBounded, first};
+ghost use Rattle.ppmacro.specs.code.Nodes.{node_at, word, word_with, member, IsPool, KeepsNodes, PointsBelow, IsBounded, initial_nodes};
 ghost use Rattle.ppmacro.specs.code.Operations.{member_rule, word_rule, known};
 ghost use Rattle.ppmacro.specs.PairCache.{union_known, intersection_known, KeepsPairs};
-ghost use Rattle.ppmacro.specs.code.PoolInvariant.{AreAnswers};
+ghost use Rattle.ppmacro.specs.code.PoolInvariant.{AreCachedResults};
 
 use super::pair_cache::PairCache;
 use indexmap::IndexSet;
@@ -81,7 +81,7 @@ impl Operation {
 pub(crate) fn start(alloc: Global, hashing: Hashing) -> Result<IndexSet<Node, Hashing>, AllocError>
     ensures pool { IfOk result (λ s. IsPool s.keys) }
     ensures bounded { IfOk result (λ s. IsBounded 0 s.keys) }
-    ensures is { IfOk result (λ s. s.keys ≡ first) }
+    ensures is { IfOk result (λ s. s.keys ≡ initial_nodes) }
 {
     let mut nodes = IndexSet::with_hasher(alloc, hashing);
     let none = Node {
@@ -365,18 +365,18 @@ pub(crate) fn combine(
     two: u32,
 ) -> Result<u32, AllocError>
     requires pool { IsPool nodes.old.keys }
-    requires answers { AreAnswers (member_rule operation) nodes.old.keys pairs.old }
+    requires results { AreCachedResults (member_rule operation) nodes.old.keys pairs.old }
     requires one { one < length nodes.old.keys }
     requires two { two < length nodes.old.keys }
     ensures pool { IsPool nodes.new.keys }
     ensures keeps { KeepsNodes nodes.old.keys nodes.new.keys }
     ensures pairs { KeepsPairs pairs.old pairs.new }
-    ensures answers { AreAnswers (member_rule operation) nodes.new.keys pairs.new }
+    ensures results { AreCachedResults (member_rule operation) nodes.new.keys pairs.new }
     ensures known { IfOk result (λ n. n < length nodes.new.keys) }
     ensures bounded { (limit : ℕ) → IsBounded limit nodes.old.keys → IsBounded limit nodes.new.keys }
     ensures set { IfOk result (λ n. (x : ℕ) → member nodes.new.keys n x ≡ member_rule operation (member nodes.old.keys one x) (member nodes.old.keys two x)) }
     ensures remembered { IfOk result (λ n. known operation pairs.new one two ≡ Some n) }
-    ensures again { (n : ℕ) → known operation pairs.old one two ≡ Some n → (result ≡ Ok n) × (pairs.new ≡ pairs.old) × (nodes.new.keys ≡ nodes.old.keys) }
+    ensures if_cached { (n : ℕ) → known operation pairs.old one two ≡ Some n → (result ≡ Ok n) × (pairs.new ≡ pairs.old) × (nodes.new.keys ≡ nodes.old.keys) }
     ensures there { (n : ℕ) → n < length nodes.old.keys
         → ((x : ℕ) → member nodes.old.keys n x ≡ member_rule operation (member nodes.old.keys one x) (member nodes.old.keys two x))
         → IfOk result (λ m. m ≡ n) × (nodes.new.keys ≡ nodes.old.keys) × OnErr result (pairs.new ≡ pairs.old) }

@@ -10,7 +10,7 @@ use std::marker::Model;
 /// Results by pairs of numbers, in the order in which they were added.
 #[derive(Drop)]
 pub(crate) struct PairCache {
-    answers: IndexMap<(u32, u32), u32, Hashing>,
+    results: IndexMap<(u32, u32), u32, Hashing>,
 }
 
 impl Model for PairCache {
@@ -20,7 +20,7 @@ impl Model for PairCache {
 
     ghost coded = { cached_pairs_code };
 
-    ghost view = { λ p. p.answers.entries };
+    ghost view = { λ p. p.results.entries };
 }
 
 impl PairCache {
@@ -29,7 +29,7 @@ impl PairCache {
         ensures { result ≡ [] }
     {
         PairCache {
-            answers: IndexMap::with_hasher(alloc, hashing),
+            results: IndexMap::with_hasher(alloc, hashing),
         }
     }
 
@@ -37,16 +37,16 @@ impl PairCache {
     pub(crate) fn get(&self, left: u32, right: u32) -> Option<u32>
         ensures { result ≡ cached_result self.now left right }
     {
-        self.answers.get(&(left, right)).copied()
+        self.results.get(&(left, right)).copied()
     }
 
     /// Adds the result for a pair.
-    pub(crate) fn put(&mut self, left: u32, right: u32, answer: u32) -> Result<(), AllocError>
+    pub(crate) fn put(&mut self, left: u32, right: u32, combined: u32) -> Result<(), AllocError>
         requires { cached_result self.old left right ≡ None }
-        ensures ok { OnOk result (self.new ≡ self.old ++ ((left, right), answer) ∷ []) }
+        ensures ok { OnOk result (self.new ≡ self.old ++ ((left, right), combined) ∷ []) }
         ensures err { OnErr result (self.new ≡ self.old) }
     {
-        let Ok(_) = self.answers.insert((left, right), answer) else {
+        let Ok(_) = self.results.insert((left, right), combined) else {
             return Err(AllocError);
         };
         Ok(())

@@ -3,9 +3,9 @@ ghost use Rattle.std.specs.Prelude.{◌≡◌, ◌||◌, ◌&&◌, not, IfOk, On
 ghost use Rattle.std.specs.FinSet as set;
 ghost use Rattle.pptext.specs.declared.tokens.Place.{Place};
 ghost use Rattle.ppmacro.specs.HideSets.{set_at, IsKnown, hidings, AllKnown, KeepsSets};
-ghost use Rattle.ppmacro.specs.Patterns.{entry_chain, listed};
+ghost use Rattle.ppmacro.specs.Patterns.{entry_chain, pattern_chains};
 ghost use Rattle.ppmacro.specs.Substitution.{chain_tokens, chains_tokens, chains_replacement};
-ghost use Rattle.ppmacro.specs.Substituting.{ArgumentsKnown, arguments_in, replacement_in, pushed, left_with};
+ghost use Rattle.ppmacro.specs.Substituting.{ArgumentsKnown, arguments_in, replacement_in, pushed, as_replacement};
 
 use crate::hidden_token::Hidden;
 use crate::hide_sets::HideSets;
@@ -55,7 +55,7 @@ fn push_entry<'x, 'a: 'x>(
 ) -> Result<bool, AllocError>
     requires arguments { ArgumentsKnown sets.now arguments.given.now arguments.expanded.now }
     requires tokens { AllKnown sets.now tokens.old.items }
-    ensures is { IfOk result (λ pending. (used : Place) → Ok (left_with sets.now tokens.new.items pending)
+    ensures is { IfOk result (λ pending. (used : Place) → Ok (as_replacement sets.now tokens.new.items pending)
         ≡ pushed (hidings sets.now tokens.old.items) space (chain_tokens (arguments_in sets.now arguments.entry.given.now arguments.entry.expanded.now) used (entry_chain entry.now))) }
     ensures known { OnOk result (AllKnown sets.now tokens.new.items) }
 {
@@ -84,7 +84,7 @@ fn entries_tokens<'x, 'a: 'x>(
     entries: &[Entry<'a>],
 ) -> Result<(Vec<Hidden<'x>>, bool), AllocError>
     requires { ArgumentsKnown sets.now arguments.given.now arguments.expanded.now }
-    ensures is { IfOk result (λ m. (used : Place) → Ok (left_with sets.now m.0.items m.1)
+    ensures is { IfOk result (λ m. (used : Place) → Ok (as_replacement sets.now m.0.items m.1)
         ≡ chains_tokens (arguments_in sets.now arguments.entry.given.now arguments.entry.expanded.now) used space true (map entry_chain entries.now)) }
     ensures known { IfOk result (λ m. AllKnown sets.now m.0.items) }
 {
@@ -109,7 +109,7 @@ fn substitute_entries<'x, 'a: 'x>(
 ) -> Result<(Vec<Hidden<'x>>, bool), Memory>
     requires arguments { ArgumentsKnown sets.old arguments.given.now arguments.expanded.now }
     requires base { IsKnown sets.old macro_name.now.base }
-    ensures is { IfOk result (λ m. Ok (left_with sets.new m.0.items m.1)
+    ensures is { IfOk result (λ m. Ok (as_replacement sets.new m.0.items m.1)
         ≡ chains_replacement (map entry_chain entries.now) (arguments_in sets.old arguments.entry.given.now arguments.entry.expanded.now) (set.insert (set_at sets.old macro_name.now.base) macro_name.now.name.now) macro_name.now.used macro_name.now.space) }
     ensures known { IfOk result (λ m. AllKnown sets.new m.0.items) }
     ensures keeps { KeepsSets sets.old sets.new }
@@ -135,15 +135,17 @@ pub fn substitute_pattern<'x, 'a: 'x>(
 ) -> Result<Result<(Vec<Hidden<'x>>, bool), Fault>, Memory>
     requires arguments { ArgumentsKnown sets.old arguments.given.now arguments.expanded.now }
     requires base { IsKnown sets.old macro_name.now.base }
-    ensures is { IfOk result (λ r. replacement_in sets.new r ≡ chains_replacement (listed pattern.now) (arguments_in sets.old arguments.entry.given.now arguments.entry.expanded.now) (set.insert (set_at sets.old macro_name.now.base) macro_name.now.name.now) macro_name.now.used macro_name.now.space) }
+    ensures is { IfOk result (λ r. replacement_in sets.new r ≡ chains_replacement (pattern_chains pattern.now) (arguments_in sets.old arguments.entry.given.now arguments.entry.expanded.now) (set.insert (set_at sets.old macro_name.now.base) macro_name.now.name.now) macro_name.now.used macro_name.now.space) }
     ensures known { IfOk result (λ r. IfOk r (λ m. AllKnown sets.new m.0.items)) }
     ensures keeps { KeepsSets sets.old sets.new }
 {
     match pattern {
         Pattern::Plain(entries) => {
             let entries = entries.as_slice();
-            let made = substitute_entries(alloc, entries, arguments, macro_name, sets)?;
-            Ok(Ok(made))
+            let tokens_and_pending = substitute_entries(
+                alloc, entries, arguments, macro_name, sets,
+            )?;
+            Ok(Ok(tokens_and_pending))
         }
         Pattern::Pasted(chains) => {
             let chains = chains.as_slice();

@@ -34,34 +34,34 @@ fn push_joined<'a>(
     push_all(tokens, more)
 }
 
-/// Returns whether these bytes continue the last token, whose kind is the kind of its spelling if `whole`.
-fn is_carried_on(last: &Hidden, whole: bool, more: &[u8]) -> bool
-    ensures whole { IsTrue result → IsTrue whole }
+/// Returns whether these bytes continue the last token, whose kind is the kind of its spelling if `has_spelled_kind`.
+fn is_continued(last: &Hidden, has_spelled_kind: bool, more: &[u8]) -> bool
+    ensures has_spelled_kind { IsTrue result → IsTrue has_spelled_kind }
     ensures more { IsTrue result → ContinuesToken last.now.token.kind last.now.token.text more.now }
 {
-    whole && continues(last.kind(), last.text(), more)
+    has_spelled_kind && continues(last.kind(), last.text(), more)
 }
 
-/// Pastes two tokens, like `paste`. `whole`: the kind of the last token is the kind of its spelling, as after a paste. Such an
+/// Pastes two tokens, like `paste`. `has_spelled_kind`: the kind of the last token is the kind of its spelling, as after a paste. Such an
 /// identifier or number is extended in place, so that a long chain costs only its bytes.
 fn paste_onto<'a>(
     alloc: Global,
     sets: &mut HideSets,
     last: Hidden<'a>,
-    whole: bool,
+    has_spelled_kind: bool,
     first: &Hidden,
     used: Place,
 ) -> Result<Hidden<'a>, Error>
     requires last { HasSets sets.old last }
     requires first { HasSets sets.old first.now }
-    requires whole { IsTrue whole → HasSpelledKind last }
+    requires has_spelled_kind { IsTrue has_spelled_kind → HasSpelledKind last }
     ensures is { Returns result (hiding sets.new) (pasted (hiding sets.old last.entry) (hiding sets.old first.now) used) }
     ensures known { IfOk result (λ h. HasSets sets.new h) }
-    ensures whole { IfOk result HasSpelledKind }
+    ensures has_spelled_kind { IfOk result HasSpelledKind }
     ensures keeps { KeepsSets sets.old sets.new }
 {
     let mut last = last;
-    if is_carried_on(&last, whole, first.text()) && last.extend(alloc, first.text())? {
+    if is_continued(&last, has_spelled_kind, first.text()) && last.extend(alloc, first.text())? {
         let hide = sets.common_hide_set(&last, first)?;
         last.set_use(used, hide);
         return Ok(last);
@@ -69,27 +69,27 @@ fn paste_onto<'a>(
     pasted(alloc, sets, &last, first, used)
 }
 
-/// Joins the last token of one list with the first of the other, or returns fault 19. `whole`, as a parameter and as the result:
+/// Joins the last token of one list with the first of the other, or returns fault 19. `has_spelled_kind`, as a parameter and as the result:
 /// the last token is the result of a paste.
 fn join<'a>(
     alloc: Global,
     sets: &mut HideSets,
     left: &mut Vec<Hidden<'a>>,
-    whole: bool,
+    has_spelled_kind: bool,
     right: &[Hidden<'a>],
     used: Place,
 ) -> Result<bool, Error>
     requires left { AllKnown sets.old left.old.items }
-    requires whole { IsTrue whole → EndsWithSpelledKind left.old.items }
+    requires has_spelled_kind { IsTrue has_spelled_kind → EndsWithSpelledKind left.old.items }
     requires right { AllKnown sets.old right.now }
     ensures is { Returns result (λ _. hidings sets.new left.new.items) (join (hidings sets.old left.old.items) (hidings sets.old right.now) used) }
     ensures known { OnOk result (AllKnown sets.new left.new.items) }
-    ensures whole { IfOk result (λ w. IsTrue w → EndsWithSpelledKind left.new.items) }
+    ensures has_spelled_kind { IfOk result (λ w. IsTrue w → EndsWithSpelledKind left.new.items) }
     ensures keeps { KeepsSets sets.old sets.new }
 {
     let first = match right.first() {
         Some(first) => first,
-        None => return Ok(whole),
+        None => return Ok(has_spelled_kind),
     };
     let last = match left.pop() {
         Some(last) => last,
@@ -98,7 +98,7 @@ fn join<'a>(
             return Ok(false);
         }
     };
-    let hidden = paste_onto(alloc, sets, last, whole, first, used)?;
+    let hidden = paste_onto(alloc, sets, last, has_spelled_kind, first, used)?;
     push_joined(left, hidden, &right[1..])?;
     Ok(right.len() == 1)
 }
@@ -116,9 +116,16 @@ pub(crate) fn join_all<'a>(
     ensures keeps { KeepsSets sets.old sets.new }
 {
     let mut left = Vec::new(alloc);
-    let mut whole = false;
+    let mut has_spelled_kind = false;
     for right in lists {
-        whole = join(alloc, sets, &mut left, whole, right.as_slice(), used)?;
+        has_spelled_kind = join(
+            alloc,
+            sets,
+            &mut left,
+            has_spelled_kind,
+            right.as_slice(),
+            used,
+        )?;
     }
     Ok(left)
 }

@@ -3,7 +3,7 @@ ghost use Rattle.std.specs.Prelude.{◌≡◌, ◌++◌, IfOk, OnOk, [], ◌∷�
 ghost use Rattle.ppmacro.specs.HideSets.{hidings, AllKnown};
 ghost use Rattle.ppmacro.specs.Substitution.{argument_at, expanded_at, unhidden, after_ok, stringized, operand_tokens, operands_tokens};
 ghost use Rattle.pptext.specs.Errors.{Returns};
-ghost use Rattle.ppmacro.specs.Substituting.{lists_of, option_of, options_of, ArgumentsKnown, arguments_in, tokens_of, ListsKnown};
+ghost use Rattle.ppmacro.specs.Substituting.{lists_of, expansion_if_computed, expansions_if_computed, ArgumentsKnown, arguments_in, tokens_of, ListsKnown};
 
 use crate::hidden_token::{ArgumentExpansion, Hidden};
 use crate::hide_sets::HideSets;
@@ -29,7 +29,7 @@ fn expansion_tokens<'g, 'a>(
     argument: &'g [Hidden<'a>],
     expansion: &'g ArgumentExpansion<'a>,
 ) -> &'g [Hidden<'a>]
-    ensures { result.now ≡ unwrap_or (option_of argument.now expansion.now) [] }
+    ensures { result.now ≡ unwrap_or (expansion_if_computed argument.now expansion.now) [] }
 {
     match expansion {
         ArgumentExpansion::Unused => {
@@ -47,7 +47,7 @@ pub(crate) fn expansion<'g, 'a>(
     expanded: &'g [ArgumentExpansion<'a>],
     index: usize,
 ) -> &'g [Hidden<'a>]
-    ensures { result.now ≡ expanded_at (options_of given.now expanded.now) index }
+    ensures { result.now ≡ expanded_at (expansions_if_computed given.now expanded.now) index }
 {
     let Some(expansion) = expanded.get(index) else {
         let none: &'g [Hidden<'a>] = Default::default();

@@ -155,9 +155,9 @@ impl Gate for Stage {
 impl Disk for Stage {
     ghost may = { λ name c. Unit {0} };
 
-    ghost gives = { λ disk name c. Unit {0} };
+    ghost may_return = { λ disk name c. Unit {0} };
 
-    ghost gives_may = { λ disk name c h. tt };
+    ghost may_return_by_type = { λ disk name c h. tt };
 
     fn read(&self, alloc: Global, name: &str) -> Result<Vec<u8>, ReadFault> {
         let before = self.reads.fetch_add(1, SeqCst);

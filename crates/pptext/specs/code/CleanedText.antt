@@ -25,23 +25,23 @@ abbrev pub supply : Bool → Place → List Char
 supply supplied end = if supplied then record { code = newline; at = end } ∷ [] else []
 
 -- the characters after line ends and trigraphs. If the last new-line is supplied, it is at this location.
-abbrev pub logical : Bool → Place → List Char → List Char
-logical supplied end cs = trigraphs (without_returns cs ++ supply supplied end)
+abbrev pub unspliced : Bool → Place → List Char → List Char
+unspliced supplied end cs = trigraphs (without_returns cs ++ supply supplied end)
 
 abbrev pub start : ℕ → Place
 start file = place file 1 1
 
 -- these characters for a file's bytes after its byte order mark, from an offset on
-abbrev pub logical_from : ℕ → List ℕ → ℕ → List Char
-logical_from file raw offset = logical (lacks_newline raw) (place_after (start file) raw) (drop offset (with_locations file 1 1 raw))
+abbrev pub unspliced_from : ℕ → List ℕ → ℕ → List Char
+unspliced_from file raw offset = unspliced (lacks_newline raw) (place_after (start file) raw) (drop offset (with_locations file 1 1 raw))
 
 -- the characters after phases 1 and 2, from an offset on
 abbrev pub text_from : ℕ → List ℕ → ℕ → List Char
-text_from file raw offset = splices (logical_from file raw offset)
+text_from file raw offset = splices (unspliced_from file raw offset)
 
 -- the location of a backslash at the end of the file, from an offset on
 abbrev pub end_from : ℕ → List ℕ → ℕ → Option Place
-end_from file raw offset = splice_at_end (logical_from file raw offset)
+end_from file raw offset = splice_at_end (unspliced_from file raw offset)
 
 -- A position in a text: the index of the next character, the index of the byte in the file from which it is sought, the number of bytes between
 -- that byte and the next line note, the table's entry after that line note, and the byte's location.
@@ -64,8 +64,8 @@ pub record IsCursorAt (file : ℕ) (raw line_notes : List ℕ) (c : TextCursor) 
   pub table : IsTable (lacks_newline raw) (after_note (lacks_newline raw) (drop (c.offset + c.plain) raw)) (drop c.next line_notes)
 
 -- These are the codes of a file that doesn't end in a splice, and its table of line notes.
-pub record IsChangedText (raw done line_notes : List ℕ) : Type 0 where
-  pub codes : (file : ℕ) → done ≡ codes_of (text_from file raw 0)
+pub record IsChangedText (raw text_codes line_notes : List ℕ) : Type 0 where
+  pub codes : (file : ℕ) → text_codes ≡ codes_of (text_from file raw 0)
   pub ends : (file : ℕ) → end_from file raw 0 ≡ None
   pub table : IsTable (lacks_newline raw) raw line_notes
 

@@ -58,7 +58,7 @@ abbrev pub LineTakes : Option ℕ × List (ℕ × Bool) → Option ℕ → List 
 LineTakes step None after = step ≡ (None, after)
 LineTakes step (Some n) after = step.0 ≡ Some n
 
--- the role of a line whose directive has a name
+-- the role of a line that opens, branches or closes an if-section
 abbrev pub IsBranching : Role → Type 0
 IsBranching Opens = Unit {0}
 IsBranching (Elses final) = Unit {0}
@@ -71,7 +71,7 @@ pub record ClosedAtOnce (k : ℕ) (lines : List LogicalLine) : Type 0 where
   pub last : LogicalLine
   pub rest : List LogicalLine
   pub next : branch_after 0 k (map role lines) ≡ Some (k + skipped)
-  pub there : drop skipped lines ≡ last ∷ rest
+  pub after_skipped : drop skipped lines ≡ last ∷ rest
   pub closes : role last ≡ Closes
   pub blank : AllByRecursion IsBlankLine rest
 

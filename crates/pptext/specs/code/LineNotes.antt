@@ -8,7 +8,7 @@ pub record OwnPrefix (supplied : Bool) (bs : List ℕ) (n : ℕ) : Type 0 where
   pub fits : n ≤ length bs
   pub own : (k : ℕ) → k < n → step_of supplied (drop k bs) ≡ Code (slice_index bs k) 1
 
--- and after them the bytes end, or a line note is there
+-- each of the first n bytes is a character of its own, and after them the bytes end or a line note begins
 pub record PlainRun (supplied : Bool) (bs : List ℕ) (n : ℕ) : Type 0 where
   pub prefix : OwnPrefix supplied bs n
   pub stops : n < length bs → IsChanged supplied (drop n bs)

@@ -18,7 +18,7 @@ is_special b = b == backslash || b == 63 || b == 13
 abbrev pub PlainPrefix : List ℕ → ℕ → Type 0
 PlainPrefix bs n = (n ≤ length bs) × ((k : ℕ) → k < n → is_special (slice_index bs k) ≡ false)
 
--- and the byte after them is special
+-- none of the first n bytes is special, and the byte after them is
 abbrev pub StopsAt : List ℕ → ℕ → Type 0
 StopsAt bs n = (n < length bs) × PlainPrefix bs n × (is_special (slice_index bs n) ≡ true)
 

@@ -19,7 +19,7 @@ use std::marker::Model;
 #[derive(Clone, Copy)]
 struct Section {
     opening: u32,
-    last: bool,
+    has_else: bool,
 }
 
 impl Model for Section {
@@ -27,9 +27,9 @@ impl Model for Section {
 
     ghost Value = { ℕ × Bool };
 
-    ghost view = { λ s. (s.opening, s.last) };
+    ghost view = { λ s. (s.opening, s.has_else) };
 
-    ghost inverse = { λ s. record { opening = s.0; last = s.1 } };
+    ghost inverse = { λ s. record { opening = s.0; has_else = s.1 } };
 }
 
 /// Updates the stack of open if-sections for a line with this directive at this index, or returns the number of its
@@ -46,19 +46,19 @@ fn take_line(
         Role::Opens => {
             open_sections.push(Section {
                 opening: at as u32,
-                last: false,
+                has_else: false,
             })?;
             Ok(None)
         }
-        Role::Elses(last) => match open_sections.pop() {
+        Role::Elses(has_else) => match open_sections.pop() {
             None => Ok(Some(3)),
             Some(section) => {
-                if section.last {
+                if section.has_else {
                     return Ok(Some(4));
                 }
                 open_sections.push(Section {
                     opening: section.opening,
-                    last,
+                    has_else,
                 })?;
                 Ok(None)
             }
@@ -71,13 +71,13 @@ fn take_line(
     }
 }
 
-/// Makes the fault of a directive. It is located at the `#`, which has index `sign`, and its text is the directive's
+/// Makes the fault of a directive. It is located at the `#`, which has index `hash`, and its text is the directive's
 /// name.
-fn fault_of(number: u8, tokens: &[Token], sign: usize) -> Result<Fault, AllocError>
-    requires { sign + 1 < length tokens.now }
-    ensures { (d : Token) → IfOk result (λ f. f ≡ fault number (slice_index_or tokens.now sign d).at (slice_index_or tokens.now (sign + 1) d).text) }
+fn fault_of(number: u8, tokens: &[Token], hash: usize) -> Result<Fault, AllocError>
+    requires { hash + 1 < length tokens.now }
+    ensures { (d : Token) → IfOk result (λ f. f ≡ fault number (slice_index_or tokens.now hash d).at (slice_index_or tokens.now (hash + 1) d).text) }
 {
-    Fault::of_token(number, tokens[sign].at, &tokens[sign + 1])
+    Fault::of_token(number, tokens[hash].at, &tokens[hash + 1])
 }
 
 /// Makes the fault of the directive line at this index.

@@ -53,14 +53,14 @@ fn name_index(line: &[Token]) -> Option<usize>
         [_, name, guard] => ident_if(is_named(name, b"ifndef"), guard, 2),
         [_, name, not, defined, guard] => ident_if(is_not_defined(name, not, defined), guard, 4),
         [_, name, not, defined, left, guard, right] => {
-            let named = is_not_defined(name, not, defined) && are_parentheses(left, right);
-            ident_if(named, guard, 5)
+            let parenthesized = is_not_defined(name, not, defined) && are_parentheses(left, right);
+            ident_if(parenthesized, guard, 5)
         }
         _ => None,
     }
 }
 
-/// Returns the index, among the file's tokens, of the X of such a line.
+/// Returns the index, among the file's tokens, of the X that `name_index` finds in this line.
 fn guard_index(tokens: &[Token], line: Line) -> Option<usize>
     requires begins { line.start ≤ line.end }
     requires within { line.end ≤ length tokens.now }

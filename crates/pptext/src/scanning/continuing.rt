@@ -27,7 +27,7 @@ fn is_number_rest(text: &[u8]) -> bool
     number_rest_len(text) == text.len()
 }
 
-/// Returns whether the text is a sign that continues a number, and more of it.
+/// Returns whether the text is a sign and then more of a number.
 fn is_signed_rest(text: &[u8]) -> bool
     ensures { IsTrue result ↔ IsSignedRest text.now }
 {

@@ -155,25 +155,25 @@ fn quoted_rest(text: &[u8], quote: u8) -> QuoteScan
 }
 
 /// Returns the length of the literal whose opening has this length, or 0 if no quote closes it. The quotes of its kind
-/// are known to be unmatched, up to the last `left` bytes.
-fn literal_len(text: &[u8], opening: usize, quote: u8, left: &mut usize) -> usize
+/// are known to be unmatched, except in the last `unknown_len` bytes.
+fn literal_len(text: &[u8], opening: usize, quote: u8, unknown_len: &mut usize) -> usize
     requires some { 0 < opening }
     requires fits { opening ≤ length text.now }
     requires last { slice_index text.now (opening - 1) ≡ quote }
     requires first { (r : ℕ) → r + 1 < opening → slice_index text.now r ≢ quote }
     requires no_backslash { quote ≢ 92 }
-    requires unmatched { AreUnmatched quote text.now (length text.now - left.old) }
+    requires unmatched { AreUnmatched quote text.now (length text.now - unknown_len.old) }
     ensures none { result ≡ 0 → NoPrefix (IsQuoted quote) (drop opening text.now) }
     ensures some { 0 < result → (opening < result) × IsOnly (IsQuoted quote) (drop opening text.now) (result - opening) }
-    ensures unmatched { AreUnmatched quote text.now (length text.now - left.new) }
+    ensures unmatched { AreUnmatched quote text.now (length text.now - unknown_len.new) }
 {
-    if *left <= text.len() - opening {
+    if *unknown_len <= text.len() - opening {
         return 0;
     }
     match quoted_rest(&text[opening..], quote) {
         QuoteScan::Closed(n) => opening + n,
         QuoteScan::Unmatched(n) => {
-            *left = text.len() - opening - n;
+            *unknown_len = text.len() - opening - n;
             0
         }
     }
@@ -186,12 +186,12 @@ fn begins_with_byte(text: &[u8], c: u8) -> bool
     !text.is_empty() && text[0] == c
 }
 
-/// Returns the length of the character constant that begins the text, or 0. Single quotes are known to be unmatched, up
-/// to the last `left` bytes.
-pub(crate) fn char_const_len(text: &[u8], left: &mut usize) -> usize
-    requires { AreUnmatched 39 text.now (length text.now - left.old) }
+/// Returns the length of the character constant that begins the text, or 0. Single quotes are known to be unmatched, except
+/// in the last `unknown_len` bytes.
+pub(crate) fn char_const_len(text: &[u8], unknown_len: &mut usize) -> usize
+    requires { AreUnmatched 39 text.now (length text.now - unknown_len.old) }
     ensures part { OnlyPart IsCharConst text.now result }
-    ensures unmatched { AreUnmatched 39 text.now (length text.now - left.new) }
+    ensures unmatched { AreUnmatched 39 text.now (length text.now - unknown_len.new) }
 {
     let opening = char_opening_len(text);
     if opening == 0 {
@@ -200,19 +200,19 @@ pub(crate) fn char_const_len(text: &[u8], left: &mut usize) -> usize
     if begins_with_byte(&text[opening..], b'\'') {
         return 0;
     }
-    literal_len(text, opening, b'\'', left)
+    literal_len(text, opening, b'\'', unknown_len)
 }
 
-/// Returns the length of the string literal that begins the text, or 0. Double quotes are known to be unmatched, up to
-/// the last `left` bytes.
-pub(crate) fn str_len(text: &[u8], left: &mut usize) -> usize
-    requires { AreUnmatched 34 text.now (length text.now - left.old) }
+/// Returns the length of the string literal that begins the text, or 0. Double quotes are known to be unmatched, except in
+/// the last `unknown_len` bytes.
+pub(crate) fn str_len(text: &[u8], unknown_len: &mut usize) -> usize
+    requires { AreUnmatched 34 text.now (length text.now - unknown_len.old) }
     ensures part { OnlyPart IsStr text.now result }
-    ensures unmatched { AreUnmatched 34 text.now (length text.now - left.new) }
+    ensures unmatched { AreUnmatched 34 text.now (length text.now - unknown_len.new) }
 {
     let opening = str_opening_len(text);
     if opening == 0 {
         return 0;
     }
-    literal_len(text, opening, b'"', left)
+    literal_len(text, opening, b'"', unknown_len)
 }

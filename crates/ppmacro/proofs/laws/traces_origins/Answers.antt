@@ -7,5 +7,5 @@ returns-clause-replaces c = λ chains args added used space whole e. replaced_ea
 pub returns-clause-is_pending : goal.returns-clause-is_pending
 returns-clause-is_pending c = λ chains args added used space whole e. waits_behind args added used space chains whole e
 
-pub returns-clause-comes : goal.returns-clause-comes
-returns-clause-comes c = chain_each
+pub returns-clause-comes_from : goal.returns-clause-comes_from
+returns-clause-comes_from c = chain_each

@@ -4,8 +4,8 @@ use Rattle.pptext.specs.code.CleanedText.{HasLineNotes}
 use Rattle.pptext.proofs.CleanedCopies.{clean_err, clean_ok, own_whole}
 use Rattle.pptext.proofs.cleaning.clean_text.Goals as goal
 
-pub new-requires-clause-made : goal.new-requires-clause-made
-new-requires-clause-made c =
+pub new-requires-clause-is_cleaned : goal.new-requires-clause-is_cleaned
+new-requires-clause-is_cleaned c =
     let counted = subst (HasLineNotes c.without_bom-raw.result.now) c.in-Ok-eq0.field-0-test c.in-Ok-eq0.ensures in
     own_whole c.without_bom-raw.result.now counted (sym c.lacks_newline-supplied.ensures ∙ c.if-not-supplied.true)
 

@@ -9,9 +9,9 @@ use Rattle.pptext.proofs.cleaning.count_notes.Goals as goal
 use Rattle.pptext.proofs.cleaning.count_notes.Goals.{in-Code, in-Removed-2}
 
 -- the step that a step of the code represents
-abbrev meant : code.CharStep → CharStep
-meant (variant.Code code n) = Code code n
-meant (variant.Removed n) = Removed n
+abbrev spec_step : code.CharStep → CharStep
+spec_step (variant.Code code n) = Code code n
+spec_step (variant.Removed n) = Removed n
 
 -- After a line note, fewer bytes are left.
 nearer : (start ahead len end : ℕ) → start + ahead < end → 0 < len → end - (start + ahead + len) < end - start
@@ -25,10 +25,10 @@ loop-ahead-smaller c =
     let ahead = simp take_rest at c.in-Some.ensures in
     let l = length-drop start raw in
     let here : start + n < length raw = omega (arith, ahead.0) in
-    let step : step_of (lacks_newline raw) (drop (start + n) raw) ≡ meant c.next_step.result = ap (λ s. step_of s (drop (start + n) raw)) (sym c.requires) ∙ sym (simp take_rest at c.next_step.ensures) in
+    let step : step_of (lacks_newline raw) (drop (start + n) raw) ≡ spec_step c.next_step.result = ap (λ s. step_of s (drop (start + n) raw)) (sym c.requires) ∙ sym (simp take_rest at c.next_step.ensures) in
     elim c.match-next_step.branch [
-      | in-Code w ↦ rw w.start-is (nearer start n w.in-Code.len (length raw) here (code_at 0 raw (start + n) w.in-Code.field-0 w.in-Code.len here (step ∙ ap meant w.in-Code.is)).some)
-      | in-Removed-2 w ↦ rw w.start-is (nearer start n w.in-Removed.len (length raw) here (removed_at 0 raw (start + n) w.in-Removed.len here (step ∙ ap meant w.in-Removed.is)).some)
+      | in-Code w ↦ rw w.start-is (nearer start n w.in-Code.len (length raw) here (code_at 0 raw (start + n) w.in-Code.field-0 w.in-Code.len here (step ∙ ap spec_step w.in-Code.is)).some)
+      | in-Removed-2 w ↦ rw w.start-is (nearer start n w.in-Removed.len (length raw) here (removed_at 0 raw (start + n) w.in-Removed.len here (step ∙ ap spec_step w.in-Removed.is)).some)
     ]
 
 pub returns-in-Removed : goal.returns-in-Removed
@@ -50,12 +50,12 @@ loop-ahead-preserved c =
     let n = c.in-Some.ahead in
     let ahead = simp take_rest at c.in-Some.ensures in
     let plain_run : PlainRun (lacks_newline raw) (drop start raw) n = subst (λ s. PlainRun s (drop start raw) n) c.requires ahead.1 in
-    let step : step_of (lacks_newline raw) (drop (start + n) raw) ≡ meant c.next_step.result = ap (λ s. step_of s (drop (start + n) raw)) (sym c.requires) ∙ sym (simp take_rest at c.next_step.ensures) in
+    let step : step_of (lacks_newline raw) (drop (start + n) raw) ≡ spec_step c.next_step.result = ap (λ s. step_of s (drop (start + n) raw)) (sym c.requires) ∙ sym (simp take_rest at c.next_step.ensures) in
     elim c.match-next_step.branch [
       | in-Code w ↦
-          subst (λ k. Counted raw k (count + 1)) (sym w.start-is) (counted_code raw start count n w.in-Code.field-0 w.in-Code.len c.loop-ahead.invariant ahead.0 plain_run (step ∙ ap meant w.in-Code.is))
+          subst (λ k. Counted raw k (count + 1)) (sym w.start-is) (counted_code raw start count n w.in-Code.field-0 w.in-Code.len c.loop-ahead.invariant ahead.0 plain_run (step ∙ ap spec_step w.in-Code.is))
       | in-Removed-2 w ↦
-          subst (λ k. Counted raw k (count + 1)) (sym w.start-is) (counted_removed raw start count n w.in-Removed.len c.loop-ahead.invariant ahead.0 plain_run (step ∙ ap meant w.in-Removed.is) w.if-at-len.false)
+          subst (λ k. Counted raw k (count + 1)) (sym w.start-is) (counted_removed raw start count n w.in-Removed.len c.loop-ahead.invariant ahead.0 plain_run (step ∙ ap spec_step w.in-Removed.is) w.if-at-len.false)
     ]
 
 pub returns : goal.returns

@@ -90,9 +90,9 @@ loop-at-preserved c =
     let there = c.place-place.ensures.place first ∙ ap (λ (z : List Char). (get_or z c.loop-at.at first).at) c.loop-at.invariant.same in
     let l = codes_length chars in
     let first_length = ap length c.codes-codes.ensures in
-    let told = simp (take_rest, same) at c.in_ok-push_token-in-Token.ensures in
+    let pushed = simp (take_rest, same) at c.in_ok-push_token-in-Token.ensures in
     let is = token_is chars c.loop-at.at c.in-Token.n first c.in-Token.kind c.loop-at.space (take c.in-Token.n (drop c.loop-at.at (codes_of chars))) c.place-place.result (omega arith) found.1 refl there in
-    let tokens = told ∙ ap (λ (t : Token). c.loop-at.tokens.items ++ t ∷ []) is in
+    let tokens = pushed ∙ ap (λ (t : Token). c.loop-at.tokens.items ++ t ∷ []) is in
     record {
       same = ap (λ (r : Reading). r.chars) c.place-place.ensures.after ∙ c.loop-at.invariant.same;
       consumed = omega (arith, ap (λ (r : Reading). r.consumed) c.place-place.ensures.after);

@@ -25,7 +25,7 @@ grouped : (profile : Profile) (file : ℕ) (bytes : List ℕ) (chars : List Char
     → UnlessOutOfMemory r (GroupsInto lines)
     → UnlessOutOfMemory r (Reads profile file bytes)
 grouped profile file bytes chars lexemes lines (Ok s) clean tokenized are groups =
-    record { chars = chars; lexemes = lexemes; cleaned = clean; tokenized = tokenized; grouped = ap (group_fault []) are ∙ groups.1; same = groups.0 ∙ sym are }
+    record { chars = chars; lexemes = lexemes; cleaned = clean; tokenized = tokenized; grouped = ap (group_fault []) are ∙ groups.1; lines_are = groups.0 ∙ sym are }
 grouped profile file bytes chars lexemes lines (Err (Faulted f)) clean tokenized are groups = bad_groups clean tokenized (ap (group_fault []) are ∙ groups)
 grouped profile file bytes chars lexemes lines (Err OutOfMemory) clean tokenized are groups = tt
 

@@ -2,7 +2,7 @@ use Rattle.std.proofs.Common.{◌≡◌, ◌∙◌, ◌++◌, sym, ap, subst}
 use Rattle.std.proofs.lemmas.List.{map-append}
 use Rattle.std.specs.FinSet as set
 use Rattle.ppmacro.specs.HideSets.{set_at, hiding, hidings, AllKnown}
-use Rattle.ppmacro.specs.Patterns.{listed}
+use Rattle.ppmacro.specs.Patterns.{pattern_chains}
 use Rattle.ppmacro.specs.Substitution.{chains_replacement}
 use Rattle.ppmacro.specs.Substituting.{arguments_in, replacement_in}
 use Rattle.ppexpand.proofs.SpaceFlags.{hidings-spaced, known-spaced}
@@ -17,7 +17,7 @@ returns-in_ok-push_all-in-Ok-clause-is c =
     let list = c.args.list.now in
     let tokens = c.in-Ok.tokens.items in
     let made = ap (replacement_in t) (sym c.in-Ok.is) ∙ c.in_ok-tokens.ensures.is
-    ∙ (λ i. chains_replacement (listed c.args.pattern.now) (arguments_in s c.args.arguments.given.now c.args.arguments.expanded.now)
+    ∙ (λ i. chains_replacement (pattern_chains c.args.pattern.now) (arguments_in s c.args.arguments.given.now c.args.arguments.expanded.now)
     (set.insert (set_at s c.args.base) (c.text.ensures i)) (c.used.ensures i) (c.space.ensures i)) in
     let spaced : hidings t c.space_next.new.self ≡ space_next c.in-Ok.pending (hidings s list) =
     ap (hidings t) c.space_next.ensures ∙ hidings-spaced t c.in-Ok.pending list ∙ ap (space_next c.in-Ok.pending) (hidings-keeps list c.in_ok-tokens.ensures.keeps c.requires.list) in
@@ -36,6 +36,6 @@ pub returns-in-Err-clause-is : goal.returns-in-Err-clause-is
 returns-in-Err-clause-is c =
     let s = c.args.self.now.sets in
     let made = ap (replacement_in c.substitute_pattern.new.sets) (sym c.in-Err.is) ∙ c.in_ok-tokens.ensures.is
-    ∙ (λ i. chains_replacement (listed c.args.pattern.now) (arguments_in s c.args.arguments.given.now c.args.arguments.expanded.now)
+    ∙ (λ i. chains_replacement (pattern_chains c.args.pattern.now) (arguments_in s c.args.arguments.given.now c.args.arguments.expanded.now)
     (set.insert (set_at s c.args.base) (c.text.ensures i)) (c.used.ensures i) (c.space.ensures i)) in
     ap (λ r. replaced_by r (hidings s c.args.list.now)) made

@@ -4,9 +4,9 @@ use Rattle.std.proofs.lemmas.List.{length-append}
 use Rattle.ppexpand.proofs.StopLemmas.{stopped, unless_failed-weaker, no_value}
 use Rattle.ppmacro.specs.HideSets.{hidings, AllKnown}
 use Rattle.ppmacro.specs.Chains.{parameter_names, chains_of}
-use Rattle.ppmacro.specs.Patterns.{listed}
+use Rattle.ppmacro.specs.Patterns.{pattern_chains}
 use Rattle.ppmacro.specs.Substitution.{argument_at}
-use Rattle.ppmacro.specs.Substituting.{lists_of, option_of}
+use Rattle.ppmacro.specs.Substituting.{lists_of, expansion_if_computed}
 use Rattle.ppmacro.specs.declared.hidden_token.ArgumentExpansion.TheVariants.{Unused}
 use Rattle.ppmacro.proofs.PoolGrowthLemmas.{hidings-keeps, known-keeps, keeps-all, keeps-after}
 use Rattle.ppexpand.specs.ExpansionStep.{ReplacementFault, Replaced, finish_invocation, arguments_to_expand, pre_expands}
@@ -167,7 +167,7 @@ expand_arguments-loop-parameter-preserved-then-not-is_pre_expanded m c =
     let names = parameter_names c.args.invocation.now.definition.now.kind in
     let done = c.loop-parameter.expanded.items in
     let less : i < length names = subst (λ n. i < n) (ap length c.deref-is_pre_expanded-items.ensures.value ∙ c.in_ok-pre_expanded.ensures.len) c.loop-parameter-test.true in
-    let unused : pre_expands i cs ≡ false = pre_expanded-alone c.in_ok-pre_expanded.pre_expanded.items c.deref-is_pre_expanded-items.result.now (length names) i (listed c.args.pattern.now) cs false
+    let unused : pre_expands i cs ≡ false = pre_expanded-alone c.in_ok-pre_expanded.pre_expanded.items c.deref-is_pre_expanded-items.result.now (length names) i (pattern_chains c.args.pattern.now) cs false
     c.deref-is_pre_expanded-items.ensures.value c.requires.chains c.in_ok-pre_expanded.ensures.pre_expanded less c.if-not-is_pre_expanded.true in
     let appended = c.in_ok-put.ensures in
     record {
@@ -202,7 +202,7 @@ expand_arguments-returns-in_err-expansion-clause-is m c =
     let names = parameter_names c.args.invocation.now.definition.now.kind in
     let done = c.loop-parameter.expanded.items in
     let less : i < length names = subst (λ n. i < n) (ap length c.deref-is_pre_expanded-items.ensures.value ∙ c.in_ok-pre_expanded.ensures.len) c.loop-parameter-test.true in
-    let is_used : pre_expands i cs ≡ true = pre_expanded-alone c.in_ok-pre_expanded.pre_expanded.items c.deref-is_pre_expanded-items.result.now (length names) i (listed c.args.pattern.now) cs true
+    let is_used : pre_expands i cs ≡ true = pre_expanded-alone c.in_ok-pre_expanded.pre_expanded.items c.deref-is_pre_expanded-items.result.now (length names) i (pattern_chains c.args.pattern.now) cs true
     c.deref-is_pre_expanded-items.ensures.value c.requires.chains c.in_ok-pre_expanded.ensures.pre_expanded less c.if-not-is_pre_expanded.false in
     let tokens_are : c.argument_of-tokens.result.now ≡ argument_at (lists_of vs) i = c.argument_of-tokens.ensures ∙ ap (λ gs. argument_at (lists_of gs) i) c.as_slice.ensures.value in
     let argument : hidings u c.argument_of-tokens.result.now ≡ hidings s (argument_at (lists_of vs) i) =
@@ -224,7 +224,7 @@ expand_arguments-loop-parameter-preserved m c =
     let names = parameter_names c.args.invocation.now.definition.now.kind in
     let done = c.loop-parameter.expanded.items in
     let less : i < length names = subst (λ n. i < n) (ap length c.deref-is_pre_expanded-items.ensures.value ∙ c.in_ok-pre_expanded.ensures.len) c.loop-parameter-test.true in
-    let is_used : pre_expands i cs ≡ true = pre_expanded-alone c.in_ok-pre_expanded.pre_expanded.items c.deref-is_pre_expanded-items.result.now (length names) i (listed c.args.pattern.now) cs true
+    let is_used : pre_expands i cs ≡ true = pre_expanded-alone c.in_ok-pre_expanded.pre_expanded.items c.deref-is_pre_expanded-items.result.now (length names) i (pattern_chains c.args.pattern.now) cs true
     c.deref-is_pre_expanded-items.ensures.value c.requires.chains c.in_ok-pre_expanded.ensures.pre_expanded less c.if-not-is_pre_expanded.false in
     let tokens_are : c.argument_of-tokens.result.now ≡ argument_at (lists_of vs) i = c.argument_of-tokens.ensures ∙ ap (λ gs. argument_at (lists_of gs) i) c.as_slice.ensures.value in
     let w = c.expand_argument.new.self.replacer.sets in
@@ -236,8 +236,8 @@ expand_arguments-loop-parameter-preserved m c =
     let tokens = made_is.0 in
     let one : ExpandsArgument c.args.context.now.table.now.macros c.args.context.now.env.now c.args.context.now.level c.args.invocation.now.name_token.token c.loop-parameter.self.remaining (hidings s (argument_at (lists_of vs) i)) c.expand_argument.new.self.remaining (Ok tokens) =
     subst (λ l. ExpandsArgument c.args.context.now.table.now.macros c.args.context.now.env.now c.args.context.now.level c.args.invocation.now.name_token.token c.loop-parameter.self.remaining l c.expand_argument.new.self.remaining (Ok tokens)) argument made_is.2 in
-    let here_is : option_map (hidings w) (option_of (argument_at (lists_of vs) i) e) ≡ Some tokens =
-    subst (λ g. option_map (hidings w) (option_of g e) ≡ Some tokens) tokens_are made_is.1 in
+    let here_is : option_map (hidings w) (expansion_if_computed (argument_at (lists_of vs) i) e) ≡ Some tokens =
+    subst (λ g. option_map (hidings w) (expansion_if_computed g e) ≡ Some tokens) tokens_are made_is.1 in
     let tokens_known : AllKnown w (owned_tokens e) = c.in_ok-expansion.ensures.known in
     let appended = c.in_ok-put-2.ensures in
     let given_known = given_known-keeps vs c.loop-parameter.invariant.keeps c.requires.known.arguments in

@@ -14,10 +14,10 @@ pub combine-requires-clause-two : goal.combine-requires-clause-two
 combine-requires-clause-two c = node-asked c.self.inside c.self.view_is c.right.view_is c.requires.right
 
 pub invariant_of-self : goal.invariant_of-self
-invariant_of-self c = selected-made Union c.self.inside c.self.invariant c.combine.ensures.pool c.combine.ensures.keeps c.combine.ensures.bounded c.combine.ensures.answers
+invariant_of-self c = selected-made Union c.self.inside c.self.invariant c.combine.ensures.pool c.combine.ensures.keeps c.combine.ensures.bounded c.combine.ensures.results
 
 pub invariant_of-self-2 : goal.invariant_of-self-2
-invariant_of-self-2 c = selected-made Union c.self.inside c.self.invariant c.combine.ensures.pool c.combine.ensures.keeps c.combine.ensures.bounded c.combine.ensures.answers
+invariant_of-self-2 c = selected-made Union c.self.inside c.self.invariant c.combine.ensures.pool c.combine.ensures.keeps c.combine.ensures.bounded c.combine.ensures.results
 
 pub returns-in_err-number-clause-keeps : goal.returns-in_err-number-clause-keeps
 returns-in_err-number-clause-keeps c =

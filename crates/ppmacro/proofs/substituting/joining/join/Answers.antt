@@ -6,7 +6,7 @@ use Rattle.std.proofs.lemmas.Bool.{eqb-true}
 use Rattle.std.proofs.lemmas.List.{take_rest}
 use Rattle.ppmacro.proofs.JoinLemmas.{split-first, no-first, join-nothing, join-pasted, join-refused, known-joined, known-last}
 use Rattle.pptext.proofs.ErrorReturns.{stops}
-use Rattle.ppmacro.proofs.SpelledKindLemmas.{ends-whole}
+use Rattle.ppmacro.proofs.SpelledKindLemmas.{ends-has_spelled_kind}
 use Rattle.ppmacro.proofs.substituting.joining.join.Goals as goal
 
 pub returns-in-None-clause-is : goal.returns-in-None-clause-is
@@ -56,12 +56,12 @@ returns-in_err-hidden-clause-is c =
     join-refused s c.pop.new.self.items c.in-Some-pop.last first rest c.args.used fault none
     ∙ (λ i. join (hidings s (sym left i)) (hidings s (sym right i)) c.args.used))
 
-pub returns-clause-whole : goal.returns-clause-whole
-returns-clause-whole c = λ one.
+pub returns-clause-has_spelled_kind : goal.returns-clause-has_spelled_kind
+returns-clause-has_spelled_kind c = λ one.
     let made : c.push_joined.new.tokens.items ≡ c.pop.new.self.items ++ c.in_ok-hidden.hidden ∷ drop 1 c.args.right.now =
     c.in_ok-push_joined.ensures ∙ ap (λ hs. c.pop.new.self.items ++ c.in_ok-hidden.hidden ∷ hs) (take_rest c.args.right.now 1) in
     let rest = drop 1 c.args.right.now in
     let right : c.args.right.now ≡ c.in-Some.first.now ∷ rest = split-first c.args.right.now c.in-Some.first.now c.in-Some.ensures.value in
     let size : length c.args.right.now ≡ 1 = eqb-true (length c.args.right.now) 1 one in
     let alone : length rest ≡ 0 = (let more = ap length right in omega arith) in
-    subst EndsWithSpelledKind (sym made) (ends-whole c.pop.new.self.items c.in_ok-hidden.hidden rest alone c.in_ok-hidden.ensures.whole)
+    subst EndsWithSpelledKind (sym made) (ends-has_spelled_kind c.pop.new.self.items c.in_ok-hidden.hidden rest alone c.in_ok-hidden.ensures.has_spelled_kind)

@@ -10,5 +10,5 @@ invariant-loop-right l = record {
   left_known : AllKnown l.sets l.left.items;
   rest_known : ListsKnown l.initial.sets (drop l.right-index l.lists);
   keeps : KeepsSets l.initial.sets l.sets;
-  whole : IsTrue l.whole → EndsWithSpelledKind l.left.items;
+  has_spelled_kind : IsTrue l.has_spelled_kind → EndsWithSpelledKind l.left.items;
 }

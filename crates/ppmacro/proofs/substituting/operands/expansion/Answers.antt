@@ -1,5 +1,5 @@
 use Rattle.std.proofs.Common.{◌∙◌, ◌≤◌, [], ap, unwrap_or, length, rules}
-use Rattle.ppmacro.specs.Substituting.{option_of}
+use Rattle.ppmacro.specs.Substituting.{expansion_if_computed}
 use Rattle.ppmacro.proofs.JoinLemmas.{expansion-at, expansion-following}
 use Rattle.ppmacro.proofs.substituting.operands.expansion.Goals as goal
 
@@ -11,4 +11,4 @@ returns-in_default c =
 pub returns : goal.returns
 returns c =
     let at = c.in-Some.ensures.lookup in
-    c.expansion_tokens.ensures ∙ ap (λ hs. unwrap_or (option_of hs c.in-Some.expansion.now) []) c.argument.ensures ∙ expansion-at c.args.given.now c.args.expanded.now c.args.index c.in-Some.expansion.now at.3.0 at.1
+    c.expansion_tokens.ensures ∙ ap (λ hs. unwrap_or (expansion_if_computed hs c.in-Some.expansion.now) []) c.argument.ensures ∙ expansion-at c.args.given.now c.args.expanded.now c.args.index c.in-Some.expansion.now at.3.0 at.1

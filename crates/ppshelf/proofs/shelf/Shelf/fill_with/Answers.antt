@@ -33,16 +33,16 @@ here g c =
 module _ (g : Over) (c : After-put g) where
   put : c.into_vec.result.items ≡ bytes_at c.args.contents c.loop-bytes.row
       → FilledRow (given c.args.contents c.loop-bytes.row) c.self.inside.profile c.loop-bytes.row c.index_mut.result.now c.put.new.self
-  put same = given_row c.args.contents c.self.inside.profile c.loop-bytes.row c.into_vec.result.items c.index_mut.result.now c.put.new.self same c.put.ensures.turned
+  put same = given_row c.args.contents c.self.inside.profile c.loop-bytes.row c.into_vec.result.items c.index_mut.result.now c.put.new.self same c.put.ensures.fill_effect
 
-  turned : c.loop-bytes.row < length c.self.inside.rows.items
+  fill_effect : c.loop-bytes.row < length c.self.inside.rows.items
       → c.into_vec.result.items ≡ bytes_at c.args.contents c.loop-bytes.row
       → Turned c.self.inside.profile (given c.args.contents) c.self.inside.rows.items (set c.loop-bytes.self-inside.rows.items c.loop-bytes.row c.put.new.self)
-  turned within same =
+  fill_effect within same =
       turned_set c.self.inside.profile (given c.args.contents) _ _ c.loop-bytes.row c.index_mut.result.now c.put.new.self c.loop-bytes.invariant.filling within c.index_mut.ensures.value (put same)
 
 pub invariant_of-self : goal.invariant_of-self
-invariant_of-self g c = shelf_kept c.loop-bytes.invariant.profile_is c.loop-bytes.invariant.index_is c.self.invariant c.loop-bytes.invariant.filling.turned
+invariant_of-self g c = shelf_kept c.loop-bytes.invariant.profile_is c.loop-bytes.invariant.index_is c.self.invariant c.loop-bytes.invariant.filling.fill_effect
 
 pub put-requires-clause-contents_permitted : goal.put-requires-clause-contents_permitted
 put-requires-clause-contents_permitted g c =
@@ -57,13 +57,13 @@ pub invariant_of-self-in_err-put : goal.invariant_of-self-in_err-put
 invariant_of-self-in_err-put g c =
     let at = goal.at.invariant_of-self-in_err-put g c in
     let turn = here g at.In-Some in
-    shelf_kept c.loop-bytes.invariant.profile_is c.loop-bytes.invariant.index_is c.self.invariant (turned g at.After-put turn.1 (c.into_vec.ensures ∙ turn.2))
+    shelf_kept c.loop-bytes.invariant.profile_is c.loop-bytes.invariant.index_is c.self.invariant (fill_effect g at.After-put turn.1 (c.into_vec.ensures ∙ turn.2))
 
 pub returns-in_err-put : goal.returns-in_err-put
 returns-in_err-put g c =
     let at = goal.at.returns-in_err-put g c in
     let turn = here g at.In-Some in
-    let fills = fills_kept c.loop-bytes.invariant.profile_is c.loop-bytes.invariant.index_is c.self.view_is (turned g at.After-put turn.1 (c.into_vec.ensures ∙ turn.2)) in
+    let fills = fills_kept c.loop-bytes.invariant.profile_is c.loop-bytes.invariant.index_is c.self.view_is (fill_effect g at.After-put turn.1 (c.into_vec.ensures ∙ turn.2)) in
     record { shelf = fills.shelf; hashing = fills.hashing; filled = fills.filled; len = fills.len; full = search rules }
 
 pub loop-bytes-preserved : goal.loop-bytes-preserved
@@ -87,5 +87,5 @@ returns g c =
     let rows = rows_counted c.self.inside.profile c.self.inside.index.hashing c.self.inside.rows.items c.self.view_is in
     let same = ap length c.into_vec-bytes-items.ensures in
     let done : length c.self.inside.rows.items ≤ c.loop-bytes.row = let m = c.requires.count in let r = c.loop-bytes.invariant.row_is in omega arith in
-    let fills = fills_kept c.loop-bytes.invariant.profile_is c.loop-bytes.invariant.index_is c.self.view_is c.loop-bytes.invariant.filling.turned in
+    let fills = fills_kept c.loop-bytes.invariant.profile_is c.loop-bytes.invariant.index_is c.self.view_is c.loop-bytes.invariant.filling.fill_effect in
     record { shelf = fills.shelf; hashing = fills.hashing; filled = fills.filled; len = fills.len; full = full_turned c.self.inside.profile c.self.inside.index.hashing (given c.args.contents) _ _ c.loop-bytes.row done c.loop-bytes.invariant.filling }

@@ -45,7 +45,7 @@ returns-in-None c =
 
 pub fault_at-requires-in-Some-pop-clause-within : goal.fault_at-requires-in-Some-pop-clause-within
 fault_at-requires-in-Some-pop-clause-within c =
-    let section : ℕ × Bool = (c.section.inside.opening, c.section.inside.last) in
+    let section : ℕ × Bool = (c.section.inside.opening, c.section.inside.has_else) in
     let items = c.in-Some-pop.ensures.items ∙ ap (λ (z : ℕ × Bool). c.pop.new.self.items ++ z ∷ []) (sym c.section.view_is) in
     let top = ap reverse items ∙ reverse-append c.pop.new.self.items (section ∷ []) in
     let sofar = subst (FaultsSoFar c.args.tokens.now c.args.lines.now c.loop-at.at) top c.loop-at.invariant in
@@ -53,7 +53,7 @@ fault_at-requires-in-Some-pop-clause-within c =
 
 pub fault_at-requires-in-Some-pop-clause-branching : goal.fault_at-requires-in-Some-pop-clause-branching
 fault_at-requires-in-Some-pop-clause-branching c =
-    let section : ℕ × Bool = (c.section.inside.opening, c.section.inside.last) in
+    let section : ℕ × Bool = (c.section.inside.opening, c.section.inside.has_else) in
     let items = c.in-Some-pop.ensures.items ∙ ap (λ (z : ℕ × Bool). c.pop.new.self.items ++ z ∷ []) (sym c.section.view_is) in
     let top = ap reverse items ∙ reverse-append c.pop.new.self.items (section ∷ []) in
     let sofar = subst (FaultsSoFar c.args.tokens.now c.args.lines.now c.loop-at.at) top c.loop-at.invariant in
@@ -61,7 +61,7 @@ fault_at-requires-in-Some-pop-clause-branching c =
 
 pub returns : goal.returns
 returns c =
-    let section : ℕ × Bool = (c.section.inside.opening, c.section.inside.last) in
+    let section : ℕ × Bool = (c.section.inside.opening, c.section.inside.has_else) in
     let items = c.in-Some-pop.ensures.items ∙ ap (λ (z : ℕ × Bool). c.pop.new.self.items ++ z ∷ []) (sym c.section.view_is) in
     let top = ap reverse items ∙ reverse-append c.pop.new.self.items (section ∷ []) in
     let sofar = subst (FaultsSoFar c.args.tokens.now c.args.lines.now c.loop-at.at) top c.loop-at.invariant in

@@ -108,13 +108,13 @@ returns-after-is_not_defined-clause-none c =
     let x = c.guard-item-then-line-lt8 in
     let defined = is_not_defined d.result n.result f.result in
     let enclosed = are_parentheses c.left-item.result c.right-item.result in
-    let test : c.if-is_not_defined.named ≡ (defined && enclosed) = elim c.if-is_not_defined.branch [
-      | then-is_not_defined w ↦ both defined enclosed c.if-is_not_defined.named c.is_not_defined-in-len7.result w.are_parentheses-named.result
-          c.is_not_defined-in-len7.ensures w.if-is_not_defined.true w.are_parentheses-named.ensures w.named-is
-      | else-is_not_defined w ↦ neither defined enclosed c.if-is_not_defined.named c.is_not_defined-in-len7.result c.is_not_defined-in-len7.ensures w.if-is_not_defined.false w.named-is
+    let test : c.if-is_not_defined.parenthesized ≡ (defined && enclosed) = elim c.if-is_not_defined.branch [
+      | then-is_not_defined w ↦ both defined enclosed c.if-is_not_defined.parenthesized c.is_not_defined-in-len7.result w.are_parentheses-parenthesized.result
+          c.is_not_defined-in-len7.ensures w.if-is_not_defined.true w.are_parentheses-parenthesized.ensures w.parenthesized-is
+      | else-is_not_defined w ↦ neither defined enclosed c.if-is_not_defined.parenthesized c.is_not_defined-in-len7.result c.is_not_defined-in-len7.ensures w.if-is_not_defined.false w.parenthesized-is
     ] in
     let name = of_seven c.args.line.now d.result n.result f.result c.left-item.result x.result c.right-item.result (omega arith) d.is n.is f.is c.left-item.is x.is c.right-item.is in
-    missed c.args.line.now c.ident_if-in-len7.result c.if-is_not_defined.named x.result (name ∙ ap (λ b. ident_if b x.result) (sym test)) c.ident_if-in-len7.ensures.none
+    missed c.args.line.now c.ident_if-in-len7.result c.if-is_not_defined.parenthesized x.result (name ∙ ap (λ b. ident_if b x.result) (sym test)) c.ident_if-in-len7.ensures.none
 
 pub returns-after-is_not_defined-clause-some : goal.returns-after-is_not_defined-clause-some
 returns-after-is_not_defined-clause-some c =
@@ -124,10 +124,10 @@ returns-after-is_not_defined-clause-some c =
     let x = c.guard-item-then-line-lt8 in
     let defined = is_not_defined d.result n.result f.result in
     let enclosed = are_parentheses c.left-item.result c.right-item.result in
-    let test : c.if-is_not_defined.named ≡ (defined && enclosed) = elim c.if-is_not_defined.branch [
-      | then-is_not_defined w ↦ both defined enclosed c.if-is_not_defined.named c.is_not_defined-in-len7.result w.are_parentheses-named.result
-          c.is_not_defined-in-len7.ensures w.if-is_not_defined.true w.are_parentheses-named.ensures w.named-is
-      | else-is_not_defined w ↦ neither defined enclosed c.if-is_not_defined.named c.is_not_defined-in-len7.result c.is_not_defined-in-len7.ensures w.if-is_not_defined.false w.named-is
+    let test : c.if-is_not_defined.parenthesized ≡ (defined && enclosed) = elim c.if-is_not_defined.branch [
+      | then-is_not_defined w ↦ both defined enclosed c.if-is_not_defined.parenthesized c.is_not_defined-in-len7.result w.are_parentheses-parenthesized.result
+          c.is_not_defined-in-len7.ensures w.if-is_not_defined.true w.are_parentheses-parenthesized.ensures w.parenthesized-is
+      | else-is_not_defined w ↦ neither defined enclosed c.if-is_not_defined.parenthesized c.is_not_defined-in-len7.result c.is_not_defined-in-len7.ensures w.if-is_not_defined.false w.parenthesized-is
     ] in
     let name = of_seven c.args.line.now d.result n.result f.result c.left-item.result x.result c.right-item.result (omega arith) d.is n.is f.is c.left-item.is x.is c.right-item.is in
-    found c.args.line.now c.ident_if-in-len7.result c.if-is_not_defined.named x.result 5 (omega arith) x.is (name ∙ ap (λ b. ident_if b x.result) (sym test)) c.ident_if-in-len7.ensures.some
+    found c.args.line.now c.ident_if-in-len7.result c.if-is_not_defined.parenthesized x.result 5 (omega arith) x.is (name ∙ ap (λ b. ident_if b x.result) (sym test)) c.ident_if-in-len7.ensures.some

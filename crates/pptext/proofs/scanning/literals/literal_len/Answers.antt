@@ -5,8 +5,8 @@ use Rattle.pptext.specs.code.UnmatchedQuotes.{IsQuoted, AreUnmatched}
 use Rattle.pptext.proofs.UnmatchedQuoteLemmas.{lone_opening, lone_literal}
 use Rattle.pptext.proofs.scanning.literals.literal_len.Goals as goal
 
-pub returns-then-left-text-clause-none : goal.returns-then-left-text-clause-none
-returns-then-left-text-clause-none c = λ _. lone_opening c.args.quote c.args.text.now c.args.opening (length c.args.text.now - c.args.left.now) c.requires.some (omega arith) c.requires.last c.requires.unmatched
+pub returns-then-unknown_len-text-clause-none : goal.returns-then-unknown_len-text-clause-none
+returns-then-unknown_len-text-clause-none c = λ _. lone_opening c.args.quote c.args.text.now c.args.opening (length c.args.text.now - c.args.unknown_len.now) c.requires.some (omega arith) c.requires.last c.requires.unmatched
 
 pub returns-in-Closed-clause-some : goal.returns-in-Closed-clause-some
 returns-in-Closed-clause-some c =

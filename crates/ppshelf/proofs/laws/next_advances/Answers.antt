@@ -1,5 +1,5 @@
 use Rattle.ppshelf.proofs.SearchResults.{found_behind}
-use Rattle.ppshelf.proofs.laws.next_goes_on.Goals as goal
+use Rattle.ppshelf.proofs.laws.next_advances.Goals as goal
 
 pub returns : goal.returns
 returns c = found_behind
