@@ -11,7 +11,7 @@ use Rattle.ppexpand.specs.declared.expand_step.Invocation.{Invocation as CodeInv
 use Rattle.ppexpand.specs.ExpansionStep.{Invocation, ExpansionStep, ReplacementFault, Replaced, Invoked, arguments_to_expand, ExpandedArguments, with_expanded}
 use Rattle.ppexpand.specs.Budget.{spend_one}
 use Rattle.ppexpand.specs.Expansion.{Outcome, step_in_budget, Expands, ExpandsTo, ExpandsArguments, argument_fault, invocation_fault, invocation_replaced, none, unused, too_deep, pre_expanded, pre_expansion_fault}
-use Rattle.ppexpand.specs.code.ProgramValues.{Advances, EndsWith, HasAdvanced, HasEnded, HasStepped, HasInvoked, ClosedStepsTo, argument_raises, finishes, ExpandsArgument, expands, raises, deep}
+use Rattle.ppexpand.specs.code.ProgramValues.{Advances, EndsWith, HasAdvanced, HasEnded, HasStepped, HasInvoked, ClosedStepsTo, fault_in_arguments, finishes, ExpandsArgument, expands, raises, deep}
 use Rattle.ppexpand.proofs.OutcomeExistence.{total}
 use Rattle.ppexpand.proofs.OutcomeUniqueness.{same_outcome}
 
@@ -76,12 +76,12 @@ module _ (macros : Macros) (env : Env) (level : ℕ) where
 
 module _ (macros : Macros) (env : Env) (level : ℕ) (remaining : Option ℕ) (list : List Hiding) (invocation : Invocation) (found : step_in_budget macros env remaining list ≡ Invoked invocation) where
   invocation_ends : {remaining_after : Option ℕ} {t : ExpansionStep} → ClosedStepsTo macros env level invocation (spend_one remaining) remaining_after t → (f : Fault) → t ≡ ReplacementFault f → EndsWith macros env level remaining list (Some f) remaining_after
-  invocation_ends {remaining_after} (argument_raises args) f e =
+  invocation_ends {remaining_after} (fault_in_arguments args) f e =
       argument_fault found (subst (λ g. ExpandsArguments macros env level invocation (spend_one remaining) (arguments_to_expand invocation) remaining_after (Err g)) (let same : _ ≡ f = cc e in same) args)
   invocation_ends (finishes args) f e = invocation_fault found args e
 
   invocation_goes_on : {remaining_after : Option ℕ} {t : ExpansionStep} → ClosedStepsTo macros env level invocation (spend_one remaining) remaining_after t → (next : List Hiding) → t ≡ Replaced next → Advances macros env level remaining list remaining_after next []
-  invocation_goes_on (argument_raises args) next e = absurd (cc e)
+  invocation_goes_on (fault_in_arguments args) next e = absurd (cc e)
   invocation_goes_on (finishes args) next e = record { prepends_step = λ n out d. invocation_replaced found args e d }
 
   -- If the invocation is replaced, the list advances by one expansion step.

@@ -123,7 +123,7 @@ ExpandsInvocationArguments macros env level invocation remaining remaining_after
 
 -- an invocation at this level has this expansion step: its arguments are expanded, and then it is replaced
 pub data ClosedStepsTo (macros : Macros) (env : Env) (level : ℕ) (invocation : Invocation) (remaining : Option ℕ) : Option ℕ → ExpansionStep → Type 0 where
-  argument_raises : {remaining_after : Option ℕ} {f : Fault}
+  fault_in_arguments : {remaining_after : Option ℕ} {f : Fault}
       → ExpandsInvocationArguments macros env level invocation remaining remaining_after (Err f)
       → ClosedStepsTo macros env level invocation remaining remaining_after (ReplacementFault f)
   finishes : {remaining_after : Option ℕ} {expanded : List (Option (List Hiding))}

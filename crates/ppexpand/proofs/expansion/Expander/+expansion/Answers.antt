@@ -11,7 +11,7 @@ use Rattle.ppmacro.specs.declared.hidden_token.ArgumentExpansion.TheVariants.{Un
 use Rattle.ppmacro.proofs.PoolGrowthLemmas.{hidings-keeps, known-keeps, keeps-all, keeps-after}
 use Rattle.ppexpand.specs.ExpansionStep.{ReplacementFault, Replaced, finish_invocation, arguments_to_expand, pre_expands}
 use Rattle.ppexpand.specs.Expansion.{ExpandsArguments}
-use Rattle.ppexpand.specs.code.ProgramValues.{expanded_in, owned_tokens, ExpansionsKnown, ExpandsArgument, deep, ClosedStepsTo, argument_raises, finishes}
+use Rattle.ppexpand.specs.code.ProgramValues.{expanded_in, owned_tokens, ExpansionsKnown, ExpandsArgument, deep, ClosedStepsTo, fault_in_arguments, finishes}
 use Rattle.ppexpand.proofs.GrowingHideSets.{invocation_of, invocation_of-keeps, invocation_known-keeps, given_known-keeps, expanded_known-keeps, expanded_known-push}
 use Rattle.ppexpand.proofs.ArgumentLemmas.{arguments_first, argument_expands, argument_raises, argument-known, follows_unused, follows_used, follows_refused, follows_all, pre_expanded-alone}
 use Rattle.ppexpand.proofs.SkippedTokens.{unhidden-expands, next-known, more-known, follows_emit_unexpanded, skip_falls}
@@ -67,7 +67,7 @@ advance-returns-clause-list_known m c = λ continues. c.in_ok-replace_invocation
 
 pub replace_invocation-returns-in_err-expand_arguments-clause-is : goal.replace_invocation-returns-in_err-expand_arguments-clause-is
 replace_invocation-returns-in_err-expand_arguments-clause-is m c =
-    stopped _ _ _ _ _ c.from_residual-in_err-expand_arguments.ensures.1 c.in_err-expand_arguments.ensures.is (λ f raised. argument_raises (raised c.args.list.now))
+    stopped _ _ _ _ _ c.from_residual-in_err-expand_arguments.ensures.1 c.in_err-expand_arguments.ensures.is (λ f raised. fault_in_arguments (raised c.args.list.now))
 
 pub replace_invocation-finish_invocation-requires-clause-invocation : goal.replace_invocation-finish_invocation-requires-clause-invocation
 replace_invocation-finish_invocation-requires-clause-invocation m c = invocation_known-keeps c.args.invocation.now c.in_ok-expand_arguments.ensures.keeps c.requires.invocation_known
