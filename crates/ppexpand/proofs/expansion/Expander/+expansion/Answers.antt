@@ -14,7 +14,7 @@ use Rattle.ppexpand.specs.Expansion.{ExpandsArguments}
 use Rattle.ppexpand.specs.code.ProgramValues.{expanded_in, owned_tokens, ExpansionsKnown, ExpandsArgument, deep, ClosedStepsTo, fault_in_arguments, finishes}
 use Rattle.ppexpand.proofs.GrowingHideSets.{invocation_of, invocation_of-keeps, invocation_known-keeps, given_known-keeps, expanded_known-keeps, expanded_known-push}
 use Rattle.ppexpand.proofs.ArgumentLemmas.{arguments_first, argument_expands, argument_raises, argument-known, follows_unused, follows_used, follows_refused, follows_all, pre_expanded-alone}
-use Rattle.ppexpand.proofs.SkippedTokens.{unhidden-expands, next-known, more-known, follows_emit_unexpanded, skip_falls}
+use Rattle.ppexpand.proofs.SkippedTokens.{unhidden-expands, next-known, more-known, follows_skip, skip_falls}
 use Rattle.ppexpand.proofs.LoopInvariants.{more_follows, more_falls, end_follows, invocation_taken, invocation_raises, begun_raises}
 use Rattle.ppexpand.proofs.expansion.Expander.+expansion.Goals as goal
 
@@ -294,7 +294,7 @@ expand_list-returns-then-not-branch-clause-outcome m c =
     let start = hidings c.args.self.now.replacer.sets c.args.list.now in
     let list = c.emit_unexpanded.new.list in
     let emitted = c.emit_unexpanded.new.emitted in
-    let here = follows_emit_unexpanded c.args.context.now.table.now.macros c.args.context.now.env.now c.args.context.now.level c.loop-named.self.remaining sets c.args.self.now.remaining start c.loop-named.list c.loop-named.emitted list emitted c.in_ok-named.ensures.skipped c.loop-named.invariant.follows in
+    let here = follows_skip c.args.context.now.table.now.macros c.args.context.now.env.now c.args.context.now.level c.loop-named.self.remaining sets c.args.self.now.remaining start c.loop-named.list c.loop-named.emitted list emitted c.in_ok-named.ensures.skipped c.loop-named.invariant.follows in
     end_follows c.args.context.now.table.now.macros c.args.context.now.env.now c.args.context.now.level c.args.self.now.remaining start (hidings sets emitted) c.loop-named.self.remaining (hidings sets list) None c.advance-continues.new.self.remaining
     (hidings c.advance-continues.new.self.replacer.sets c.advance-continues.new.emitted) here (rw c.if-not-branch.true at c.in_ok-continues.ensures.progress)
 
@@ -304,7 +304,7 @@ expand_list-returns-in_err-continues-clause-outcome m c =
     let start = hidings c.args.self.now.replacer.sets c.args.list.now in
     let list = c.emit_unexpanded.new.list in
     let emitted = c.emit_unexpanded.new.emitted in
-    let here = follows_emit_unexpanded c.args.context.now.table.now.macros c.args.context.now.env.now c.args.context.now.level c.loop-named.self.remaining sets c.args.self.now.remaining start c.loop-named.list c.loop-named.emitted list emitted c.in_ok-named.ensures.skipped c.loop-named.invariant.follows in
+    let here = follows_skip c.args.context.now.table.now.macros c.args.context.now.env.now c.args.context.now.level c.loop-named.self.remaining sets c.args.self.now.remaining start c.loop-named.list c.loop-named.emitted list emitted c.in_ok-named.ensures.skipped c.loop-named.invariant.follows in
     stopped _ _ _ _ _ c.from_residual-in_err-continues.ensures.1 c.in_err-continues.ensures.progress (λ f ended.
     end_follows c.args.context.now.table.now.macros c.args.context.now.env.now c.args.context.now.level c.args.self.now.remaining start (hidings sets emitted) c.loop-named.self.remaining (hidings sets list) (Some f) c.advance-continues.new.self.remaining
     (hidings c.advance-continues.new.self.replacer.sets c.advance-continues.new.emitted) here ended)
@@ -315,7 +315,7 @@ expand_list-loop-named-preserved m c =
     let start = hidings c.args.self.now.replacer.sets c.args.list.now in
     let list = c.emit_unexpanded.new.list in
     let emitted = c.emit_unexpanded.new.emitted in
-    let here = follows_emit_unexpanded c.args.context.now.table.now.macros c.args.context.now.env.now c.args.context.now.level c.loop-named.self.remaining sets c.args.self.now.remaining start c.loop-named.list c.loop-named.emitted list emitted c.in_ok-named.ensures.skipped c.loop-named.invariant.follows in
+    let here = follows_skip c.args.context.now.table.now.macros c.args.context.now.env.now c.args.context.now.level c.loop-named.self.remaining sets c.args.self.now.remaining start c.loop-named.list c.loop-named.emitted list emitted c.in_ok-named.ensures.skipped c.loop-named.invariant.follows in
     record {
       low = c.loop-named.invariant.low;
       list_known = c.in_ok-continues.ensures.list_known c.if-not-branch.false;
