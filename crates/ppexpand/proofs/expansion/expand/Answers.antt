@@ -11,8 +11,8 @@ pub returns-then-is_empty : goal.returns-then-is_empty
 returns-then-is_empty c =
     let rest = c.split_unexpanded.result.1.now in
     let none : rest ≡ [] = nil_from_length rest (search rules) in
-    expansion-following c.args.table.now.macros c.args.env.now c.args.remaining c.args.tokens.now c.split_unexpanded.result.0.now rest _ (ended c.args.remaining None) c.split_unexpanded.ensures.laid_out c.split_unexpanded.ensures.unexpanded
-    (subst (λ ts. ExpandsTo c.args.table.now.macros c.args.env.now 0 c.args.remaining (map unhidden ts) (ended c.args.remaining None)) (sym none) (expands-nothing c.args.table.now.macros c.args.env.now 0 c.args.remaining))
+    expansion-following c.args.table.now.macros c.args.env.now c.args.remaining c.args.tokens.now c.split_unexpanded.result.0.now rest _ (stops_with c.args.remaining None) c.split_unexpanded.ensures.laid_out c.split_unexpanded.ensures.unexpanded
+    (subst (λ ts. ExpandsTo c.args.table.now.macros c.args.env.now 0 c.args.remaining (map unhidden ts) (stops_with c.args.remaining None)) (sym none) (expands-nothing c.args.table.now.macros c.args.env.now 0 c.args.remaining))
     (c.new-then-is_empty.ensures ∙ (λ i. c.split_unexpanded.result.0.now ++ tokens_of (c.new.ensures i)))
     refl
     refl
