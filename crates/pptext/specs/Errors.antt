@@ -1,7 +1,7 @@
 -- The results of a step: a value, a fault, or a failed allocation.
 use Rattle.std.specs.Prelude.{◌≡◌, Result, Ok, Err}
 use Rattle.pptext.specs.declared.tokens.Fault.{Fault}
-use Rattle.pptext.specs.declared.tokens.Memory.{Memory}
+use Rattle.std.specs.declared.alloc.AllocError.{AllocError as Memory}
 use Rattle.pptext.specs.declared.error.Error.{Error}
 use Rattle.pptext.specs.declared.error.Error.TheVariants.{Fault as Faulted, Memory as OutOfMemory}
 
@@ -16,6 +16,11 @@ abbrev pub UnlessOutOfMemory : {A : Type 0} → Result A Error → (Result A Fau
 UnlessOutOfMemory (Ok a) P = P (Ok a)
 UnlessOutOfMemory (Err (Faulted f)) P = P (Err f)
 UnlessOutOfMemory (Err OutOfMemory) P = Unit {0}
+
+-- the error of this fault: the fault exactly, unless an allocation failed
+abbrev pub Raises : Error → Fault → Type 0
+Raises (Faulted f) fault = f ≡ fault
+Raises OutOfMemory fault = Unit {0}
 
 -- the result with the fault in the value, so that a failed allocation is the only error
 abbrev pub split_memory : {A : Type 0} → Result A Error → Result (Result A Fault) Memory

@@ -44,7 +44,7 @@ pub(crate) fn group_lines(
 {
     let lines = linked_lines(alloc, lines)?;
     if let Some(fault) = first_fault(alloc, tokens.as_slice(), lines.as_slice())? {
-        return Err(Error::Fault(fault));
+        return Err(Error::of(alloc, fault));
     }
     Ok(source_of(tokens, lines))
 }

@@ -21,7 +21,7 @@ mod tokens;
 
 pub use characters::Char;
 pub use directives::{Class, Question};
-pub use error::{Error, split_memory};
+pub use error::{BoxedFault, Error, Memory, split_memory};
 pub use hashing::{Hashing, u32_at};
 pub use laws::{
     continued_token, keeps_every_token, kind_by_language, next_branches, one_guard, one_lexer,
@@ -33,4 +33,4 @@ pub use scanning::continuing::continues;
 pub use sequences::Sequence;
 pub use sources::{Directive, LONGEST, Line, Profile, Source};
 pub use texts::{OwnedText, OwnedTexts};
-pub use tokens::{Fault, Kind, Memory, Place, Spelling, Token, Tokens};
+pub use tokens::{Fault, Kind, Place, Spelling, Token, Tokens};

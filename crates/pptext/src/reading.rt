@@ -2,18 +2,17 @@
 ghost use Rattle.std.specs.Prelude.{◌≡◌, ◌↔◌, ◌≤◌, ℕ, List, length, IsTrue, IfSome, IfNone};
 ghost use Rattle.pptext.specs.Clean.{longest};
 ghost use Rattle.pptext.specs.declared.tokens.Kind.{Kind};
-ghost use Rattle.pptext.specs.declared.error.Error.TheVariants.{Fault as Faulted};
 ghost use Rattle.pptext.specs.Errors.{UnlessOutOfMemory};
 ghost use Rattle.pptext.specs.Guard.{GuardedBy};
 ghost use Rattle.pptext.specs.Lines.{AreDirected};
-ghost use Rattle.pptext.specs.Sources.{Reads, tokens_of, spans, file_fault, IsOneToken, IsUnmatchedQuote};
+ghost use Rattle.pptext.specs.Sources.{Reads, tokens_of, spans, IsOneToken, IsUnmatchedQuote};
 
 use crate::cleaning::clean_text;
 use crate::error::Error;
 use crate::grouping::group_lines;
 use crate::lexer::{LeadingLexeme, next_lexeme, tokenize_lines};
 use crate::sources::{Line, Profile, Source};
-use crate::tokens::{Fault, Kind, Place, Token};
+use crate::tokens::{Kind, Token};
 use std::alloc::Global;
 
 impl Source {
@@ -31,13 +30,6 @@ impl Source {
     {
         self.lines.as_slice()
     }
-}
-
-/// Makes a fault of the file with an empty text. Allocates nothing.
-fn fault_at(number: u8, at: Place) -> Error
-    ensures { result ≡ Faulted (file_fault number at) }
-{
-    Error::Fault(Fault::bare(number, at))
 }
 
 /// Reads a file of at most `LONGEST` bytes: its lines of preprocessing tokens after translation phases 1 to 3 (5.1.1.2,
@@ -67,13 +59,13 @@ pub fn read_source(
 {
     let text = match clean_text(alloc, bytes, file)? {
         Ok(text) => text,
-        Err(place) => return Err(fault_at(2, place)),
+        Err(place) => return Err(Error::bare(alloc, 2, place)),
     };
     // Capacity for about as many as ordinary C has, so that the vectors are seldom moved.
     let mut tokens = Vec::with_capacity(alloc, bytes.len() / 5)?;
     let mut lines = Vec::with_capacity(alloc, bytes.len() / 20)?;
     if let Err(place) = tokenize_lines(&text, &mut tokens, &mut lines, profile)? {
-        return Err(fault_at(1, place));
+        return Err(Error::bare(alloc, 1, place));
     }
     drop(text);
     // A vector that grew has up to twice the capacity that it needs, and these live as long as the file.

@@ -4,27 +4,11 @@ ghost use Rattle.std.specs.Str.{bytes_eq};
 ghost use Rattle.pptext.specs.Tokens.{is_identifier, is_identifier_named, is_punct, is_unmatched_quote, fault};
 
 use crate::sequences::Sequence;
-use std::alloc::{AllocError, AllocFailed, Global};
+use std::alloc::{AllocError, Global};
 use std::marker::Model;
 
 /// The maximum length of a spelling that is stored in the token itself. Nearly all spellings are this short.
 const SHORT: usize = 14;
-
-/// A failed allocation.
-#[derive(Clone, Copy, PartialEq, Eq, Debug)]
-pub struct Memory;
-
-impl From<AllocError> for Memory {
-    fn from(_error: AllocError) -> Memory {
-        Memory
-    }
-}
-
-impl<T: Drop> From<AllocFailed<T>> for Memory {
-    fn from(_error: AllocFailed<T>) -> Memory {
-        Memory
-    }
-}
 
 /// A location in a file: the file's number, the line from 1, and the byte in the line from 1.
 #[derive(Clone, Copy, PartialEq, Eq, Debug)]

@@ -1,10 +1,10 @@
 //! The next branch line of each line that opens or branches an if-section (6.10.1).
-ghost use Rattle.std.specs.Prelude.{◌≡◌, reverse, IfOk, MatchResult};
+ghost use Rattle.std.specs.Prelude.{◌≡◌, reverse, IfOk, OnOk};
 ghost use Rattle.pptext.specs.Tree.{role_by};
 ghost use Rattle.pptext.specs.code.Grouping.{step_back, linked};
 
 use crate::directives::{Role, role_of};
-use crate::error::Error;
+use crate::error::Memory;
 use crate::sources::{Directive, Line};
 use std::alloc::{AllocFailed, Global};
 
@@ -33,8 +33,8 @@ fn step_back(
 }
 
 /// Sets the next branch line of each line, from the last line to the first.
-fn link_branches(alloc: Global, lines: &mut [Line]) -> Result<(), Error>
-    ensures { MatchResult result (λ _. lines.new ≡ linked 0 lines.old) (λ e. e ≡ Error.Memory) }
+fn link_branches(alloc: Global, lines: &mut [Line]) -> Result<(), Memory>
+    ensures { OnOk result (lines.new ≡ linked 0 lines.old) }
 {
     let mut open_branches = Vec::new(alloc);
     for at in (0..lines.len()).rev() {
@@ -45,8 +45,8 @@ fn link_branches(alloc: Global, lines: &mut [Line]) -> Result<(), Error>
 }
 
 /// Returns the lines, each with its next branch line.
-pub(super) fn linked_lines(alloc: Global, lines: Vec<Line>) -> Result<Vec<Line>, Error>
-    ensures { MatchResult result (λ v. v.items ≡ linked 0 lines.items) (λ e. e ≡ Error.Memory) }
+pub(super) fn linked_lines(alloc: Global, lines: Vec<Line>) -> Result<Vec<Line>, Memory>
+    ensures { IfOk result (λ v. v.items ≡ linked 0 lines.items) }
 {
     let mut lines = lines;
     link_branches(alloc, lines.as_mut_slice())?;

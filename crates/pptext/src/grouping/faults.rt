@@ -1,5 +1,5 @@
 //! The faults of a file's groups.
-ghost use Rattle.std.specs.Prelude.{◌≡◌, ◌+◌, ◌<◌, ◌^◌, [], length, reverse, slice_index_or, IfOk, MatchResult};
+ghost use Rattle.std.specs.Prelude.{◌≡◌, ◌+◌, ◌<◌, ◌^◌, [], length, reverse, slice_index_or, IfOk};
 ghost use Rattle.pptext.specs.declared.sources.Line.{Line};
 ghost use Rattle.pptext.specs.declared.tokens.Token.{Token};
 ghost use Rattle.pptext.specs.Lines.{LogicalLine};
@@ -9,10 +9,10 @@ ghost use Rattle.pptext.specs.Tree.{role_by, after_line, fault_at, group_fault};
 ghost use Rattle.pptext.specs.code.Grouping.{AreLines, line_role, IsBranching, LineTakes};
 
 use crate::directives::{Role, role_of};
-use crate::error::Error;
+use crate::error::Memory;
 use crate::sources::{Directive, Line};
 use crate::tokens::{Fault, Token};
-use std::alloc::{AllocError, AllocFailed, Global};
+use std::alloc::{AllocFailed, Global};
 use std::marker::Model;
 
 /// An open if-section: the index of its opening line, and whether its `#else` has occurred.
@@ -73,7 +73,7 @@ fn take_line(
 
 /// Makes the fault of a directive. It is located at the `#`, which has index `hash`, and its text is the directive's
 /// name.
-fn fault_of(number: u8, tokens: &[Token], hash: usize) -> Result<Fault, AllocError>
+fn fault_of(number: u8, tokens: &[Token], hash: usize) -> Result<Fault, Memory>
     requires { hash + 1 < length tokens.now }
     ensures { (d : Token) → IfOk result (λ f. f ≡ fault number (slice_index_or tokens.now hash d).at (slice_index_or tokens.now (hash + 1) d).text) }
 {
@@ -81,7 +81,7 @@ fn fault_of(number: u8, tokens: &[Token], hash: usize) -> Result<Fault, AllocErr
 }
 
 /// Makes the fault of the directive line at this index.
-fn fault_at(number: u8, tokens: &[Token], lines: &[Line], at: usize) -> Result<Fault, AllocError>
+fn fault_at(number: u8, tokens: &[Token], lines: &[Line], at: usize) -> Result<Fault, Memory>
     requires are_lines { AreLines tokens.now lines.now }
     requires within { at < length lines.now }
     requires branching { (d : Line) → IsBranching (line_role (slice_index_or lines.now at d)) }
@@ -95,10 +95,10 @@ pub(super) fn first_fault(
     alloc: Global,
     tokens: &[Token],
     lines: &[Line],
-) -> Result<Option<Fault>, Error>
+) -> Result<Option<Fault>, Memory>
     requires are_lines { AreLines tokens.now lines.now }
     requires few { length lines.now < 2 ^ 32 }
-    ensures { MatchResult result (λ f. f ≡ group_fault [] (lines_from tokens.now lines.now)) (λ e. e ≡ Error.Memory) }
+    ensures { IfOk result (λ f. f ≡ group_fault [] (lines_from tokens.now lines.now)) }
 {
     // A line that opens an if-section has at least two tokens.
     let most = lines.len().min(tokens.len() / 2);
