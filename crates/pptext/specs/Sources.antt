@@ -15,7 +15,8 @@ use Rattle.pptext.specs.Lines.{LogicalLine, lines_of}
 use Rattle.pptext.specs.Tokens.{fault}
 use Rattle.pptext.specs.Tree.{Role, Opens, Elses, role, branch_after, group_fault}
 
--- the next branch line, in an if-section, of a line with index k before these lines
+-- The index of the line that ends the group that a line with index k begins, before these lines: the next branch line of its if-section, or its
+-- `#endif`. None for a line that begins no group.
 abbrev pub next_branch : ℕ → Role → List LogicalLine → Option ℕ
 next_branch k Opens rest = branch_after 0 (k + 1) (map role rest)
 next_branch k (Elses final) rest = branch_after 0 (k + 1) (map role rest)

@@ -124,7 +124,8 @@ abbrev pub group_fault : List Open → List LogicalLine → Option Fault
 group_fault os [] = fault_at_end os
 group_fault os (r ∷ rs) = fault_or r (after_line (role r) r os).0 (group_fault (after_line (role r) r os).1 rs)
 
--- The index, counted from k, of the next branch line of the enclosing if-section, after `depth` inner openings.
+-- The index, counted from k, of the line that ends the current group of the enclosing if-section: its next branch line or its `#endif`. `depth`
+-- inner if-sections are open.
 abbrev pub branch_after : ℕ → ℕ → List Role → Option ℕ
 branch_after depth k [] = None
 branch_after depth k (Opens ∷ rs) = branch_after (suc depth) (k + 1) rs

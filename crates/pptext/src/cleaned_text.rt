@@ -1,4 +1,12 @@
 //! The text of a file after phases 1 and 2: its characters, and where each is spelled.
+//!
+//! Few files have trigraphs, splices or CRs. The characters of other files are their own bytes, which are not copied.
+//! A changed text has a copy of the codes and a table of line notes, not a location for each character, which would
+//! take much more memory. A location is computed when it is asked for. The lexer asks in order, so a cursor moves
+//! forward from line note to line note and reads each byte of the file at most once.
+//!
+//! `seek` has two fast paths, for characters before the next line note: within a line it adds to the column, and
+//! otherwise it counts the new-lines. Both are inlined into the lexer's loop. The slow path, over line notes, is not.
 ghost use Rattle.std.specs.Prelude.{◌≡◌, ◌+◌, ◌-◌, ◌<◌, ◌≤◌, ◌^◌, [], MatchOption, length, slice_index_or, take, drop};
 ghost use Rattle.pptext.specs.Clean.{longest, codes_of, place};
 ghost use Rattle.pptext.specs.code.Steps.{place_after};

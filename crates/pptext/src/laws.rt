@@ -48,8 +48,8 @@ pub fn keeps_every_token()
     ensures { (profile : Profile) (file : ℕ) (bytes : List ℕ) (chars : List Char) (lexemes : List Lexeme) → cleaned file bytes ≡ Ok chars → Tokenizes profile chars lexemes → tokens_of (lines_of profile lexemes) ≡ tokens_in true lexemes }
 {}
 
-/// Each token of a text, except a header name (6.4.7) and an unmatched quote, is the one token of its spelling. So
-/// `relex` finds its kind again.
+/// Each token of a text, except a header name (6.4.7), is the one token of its spelling. So `relex` finds its kind
+/// again, unless the token is an unmatched quote (6.4p3).
 pub fn relexes_tokens()
     ensures { (profile : Profile) (chars : List Char) (lexemes : List Lexeme) → Tokenizes profile chars lexemes → (p : Lexeme) (k : Kind) → Contains lexemes p → p.kind ≡ Spelled k → k ≢ Header → IsOneToken (codes_of p.chars) k }
 {}

@@ -1,4 +1,13 @@
 //! The lexer: tokenizes a text, line by line (5.1.1.2, phase 3).
+//!
+//! It reads the text once. `fast_lexeme_at` finds a lexeme that its first byte decides: a new-line, white space, most
+//! words and some punctuators. Most lexemes are of these kinds, so it is inlined into the loop. `slow_lexeme_at` and
+//! `push_long_token` are not inlined, so the loop stays small.
+//!
+//! A header name depends on the tokens before it in its line (6.4.7). They are the tokens from `start` on, so no state
+//! is kept for them. Consecutive blanks count as one lexeme, because tokens keep only whether white space precedes them.
+//! The loop asks for the locations of tokens and new-lines alone. It also knows where the last line or comment ended,
+//! so that most locations need no search for ends of lines.
 ghost use Rattle.std.specs.Prelude.{◌≡◌, ◌≢◌, ◌↔◌, ◌+◌, ◌<◌, ◌≤◌, ℕ, List, [], ◌∷◌, ◌++◌, OnOk, length, take, drop, IsTrue, slice_index, None, IfOk, IfSome, IfNone, false};
 ghost use Rattle.pptext.specs.declared.sources.Profile.{Profile};
 ghost use Rattle.pptext.specs.Spellings.{is_blank};

@@ -70,9 +70,10 @@ fn literal_at(text: &[u8], unmatched: &mut UnmatchedQuotes) -> Option<(Kind, usi
     None
 }
 
-/// Returns the kind and length of the token that begins the text where no header name is allowed. A literal is longer
-/// than the identifier that its prefix is, and a number is longer than a period. No other two kinds begin alike. So the
-/// first kind that matches gives the longest token.
+/// Returns the kind and length of the token that begins the text where no header name is allowed. If two kinds match,
+/// the longer token is tried first: a literal before the identifier that its prefix is and before an unmatched quote, an
+/// identifier before the backslash of its universal character name (6.4.3), and a number before its period. So the first
+/// kind that matches gives the longest token.
 fn plain_token_at(text: &[u8], unmatched: &mut UnmatchedQuotes) -> (Kind, usize)
     requires some { 0 < length text.now }
     requires no_newline { slice_index text.now 0 ≢ 10 }

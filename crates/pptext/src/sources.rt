@@ -16,7 +16,8 @@ pub enum Profile {
     /// C11 with `#elifdef` and `#elifndef` of ISO/IEC 9899:2024 (6.10.2), and `#pragma once`.
     Later,
     /// `Later` with the rules of GNU C that the headers of Linux need: named variadic parameters, variable arguments
-    /// that may be absent, `#include_next`, `__has_include`, and `#warning`, `#ident` and `#sccs`, which do nothing.
+    /// that may be absent, a macro that is defined again with another definition, a `__STDC_VERSION__` that is defined
+    /// again or undefined, `#include_next`, `__has_include`, and `#warning`, `#ident` and `#sccs`, which do nothing.
     Gnu,
 }
 

@@ -1,4 +1,12 @@
 //! Locations, preprocessing tokens and faults.
+//!
+//! A spelling owns its bytes, so a token can be stored, copied and returned by itself. Up to 14 bytes are in the token,
+//! which is enough for nearly all spellings: they allocate nothing, and copying them can't fail. A longer spelling is a
+//! boxed vector: with the box, an owner of any length has the size of a short spelling. Contracts see only the list of
+//! the bytes, so no caller depends on the two forms.
+//!
+//! The tests of a token and the constructors of a fault are defined here once. All crates use them, and their contracts
+//! cite the predicates of `specs/Tokens.antt`.
 ghost use Rattle.std.specs.Prelude.{◌≡◌, ◌<◌, ◌≤◌, List, ℕ, IfOk, IfSome, IfNone, OnErr, OnOk, length, take, [], ◌++◌, Some, None};
 ghost use Rattle.std.specs.Str.{bytes_eq};
 ghost use Rattle.pptext.specs.Tokens.{is_identifier, is_identifier_named, is_punct, is_unmatched_quote, fault};

@@ -1,4 +1,11 @@
 //! Character constants (6.4.4.4) and string literals (6.4.5).
+//!
+//! A quote that isn't closed in its line is unmatched (6.4p3) and opens no literal. To see that, the search reads to
+//! the end of the line. A line of n such quotes would be read n times. So a search that fails returns how far it has
+//! read (`QuoteScan`): no quote of the same kind in that range is closed either. `UnmatchedQuotes` has these ranges, and
+//! the next searches skip them.
+//!
+//! The two kinds are apart because their prefixes differ, and because a character constant has at least one element.
 ghost use Rattle.std.specs.Prelude.{◌≡◌, ◌≢◌, ◌↔◌, ◌⊎◌, ◌+◌, ◌-◌, ◌<◌, ◌≤◌, ℕ, [], ◌∷◌, length, drop, IsTrue, slice_index, Contains};
 ghost use Rattle.pptext.specs.Languages.{OnlyPart, NoPrefix, IsOnly, Then, Exactly};
 ghost use Rattle.pptext.specs.Spellings.{IsElement, IsCharConst, IsStr, char_prefixes, str_prefixes};
