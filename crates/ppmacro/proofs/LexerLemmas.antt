@@ -2,7 +2,7 @@
 use Rattle.std.proofs.Common.{◌≡◌, ℕ, List, Option, Some, None, IfNone, IfSome}
 use Rattle.pptext.specs.declared.tokens.Kind.{Kind}
 use Rattle.pptext.specs.Sources.{IsOneToken, IsUnmatchedQuote}
-use Rattle.pptext.specs.Lexing.{Lexes, IsLexer}
+use Rattle.pptext.specs.KindTests.{Lexes, IsLexer}
 use Rattle.pptext.proofs.TextKinds.{lexer_is, one_lexing}
 use Rattle.ppmacro.specs.Lexing.{kind_of}
 

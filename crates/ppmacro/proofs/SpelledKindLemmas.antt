@@ -6,7 +6,7 @@ use Rattle.pptext.specs.declared.tokens.Kind.{Kind}
 use Rattle.pptext.specs.declared.tokens.Place.{Place}
 use Rattle.pptext.specs.declared.tokens.Fault.{Fault}
 use Rattle.pptext.specs.Continuations.{ContinuesToken}
-use Rattle.pptext.specs.Lexing.{Lexes}
+use Rattle.pptext.specs.KindTests.{Lexes}
 use Rattle.pptext.proofs.TextKinds.{one_lexing}
 use Rattle.pptext.proofs.TokenContinuation.{continued_token}
 use Rattle.ppmacro.specs.HideSetPool.{HideSetPool}

@@ -5,7 +5,7 @@ use Rattle.pptext.specs.declared.tokens.Token.{Token}
 use Rattle.pptext.specs.declared.sources.Line.{Line}
 use Rattle.pptext.specs.Lines.{LogicalLine, AreDirected}
 use Rattle.pptext.specs.Tree.{Role, TextLine, ControlLine, Opens, Elses, Closes, role, branch_after}
-use Rattle.pptext.specs.Sources.{next_branch, spans, tokens_of, lines_from}
+use Rattle.pptext.specs.Sources.{next_branch, spans, line_tokens, lines_from}
 use Rattle.pptext.specs.code.Grouping.{line_spans, AreLineSpans, AreLines, line_role, branch_of, linked, first, step_back}
 use Rattle.pptext.proofs.Spans.{line_from}
 
@@ -116,7 +116,7 @@ pub linked_are : (ts : List Token) (ls now : List Line) → AreLineSpans ts ls �
 linked_are ts ls now are is =
     let same : lines_from ts now ≡ lines_from ts ls = ap (lines_from ts) is ∙ lines_of_linked ts 0 ls in
     let spans_are : spans 0 0 (lines_from ts ls) ≡ now = sym (linked_drafts 0 0 (lines_from ts ls)) ∙ ap (linked 0) are.1 ∙ sym is in
-    (same, (ap tokens_of same ∙ are.0, ap (spans 0 0) same ∙ spans_are, subst AreDirected (sym same) are.2))
+    (same, (ap line_tokens same ∙ are.0, ap (spans 0 0) same ∙ spans_are, subst AreDirected (sym same) are.2))
 
 pub linked_length : (k : ℕ) (ls : List Line) → length (linked k ls) ≡ length ls
 linked_length k [] = refl

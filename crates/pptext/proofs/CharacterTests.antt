@@ -7,8 +7,7 @@ use Rattle.std.proofs.lemmas.Bool.Decides.{nat_tests}
 use Rattle.std.proofs.lemmas.List.Folds.{list_all-append}
 use Rattle.std.proofs.lemmas.List.Sums.{AllPass-from_list_all, list_all-from_AllPass}
 use Rattle.pptext.specs.Languages.{Exactly, One, Then, Either, IsRun, Repeated}
-use Rattle.pptext.specs.Spellings.{is_digit, is_hex, is_nondigit, is_exponent, is_sign, IsUniversal, IsNondigit, IsIdent, IsNumberPart, IsNumber}
-use Rattle.pptext.specs.Spellings.{punctuators, IsPunct}
+use Rattle.pptext.specs.Spellings.{is_digit, is_hex, is_nondigit, is_exponent, is_sign, IsUniversal, IsNondigit, IsIdent, IsNumberPart, IsNumber, punctuators, IsPunct}
 use Rattle.pptext.proofs.LongestPunctuator.{any_passes}
 
 -- An entry of a table passes each test that all entries pass.

@@ -5,7 +5,8 @@ use Rattle.std.specs.List.{flat_map}
 use Rattle.std.proofs.lemmas.List.{drop-drop}
 use Rattle.std.proofs.Math.Seq.{take-add}
 use Rattle.std.proofs.lemmas.Bool.Decides.{nat_tests}
-use Rattle.pptext.specs.Languages.{Exactly, One, Then, Repeated, NoPrefix, IsOnly, OnlyPart}
+use Rattle.pptext.specs.Languages.{Exactly, One, Then, Repeated}
+use Rattle.pptext.specs.code.Scanning.{NoPrefix, IsOnly, OnlyPart}
 use Rattle.pptext.specs.Spellings.{IsBetween, IsHeader}
 use Rattle.pptext.proofs.RepeatedParts.{front_of, front_length, behind_front}
 use Rattle.pptext.proofs.LanguagePrefixes.{one_here, one_lacks, one_empty, only_zero, exactly_then, either_left, either_right, only_some}

@@ -2,7 +2,8 @@
 use Rattle.std.proofs.Common.{◌≡◌, ℕ, zero, suc, ◌+◌, ◌-◌, ◌<◌, ◌≤◌, Bool, true, List, [], ◌∷◌, ◌++◌, length, take, drop, refl, sym, ap, ◌∙◌, subst, arith, length-drop, append_assoc, get_or}
 use Rattle.std.proofs.Math.Seq.{take-add}
 use Rattle.std.proofs.lemmas.List.{append-nil, drop-drop, get_or-drop}
-use Rattle.pptext.specs.Languages.{Exactly, One, Then, Repeated, Longest, LongestOrNone, NoPrefix, IsNext, NextPart, IsOnly, OnlyPart}
+use Rattle.pptext.specs.Languages.{Exactly, One, Then, Repeated, Longest}
+use Rattle.pptext.specs.code.Scanning.{LongestOrNone, NoPrefix, IsNext, NextPart, IsOnly, OnlyPart}
 use Rattle.pptext.specs.Lexemes.{BeginsWith}
 use Rattle.pptext.proofs.RepeatedParts.{front_of, front_length, behind_front, then_longest, more_repeated, none_repeated}
 use Rattle.pptext.proofs.LanguagePrefixes.{one_here, only_zero}

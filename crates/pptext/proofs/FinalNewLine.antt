@@ -14,7 +14,7 @@ use Rattle.pptext.specs.Clean.{codes_of, newline, next_col, terminated, line_end
 use Rattle.pptext.specs.Spellings.{is_blank, IsHeader, Spells}
 use Rattle.pptext.specs.Lexemes.{Lexeme, LexemeKind, NewLine, Blank, Comment, Spelled, IsLexemeAt, CommentAt, AreLexemes, Tokenizes, characters_of, with_lexeme, BeginsWith}
 use Rattle.pptext.specs.Lines.{lines_of, lines_after, lines_ended, leaves_space, tokens_after, token_of}
-use Rattle.pptext.specs.Sources.{tokens_of}
+use Rattle.pptext.specs.Sources.{line_tokens}
 use Rattle.pptext.specs.Laws.{token_in, tokens_in}
 use Rattle.pptext.proofs.TextEndings.{last_at}
 use Rattle.pptext.proofs.KindUniqueness.{last-append, spelling_last}
@@ -183,15 +183,15 @@ pieces_end profile line (p ∷ q ∷ ps) each e =
 
 kept_one : (profile : Profile) (space : Bool) (ts : List Token) (chars : List Char) (s : LexemeKind)
     → s ≡ NewLine
-    → tokens_of (lines_ended profile ts chars s ++ lines_after profile (leaves_space s) (tokens_after space ts chars s) []) ≡ ts ++ (token_in space chars s ++ [])
+    → line_tokens (lines_ended profile ts chars s ++ lines_after profile (leaves_space s) (tokens_after space ts chars s) []) ≡ ts ++ (token_in space chars s ++ [])
 kept_one profile space ts chars NewLine e = refl
 kept_one profile space ts chars Blank e = cc
 kept_one profile space ts chars Comment e = cc
 kept_one profile space ts chars (Spelled k) e = cc
 
 kept_more : (profile : Profile) (space : Bool) (ts : List Token) (chars : List Char) (s : LexemeKind) (ps : List Lexeme)
-    → ((after : Bool) (us : List Token) → tokens_of (lines_after profile after us ps) ≡ us ++ tokens_in after ps)
-    → tokens_of (lines_ended profile ts chars s ++ lines_after profile (leaves_space s) (tokens_after space ts chars s) ps)
+    → ((after : Bool) (us : List Token) → line_tokens (lines_after profile after us ps) ≡ us ++ tokens_in after ps)
+    → line_tokens (lines_ended profile ts chars s ++ lines_after profile (leaves_space s) (tokens_after space ts chars s) ps)
     ≡ ts ++ (token_in space chars s ++ tokens_in (leaves_space s) ps)
 kept_more profile space ts chars NewLine ps later = ap (λ (z : List Token). ts ++ z) (later true [])
 kept_more profile space ts chars Blank ps later = later true ts
@@ -199,7 +199,7 @@ kept_more profile space ts chars Comment ps later = later true ts
 kept_more profile space ts chars (Spelled k) ps later =
     later false (ts ++ token_of k space chars ∷ []) ∙ append_assoc ts (token_of k space chars ∷ []) (tokens_in false ps)
 
-kept : (profile : Profile) (space : Bool) (ts : List Token) (ps : List Lexeme) → EndsLine ps → tokens_of (lines_after profile space ts ps) ≡ ts ++ tokens_in space ps
+kept : (profile : Profile) (space : Bool) (ts : List Token) (ps : List Lexeme) → EndsLine ps → line_tokens (lines_after profile space ts ps) ≡ ts ++ tokens_in space ps
 kept profile space ts [] e = absurd e
 kept profile space ts (p ∷ []) e = kept_one profile space ts p.chars p.kind e
 kept profile space ts (p ∷ q ∷ ps) e = kept_more profile space ts p.chars p.kind (q ∷ ps) (λ after us. kept profile after us (q ∷ ps) e)
@@ -207,7 +207,7 @@ kept profile space ts (p ∷ q ∷ ps) e = kept_more profile space ts p.chars p.
 pub keeps_every_token : (profile : Profile) (file : ℕ) (bytes : List ℕ) (chars : List Char) (lexemes : List Lexeme)
     → cleaned file bytes ≡ Ok chars
     → Tokenizes profile chars lexemes
-    → tokens_of (lines_of profile lexemes) ≡ tokens_in true lexemes
+    → line_tokens (lines_of profile lexemes) ≡ tokens_in true lexemes
 keeps_every_token profile file bytes chars [] clean tokenized = refl
 keeps_every_token profile file bytes chars (p ∷ ps) clean tokenized = cases (cleaned_end file bytes chars clean)
   where
@@ -220,6 +220,6 @@ keeps_every_token profile file bytes chars (p ∷ ps) clean tokenized = cases (c
     same : characters_of (p ∷ ps) ≡ chars
     same = sym (append-nil (characters_of (p ∷ ps))) ∙ tokenized.whole
 
-    cases : Ended chars → tokens_of (lines_of profile (p ∷ ps)) ≡ tokens_in true (p ∷ ps)
+    cases : Ended chars → line_tokens (lines_of profile (p ∷ ps)) ≡ tokens_in true (p ∷ ps)
     cases (inl e) = let none = ap length (same ∙ e) in absurd (omega (arith, some))
     cases (inr e) = kept profile true [] (p ∷ ps) (pieces_end profile [] (p ∷ ps) tokenized.each (ap (λ (z : List Char). last_of (codes_of z)) same ∙ e))

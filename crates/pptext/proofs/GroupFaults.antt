@@ -27,13 +27,13 @@ walk_more r (over f w) e = over f (walk_more r w e)
 
 -- the first line with a fault, and the number of the fault
 record Stopped (os : List Open) (lines : List LogicalLine) : Type 0 where
-  before : List LogicalLine
+  prefix : List LogicalLine
   line : LogicalLine
   rest : List LogicalLine
   last : List Open
   number : ℕ
-  whole : lines ≡ before ++ line ∷ rest
-  walk : Walk os before last
+  whole : lines ≡ prefix ++ line ∷ rest
+  walk : Walk os prefix last
   fault : (after_line (role line) line last).0 ≡ Some number
 
 outcome : (os : List Open) (lines : List LogicalLine) → ((last : List Open) × Walk os lines last) ⊎ Stopped os lines
@@ -43,7 +43,7 @@ outcome os (r ∷ rs) = cases (after_line (role r) r os) refl (λ next. outcome 
     further : (next : List Open) → after_line (role r) r os ≡ (None, next) → ((last : List Open) × Walk next rs last) ⊎ Stopped next rs → ((last : List Open) × Walk os (r ∷ rs) last) ⊎ Stopped os (r ∷ rs)
     further next e (inl (last, w)) = inl (last, over e w)
     further next e (inr s) = inr (record {
-      before = r ∷ s.before;
+      prefix = r ∷ s.prefix;
       line = s.line;
       rest = s.rest;
       last = s.last;
@@ -55,7 +55,7 @@ outcome os (r ∷ rs) = cases (after_line (role r) r os) refl (λ next. outcome 
 
     cases : (step : Option ℕ × List Open) → after_line (role r) r os ≡ step → ((next : List Open) → ((last : List Open) × Walk next rs last) ⊎ Stopped next rs) → ((last : List Open) × Walk os (r ∷ rs) last) ⊎ Stopped os (r ∷ rs)
     cases (None, next) e later = further next e (later next)
-    cases (Some n, next) e later = inr (record { before = []; line = r; rest = rs; last = os; number = n; whole = refl; walk = stay; fault = ap (λ (z : Option ℕ × List Open). z.0) e })
+    cases (Some n, next) e later = inr (record { prefix = []; line = r; rest = rs; last = os; number = n; whole = refl; walk = stay; fault = ap (λ (z : Option ℕ × List Open). z.0) e })
 
 -- ---- walks and trees
 
@@ -90,8 +90,8 @@ begins_walk prefix begins = cases (outcome [] prefix) begins
     cases : ((last : List Open) × Walk [] prefix last) ⊎ Stopped [] prefix → BeginsTree prefix → (last : List Open) × Walk [] prefix last
     cases (inl w) b = w
     cases (inr s) (rest, tree) =
-        let split : prefix ++ rest ≡ (s.before ++ s.line ∷ []) ++ (s.rest ++ rest) = ap (λ (z : List LogicalLine). z ++ rest) s.whole ∙ simp append_assoc in
-        absurd (stopped_wrong s.last s.before s.line s.number s.walk s.fault (s.rest ++ rest, subst HasTree split tree))
+        let split : prefix ++ rest ≡ (s.prefix ++ s.line ∷ []) ++ (s.rest ++ rest) = ap (λ (z : List LogicalLine). z ++ rest) s.whole ∙ simp append_assoc in
+        absurd (stopped_wrong s.last s.prefix s.line s.number s.walk s.fault (s.rest ++ rest, subst HasTree split tree))
 
 tree_begins : (lines : List LogicalLine) → HasTree lines → BeginsTree lines
 tree_begins lines tree = ([], subst HasTree (sym (append-nil lines)) tree)
@@ -126,17 +126,17 @@ stopped_fault lines s =
     ∙ walk_fault (s.line ∷ s.rest) s.walk
     ∙ ap (λ (z : Option ℕ). fault_or s.line z (group_fault (after_line (role s.line) s.line s.last).1 s.rest)) s.fault
 
-wrong_there : (lines : List LogicalLine) (s : Stopped [] lines) → FirstWrong lines s.before s.line
-wrong_there lines s = record { rest = s.rest; whole = s.whole; begins = walk_begins s.walk; wrong = stopped_wrong s.last s.before s.line s.number s.walk s.fault }
+wrong_there : (lines : List LogicalLine) (s : Stopped [] lines) → FirstWrong lines s.prefix s.line
+wrong_there lines s = record { rest = s.rest; whole = s.whole; begins = walk_begins s.walk; wrong = stopped_wrong s.last s.prefix s.line s.number s.walk s.fault }
 
 stopped_is : (lines : List LogicalLine) (s : Stopped [] lines) → IsGroupFault lines (fault_at s.number s.line)
 stopped_is lines s = cases (which_number (role s.line) s.line s.last s.number s.fault)
   where
     cases : ((s.last ≡ []) × (s.number ≡ 3)) ⊎ ((s.last ≢ []) × (s.number ≡ 4)) → IsGroupFault lines (fault_at s.number s.line)
     cases (inl (none, three)) =
-        subst (λ n. IsGroupFault lines (fault_at n s.line)) (sym three) (no_section (wrong_there lines s) (closed_tree (subst (λ (z : List Open). Walk [] s.before z) none s.walk)))
+        subst (λ n. IsGroupFault lines (fault_at n s.line)) (sym three) (no_section (wrong_there lines s) (closed_tree (subst (λ (z : List Open). Walk [] s.prefix z) none s.walk)))
     cases (inr (some, four)) =
-        subst (λ n. IsGroupFault lines (fault_at n s.line)) (sym four) (after_else (wrong_there lines s) (λ tree. some (tree_closed s.last s.before s.walk tree)))
+        subst (λ n. IsGroupFault lines (fault_at n s.line)) (sym four) (after_else (wrong_there lines s) (λ tree. some (tree_closed s.last s.prefix s.walk tree)))
 
 -- ---- fault 5
 
@@ -195,9 +195,9 @@ data Lands : List Open → List LogicalLine → LogicalLine → Type 0 where
 
 -- The line is among the lines and opens an if-section that is still open after them.
 record Opening (lines : List LogicalLine) (o : LogicalLine) : Type 0 where
-  before : List LogicalLine
+  prefix : List LogicalLine
   rest : List LogicalLine
-  whole : lines ≡ before ++ o ∷ rest
+  whole : lines ≡ prefix ++ o ∷ rest
   opens : role o ≡ Opens
   within : Within false rest
 
@@ -223,7 +223,7 @@ lands_section _ _ inner o r e is w ends (past {x = x} {c = c} {os = os} e2 {inne
     subst (λ (z : List LogicalLine). Lands ((x, c) ∷ os) (r ∷ z) o) (append_assoc inner (e ∷ inner2) (e2 ∷ rs2)) (past e2 (section r e is w ends w2) ends2 l)
 
 lands_opening : (os : List Open) (rs : List LogicalLine) (o r : LogicalLine) → role r ≡ Opens → Lands ((r, false) ∷ os) rs o → Lands os (r ∷ rs) o ⊎ Opening (r ∷ rs) o
-lands_opening os rs _ r is (here w) = inr (record { before = []; rest = rs; whole = refl; opens = is; within = w })
+lands_opening os rs _ r is (here w) = inr (record { prefix = []; rest = rs; whole = refl; opens = is; within = w })
 lands_opening os _ o r is (past e {inner = inner} {rs = rs} w ends l) = inl (lands_section os rs inner o r e is w ends l)
 
 lands_over : (s : Role) (os next : List Open) (rs : List LogicalLine) (o r : LogicalLine) → role r ≡ s → after_line s r os ≡ (None, next) → Lands next rs o → Lands os (r ∷ rs) o ⊎ Opening (r ∷ rs) o
@@ -244,14 +244,14 @@ landed os last o _ (over {next = next} {r = r} {rs = rs} e w) = cases (landed ne
   where
     cases : Lands next rs o.0 ⊎ Opening rs o.0 → Lands os (r ∷ rs) o.0 ⊎ Opening (r ∷ rs) o.0
     cases (inl l) = lands_over (role r) os next rs o.0 r refl e l
-    cases (inr i) = inr (record { before = r ∷ i.before; rest = i.rest; whole = ap (λ (z : List LogicalLine). r ∷ z) i.whole; opens = i.opens; within = i.within })
+    cases (inr i) = inr (record { prefix = r ∷ i.prefix; rest = i.rest; whole = ap (λ (z : List LogicalLine). r ∷ z) i.whole; opens = i.opens; within = i.within })
 
 opening_innermost : (lines : List LogicalLine) (o : LogicalLine) → Opening lines o → Innermost lines o
 unfolding end_line
 opening_innermost lines o i =
     let d = ended false i.rest i.within end_line refl in
     record {
-      before = i.before;
+      prefix = i.prefix;
       rest = i.rest;
       whole = i.whole;
       end = end_line;
@@ -328,12 +328,12 @@ same_front (c ∷ a) (d ∷ b) x y e =
     ap (λ (z : LogicalLine). z ∷ a) head ∙ ap (λ (z : List LogicalLine). d ∷ z) (same_front a b x y tail)
 
 innermost_fault : (lines : List LogicalLine) (o : LogicalLine) → BeginsTree lines → Innermost lines o → group_fault [] lines ≡ Some (fault_at 5 o)
-innermost_fault lines o (more, tree) i = of_walk (begins_walk i.before (o ∷ i.rest ++ more, subst HasTree split tree))
+innermost_fault lines o (more, tree) i = of_walk (begins_walk i.prefix (o ∷ i.rest ++ more, subst HasTree split tree))
   where
-    split : lines ++ more ≡ i.before ++ (o ∷ i.rest ++ more)
-    split = ap (λ (z : List LogicalLine). z ++ more) i.whole ∙ append_assoc i.before (o ∷ i.rest) more
+    split : lines ++ more ≡ i.prefix ++ (o ∷ i.rest ++ more)
+    split = ap (λ (z : List LogicalLine). z ++ more) i.whole ∙ append_assoc i.prefix (o ∷ i.rest) more
 
-    of_walk : (last : List Open) × Walk [] i.before last → group_fault [] lines ≡ Some (fault_at 5 o)
+    of_walk : (last : List Open) × Walk [] i.prefix last → group_fault [] lines ≡ Some (fault_at 5 o)
     of_walk (last, w) =
         let u = unended i.branches false i.section.each.2 in
         let whole : part_lines i.parts ++ branch_lines i.branches ++ [] ≡ i.rest ++ i.end ∷ [] = let all = i.section.whole in cc in
@@ -348,32 +348,32 @@ innermost_fault lines o (more, tree) i = of_walk (begins_walk i.before (o ∷ i.
         ∙ parts_pass i.parts ((o, false) ∷ last) (u.lines ++ []) i.section.each.1
         ∙ u.passes o last []
 
-wrong_fault : (lines before : List LogicalLine) (line : LogicalLine) (n : ℕ)
-    → (b : FirstWrong lines before line)
-    → ((last : List Open) → Walk [] before last → (m : ℕ) → ((last ≡ []) × (m ≡ 3)) ⊎ ((last ≢ []) × (m ≡ 4)) → m ≡ n)
+wrong_fault : (lines prefix : List LogicalLine) (line : LogicalLine) (n : ℕ)
+    → (b : FirstWrong lines prefix line)
+    → ((last : List Open) → Walk [] prefix last → (m : ℕ) → ((last ≡ []) × (m ≡ 3)) ⊎ ((last ≢ []) × (m ≡ 4)) → m ≡ n)
     → group_fault [] lines ≡ Some (fault_at n line)
-wrong_fault lines before line n b number = of_walk (begins_walk before b.begins)
+wrong_fault lines prefix line n b number = of_walk (begins_walk prefix b.begins)
   where
-    of_walk : (last : List Open) × Walk [] before last → group_fault [] lines ≡ Some (fault_at n line)
+    of_walk : (last : List Open) × Walk [] prefix last → group_fault [] lines ≡ Some (fault_at n line)
     of_walk (last, w) = cases (after_line (role line) line last) refl
       where
         cases : (step : Option ℕ × List Open) → after_line (role line) line last ≡ step → group_fault [] lines ≡ Some (fault_at n line)
         cases (None, next) e = absurd (b.wrong (walk_begins (walk_more line w e)))
         cases (Some m, next) e =
             let fault : (after_line (role line) line last).0 ≡ Some m = ap (λ (z : Option ℕ × List Open). z.0) e in
-            let s : Stopped [] lines = record { before = before; line = line; rest = b.rest; last = last; number = m; whole = b.whole; walk = w; fault = fault } in
+            let s : Stopped [] lines = record { prefix = prefix; line = line; rest = b.rest; last = last; number = m; whole = b.whole; walk = w; fault = fault } in
             stopped_fault lines s ∙ ap (λ z. Some (fault_at z line)) (number last w m (which_number (role line) line last m fault))
 
 has_fault : (lines : List LogicalLine) (fault : Fault) → IsGroupFault lines fault → group_fault [] lines ≡ Some fault
-has_fault lines _ (no_section {before = before} {line = line} b tree) = wrong_fault lines before line 3 b number
+has_fault lines _ (no_section {prefix = prefix} {line = line} b tree) = wrong_fault lines prefix line 3 b number
   where
-    number : (last : List Open) → Walk [] before last → (m : ℕ) → ((last ≡ []) × (m ≡ 3)) ⊎ ((last ≢ []) × (m ≡ 4)) → m ≡ 3
+    number : (last : List Open) → Walk [] prefix last → (m : ℕ) → ((last ≡ []) × (m ≡ 3)) ⊎ ((last ≢ []) × (m ≡ 4)) → m ≡ 3
     number last w m (inl h) = h.1
-    number last w m (inr h) = absurd (h.0 (tree_closed last before w tree))
-has_fault lines _ (after_else {before = before} {line = line} b no_tree) = wrong_fault lines before line 4 b number
+    number last w m (inr h) = absurd (h.0 (tree_closed last prefix w tree))
+has_fault lines _ (after_else {prefix = prefix} {line = line} b no_tree) = wrong_fault lines prefix line 4 b number
   where
-    number : (last : List Open) → Walk [] before last → (m : ℕ) → ((last ≡ []) × (m ≡ 3)) ⊎ ((last ≢ []) × (m ≡ 4)) → m ≡ 4
-    number last w m (inl h) = absurd (no_tree (closed_tree (subst (λ (z : List Open). Walk [] before z) h.0 w)))
+    number : (last : List Open) → Walk [] prefix last → (m : ℕ) → ((last ≡ []) × (m ≡ 3)) ⊎ ((last ≢ []) × (m ≡ 4)) → m ≡ 4
+    number last w m (inl h) = absurd (no_tree (closed_tree (subst (λ (z : List Open). Walk [] prefix z) h.0 w)))
     number last w m (inr h) = h.1
 has_fault lines _ (open_section {opening = opening} begins no_tree i) = innermost_fault lines opening begins i
 

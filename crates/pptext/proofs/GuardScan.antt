@@ -7,7 +7,7 @@ use Rattle.pptext.specs.declared.tokens.Token.{Token}
 use Rattle.pptext.specs.declared.sources.Line.{Line}
 use Rattle.pptext.specs.Lines.{LogicalLine, AreDirected}
 use Rattle.pptext.specs.Tree.{Role, TextLine, ControlLine, Opens, Elses, Closes, role, branch_after, group_fault}
-use Rattle.pptext.specs.Sources.{next_branch, tokens_of, lines_from}
+use Rattle.pptext.specs.Sources.{next_branch, line_tokens, lines_from}
 use Rattle.pptext.specs.Guard.{IsBlankLine, GuardedBy, guard_name}
 use Rattle.pptext.specs.code.Grouping.{AreLines, line_role, ClosedAtOnce, FlatGuard}
 use Rattle.pptext.proofs.Spans.{line_at, line_from, same_lines}
@@ -25,14 +25,14 @@ branch_within (suc depth) k (Elses final ∷ ss) j e = let w = branch_within (su
 branch_within depth k (TextLine ∷ ss) j e = let w = branch_within depth (k + 1) ss j e in (omega (arith, w.0), omega (arith, w.1))
 branch_within depth k (ControlLine ∷ ss) j e = let w = branch_within depth (k + 1) ss j e in (omega (arith, w.0), omega (arith, w.1))
 
-no_tokens : (rs : List LogicalLine) → AllByRecursion IsBlankLine rs → length (tokens_of rs) ≡ 0
+no_tokens : (rs : List LogicalLine) → AllByRecursion IsBlankLine rs → length (line_tokens rs) ≡ 0
 no_tokens [] all = refl
-no_tokens (r ∷ rs) all = omega (arith, length-append r.tokens (tokens_of rs), ap length all.0, no_tokens rs all.1)
+no_tokens (r ∷ rs) all = omega (arith, length-append r.tokens (line_tokens rs), ap length all.0, no_tokens rs all.1)
 
-blank_if_none : (rs : List LogicalLine) → length (tokens_of rs) ≡ 0 → AllByRecursion IsBlankLine rs
+blank_if_none : (rs : List LogicalLine) → length (line_tokens rs) ≡ 0 → AllByRecursion IsBlankLine rs
 blank_if_none [] e = tt
 blank_if_none (r ∷ rs) e =
-    let l = length-append r.tokens (tokens_of rs) in
+    let l = length-append r.tokens (line_tokens rs) in
     (nil_from_length r.tokens (omega arith), blank_if_none rs (omega arith))
 
 -- The token with index i of a span has index `start + i` in the file.
@@ -90,7 +90,7 @@ module _ (ts : List Token) (ls : List Line) (lines : AreLines ts ls) where
       let w = branch_in at last d l opens e in
       let n : at + 1 + (last - (at + 1)) ≡ last = omega (arith, w.0) in
       let s : suc last ≡ last + 1 = omega arith in
-      let behind : (get_or ls last f).end + length (tokens_of (drop (last + 1) rs)) ≡ length ts = ap (λ (z : ℕ). (get_or ls last f).end + length (tokens_of (drop z rs))) (sym s) ∙ (line_at ts ls last f lines w.1).behind in
+      let behind : (get_or ls last f).end + length (line_tokens (drop (last + 1) rs)) ≡ length ts = ap (λ (z : ℕ). (get_or ls last f).end + length (line_tokens (drop z rs))) (sym s) ∙ (line_at ts ls last f lines w.1).behind in
       record {
         skipped = last - (at + 1);
         last = line_from ts (get_or ls last f);
@@ -116,8 +116,8 @@ module _ (ts : List Token) (ls : List Line) (lines : AreLines ts ls) where
       let cons : closed.last ∷ closed.rest ≡ line_from ts (get_or ls last f) ∷ drop (last + 1) rs = sym closed.after_skipped ∙ drop-drop closed.skipped (at + 1) rs ∙ ap (λ (z : ℕ). drop z rs) n ∙ rest_at last f w.1 in
       let head : line_from ts (get_or ls last f) ≡ closed.last = cc in
       let tail : closed.rest ≡ drop (last + 1) rs = cc in
-      let none : length (tokens_of (drop (last + 1) rs)) ≡ 0 = ap (λ (z : List LogicalLine). length (tokens_of z)) (sym tail) ∙ no_tokens closed.rest closed.blank in
-      let behind : (get_or ls last f).end + length (tokens_of (drop (last + 1) rs)) ≡ length ts = ap (λ (z : ℕ). (get_or ls last f).end + length (tokens_of (drop z rs))) (sym s) ∙ (line_at ts ls last f lines w.1).behind in
+      let none : length (line_tokens (drop (last + 1) rs)) ≡ 0 = ap (λ (z : List LogicalLine). length (line_tokens z)) (sym tail) ∙ no_tokens closed.rest closed.blank in
+      let behind : (get_or ls last f).end + length (line_tokens (drop (last + 1) rs)) ≡ length ts = ap (λ (z : ℕ). (get_or ls last f).end + length (line_tokens (drop z rs))) (sym s) ∙ (line_at ts ls last f lines w.1).behind in
       (sym (role_is last f w.1) ∙ ap role head ∙ closed.closes, omega arith)
 
   -- The flat guard at a line with tokens.

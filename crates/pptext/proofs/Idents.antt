@@ -1,7 +1,8 @@
 -- The parts of an identifier (6.4.2).
 use Rattle.std.proofs.Common.{◌≡◌, ℕ, ◌<◌, Bool, true, false, ◌||◌, List, length, refl, sym, arith, get_or}
 use Rattle.std.proofs.lemmas.Bool.{false≢true}
-use Rattle.pptext.specs.Languages.{One, Either, NoPrefix, IsNext, NextPart, IsOnly, OnlyPart}
+use Rattle.pptext.specs.Languages.{One, Either}
+use Rattle.pptext.specs.code.Scanning.{NoPrefix, IsNext, NextPart, IsOnly, OnlyPart}
 use Rattle.pptext.specs.Spellings.{is_digit, is_nondigit, IsUniversal, IsNondigit}
 use Rattle.pptext.proofs.LanguagePrefixes.{next_from_only, either_lacks, one_empty, nondigit_here, nondigit_later, nondigit_none, ident_part_here, ident_part_later}
 

@@ -9,10 +9,8 @@ use Rattle.std.proofs.lemmas.Bool.Decides.{Decides-eqb, Decides-and, Decides-or,
 use Rattle.std.proofs.lemmas.List.Sums.{AllPass-from_list_all, list_all-from_AllPass}
 use Rattle.std.proofs.lemmas.Slice.Eq.{bytes_eq-Decides}
 use Rattle.pptext.specs.Languages.{Exactly, One, Then, Either, IsRun, Repeated}
-use Rattle.pptext.specs.Spellings.{is_digit, is_hex, is_nondigit, is_blank, is_exponent, is_sign, char_prefixes, str_prefixes, is_punctuator}
-use Rattle.pptext.specs.Spellings.{IsUniversal, IsNondigit, IsIdent, IsNumberPart, IsNumber, IsElement, IsCharConst, IsStr, IsPunct, IsOther, Spells}
-use Rattle.pptext.specs.Kinds.{exactly_test, among_test, one_test, either_test, then_test, run_test, then_repeated_test, repeated_test}
-use Rattle.pptext.specs.Kinds.{universal_test, nondigit_test, ident_test, number_part_test, number_test, element_test, char_const_test, str_test, other_test, spelled_kind}
+use Rattle.pptext.specs.Spellings.{is_digit, is_hex, is_nondigit, is_blank, is_exponent, is_sign, char_prefixes, str_prefixes, is_punctuator, IsUniversal, IsNondigit, IsIdent, IsNumberPart, IsNumber, IsElement, IsCharConst, IsStr, IsPunct, IsOther, Spells}
+use Rattle.pptext.specs.Kinds.{exactly_test, among_test, one_test, either_test, then_test, run_test, then_repeated_test, repeated_test, universal_test, nondigit_test, ident_test, number_part_test, number_test, element_test, char_const_test, str_test, other_test, spelled_kind}
 use Rattle.pptext.specs.declared.tokens.Kind.{Kind}
 use Rattle.pptext.specs.declared.tokens.Kind.TheVariants.{Ident, Number, CharConst, Str, Punct, Header, Other}
 

@@ -6,8 +6,7 @@ use Rattle.pptext.specs.declared.tokens.Kind.{Kind}
 use Rattle.pptext.specs.Spellings.{Spells, punctuators}
 use Rattle.pptext.specs.Kinds.{kind_of, spelled_kind}
 use Rattle.pptext.specs.Sources.{IsUnmatchedQuote}
-use Rattle.pptext.specs.Lexing.{Lexes}
-use Rattle.pptext.specs.KindTests.{OpensComment, TestsAreLanguages}
+use Rattle.pptext.specs.KindTests.{Lexes, OpensComment, TestsAreLanguages}
 use Rattle.pptext.proofs.KindTestDecisions as tests
 use Rattle.pptext.proofs.KindUniqueness.{one_kind}
 use Rattle.pptext.proofs.TextKinds.{lexer_is, one_lexing, plain_token, spelled_whole}

@@ -9,8 +9,7 @@ use Rattle.pptext.specs.declared.tokens.Kind.{Kind}
 use Rattle.pptext.specs.declared.tokens.Kind.TheVariants.{Ident, Number, CharConst, Str, Punct, Header, Other}
 use Rattle.pptext.specs.Continuations.{last_of}
 use Rattle.pptext.specs.Languages.{One}
-use Rattle.pptext.specs.Spellings.{is_digit, is_nondigit, is_blank, IsUniversal, IsNondigit, IsIdent, IsNumber, IsCharConst, IsStr, IsPunct, Spells}
-use Rattle.pptext.specs.Spellings.{char_prefixes, str_prefixes}
+use Rattle.pptext.specs.Spellings.{is_digit, is_nondigit, is_blank, IsUniversal, IsNondigit, IsIdent, IsNumber, IsCharConst, IsStr, IsPunct, Spells, char_prefixes, str_prefixes}
 use Rattle.pptext.proofs.CharacterTests.{Throughout, contains_passes, punct_passes, is_word_byte, ident_passes, number_passes}
 
 -- the first character passes the test

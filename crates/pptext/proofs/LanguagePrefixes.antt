@@ -6,7 +6,8 @@ use Rattle.std.proofs.lemmas.List.{length-take-le}
 use Rattle.std.proofs.Math.Seq.{take-add}
 use Rattle.std.proofs.lemmas.Bool.{false≢true}
 use Rattle.std.proofs.lemmas.Bool.Decides.{nat_tests}
-use Rattle.pptext.specs.Languages.{Exactly, One, Then, Either, IsRun, NoPrefix, IsNext, IsOnly, OnlyPart}
+use Rattle.pptext.specs.Languages.{Exactly, One, Then, Either, IsRun}
+use Rattle.pptext.specs.code.Scanning.{NoPrefix, IsNext, IsOnly, OnlyPart}
 use Rattle.pptext.specs.Spellings.{is_digit, is_hex, is_nondigit, IsUniversal, IsNondigit}
 use Rattle.pptext.specs.Lexemes.{BeginsWith}
 use Rattle.pptext.proofs.RepeatedParts.{front_of, front_length, behind_front}

@@ -3,7 +3,8 @@ use Rattle.std.proofs.Common.{◌≡◌, ℕ, zero, suc, ◌+◌, ◌-◌, ◌<�
 use Rattle.std.proofs.Common.{take, drop, refl, sym, ap, ◌∙◌, inl, inr, ◌⊎◌, arith, length-drop, get_or, Contains}
 use Rattle.std.proofs.lemmas.List.{append-nil}
 use Rattle.std.proofs.lemmas.Bool.Decides.{nat_tests}
-use Rattle.pptext.specs.Languages.{Exactly, One, Then, Repeated, NoPrefix, IsOnly, OnlyPart}
+use Rattle.pptext.specs.Languages.{Exactly, One, Then, Repeated}
+use Rattle.pptext.specs.code.Scanning.{NoPrefix, IsOnly, OnlyPart}
 use Rattle.pptext.specs.Spellings.{IsElement, IsCharConst, IsStr, char_prefixes, str_prefixes}
 use Rattle.pptext.proofs.RepeatedParts.{front_of, front_length}
 use Rattle.pptext.proofs.LanguagePrefixes.{one_here, one_lacks, either_lacks, either_right, only_zero, only_some}

@@ -5,9 +5,9 @@ use Rattle.std.proofs.lemmas.Bool.{false≢true}
 use Rattle.std.proofs.lemmas.Bool.Decides.{nat_tests}
 use Rattle.pptext.specs.declared.tokens.Kind.{Kind}
 use Rattle.pptext.specs.declared.tokens.Kind.TheVariants.{Ident, Number, CharConst, Str, Punct, Header, Other}
-use Rattle.pptext.specs.Languages.{Exactly, One, Then, Repeated, Longest, NoPrefix, IsNext, IsOnly}
+use Rattle.pptext.specs.Languages.{Exactly, One, Then, Repeated, Longest}
+use Rattle.pptext.specs.code.Scanning.{NoPrefix, IsNext, IsOnly, IsQuoted}
 use Rattle.pptext.specs.Spellings.{is_digit, is_nondigit, is_blank, IsNondigit, IsIdent, IsNumber, IsNumberPart, IsCharConst, IsStr, IsPunct, IsOther, Spells, IsSpelling, punctuators, char_prefixes, str_prefixes}
-use Rattle.pptext.specs.code.UnmatchedQuotes.{IsQuoted}
 use Rattle.pptext.proofs.RepeatedParts.{front_of, front_length, none_repeated, more_repeated, then_longest}
 use Rattle.pptext.proofs.LanguagePrefixes.{one_front, one_lacks, either_lacks, nondigit_here}
 use Rattle.pptext.proofs.LongestPunctuator.{any_passes}

@@ -6,7 +6,7 @@ use Rattle.std.proofs.lemmas.Bool.{false≢true, and_parts, cases_lt}
 use Rattle.std.proofs.lemmas.Bool.Decides.{nat_tests}
 use Rattle.std.proofs.lemmas.List.{length-take-le}
 use Rattle.std.proofs.lemmas.Slice.Eq.{bytes_eq-Decides}
-use Rattle.pptext.specs.Languages.{LongestOrNone}
+use Rattle.pptext.specs.code.Scanning.{LongestOrNone}
 use Rattle.pptext.specs.Spellings.{is_punctuator, punctuators}
 
 le_of : (a b : ℕ) → nat_le a b ≡ true → a ≤ b

@@ -13,8 +13,7 @@ use Rattle.pptext.specs.Languages.{Exactly, Then, Repeated}
 use Rattle.pptext.specs.Spellings.{is_blank, IsElement, char_prefixes, str_prefixes, IsCharConst, IsStr, IsPunct, IsBetween, IsHeader, Spells}
 use Rattle.pptext.specs.Lexemes.{Spelled, IsLexemeAt}
 use Rattle.pptext.specs.code.CleanedText.{InLine}
-use Rattle.pptext.proofs.CharacterTests.{Throughout, one_passes, either_passes, then_passes, exactly_passes, repeated_passes, contains_passes, punct_passes}
-use Rattle.pptext.proofs.CharacterTests.{is_word_byte, ident_passes, number_passes}
+use Rattle.pptext.proofs.CharacterTests.{Throughout, one_passes, either_passes, then_passes, exactly_passes, repeated_passes, contains_passes, punct_passes, is_word_byte, ident_passes, number_passes}
 
 -- A character that is no new-line, and a text without new-lines.
 within_line : ℕ → Bool

@@ -7,7 +7,7 @@ use Rattle.pptext.specs.declared.sources.Line.{Line}
 use Rattle.pptext.specs.Lines.{LogicalLine}
 use Rattle.pptext.specs.Tree.{TextLine, GroupParts, Done, TextLines, Control, Section, Branches, End, Branch, part_lines, branch_lines, AreGroupParts, AreBranches, Tree, Role, role}
 use Rattle.pptext.specs.Sources.{next_branch, spans}
-use Rattle.pptext.specs.NextBranches.{part_branches, later_branches}
+use Rattle.pptext.specs.Laws.{part_branches, later_branches}
 use Rattle.pptext.proofs.Trees.{section_lines, branch_line}
 use Rattle.pptext.proofs.NextBranchFacts.{next_of_opening, next_of_branch, next_of_end, next_behind}
 

@@ -2,7 +2,8 @@
 use Rattle.std.proofs.Common.{◌≡◌, ℕ, ◌-◌, ◌<◌, ◌≤◌, true, false, List, [], ◌∷◌, ◌++◌, length, take, drop, sym, ap, ◌∙◌, inl, inr, ◌⊎◌, arith, length-drop, get_or}
 use Rattle.std.proofs.lemmas.Bool.{false≢true}
 use Rattle.std.proofs.lemmas.Bool.Decides.{nat_tests}
-use Rattle.pptext.specs.Languages.{Exactly, One, Then, Either, NoPrefix, NextPart, IsOnly, OnlyPart}
+use Rattle.pptext.specs.Languages.{Exactly, One, Then, Either}
+use Rattle.pptext.specs.code.Scanning.{NoPrefix, NextPart, IsOnly, OnlyPart}
 use Rattle.pptext.specs.Spellings.{is_digit, is_nondigit, is_exponent, is_sign, IsUniversal, IsNondigit, IsNumberPart}
 use Rattle.pptext.proofs.LanguagePrefixes.{next_from_only, one_here, one_lacks, universal_lacks, either_lacks, either_left, either_right, either_left_part, nondigit_here, only_zero, only_some}
 use Rattle.pptext.proofs.RepeatedParts.{front_of}

@@ -15,7 +15,8 @@ use Rattle.pptext.specs.declared.tokens.Kind.TheVariants.{Ident, Number, Punct, 
 use Rattle.pptext.specs.declared.characters.Char.{Char}
 use Rattle.pptext.specs.declared.sources.Profile.{Profile}
 use Rattle.pptext.specs.Clean.{cleaned, codes_of}
-use Rattle.pptext.specs.Languages.{Longest, NoPrefix}
+use Rattle.pptext.specs.Languages.{Longest}
+use Rattle.pptext.specs.code.Scanning.{NoPrefix}
 use Rattle.pptext.specs.Kinds.{spelled_kind}
 use Rattle.pptext.specs.Spellings.{is_blank, IsBetween, IsHeader, IsSpelling}
 use Rattle.pptext.specs.Lexemes.{LexemeKind, NewLine, Blank, Comment, Spelled, Lexeme, characters_of, with_lexeme, takes_header, AwaitsHeader, OpensBlock, OpensLine, ClosesAt, HeaderAt, IsLexemeAt, AreLexemes, Tokenizes, TokenizesPrefix, Unclosed, head_place}

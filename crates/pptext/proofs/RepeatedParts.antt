@@ -3,7 +3,8 @@ use Rattle.std.proofs.Common.{◌≡◌, ℕ, ◌+◌, ◌-◌, ◌<◌, ◌≤�
 use Rattle.std.specs.List.{AllByRecursion, flat_map}
 use Rattle.std.proofs.lemmas.List.{length-take-le, take-append-drop, take_at, drop_at}
 use Rattle.std.proofs.Math.Seq.{take-add}
-use Rattle.pptext.specs.Languages.{Repeated, Then, Longest, NoPrefix, IsNext, IsOnly}
+use Rattle.pptext.specs.Languages.{Repeated, Then, Longest}
+use Rattle.pptext.specs.code.Scanning.{NoPrefix, IsNext, IsOnly}
 
 abbrev joined : List (List ℕ) → List ℕ
 joined ps = flat_map (λ p. p) ps

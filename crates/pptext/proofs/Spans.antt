@@ -8,7 +8,7 @@ use Rattle.pptext.specs.declared.sources.Line.{Line}
 use Rattle.pptext.specs.declared.sources.Profile.{Profile}
 use Rattle.pptext.specs.Lines.{LogicalLine, IsDirected, AreDirected}
 use Rattle.pptext.specs.Tree.{role}
-use Rattle.pptext.specs.Sources.{next_branch, spans, tokens_of, lines_from}
+use Rattle.pptext.specs.Sources.{next_branch, spans, line_tokens, lines_from}
 use Rattle.pptext.specs.code.Grouping.{line_span, line_spans, AreLineSpans, AreLines}
 
 abbrev pub no_line : Line
@@ -23,23 +23,23 @@ span k start r rest =
 abbrev pub line_from : List Token → Line → LogicalLine
 line_from ts l = record { tokens = take (l.end - l.start) (drop l.start ts); number = l.number; directive = l.directive }
 
-pub span_at : (k start : ℕ) (rs : List LogicalLine) (i : ℕ) (d : Line) (r : LogicalLine) → i < length rs → get_or (spans k start rs) i d ≡ span (k + i) (start + length (tokens_of (take i rs))) (get_or rs i r) (drop (suc i) rs)
+pub span_at : (k start : ℕ) (rs : List LogicalLine) (i : ℕ) (d : Line) (r : LogicalLine) → i < length rs → get_or (spans k start rs) i d ≡ span (k + i) (start + length (line_tokens (take i rs))) (get_or rs i r) (drop (suc i) rs)
 span_at k start [] i d r l = absurd (omega arith)
 span_at k start (r ∷ rs) zero d e l =
     ap (λ (z : ℕ). span z start r rs) (sym (add-zero k)) ∙ ap (λ (z : ℕ). span (k + 0) z r rs) (sym (add-zero start))
 span_at k start (r ∷ rs) (suc i) d e l =
     let n : k + 1 + i ≡ k + suc i = omega arith in
-    let m : start + length r.tokens + length (tokens_of (take i rs)) ≡ start + length (r.tokens ++ tokens_of (take i rs)) = omega (arith, length-append r.tokens (tokens_of (take i rs))) in
+    let m : start + length r.tokens + length (line_tokens (take i rs)) ≡ start + length (r.tokens ++ line_tokens (take i rs)) = omega (arith, length-append r.tokens (line_tokens (take i rs))) in
     span_at (k + 1) (start + length r.tokens) rs i d e (omega arith)
-    ∙ ap (λ (z : ℕ). span z (start + length r.tokens + length (tokens_of (take i rs))) (get_or rs i e) (drop (suc i) rs)) n
+    ∙ ap (λ (z : ℕ). span z (start + length r.tokens + length (line_tokens (take i rs))) (get_or rs i e) (drop (suc i) rs)) n
     ∙ ap (λ (z : ℕ). span (k + suc i) z (get_or rs i e) (drop (suc i) rs)) m
 
 -- The numbers of tokens before, on and after a line add up to the number of all tokens.
-pub tokens_parted : (rs : List LogicalLine) (i : ℕ) (r : LogicalLine) → i < length rs → length (tokens_of (take i rs)) + length (get_or rs i r).tokens + length (tokens_of (drop (suc i) rs)) ≡ length (tokens_of rs)
+pub tokens_parted : (rs : List LogicalLine) (i : ℕ) (r : LogicalLine) → i < length rs → length (line_tokens (take i rs)) + length (get_or rs i r).tokens + length (line_tokens (drop (suc i) rs)) ≡ length (line_tokens rs)
 tokens_parted [] i r l = absurd (omega arith)
-tokens_parted (r ∷ rs) zero e l = omega (arith, length-append r.tokens (tokens_of rs))
+tokens_parted (r ∷ rs) zero e l = omega (arith, length-append r.tokens (line_tokens rs))
 tokens_parted (r ∷ rs) (suc i) e l =
-    omega (arith, length-append r.tokens (tokens_of rs), length-append r.tokens (tokens_of (take i rs)), tokens_parted rs i e (omega arith))
+    omega (arith, length-append r.tokens (line_tokens rs), length-append r.tokens (line_tokens (take i rs)), tokens_parted rs i e (omega arith))
 
 pub each_directed : (profile : Profile) (rs : List LogicalLine) (i : ℕ) (r : LogicalLine) → AllByRecursion (IsDirected profile) rs → i < length rs → IsDirected profile (get_or rs i r)
 each_directed profile [] i r all l = absurd (omega arith)
@@ -49,7 +49,7 @@ each_directed profile (q ∷ rs) (suc i) r all l = each_directed profile rs i r 
 -- the properties of the line at an index
 pub record LineAt (ts : List Token) (ls : List Line) (i : ℕ) (l : Line) : Type 0 where
   pub begins : l.start ≤ l.end
-  pub behind : l.end + length (tokens_of (drop (suc i) (lines_from ts ls))) ≡ length ts
+  pub behind : l.end + length (line_tokens (drop (suc i) (lines_from ts ls))) ≡ length ts
   pub line : (r : LogicalLine) → get_or (lines_from ts ls) i r ≡ line_from ts l
   pub directed : (profile : Profile) × IsDirected profile (line_from ts l)
   pub next : l.next_branch ≡ next_branch i (role (line_from ts l)) (drop (suc i) (lines_from ts ls))
@@ -67,17 +67,17 @@ line_at ts ls i d lines l =
     let r = line_from ts x in
     let m : i < length rs = omega (arith, length-map ls (line_from ts)) in
     let same : get_or rs i r ≡ r = lines_at ts ls i d r l in
-    let is : x ≡ span i (length (tokens_of (take i rs))) r (drop (suc i) rs) =
+    let is : x ≡ span i (length (line_tokens (take i rs))) r (drop (suc i) rs) =
     ap (λ (z : List Line). get_or z i d) (sym lines.1)
     ∙ span_at 0 0 rs i d r m
-    ∙ ap (λ (z : ℕ). span z (0 + length (tokens_of (take i rs))) (get_or rs i r) (drop (suc i) rs)) (zero-add i)
-    ∙ ap (λ (z : ℕ). span i z (get_or rs i r) (drop (suc i) rs)) (zero-add (length (tokens_of (take i rs))))
-    ∙ ap (λ (z : LogicalLine). span i (length (tokens_of (take i rs))) z (drop (suc i) rs)) same in
-    let start : x.start ≡ length (tokens_of (take i rs)) = ap (λ (z : Line). z.start) is in
-    let end : x.end ≡ length (tokens_of (take i rs)) + length r.tokens = ap (λ (z : Line). z.end) is in
-    let whole : length (tokens_of rs) ≡ length ts = ap length lines.0 in
-    let parted : length (tokens_of (take i rs)) + length r.tokens + length (tokens_of (drop (suc i) rs)) ≡ length (tokens_of rs) =
-    ap (λ (z : LogicalLine). length (tokens_of (take i rs)) + length z.tokens + length (tokens_of (drop (suc i) rs))) (sym same) ∙ tokens_parted rs i r m in
+    ∙ ap (λ (z : ℕ). span z (0 + length (line_tokens (take i rs))) (get_or rs i r) (drop (suc i) rs)) (zero-add i)
+    ∙ ap (λ (z : ℕ). span i z (get_or rs i r) (drop (suc i) rs)) (zero-add (length (line_tokens (take i rs))))
+    ∙ ap (λ (z : LogicalLine). span i (length (line_tokens (take i rs))) z (drop (suc i) rs)) same in
+    let start : x.start ≡ length (line_tokens (take i rs)) = ap (λ (z : Line). z.start) is in
+    let end : x.end ≡ length (line_tokens (take i rs)) + length r.tokens = ap (λ (z : Line). z.end) is in
+    let whole : length (line_tokens rs) ≡ length ts = ap length lines.0 in
+    let parted : length (line_tokens (take i rs)) + length r.tokens + length (line_tokens (drop (suc i) rs)) ≡ length (line_tokens rs) =
+    ap (λ (z : LogicalLine). length (line_tokens (take i rs)) + length z.tokens + length (line_tokens (drop (suc i) rs))) (sym same) ∙ tokens_parted rs i r m in
     record {
       begins = omega arith;
       behind = omega arith;
@@ -89,37 +89,37 @@ line_at ts ls i d lines l =
 
 -- Spans without next branch lines represent the lines from which they were made.
 
-pub lines_of_drafts : (before : List Token) (rs : List LogicalLine) → lines_from (before ++ tokens_of rs) (line_spans (length before) rs) ≡ rs
+pub lines_of_drafts : (before : List Token) (rs : List LogicalLine) → lines_from (before ++ line_tokens rs) (line_spans (length before) rs) ≡ rs
 lines_of_drafts before [] = refl
 lines_of_drafts before (r ∷ rs) =
     let wider : length (before ++ r.tokens) ≡ length before + length r.tokens = length-append before r.tokens in
-    let here : take (length before + length r.tokens - length before) (drop (length before) (before ++ (r.tokens ++ tokens_of rs))) ≡ r.tokens =
-    ap (take (length before + length r.tokens - length before)) (drop-append_seam before (r.tokens ++ tokens_of rs))
-    ∙ ap (λ (n : ℕ). take n (r.tokens ++ tokens_of rs)) (omega arith)
-    ∙ take-append_seam r.tokens (tokens_of rs) in
-    let rest : lines_from (before ++ (r.tokens ++ tokens_of rs)) (line_spans (length before + length r.tokens) rs) ≡ rs =
-    ap (λ (z : List Token). lines_from z (line_spans (length before + length r.tokens) rs)) (sym (append_assoc before r.tokens (tokens_of rs)))
-    ∙ ap (λ (n : ℕ). lines_from ((before ++ r.tokens) ++ tokens_of rs) (line_spans n rs)) (sym wider)
+    let here : take (length before + length r.tokens - length before) (drop (length before) (before ++ (r.tokens ++ line_tokens rs))) ≡ r.tokens =
+    ap (take (length before + length r.tokens - length before)) (drop-append_seam before (r.tokens ++ line_tokens rs))
+    ∙ ap (λ (n : ℕ). take n (r.tokens ++ line_tokens rs)) (omega arith)
+    ∙ take-append_seam r.tokens (line_tokens rs) in
+    let rest : lines_from (before ++ (r.tokens ++ line_tokens rs)) (line_spans (length before + length r.tokens) rs) ≡ rs =
+    ap (λ (z : List Token). lines_from z (line_spans (length before + length r.tokens) rs)) (sym (append_assoc before r.tokens (line_tokens rs)))
+    ∙ ap (λ (n : ℕ). lines_from ((before ++ r.tokens) ++ line_tokens rs) (line_spans n rs)) (sym wider)
     ∙ lines_of_drafts (before ++ r.tokens) rs in
     ap (λ (z : List Token). record { tokens = z; number = r.number; directive = r.directive }
-    ∷ lines_from (before ++ (r.tokens ++ tokens_of rs)) (line_spans (length before + length r.tokens) rs)) here
+    ∷ lines_from (before ++ (r.tokens ++ line_tokens rs)) (line_spans (length before + length r.tokens) rs)) here
     ∙ ap (λ (z : List LogicalLine). r ∷ z) rest
 
 -- If the spans are the `line_spans` of some lines, they divide the tokens into these lines.
-pub drafts_are : (ts : List Token) (ls : List Line) (rs : List LogicalLine) → tokens_of rs ≡ ts → ls ≡ line_spans 0 rs → AreDirected rs → (lines_from ts ls ≡ rs) × AreLineSpans ts ls
+pub drafts_are : (ts : List Token) (ls : List Line) (rs : List LogicalLine) → line_tokens rs ≡ ts → ls ≡ line_spans 0 rs → AreDirected rs → (lines_from ts ls ≡ rs) × AreLineSpans ts ls
 drafts_are ts ls rs tokens lines directed =
     let same : lines_from ts ls ≡ rs = ap (lines_from ts) lines ∙ ap (λ (z : List Token). lines_from z (line_spans 0 rs)) (sym tokens) ∙ lines_of_drafts [] rs in
-    (same, (ap tokens_of same ∙ tokens, ap (line_spans 0) same ∙ sym lines, subst AreDirected (sym same) directed))
+    (same, (ap line_tokens same ∙ tokens, ap (line_spans 0) same ∙ sym lines, subst AreDirected (sym same) directed))
 
-pub line_spans-append : (start : ℕ) (rs : List LogicalLine) (r : LogicalLine) → line_spans start (rs ++ r ∷ []) ≡ line_spans start rs ++ line_span (start + length (tokens_of rs)) r ∷ []
+pub line_spans-append : (start : ℕ) (rs : List LogicalLine) (r : LogicalLine) → line_spans start (rs ++ r ∷ []) ≡ line_spans start rs ++ line_span (start + length (line_tokens rs)) r ∷ []
 line_spans-append start [] r = ap (λ (n : ℕ). line_span n r ∷ []) (sym (add-zero start))
 line_spans-append start (q ∷ rs) r =
-    let n : start + length q.tokens + length (tokens_of rs) ≡ start + length (q.tokens ++ tokens_of rs) = omega (arith, length-append q.tokens (tokens_of rs)) in
+    let n : start + length q.tokens + length (line_tokens rs) ≡ start + length (q.tokens ++ line_tokens rs) = omega (arith, length-append q.tokens (line_tokens rs)) in
     ap (λ (z : List Line). line_span start q ∷ z) (line_spans-append (start + length q.tokens) rs r ∙ ap (λ (k : ℕ). line_spans (start + length q.tokens) rs ++ line_span k r ∷ []) n)
 
-pub tokens_of-append : (rs : List LogicalLine) (r : LogicalLine) → tokens_of (rs ++ r ∷ []) ≡ tokens_of rs ++ r.tokens
+pub tokens_of-append : (rs : List LogicalLine) (r : LogicalLine) → line_tokens (rs ++ r ∷ []) ≡ line_tokens rs ++ r.tokens
 tokens_of-append [] r = append-nil r.tokens
-tokens_of-append (q ∷ rs) r = ap (λ (z : List Token). q.tokens ++ z) (tokens_of-append rs r) ∙ sym (append_assoc q.tokens (tokens_of rs) r.tokens)
+tokens_of-append (q ∷ rs) r = ap (λ (z : List Token). q.tokens ++ z) (tokens_of-append rs r) ∙ sym (append_assoc q.tokens (line_tokens rs) r.tokens)
 
 -- Equal tokens and spans represent equal lines.
 pub same_lines : (ts ts' : List Token) (ls ls' : List Line) → ts' ≡ ts → ls' ≡ ls → lines_from ts' ls' ≡ lines_from ts ls

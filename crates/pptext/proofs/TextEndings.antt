@@ -5,7 +5,7 @@ use Rattle.std.specs.Prelude.{IsTrue, not}
 use Rattle.std.proofs.lemmas.Bool.{false≢true}
 use Rattle.std.proofs.lemmas.Bool.Decides.{nat_tests}
 use Rattle.std.proofs.lemmas.List.{take_all, drop_at, take-append-drop}
-use Rattle.pptext.specs.Languages.{OnlyPart}
+use Rattle.pptext.specs.code.Scanning.{OnlyPart}
 use Rattle.pptext.specs.Spellings.{is_sign, is_exponent, IsUniversal}
 use Rattle.pptext.specs.Continuations.{IsNumberRest, IsSignedRest, last_of, EndsInUniversal, EndsInExponent}
 

@@ -9,7 +9,7 @@ use Rattle.pptext.specs.Spellings.{Spells}
 use Rattle.pptext.specs.Kinds.{unmatched_quote_test, comment_test, spelled_kind, kind_of}
 use Rattle.pptext.specs.Lexemes.{LexemeKind, Lexeme, Spelled, OpensBlock, OpensLine, PlainTokenAt}
 use Rattle.pptext.specs.Sources.{IsOneToken, IsUnmatchedQuote}
-use Rattle.pptext.specs.Lexing.{Lexes, IsLexer, HasOneLexer}
+use Rattle.pptext.specs.KindTests.{Lexes, IsLexer, HasOneLexer}
 use Rattle.pptext.proofs.TokenizationUniqueness.{one_tokenization}
 use Rattle.pptext.proofs.SingleTokens.{one_token_stands, stands_one_token}
 use Rattle.pptext.proofs.KindTestDecisions.{HasKind, exactly, either, spelled_kind_is}

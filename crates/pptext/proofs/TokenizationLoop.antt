@@ -12,18 +12,17 @@ use Rattle.pptext.specs.Clean.{codes_of}
 use Rattle.pptext.specs.Lexemes.{Lexeme, LexemeKind, NewLine, Blank, Comment, Spelled, with_lexeme, IsLexemeAt, TokenizesPrefix, head_place, Unclosed, OpensBlock, ClosesAt, BeginsWith}
 use Rattle.std.specs.List.{AllByRecursion}
 use Rattle.pptext.specs.Lines.{LogicalLine, line_of, lines_ended, leaves_space, tokens_after, token_of, IsDirected}
-use Rattle.pptext.specs.Tokens.{spelled}
+use Rattle.pptext.specs.code.FoundLexemes.{spellings, TokenizesInto}
 use Rattle.pptext.specs.Spellings.{is_blank}
-use Rattle.pptext.specs.Sources.{tokens_of}
+use Rattle.pptext.specs.Sources.{line_tokens}
 use Rattle.pptext.specs.code.Grouping.{line_span, line_spans}
-use Rattle.pptext.specs.code.FoundLexemes.{TokenizesInto}
 use Rattle.pptext.proofs.Spans.{drafts_are, line_spans-append, tokens_of-append}
 use Rattle.pptext.proofs.LineDirectives.{pieces_are_directed}
 use Rattle.pptext.proofs.TokenizationSteps.{cut_more, no_piece, line_after, line_after-append, LinesSoFar, lines_start, lines_more, lines_all}
 
-spelled-append : (ts : List Token) (t : Token) → spelled (ts ++ t ∷ []) ≡ spelled ts ++ t.text ∷ []
-spelled-append [] t = refl
-spelled-append (u ∷ ts) t = ap (λ z. u.text ∷ z) (spelled-append ts t)
+spellings-append : (ts : List Token) (t : Token) → spellings (ts ++ t ∷ []) ≡ spellings ts ++ t.text ∷ []
+spellings-append [] t = refl
+spellings-append (u ∷ ts) t = ap (λ z. u.text ∷ z) (spellings-append ts t)
 
 -- the invariant of the loop
 pub record State (profile : Profile) (chars : List Char) (at start : ℕ) (space : Bool) (ts : List Token) (ls : List Line) : Type 0 where
@@ -33,10 +32,10 @@ pub record State (profile : Profile) (chars : List Char) (at start : ℕ) (space
   pub lexemes : List Lexeme
   pub tokenized : TokenizesPrefix profile chars lexemes (drop at chars)
   pub lines : List LogicalLine
-  pub tokens : tokens_of lines ≡ take start ts
+  pub tokens : line_tokens lines ≡ take start ts
   pub spans : ls ≡ line_spans 0 lines
   pub sofar : LinesSoFar profile lexemes lines space (drop start ts)
-  pub line : line_after [] lexemes ≡ spelled (drop start ts)
+  pub line : line_after [] lexemes ≡ spellings (drop start ts)
 
 pub state_start : (profile : Profile) (chars : List Char) → State profile chars 0 0 true [] []
 state_start profile chars = record { within = omega arith; started = omega arith; few = omega arith; lexemes = []; tokenized = no_piece profile chars; lines = []; tokens = refl; spans = refl; sofar = lines_start profile; line = refl }
@@ -49,7 +48,7 @@ pub record Grown (profile : Profile) (chars : List Char) (at n : ℕ) (s : Lexem
   pub in_bounds : at + n ≤ length chars
   pub tokenized : TokenizesPrefix profile chars (lexemes ++ lexeme_at chars at n s ∷ []) (drop (at + n) chars)
   pub sofar : LinesSoFar profile (lexemes ++ lexeme_at chars at n s ∷ []) (done ++ lines_ended profile open_tokens (take n (drop at chars)) s) (leaves_space s) (tokens_after space open_tokens (take n (drop at chars)) s)
-  pub line : line_after [] (lexemes ++ lexeme_at chars at n s ∷ []) ≡ with_lexeme (spelled open_tokens) (lexeme_at chars at n s) s
+  pub line : line_after [] (lexemes ++ lexeme_at chars at n s ∷ []) ≡ with_lexeme (spellings open_tokens) (lexeme_at chars at n s) s
 
 pub head_of_drop : (chars : List Char) (at : ℕ) (d : Char) → at < length chars → (get_or chars at d).at ≡ head_place (drop at chars)
 head_of_drop chars at d lt = rw (drop_more chars at d lt) refl
@@ -73,7 +72,7 @@ codes_length chars = length-map chars (λ (c : Char). c.code)
 module _ (profile : Profile) (chars : List Char) where
   pub grown : (at start n : ℕ) (space : Bool) (ts : List Token) (ls : List Line) (s : LexemeKind) (st : State profile chars at start space ts ls)
       → n ≤ length (drop at (codes_of chars))
-      → IsLexemeAt profile (spelled (drop start ts)) (drop at (codes_of chars)) n s
+      → IsLexemeAt profile (spellings (drop start ts)) (drop at (codes_of chars)) n s
       → Grown profile chars at n s space st.lines (drop start ts) st.lexemes
   grown at start n space ts ls s st fits here =
       let p = lexeme_at chars at n s in
@@ -135,7 +134,7 @@ module _ (profile : Profile) (chars : List Char) where
   pub skip_comment : (at start n : ℕ) (space : Bool) (ts : List Token) (ls : List Line)
       → State profile chars at start space ts ls
       → n ≤ length (drop at (codes_of chars))
-      → IsLexemeAt profile (spelled (drop start ts)) (drop at (codes_of chars)) n Comment
+      → IsLexemeAt profile (spellings (drop start ts)) (drop at (codes_of chars)) n Comment
       → State profile chars (at + n) start true ts ls
   skip_comment at start n space ts ls st fits here =
       let g = grown at start n space ts ls Comment st fits here in
@@ -159,13 +158,13 @@ module _ (profile : Profile) (chars : List Char) where
       → stop ≡ length ts
       → number ≡ (head_place (take 1 (drop at chars))).line
       → 1 ≤ length (drop at (codes_of chars))
-      → IsLexemeAt profile (spelled (drop start ts)) (drop at (codes_of chars)) 1 NewLine
+      → IsLexemeAt profile (spellings (drop start ts)) (drop at (codes_of chars)) 1 NewLine
       → State profile chars (at + 1) stop true ts (ls ++ line_span start (line_of profile (drop start ts) number) ∷ [])
   end_line at start stop space ts ls number st stop_is number_is fits here =
       let g = grown at start 1 space ts ls NewLine st fits here in
       let line : LogicalLine = line_of profile (drop start ts) number in
       let none : drop stop ts ≡ [] = drop_all stop ts (omega arith) in
-      let before : 0 + length (tokens_of st.lines) ≡ start = omega (arith, ap length st.tokens, length-take-le start ts st.started) in
+      let before : 0 + length (line_tokens st.lines) ≡ start = omega (arith, ap length st.tokens, length-take-le start ts st.started) in
       let done : st.lines ++ lines_ended profile (drop start ts) (take 1 (drop at chars)) NewLine ≡ st.lines ++ line ∷ [] = ap (λ (z : ℕ). st.lines ++ line_of profile (drop start ts) z ∷ []) (sym number_is) in
       record {
         within = g.in_bounds;
@@ -185,7 +184,7 @@ module _ (profile : Profile) (chars : List Char) where
       → State profile chars at start space ts ls
       → t ≡ token_of k space (take n (drop at chars))
       → n ≤ length (drop at (codes_of chars))
-      → IsLexemeAt profile (spelled (drop start ts)) (drop at (codes_of chars)) n (Spelled k)
+      → IsLexemeAt profile (spellings (drop start ts)) (drop at (codes_of chars)) n (Spelled k)
       → State profile chars (at + n) start false (ts ++ t ∷ []) ls
   add_token at start n space ts ls k t st is fits here =
       let g = grown at start n space ts ls (Spelled k) st fits here in
@@ -204,7 +203,7 @@ module _ (profile : Profile) (chars : List Char) where
         sofar = subst (λ (z : List Token). LinesSoFar profile (st.lexemes ++ lexeme_at chars at n (Spelled k) ∷ []) st.lines false z) (after_line ∙ sym more)
             (subst (λ (z : List LogicalLine). LinesSoFar profile (st.lexemes ++ lexeme_at chars at n (Spelled k) ∷ []) z false
             (tokens_after space (drop start ts) (take n (drop at chars)) (Spelled k))) (append-nil st.lines) g.sofar);
-        line = g.line ∙ ap (λ (z : List ℕ). spelled (drop start ts) ++ z ∷ []) (sym (ap (λ (u : Token). u.text) is)) ∙ sym (ap spelled more ∙ spelled-append (drop start ts) t);
+        line = g.line ∙ ap (λ (z : List ℕ). spellings (drop start ts) ++ z ∷ []) (sym (ap (λ (u : Token). u.text) is)) ∙ sym (ap spelled more ∙ spellings-append (drop start ts) t);
       }
 
   -- At the end of the text, the tokens after the last new-line are dropped.

@@ -3,9 +3,9 @@ use Rattle.std.proofs.Common.{◌≡◌, ℕ, zero, suc, ◌+◌, ◌-◌, ◌<�
 use Rattle.std.proofs.lemmas.Bool.{false≢true, cases_lt}
 use Rattle.std.proofs.lemmas.List.{drop-drop, get_or-drop}
 use Rattle.std.proofs.Math.Seq.{take-add}
-use Rattle.pptext.specs.Languages.{One, Then, NoPrefix, IsOnly}
+use Rattle.pptext.specs.Languages.{One, Then}
+use Rattle.pptext.specs.code.Scanning.{NoPrefix, IsOnly, IsQuoted, AreUnmatched, KnowsUnmatched}
 use Rattle.pptext.specs.Spellings.{IsElement}
-use Rattle.pptext.specs.code.UnmatchedQuotes.{IsQuoted, AreUnmatched, KnowsUnmatched}
 use Rattle.pptext.proofs.LanguagePrefixes.{one_front, exactly_then}
 use Rattle.pptext.proofs.ComposedLanguages.{begins_one, then_lacks}
 use Rattle.pptext.proofs.ClosedTexts.{lacks_later, closed_front}

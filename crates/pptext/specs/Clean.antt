@@ -73,13 +73,13 @@ abbrev pub only_code : List ℕ → ℕ
 only_code (c ∷ []) = c
 only_code cs = 0
 
-abbrev pub replaced_by : List (List ℕ × List ℕ) → ℕ → ℕ
-replaced_by [] c = 0
-replaced_by ((third, replacement) ∷ more) c = if c == only_code third then only_code replacement else replaced_by more c
+abbrev pub replacement_of : List (List ℕ × List ℕ) → ℕ → ℕ
+replacement_of [] c = 0
+replacement_of ((third, replacement) ∷ more) c = if c == only_code third then only_code replacement else replacement_of more c
 
 -- the character that replaces `??` and this character, or 0
 abbrev pub trigraph : ℕ → ℕ
-trigraph c = replaced_by trigraph_pairs c
+trigraph c = replacement_of trigraph_pairs c
 
 -- the character of the trigraph that begins here, or 0
 abbrev pub trigraph_at : List Char → ℕ

@@ -12,10 +12,8 @@ pub mod Tree
 pub mod GroupFaults
 pub mod Guard
 pub mod Sources
-pub mod NextBranches
 pub mod Errors
 pub mod Laws
-pub mod Lexing
 pub mod KindTests
 pub mod NameHash
 pub mod code

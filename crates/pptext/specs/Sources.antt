@@ -29,8 +29,8 @@ spans k start (r ∷ rs) =
     let stop = start + length r.tokens in
     record { start = start; end = stop; number = r.number; directive = r.directive; next_branch = next_branch k (role r) rs } ∷ spans (k + 1) stop rs
 
-abbrev pub tokens_of : List LogicalLine → List Token
-tokens_of rs = flat_map (λ r. r.tokens) rs
+abbrev pub line_tokens : List LogicalLine → List Token
+line_tokens rs = flat_map (λ r. r.tokens) rs
 
 -- the lines into which these spans divide the tokens
 abbrev pub lines_from : List Token → List Line → List LogicalLine

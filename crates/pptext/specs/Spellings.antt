@@ -36,10 +36,6 @@ IsUniversal = Either (Then (Exactly (92 ∷ 117 ∷ [])) (IsRun 4 is_hex)) (Then
 abbrev pub IsNondigit : List ℕ → Type 0
 IsNondigit = Either (One is_nondigit) IsUniversal
 
--- a character that is allowed in an identifier after the first
-abbrev pub is_ident_byte : ℕ → Bool
-is_ident_byte c = is_nondigit c || is_digit c
-
 -- 6.4.2
 abbrev pub IsIdent : List ℕ → Type 0
 IsIdent = Then IsNondigit (Repeated (Either IsNondigit (One is_digit)))
@@ -112,12 +108,3 @@ Spells Other = IsOther
 -- a spelling of some kind
 abbrev pub IsSpelling : List ℕ → Type 0
 IsSpelling s = (k : Kind) × Spells k s
-
-abbrev pub is_punct1 : ℕ → Bool
-is_punct1 a = is_punctuator (a ∷ [])
-
-abbrev pub is_punct2 : ℕ → ℕ → Bool
-is_punct2 a b = is_punctuator (a ∷ b ∷ [])
-
-abbrev pub is_punct3 : ℕ → ℕ → ℕ → Bool
-is_punct3 a b c = is_punctuator (a ∷ b ∷ c ∷ [])

@@ -7,11 +7,6 @@ use Rattle.pptext.specs.declared.tokens.Fault.{Fault}
 use Rattle.pptext.specs.declared.tokens.Kind.{Kind}
 use Rattle.pptext.specs.declared.tokens.Kind.TheVariants.{Ident, Punct, Other}
 
--- the spellings of tokens
-abbrev pub spelled : List Token → List (List ℕ)
-spelled [] = []
-spelled (t ∷ ts) = t.text ∷ spelled ts
-
 abbrev pub is_identifier_kind : Kind → Bool
 is_identifier_kind Ident = true
 is_identifier_kind _ = false

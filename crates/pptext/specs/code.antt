@@ -3,5 +3,5 @@ pub mod LineNotes
 pub mod Steps
 pub mod CleanedText
 pub mod FoundLexemes
-pub mod UnmatchedQuotes
+pub mod Scanning
 pub mod Grouping

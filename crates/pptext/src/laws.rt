@@ -11,13 +11,11 @@ ghost use Rattle.pptext.specs.Clean.{cleaned, codes_of};
 ghost use Rattle.pptext.specs.Lexemes.{Lexeme, Spelled, Tokenizes, Unclosed};
 ghost use Rattle.pptext.specs.GroupFaults.{IsGroupFault};
 ghost use Rattle.pptext.specs.Guard.{GuardedBy};
-ghost use Rattle.pptext.specs.KindTests.{OpensComment, TestsAreLanguages};
+ghost use Rattle.pptext.specs.KindTests.{OpensComment, TestsAreLanguages, HasOneLexer};
 ghost use Rattle.pptext.specs.Kinds.{kind_of};
-ghost use Rattle.pptext.specs.Laws.{tokens_in};
-ghost use Rattle.pptext.specs.Lexing.{HasOneLexer};
+ghost use Rattle.pptext.specs.Laws.{tokens_in, part_branches};
 ghost use Rattle.pptext.specs.Lines.{LogicalLine, lines_of};
-ghost use Rattle.pptext.specs.NextBranches.{part_branches};
-ghost use Rattle.pptext.specs.Sources.{Reads, tokens_of, spans, IsUnmatchedQuote, IsOneToken};
+ghost use Rattle.pptext.specs.Sources.{Reads, line_tokens, spans, IsUnmatchedQuote, IsOneToken};
 ghost use Rattle.pptext.specs.Spellings.{Spells};
 ghost use Rattle.pptext.specs.Tree.{group_fault, GroupParts, Tree};
 
@@ -45,7 +43,7 @@ pub fn some_reading()
 /// The tokens of a file's lines are exactly those of its lexemes, in order, each with its kind, spelling, location and
 /// leading-space flag. None is lost at the end, because a text ends in a new-line after phase 2 (5.1.1.2).
 pub fn keeps_every_token()
-    ensures { (profile : Profile) (file : ℕ) (bytes : List ℕ) (chars : List Char) (lexemes : List Lexeme) → cleaned file bytes ≡ Ok chars → Tokenizes profile chars lexemes → tokens_of (lines_of profile lexemes) ≡ tokens_in true lexemes }
+    ensures { (profile : Profile) (file : ℕ) (bytes : List ℕ) (chars : List Char) (lexemes : List Lexeme) → cleaned file bytes ≡ Ok chars → Tokenizes profile chars lexemes → line_tokens (lines_of profile lexemes) ≡ tokens_in true lexemes }
 {}
 
 /// Each token of a text, except a header name (6.4.7), is the one token of its spelling. So `relex` finds its kind

@@ -13,9 +13,8 @@ ghost use Rattle.pptext.specs.declared.sources.Profile.{Profile};
 ghost use Rattle.pptext.specs.Spellings.{is_blank};
 ghost use Rattle.pptext.specs.Lexemes.{OpensBlock, OpensLine, CommentAt, ClosesAt};
 ghost use Rattle.pptext.specs.Lines.{token_of, line_of};
-ghost use Rattle.pptext.specs.code.UnmatchedQuotes.{KnowsUnmatched};
-ghost use Rattle.pptext.specs.Tokens.{spelled};
-ghost use Rattle.pptext.specs.code.FoundLexemes.{FindsLexeme, TokenizesInto};
+ghost use Rattle.pptext.specs.code.Scanning.{KnowsUnmatched};
+ghost use Rattle.pptext.specs.code.FoundLexemes.{spellings, FindsLexeme, TokenizesInto};
 ghost use Rattle.pptext.specs.code.Grouping.{line_span};
 
 use crate::cleaned_text::CleanedText;
@@ -137,7 +136,7 @@ fn slow_lexeme_at(
     requires no_newline { slice_index text.now 0 ≢ 10 }
     requires no_blank { is_blank (slice_index text.now 0) ≡ false }
     requires unmatched { KnowsUnmatched text.now unmatched.old.single unmatched.old.double }
-    ensures finds { FindsLexeme profile (spelled line.now) text.now result }
+    ensures finds { FindsLexeme profile (spellings line.now) text.now result }
     ensures unmatched { KnowsUnmatched text.now unmatched.new.single unmatched.new.double }
 {
     if opens_block(text) {
@@ -207,7 +206,7 @@ fn lexeme_at(
     requires some { 0 < length text.now }
     requires start { start ≤ length tokens.now }
     requires unmatched { KnowsUnmatched text.now unmatched.old.single unmatched.old.double }
-    ensures finds { FindsLexeme profile (spelled (drop start tokens.now)) text.now result }
+    ensures finds { FindsLexeme profile (spellings (drop start tokens.now)) text.now result }
     ensures unmatched { KnowsUnmatched text.now unmatched.new.single unmatched.new.double }
 {
     match fast_lexeme_at(text) {
@@ -219,7 +218,7 @@ fn lexeme_at(
 /// Returns the lexeme that begins the text, after these tokens of its line.
 pub(crate) fn next_lexeme(text: &[u8], line: &[Token], profile: Profile) -> Found
     requires { 0 < length text.now }
-    ensures { FindsLexeme profile (spelled line.now) text.now result }
+    ensures { FindsLexeme profile (spellings line.now) text.now result }
 {
     let mut unmatched = UnmatchedQuotes::unknown(text.len());
     lexeme_at(text, line, 0, &mut unmatched, profile)

@@ -1,10 +1,10 @@
 //! The token that begins a text: the longest that the grammar of some kind allows (6.4).
 ghost use Rattle.std.specs.Prelude.{◌≡◌, ◌≢◌, ◌↔◌, ◌<◌, ◌≤◌, ℕ, length, take, IsTrue, IfNone, IfSome, slice_index, false};
-ghost use Rattle.pptext.specs.Languages.{Longest, NoPrefix};
+ghost use Rattle.pptext.specs.Languages.{Longest};
+ghost use Rattle.pptext.specs.code.Scanning.{NoPrefix, KnowsUnmatched};
 ghost use Rattle.pptext.specs.Spellings.{IsCharConst, IsSpelling, IsStr, Spells, is_blank};
 ghost use Rattle.pptext.specs.Lexemes.{OpensBlock, OpensLine, takes_header, AwaitsHeader, HeaderAt, IsLexemeAt, Spelled};
-ghost use Rattle.pptext.specs.code.UnmatchedQuotes.{KnowsUnmatched};
-ghost use Rattle.pptext.specs.Tokens.{spelled};
+ghost use Rattle.pptext.specs.code.FoundLexemes.{spellings};
 
 use crate::directives::is_hash;
 use crate::punctuators::punct_len;
@@ -24,7 +24,7 @@ fn takes_header(profile: Profile, name: &[u8]) -> bool
 
 /// Returns whether a header name may follow these tokens of a line (6.4.7).
 fn awaits_header(profile: Profile, line: &[Token]) -> bool
-    ensures { IsTrue result ↔ AwaitsHeader profile (spelled line.now) }
+    ensures { IsTrue result ↔ AwaitsHeader profile (spellings line.now) }
 {
     if line.len() != 2 {
         return false;
@@ -37,8 +37,8 @@ fn awaits_header(profile: Profile, line: &[Token]) -> bool
 
 /// Returns the length of the header name that begins the text, after these tokens of its line, or 0.
 fn header_at(text: &[u8], line: &[Token], profile: Profile) -> usize
-    ensures none { result ≡ 0 → (m : ℕ) → ¬ HeaderAt profile (spelled line.now) text.now m }
-    ensures some { 0 < result → HeaderAt profile (spelled line.now) text.now result }
+    ensures none { result ≡ 0 → (m : ℕ) → ¬ HeaderAt profile (spellings line.now) text.now m }
+    ensures some { 0 < result → HeaderAt profile (spellings line.now) text.now result }
 {
     if !awaits_header(profile, line) {
         return 0;
@@ -117,7 +117,7 @@ pub(crate) fn token_at(
     requires no_line { ¬ OpensLine text.now }
     requires unmatched { KnowsUnmatched text.now unmatched.old.single unmatched.old.double }
     ensures fits { (0 < result.1) × (result.1 ≤ length text.now) }
-    ensures is_there { IsLexemeAt profile (spelled line.now) text.now result.1 (Spelled result.0) }
+    ensures is_there { IsLexemeAt profile (spellings line.now) text.now result.1 (Spelled result.0) }
     ensures unmatched { KnowsUnmatched text.now unmatched.new.single unmatched.new.double }
 {
     let header = header_at(text, line, profile);

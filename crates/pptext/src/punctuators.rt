@@ -1,7 +1,7 @@
 //! Punctuators (6.4.6).
 ghost use Rattle.std.specs.Prelude.{◌≡◌, ◌↔◌, ◌≤◌, length, take, IsTrue, [], ◌∷◌};
-ghost use Rattle.pptext.specs.Spellings.{is_punct1, is_punct2, is_punct3, is_punctuator};
-ghost use Rattle.pptext.specs.Languages.{LongestOrNone};
+ghost use Rattle.pptext.specs.Spellings.{is_punctuator};
+ghost use Rattle.pptext.specs.code.Scanning.{is_punct1, is_punct2, is_punct3, LongestOrNone};
 ghost use Rattle.pptext.specs.code.FoundLexemes.{begins_nothing_longer};
 
 /// Returns whether the byte is a punctuator by itself.

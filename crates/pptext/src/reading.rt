@@ -5,7 +5,7 @@ ghost use Rattle.pptext.specs.declared.tokens.Kind.{Kind};
 ghost use Rattle.pptext.specs.Errors.{UnlessOutOfMemory};
 ghost use Rattle.pptext.specs.Guard.{GuardedBy};
 ghost use Rattle.pptext.specs.Lines.{AreDirected};
-ghost use Rattle.pptext.specs.Sources.{Reads, tokens_of, spans, IsOneToken, IsUnmatchedQuote};
+ghost use Rattle.pptext.specs.Sources.{Reads, line_tokens, spans, IsOneToken, IsUnmatchedQuote};
 
 use crate::cleaning::clean_text;
 use crate::error::Error;
@@ -18,7 +18,7 @@ use std::alloc::Global;
 impl Source {
     /// Returns the tokens of all lines, in order.
     pub fn tokens(&self) -> &[Token]
-        ensures { result.now ≡ tokens_of self.now }
+        ensures { result.now ≡ line_tokens self.now }
     {
         self.tokens.as_slice()
     }

@@ -1,10 +1,11 @@
 //! The lengths of bytes, universal character names and identifiers that begin a text.
 ghost use Rattle.std.specs.Prelude.{◌≡◌, ◌↔◌, ◌⊎◌, [], ◌∷◌, ◌||◌, ◌<◌, ◌≤◌, length, take, slice_index, IsTrue};
 ghost use Rattle.std.specs.List.{AllPass};
-ghost use Rattle.pptext.specs.Languages.{OnlyPart, LongestOrNone, Longest, Repeated, One, Either};
+ghost use Rattle.pptext.specs.Languages.{Longest, Repeated, One, Either};
+ghost use Rattle.pptext.specs.code.Scanning.{OnlyPart, LongestOrNone, is_ident_byte};
 ghost use Rattle.pptext.specs.Lexemes.{BeginsWith};
 ghost use Rattle.pptext.specs.code.FoundLexemes.{starts_identifier};
-ghost use Rattle.pptext.specs.Spellings.{is_digit, is_hex, is_nondigit, is_ident_byte, is_blank, IsUniversal, IsNondigit, IsIdent};
+ghost use Rattle.pptext.specs.Spellings.{is_digit, is_hex, is_nondigit, is_blank, IsUniversal, IsNondigit, IsIdent};
 
 pub(crate) mod continuing;
 pub(crate) mod headers;

@@ -117,12 +117,12 @@ impl Model for Source {
 
     ghost Value = { List LogicalLine };
 
-    ghost use Rattle.pptext.specs.Sources.{lines_from, tokens_of, spans};
+    ghost use Rattle.pptext.specs.Sources.{lines_from, line_tokens, spans};
     ghost use Rattle.pptext.specs.Guard.{GuardedBy};
 
     ghost view = { λ s. lines_from s.tokens.items s.lines.items };
 
-    ghost invariant = { λ s. (tokens_of (lines_from s.tokens.items s.lines.items) ≡ s.tokens.items)
+    ghost invariant = { λ s. (line_tokens (lines_from s.tokens.items s.lines.items) ≡ s.tokens.items)
         × (spans 0 0 (lines_from s.tokens.items s.lines.items) ≡ s.lines.items)
         × AreDirected (lines_from s.tokens.items s.lines.items)
         × MatchOption s.guard ((x : List ℕ) → GuardedBy (lines_from s.tokens.items s.lines.items) x → ⊥)

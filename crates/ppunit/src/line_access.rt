@@ -1,6 +1,6 @@
 //! Access to the lines of a file by index, from 0.
 ghost use Rattle.std.specs.Prelude.{◌≡◌, ◌<◌, ◌≤◌, ◌+◌, ◌-◌, ◌^◌, suc, length, drop, take};
-ghost use Rattle.pptext.specs.Sources.{next_branch, tokens_of};
+ghost use Rattle.pptext.specs.Sources.{next_branch, line_tokens};
 ghost use Rattle.pptext.specs.Tree.{role};
 ghost use Rattle.ppunit.specs.code.Walk.{line_at, IsTextLine};
 
@@ -18,7 +18,7 @@ pub(crate) fn line_count(source: &Source) -> usize
 pub(crate) fn line(source: &Source, index: usize) -> &Line
     requires { index < length source.now }
     ensures few { length source.now < 2 ^ 64 }
-    ensures start { result.now.start ≡ length (tokens_of (take index source.now)) }
+    ensures start { result.now.start ≡ length (line_tokens (take index source.now)) }
     ensures end { result.now.end ≡ result.now.start + length (line_at source.now index).tokens }
     ensures number { result.now.number ≡ (line_at source.now index).number }
     ensures directive { result.now.directive ≡ (line_at source.now index).directive }
@@ -32,7 +32,7 @@ pub(crate) fn line(source: &Source, index: usize) -> &Line
 pub(crate) fn tokens_between(source: &Source, start: usize, end: usize) -> &[Token]
     requires some { start < end }
     requires within { end ≤ length source.now }
-    ensures { result.now ≡ tokens_of (take (end - start) (drop start source.now)) }
+    ensures { result.now ≡ line_tokens (take (end - start) (drop start source.now)) }
 {
     &source.tokens()[line(source, start).start..line(source, end - 1).end]
 }

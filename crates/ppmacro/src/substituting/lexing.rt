@@ -1,6 +1,6 @@
 //! The kind of a text that is one token.
 ghost use Rattle.std.specs.Prelude.{◌≡◌};
-ghost use Rattle.pptext.specs.Lexing.{IsLexer};
+ghost use Rattle.pptext.specs.KindTests.{IsLexer};
 ghost use Rattle.ppmacro.specs.Lexing.{kind_of};
 
 use pptext::{Kind, relex};

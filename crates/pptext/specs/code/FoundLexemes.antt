@@ -1,5 +1,5 @@
 -- What the lexer returns: the lexeme that begins a text, and the tokens and lines of a text. Only the contracts of private functions cite this.
-use Rattle.std.specs.Prelude.{◌≡◌, ℕ, ◌<◌, ◌≤◌, List, length, Option, None, Some, Result, Ok, Err, IsTrue, slice_index, Bool, not, ◌&&◌, ◌||◌, ◌==◌}
+use Rattle.std.specs.Prelude.{◌≡◌, ℕ, ◌<◌, ◌≤◌, List, [], ◌∷◌, length, Option, None, Some, Result, Ok, Err, IsTrue, slice_index, Bool, not, ◌&&◌, ◌||◌, ◌==◌}
 use Rattle.pptext.specs.declared.tokens.Place.{Place}
 use Rattle.pptext.specs.declared.tokens.Token.{Token}
 use Rattle.pptext.specs.declared.sources.Line.{Line}
@@ -10,6 +10,11 @@ use Rattle.pptext.specs.Lexemes.{LexemeKind, Blank, IsLexemeAt, OpensBlock, Clos
 use Rattle.pptext.specs.Lines.{lines_of}
 use Rattle.pptext.specs.Sources.{lines_from}
 use Rattle.pptext.specs.code.Grouping.{AreLineSpans}
+
+-- the spellings of tokens
+abbrev pub spellings : List Token → List (List ℕ)
+spellings [] = []
+spellings (t ∷ ts) = t.text ∷ spellings ts
 
 -- n white-space characters, each of which is a lexeme of its own
 abbrev pub AreBlanks : ℕ → List ℕ → Type 0

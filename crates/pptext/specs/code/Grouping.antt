@@ -7,7 +7,7 @@ use Rattle.pptext.specs.declared.tokens.Token.{Token}
 use Rattle.pptext.specs.declared.sources.Line.{Line}
 use Rattle.pptext.specs.Lines.{LogicalLine, AreDirected}
 use Rattle.pptext.specs.Tree.{Role, Opens, Elses, Closes, role, role_by, branch_after, group_fault}
-use Rattle.pptext.specs.Sources.{lines_from, tokens_of, spans}
+use Rattle.pptext.specs.Sources.{lines_from, line_tokens, spans}
 use Rattle.pptext.specs.Guard.{IsBlankLine, guard_name}
 
 -- the span of a line, whose tokens begin at this index, without its next branch line
@@ -22,7 +22,7 @@ line_spans start (r ∷ rs) = line_span start r ∷ line_spans (start + length r
 
 -- the spans, without next branch lines, are those of the lines into which they divide the tokens
 abbrev pub AreLineSpans : List Token → List Line → Type 0
-AreLineSpans ts ls = (tokens_of (lines_from ts ls) ≡ ts) × (line_spans 0 (lines_from ts ls) ≡ ls) × AreDirected (lines_from ts ls)
+AreLineSpans ts ls = (line_tokens (lines_from ts ls) ≡ ts) × (line_spans 0 (lines_from ts ls) ≡ ls) × AreDirected (lines_from ts ls)
 
 abbrev pub line_role : Line → Role
 line_role l = role_by l.directive
@@ -51,7 +51,7 @@ step_back k s open_branches = (None, open_branches)
 
 -- the spans are those of the lines into which they divide the tokens
 abbrev pub AreLines : List Token → List Line → Type 0
-AreLines ts ls = (tokens_of (lines_from ts ls) ≡ ts) × (spans 0 0 (lines_from ts ls) ≡ ls) × AreDirected (lines_from ts ls)
+AreLines ts ls = (line_tokens (lines_from ts ls) ≡ ts) × (spans 0 0 (lines_from ts ls) ≡ ls) × AreDirected (lines_from ts ls)
 
 -- the fault of a line, or the if-sections that are open after it
 abbrev pub LineTakes : Option ℕ × List (ℕ × Bool) → Option ℕ → List (ℕ × Bool) → Type 0

@@ -1,6 +1,7 @@
 //! Header names (6.4.7).
 ghost use Rattle.std.specs.Prelude.{◌||◌, ◌==◌, not, [], ◌∷◌};
-ghost use Rattle.pptext.specs.Languages.{OnlyPart, Repeated, Then, Exactly, One};
+ghost use Rattle.pptext.specs.Languages.{Repeated, Then, Exactly, One};
+ghost use Rattle.pptext.specs.code.Scanning.{OnlyPart};
 ghost use Rattle.pptext.specs.Spellings.{IsBetween, IsHeader};
 
 /// Returns the length of the characters up to and including the closing one, or 0 if none closes in this line.

@@ -7,9 +7,9 @@
 //!
 //! The two kinds are apart because their prefixes differ, and because a character constant has at least one element.
 ghost use Rattle.std.specs.Prelude.{◌≡◌, ◌≢◌, ◌↔◌, ◌⊎◌, ◌+◌, ◌-◌, ◌<◌, ◌≤◌, ℕ, [], ◌∷◌, length, drop, IsTrue, slice_index, Contains};
-ghost use Rattle.pptext.specs.Languages.{OnlyPart, NoPrefix, IsOnly, Then, Exactly};
+ghost use Rattle.pptext.specs.Languages.{Then, Exactly};
+ghost use Rattle.pptext.specs.code.Scanning.{OnlyPart, NoPrefix, IsOnly, IsQuoted, AreUnmatched, StaysOpen};
 ghost use Rattle.pptext.specs.Spellings.{IsElement, IsCharConst, IsStr, char_prefixes, str_prefixes};
-ghost use Rattle.pptext.specs.code.UnmatchedQuotes.{IsQuoted, AreUnmatched, StaysOpen};
 
 /// How far the quotes of each kind are known to be unmatched, that is, not closed in their line. Each number counts the
 /// bytes of the text after that range, so it stays valid as the text is read. Without this, a line of n unmatched

@@ -1,6 +1,7 @@
 //! Preprocessing numbers (6.4.8).
 ghost use Rattle.std.specs.Prelude.{◌≡◌, ◌↔◌, ◌||◌, ◌==◌, ◌≤◌, [], ◌∷◌, length, IsTrue, slice_index};
-ghost use Rattle.pptext.specs.Languages.{NextPart, OnlyPart, LongestOrNone, Longest, Repeated, Then, Either, Exactly, One};
+ghost use Rattle.pptext.specs.Languages.{Longest, Repeated, Then, Either, Exactly, One};
+ghost use Rattle.pptext.specs.code.Scanning.{NextPart, OnlyPart, LongestOrNone};
 ghost use Rattle.pptext.specs.Spellings.{is_digit, is_exponent, is_sign, IsNumberPart, IsNumber};
 
 use super::{is_digit, nondigit_len};

@@ -5,12 +5,12 @@ use Rattle.pptext.specs.declared.tokens.Place.{Place}
 use Rattle.pptext.specs.declared.tokens.Token.{Token}
 use Rattle.pptext.specs.declared.lexer.LeadingLexeme.TheVariants as variant
 use Rattle.pptext.specs.Clean.{place, codes_of}
-use Rattle.pptext.specs.code.UnmatchedQuotes.{KnowsUnmatched}
+use Rattle.pptext.specs.code.Scanning.{KnowsUnmatched}
 use Rattle.pptext.proofs.UnmatchedQuoteLemmas.{knows_later, knows_nothing}
 use Rattle.pptext.proofs.TokenizationLoop.{state_start, skip_blanks, skip_comment, end_line, add_token, cut_all, left_unclosed, codes_length, head_of_drop, head_of_take, token_is}
 use Rattle.pptext.proofs.LexemeMeanings.{found_here}
 use Rattle.pptext.proofs.NewLineFreeTokens.{line_start, line_over_blanks, line_over_token}
-use Rattle.pptext.specs.Tokens.{spelled}
+use Rattle.pptext.specs.code.FoundLexemes.{spellings}
 use Rattle.pptext.specs.Lines.{token_of}
 use Rattle.pptext.specs.code.CleanedText.{Reading}
 use Rattle.pptext.proofs.lexer.tokenize_lines.Goals as goal
@@ -96,7 +96,7 @@ loop-at-preserved c =
     record {
       same = ap (λ (r : Reading). r.chars) c.place-place.ensures.after ∙ c.loop-at.invariant.same;
       consumed = omega (arith, ap (λ (r : Reading). r.consumed) c.place-place.ensures.after);
-      in_line = line_over_token (codes_of chars) c.args.profile (spelled (drop c.loop-at.start c.loop-at.tokens.items)) c.loop-at.line c.loop-at.at c.in-Token.n c.in-Token.kind c.loop-at.invariant.in_line found.0 found.2;
+      in_line = line_over_token (codes_of chars) c.args.profile (spellings (drop c.loop-at.start c.loop-at.tokens.items)) c.loop-at.line c.loop-at.at c.in-Token.n c.in-Token.kind c.loop-at.invariant.in_line found.0 found.2;
       state = rw tokens
           (add_token c.args.profile chars c.loop-at.at c.loop-at.start c.in-Token.n c.loop-at.space c.loop-at.tokens.items c.loop-at.lines.items c.in-Token.kind
           (token_of c.in-Token.kind c.loop-at.space (take c.in-Token.n (drop c.loop-at.at chars))) c.loop-at.invariant.state refl found.0 found.2);

@@ -1,6 +1,6 @@
 use Rattle.std.proofs.Common.{◌≡◌, ◌-◌, ◌≤◌, length, drop}
 use Rattle.pptext.specs.Clean.{codes_of}
-use Rattle.pptext.specs.code.UnmatchedQuotes.{KnowsUnmatched}
+use Rattle.pptext.specs.code.Scanning.{KnowsUnmatched}
 use Rattle.pptext.specs.code.CleanedText.{InLine}
 use Rattle.pptext.proofs.TokenizationLoop.{State}
 use Rattle.pptext.proofs.lexer.tokenize_lines.Given as goal

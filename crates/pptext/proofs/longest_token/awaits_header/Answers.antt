@@ -3,11 +3,11 @@ use Rattle.std.proofs.lemmas.Bool.{false≢true}
 use Rattle.pptext.specs.declared.sources.Profile.{Profile}
 use Rattle.pptext.specs.declared.tokens.Token.{Token}
 use Rattle.pptext.specs.Lexemes.{AwaitsHeader}
-use Rattle.pptext.specs.Tokens.{spelled}
+use Rattle.pptext.specs.code.FoundLexemes.{spellings}
 use Rattle.pptext.proofs.longest_token.awaits_header.Goals as goal
 
 -- a line that awaits a header name has two tokens
-awaits_two : (profile : Profile) (line : List Token) → AwaitsHeader profile (spelled line) → length line ≡ 2
+awaits_two : (profile : Profile) (line : List Token) → AwaitsHeader profile (spellings line) → length line ≡ 2
 awaits_two profile [] h = absurd h
 awaits_two profile (x ∷ []) h = absurd h
 awaits_two profile (x ∷ y ∷ []) h = refl

@@ -1,6 +1,6 @@
 use Rattle.std.proofs.Common.{ℕ, drop, sym, ◌∙◌, ap, ◌||◌, Bool, refl}
 use Rattle.std.proofs.lemmas.List.{take_rest}
-use Rattle.pptext.specs.Languages.{OnlyPart}
+use Rattle.pptext.specs.code.Scanning.{OnlyPart}
 use Rattle.pptext.specs.Spellings.{IsUniversal, is_nondigit, is_digit}
 use Rattle.pptext.proofs.LanguagePrefixes.{only_zero, universal_lacks}
 use Rattle.pptext.proofs.Idents.{IdentPart, ident_byte, ident_universal, ident_end}

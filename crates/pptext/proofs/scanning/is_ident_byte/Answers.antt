@@ -1,7 +1,7 @@
 use Rattle.std.proofs.Common.{nat_eq, get_or, refl, arith}
 use Rattle.std.proofs.lemmas.Bool.{agree_below_at}
 use Rattle.pptext.specs.declared.scanning.TheConstants.{IDENT_BYTES}
-use Rattle.pptext.specs.Spellings.{is_ident_byte}
+use Rattle.pptext.specs.code.Scanning.{is_ident_byte}
 use Rattle.pptext.proofs.scanning.is_ident_byte.Goals as goal
 
 -- The table is compared with the definition for each of the 256 bytes, by computation.

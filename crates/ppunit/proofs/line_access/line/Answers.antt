@@ -1,6 +1,6 @@
 use Rattle.std.proofs.Common.{rules, ◌≡◌, ◌<◌, ◌+◌, ℕ, List, suc, length, take, drop, get_or, ap, ◌∙◌, sym, arith}
 use Rattle.pptext.specs.declared.sources.Line.{Line}
-use Rattle.pptext.specs.Sources.{tokens_of}
+use Rattle.pptext.specs.Sources.{line_tokens}
 use Rattle.pptext.proofs.Spans.{no_line, span}
 use Rattle.ppunit.specs.code.Walk.{line_at}
 use Rattle.ppunit.proofs.IndexedLines.{spans_length, line_is, has_hash}
@@ -18,7 +18,7 @@ pub returns : goal.returns
 returns c =
     let lines = c.args.source.now in
     let x = get_or c.lines.result.now c.args.index no_line in
-    let is : x ≡ span c.args.index (length (tokens_of (take c.args.index lines))) (line_at lines c.args.index) (drop (suc c.args.index) lines) = ap
+    let is : x ≡ span c.args.index (length (line_tokens (take c.args.index lines))) (line_at lines c.args.index) (drop (suc c.args.index) lines) = ap
     (λ (z : List Line). get_or z c.args.index no_line) c.lines.ensures.spans
     ∙ line_is lines c.args.index no_line c.requires in
     record {

@@ -1,6 +1,6 @@
 use Rattle.std.proofs.Common.{◌≡◌, drop, get_or, arith}
 use Rattle.std.proofs.lemmas.List.{take_rest}
-use Rattle.pptext.specs.Languages.{OnlyPart}
+use Rattle.pptext.specs.code.Scanning.{OnlyPart}
 use Rattle.pptext.proofs.ClosedTexts.{Closed, Inner, between_none, between_some}
 use Rattle.pptext.proofs.scanning.headers.between_len.Goals as goal
 

@@ -1,5 +1,5 @@
 use Rattle.std.proofs.Common.{ℕ, ◌+◌, ◌-◌, ◌≤◌, length, drop}
-use Rattle.pptext.specs.Languages.{NoPrefix, IsOnly}
+use Rattle.pptext.specs.code.Scanning.{NoPrefix, IsOnly}
 use Rattle.pptext.proofs.ClosedTexts.{Inner, Closed}
 use Rattle.pptext.proofs.scanning.headers.between_rest_len.Given as goal
 

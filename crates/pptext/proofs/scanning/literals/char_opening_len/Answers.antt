@@ -1,6 +1,6 @@
 use Rattle.std.proofs.Common.{◌≡◌, ℕ, ◌<◌, ◌≤◌, List, [], ◌∷◌, length, take, get_or, inl, inr, refl, ap, arith}
 use Rattle.std.proofs.lemmas.Bool.Decides.{nat_tests}
-use Rattle.pptext.specs.Languages.{OnlyPart}
+use Rattle.pptext.specs.code.Scanning.{OnlyPart}
 use Rattle.pptext.proofs.LanguagePrefixes.{lacks, only_some, only_zero}
 use Rattle.pptext.proofs.Literals.{CharOpening, CharOpens, IsLetter, char_letter_opens, char_opens, letter-no_quote}
 use Rattle.pptext.proofs.scanning.literals.char_opening_len.Goals as goal

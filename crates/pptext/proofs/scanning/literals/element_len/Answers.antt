@@ -1,6 +1,7 @@
 use Rattle.std.proofs.Common.{◌≡◌, ℕ, ◌<◌, true, false, List, [], ◌∷◌, length, drop, get_or, sym, ◌∙◌, arith, length-drop}
 use Rattle.std.proofs.lemmas.Bool.Decides.{nat_tests}
-use Rattle.pptext.specs.Languages.{Exactly, One, OnlyPart}
+use Rattle.pptext.specs.Languages.{Exactly, One}
+use Rattle.pptext.specs.code.Scanning.{OnlyPart}
 use Rattle.pptext.specs.Spellings.{IsElement}
 use Rattle.pptext.proofs.LanguagePrefixes.{either_lacks, either_left, one_empty, one_here, one_lacks, only_some, only_zero}
 use Rattle.pptext.proofs.ComposedLanguages.{exactly_here, exactly_lacks, one_begins, then_lacks, then_lacks_rest}

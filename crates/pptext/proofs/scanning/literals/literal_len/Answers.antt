@@ -1,7 +1,6 @@
 use Rattle.std.proofs.Common.{◌≡◌, ◌+◌, ◌-◌, ◌≤◌, length, drop, arith, subst}
 use Rattle.std.proofs.lemmas.List.{take_rest, length-drop}
-use Rattle.pptext.specs.Languages.{NoPrefix, IsOnly}
-use Rattle.pptext.specs.code.UnmatchedQuotes.{IsQuoted, AreUnmatched}
+use Rattle.pptext.specs.code.Scanning.{NoPrefix, IsOnly, IsQuoted, AreUnmatched}
 use Rattle.pptext.proofs.UnmatchedQuoteLemmas.{lone_opening, lone_literal}
 use Rattle.pptext.proofs.scanning.literals.literal_len.Goals as goal
 

@@ -1,8 +1,7 @@
 use Rattle.std.proofs.Common.{◌≡◌, ◌<◌, drop, get_or, arith, sym, ◌∙◌}
 use Rattle.std.proofs.lemmas.List.{take_rest}
-use Rattle.pptext.specs.Languages.{OnlyPart, NoPrefix}
+use Rattle.pptext.specs.code.Scanning.{OnlyPart, NoPrefix, IsQuoted}
 use Rattle.pptext.specs.Spellings.{IsElement}
-use Rattle.pptext.specs.code.UnmatchedQuotes.{IsQuoted}
 use Rattle.pptext.proofs.ClosedTexts.{closes_here, closes_nowhere, one_more}
 use Rattle.pptext.proofs.ComposedLanguages.{head_at, room_at, end_at, lacks_nothing}
 use Rattle.pptext.proofs.Literals.{quote_lacks, empty_lacks}

@@ -1,6 +1,5 @@
 use Rattle.std.proofs.Common.{ℕ, ◌+◌, ◌-◌, ◌≤◌, length, drop}
-use Rattle.pptext.specs.Languages.{NoPrefix, IsOnly}
-use Rattle.pptext.specs.code.UnmatchedQuotes.{IsQuoted}
+use Rattle.pptext.specs.code.Scanning.{NoPrefix, IsOnly, IsQuoted}
 use Rattle.pptext.proofs.UnmatchedQuoteLemmas.{Passed}
 use Rattle.pptext.proofs.scanning.literals.quoted_rest.Given as goal
 

@@ -1,6 +1,6 @@
 use Rattle.std.proofs.Common.{◌≡◌, ℕ, ◌<◌, ◌≤◌, List, [], ◌∷◌, length, take, get_or, inl, inr, refl, ap, arith}
 use Rattle.std.proofs.lemmas.Bool.Decides.{nat_tests}
-use Rattle.pptext.specs.Languages.{OnlyPart}
+use Rattle.pptext.specs.code.Scanning.{OnlyPart}
 use Rattle.pptext.proofs.LanguagePrefixes.{lacks, only_some, only_zero}
 use Rattle.pptext.proofs.Literals.{IsLetter, StrOpening, StrOpens, letter-no_quote, str_letter_opens, str_opens, u8_opens}
 use Rattle.pptext.proofs.scanning.literals.str_opening_len.Goals as goal
