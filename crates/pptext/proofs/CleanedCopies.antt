@@ -11,7 +11,7 @@ use Rattle.pptext.specs.code.Steps.{CharStep, Code, Removed, lacks_newline, step
 use Rattle.pptext.specs.code.CleanedText.{supply, unspliced, start, unspliced_from, text_from, end_from, EndsAt, HasLineNotes, IsChangedText}
 use Rattle.pptext.proofs.CleanSteps.{CodeStep, RemovedStep, Outcome, outcome, open_end_drop, dropped, kept, returns_some}
 use Rattle.pptext.proofs.LineNoteLemmas.{Begun, begun_all, begun_more, begun_none}
-use Rattle.pptext.proofs.Offsets.{Here, here, placed_at, placed_codes, placed_tail}
+use Rattle.pptext.proofs.Locations.{Here, here, placed_at, placed_codes, placed_tail}
 
 -- `done` holds the codes of the cleaned text before this offset.
 pub record Copied (raw : List ℕ) (offset : ℕ) (done : List ℕ) : Type 0 where
@@ -228,9 +228,6 @@ pub record Counted (raw : List ℕ) (start count : ℕ) : Type 0 where
   pub begun : Begun (lacks_newline raw) raw start line_notes
   pub ends : (file : ℕ) → end_from file raw 0 ≡ end_from file raw start
 
-pub counted_none : (raw : List ℕ) → Counted raw 0 0
-counted_none raw = record { line_notes = []; length = refl; below = omega arith; begun = begun_none (lacks_newline raw) raw; ends = λ file. refl }
-
 -- Counting one more line note preserves `Counted`, if its step does not change `end_from`.
 pub counted_more : (raw : List ℕ) (start count n : ℕ) (step : CharStep)
     → Counted raw start count
@@ -310,9 +307,6 @@ copied_none raw = record { codes = λ file. refl; ends = λ file. refl }
 pub record Copies (raw : List ℕ) (start : ℕ) (codes line_notes : List ℕ) : Type 0 where
   pub copied : Copied raw start codes
   pub begun : Begun (lacks_newline raw) raw start line_notes
-
-pub copies_none : (raw : List ℕ) → Copies raw 0 [] []
-copies_none raw = record { copied = copied_none raw; begun = begun_none (lacks_newline raw) raw }
 
 pub copies_code : (raw : List ℕ) (start n code len : ℕ) (codes line_notes : List ℕ)
     → Copies raw start codes line_notes

@@ -8,8 +8,7 @@ use Rattle.pptext.specs.Clean.{codes_of, place, splices}
 use Rattle.pptext.specs.code.LineNotes.{IsTable, PlainRun, after_note, step_len}
 use Rattle.pptext.specs.code.Steps.{Code, Removed, lacks_newline, step_of, place_after}
 use Rattle.pptext.specs.code.CleanedText.{InLine, TextCursor, supply, start, end_from, text_from, IsCursorAt}
-use Rattle.pptext.proofs.ByteLocations.{no_line_passed}
-use Rattle.pptext.proofs.Offsets.{behind_append, behind_bounds, take_add}
+use Rattle.pptext.proofs.Locations.{no_line_passed, behind_append, behind_bounds, take_add}
 use Rattle.pptext.proofs.LineNoteLemmas.{behind_at, own_less, stretch_rest, table_next}
 use Rattle.pptext.proofs.CleanedCopies.{code_at, removed_at, removed_inside, at_end, own_at, own_from}
 
@@ -52,7 +51,9 @@ pub record Onward (raw line_notes : List ℕ) (offset next n : ℕ) : Type 0 whe
   pub table : IsTable (lacks_newline raw) (after_note (lacks_newline raw) (drop (offset + n + get_or line_notes next (length raw - (offset + n))) raw)) (drop (next + 1) line_notes)
 
 abbrev Reads : List ℕ → List ℕ → ℕ → ℕ → ℕ → Type 0
-Reads raw line_notes offset next last = PlainRun (lacks_newline raw) (drop offset raw) (get_or line_notes next last) × IsTable (lacks_newline raw) (after_note (lacks_newline raw) (drop (get_or line_notes next last) (drop offset raw))) (drop (next + 1) line_notes)
+Reads raw line_notes offset next last =
+    PlainRun (lacks_newline raw) (drop offset raw) (get_or line_notes next last)
+    × IsTable (lacks_newline raw) (after_note (lacks_newline raw) (drop (get_or line_notes next last) (drop offset raw))) (drop (next + 1) line_notes)
 
 onward : (file : ℕ) (raw line_notes : List ℕ) (c : TextCursor) (n : ℕ) → IsCursorAt file raw line_notes c → c.plain ≡ 0 → step_len (step_of (lacks_newline raw) (drop c.offset raw)) ≡ n → Onward raw line_notes c.offset c.next n
 onward file raw line_notes c n s none is = record { plain_run = read.0; table = subst (λ z. IsTable (lacks_newline raw) (after_note (lacks_newline raw) z) (drop (c.next + 1) line_notes)) (drop-drop _ (c.offset + n) raw) read.1 }

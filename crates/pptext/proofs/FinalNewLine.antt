@@ -16,9 +16,9 @@ use Rattle.pptext.specs.Lexemes.{Lexeme, LexemeKind, NewLine, Blank, Comment, Sp
 use Rattle.pptext.specs.Lines.{lines_of, lines_after, lines_ended, leaves_space, tokens_after, token_of}
 use Rattle.pptext.specs.Sources.{line_tokens}
 use Rattle.pptext.specs.Laws.{token_in, tokens_in}
-use Rattle.pptext.proofs.TextEndings.{last_at}
+use Rattle.pptext.proofs.TokenContinuation.{last_at}
 use Rattle.pptext.proofs.KindUniqueness.{last-append, spelling_last}
-use Rattle.pptext.proofs.LexemeUniqueness.{some_piece, between}
+use Rattle.pptext.proofs.TokenizationUniqueness.{some_piece, between}
 
 -- the text is empty or ends in a new-line
 abbrev Ended : List Char → Type 0

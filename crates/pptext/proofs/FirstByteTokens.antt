@@ -10,7 +10,7 @@ use Rattle.pptext.specs.Spellings.{is_nondigit, IsIdent, IsPunct, IsSpelling, Sp
 use Rattle.pptext.specs.Lexemes.{Spelled, IsLexemeAt, HeaderAt, OpensBlock, OpensLine}
 use Rattle.pptext.specs.code.FoundLexemes.{begins_nothing_longer, starts_identifier}
 use Rattle.pptext.proofs.KindUniqueness.{begins, begins_apart, is_ident_head, is_number_head}
-use Rattle.pptext.proofs.LexemeUniqueness.{header_begins, opening_begins}
+use Rattle.pptext.proofs.TokenizationUniqueness.{header_begins, opening_begins}
 use Rattle.pptext.proofs.LongestOf.{LiteralHead, ident_longest, punct_longest, ident_lacks, number_lacks, literal_lacks}
 use Rattle.pptext.proofs.LongestPunctuator.{any_passes}
 

@@ -93,9 +93,6 @@ begins_walk prefix begins = cases (outcome [] prefix) begins
         let split : prefix ++ rest ≡ (s.prefix ++ s.line ∷ []) ++ (s.rest ++ rest) = ap (λ (z : List LogicalLine). z ++ rest) s.whole ∙ simp append_assoc in
         absurd (stopped_wrong s.last s.prefix s.line s.number s.walk s.fault (s.rest ++ rest, subst HasTree split tree))
 
-tree_begins : (lines : List LogicalLine) → HasTree lines → BeginsTree lines
-tree_begins lines tree = ([], subst HasTree (sym (append-nil lines)) tree)
-
 -- If no line has a fault, the lines have a tree exactly if no if-section is open after them.
 tree_closed : (last : List Open) (lines : List LogicalLine) → Walk [] lines last → HasTree lines → last ≡ []
 tree_closed [] lines w tree = refl

@@ -1,16 +1,120 @@
--- Prefixes of a text that are in a language.
-use Rattle.std.proofs.Common.{◌≡◌, ℕ, ◌+◌, ◌-◌, ◌<◌, ◌≤◌, Bool, true, false, List, [], ◌∷◌, ◌++◌, length, take, drop, refl}
-use Rattle.std.proofs.Common.{sym, ap, ◌∙◌, subst, inl, inr, ◌⊎◌, arith, length-drop, IsTrue, get_or}
-use Rattle.std.specs.List.{AllPass}
-use Rattle.std.proofs.lemmas.List.{length-take-le}
+-- Prefixes of a text that are in a language: in one, in composed ones, and the longest repetition of parts.
+use Rattle.std.proofs.Common.{◌≡◌, ℕ, ◌+◌, ◌-◌, ◌<◌, ◌≤◌, List, [], ◌∷◌, ◌++◌, length, take, drop, refl, sym, ap, ◌∙◌, subst, inl, inr, ◌⊎◌, arith, length-append, length-drop, append_assoc, Bool, true, false, IsTrue, get_or, zero, suc}
+use Rattle.std.specs.List.{AllByRecursion, flat_map, AllPass}
+use Rattle.std.proofs.lemmas.List.{length-take-le, take-append-drop, take_at, drop_at, append-nil, drop-drop, get_or-drop}
 use Rattle.std.proofs.Math.Seq.{take-add}
 use Rattle.std.proofs.lemmas.Bool.{false≢true}
 use Rattle.std.proofs.lemmas.Bool.Decides.{nat_tests}
-use Rattle.pptext.specs.Languages.{Exactly, One, Then, Either, IsRun}
-use Rattle.pptext.specs.code.Scanning.{NoPrefix, IsNext, IsOnly, OnlyPart}
+use Rattle.pptext.specs.Languages.{Repeated, Then, Longest, Exactly, One, Either, IsRun}
+use Rattle.pptext.specs.code.Scanning.{NoPrefix, IsNext, IsOnly, OnlyPart, LongestOrNone, NextPart}
 use Rattle.pptext.specs.Spellings.{is_digit, is_hex, is_nondigit, IsUniversal, IsNondigit}
 use Rattle.pptext.specs.Lexemes.{BeginsWith}
-use Rattle.pptext.proofs.RepeatedParts.{front_of, front_length, behind_front}
+
+-- ---- the longest prefix that is a repetition of parts
+
+abbrev joined : List (List ℕ) → List ℕ
+joined ps = flat_map (λ p. p) ps
+
+-- If a prefix of the text begins with y, so does the text.
+pub front_of : (text y rest : List ℕ) (M : ℕ) → M ≤ length text → take M text ≡ y ++ rest → y ≡ take (length y) text
+front_of text y rest M fits e =
+    let split : text ≡ (y ++ rest) ++ drop M text = sym (take-append-drop M text) ∙ ap (λ z. z ++ drop M text) e in
+    sym (ap (take (length y)) (split ∙ append_assoc y rest (drop M text)) ∙ take_at y (rest ++ drop M text) (length y) refl)
+
+pub front_length : (text y rest : List ℕ) (M : ℕ) → M ≤ length text → take M text ≡ y ++ rest → length y + length rest ≡ M
+front_length text y rest M fits e = sym (length-append y rest) ∙ sym (ap length e) ∙ length-take-le M text fits
+
+-- The rest of a prefix after y, in terms of the text.
+pub behind_front : (text y rest : List ℕ) (M : ℕ) → M ≤ length text → take M text ≡ y ++ rest → rest ≡ take (M - length y) (drop (length y) text)
+behind_front text y rest M fits e =
+    let split : text ≡ (y ++ rest) ++ drop M text = sym (take-append-drop M text) ∙ ap (λ z. z ++ drop M text) e in
+    let whole : text ≡ y ++ (rest ++ drop M text) = split ∙ append_assoc y rest (drop M text) in
+    let dropped : drop (length y) text ≡ rest ++ drop M text = ap (drop (length y)) whole ∙ drop_at y (rest ++ drop M text) (length y) refl in
+    let n : length rest ≡ M - length y = (let l = front_length text y rest M fits e in omega arith) in
+    sym (ap (take (M - length y)) dropped ∙ take_at rest (drop M text) (M - length y) n)
+
+-- If no part begins the text, no non-empty prefix is a repetition of parts.
+no_longer_none : (P : List ℕ → Type 0) (text : List ℕ) → NoPrefix P text → (m : ℕ) → 0 < m → m ≤ length text → (parts : List (List ℕ)) → AllByRecursion P parts → take m text ≡ joined parts → ⊥
+no_longer_none P text none m some fits [] all e =
+    let l : length (take m text) ≡ m = length-take-le m text fits in
+    let z : length (take m text) ≡ 0 = ap length e in
+    omega arith
+no_longer_none P text none m some fits (y ∷ ys) all e =
+    let l = front_length text y (joined ys) m fits e in
+    none (length y) (omega (arith, l)) (subst P (front_of text y (joined ys) m fits e) all.0)
+
+pub none_repeated : (P : List ℕ → Type 0) (text : List ℕ) → NoPrefix P text → Longest (Repeated P) text 0
+none_repeated P text none = record {
+  fits = omega arith;
+  prefix = ([], tt, refl);
+  longest = λ m some fits r. no_longer_none P text none m some fits r.0 r.1 r.2;
+}
+
+-- The next part and the longest repetition in the rest together are the longest repetition.
+no_longer_more : (P : List ℕ → Type 0) (text : List ℕ) (n k : ℕ)
+    → IsNext P text n
+    → Longest (Repeated P) (drop n text) k
+    → (m : ℕ)
+    → n + k < m
+    → m ≤ length text
+    → (parts : List (List ℕ))
+    → AllByRecursion P parts
+    → take m text ≡ joined parts
+    → ⊥
+no_longer_more P text n k next rest m more fits [] all e =
+    let l : length (take m text) ≡ m = length-take-le m text fits in
+    let z : length (take m text) ≡ 0 = ap length e in
+    omega arith
+no_longer_more P text n k next rest m more fits (y ∷ ys) all e =
+    let l = front_length text y (joined ys) m fits e in
+    let behind = behind_front text y (joined ys) m fits e in
+    by_case ys all.1 l behind (next.others (length y) (omega (arith, l)) (subst P (front_of text y (joined ys) m fits e) all.0))
+  where
+    by_case : (zs : List (List ℕ))
+        → AllByRecursion P zs
+        → length y + length (joined zs) ≡ m
+        → joined zs ≡ take (m - length y) (drop (length y) text)
+        → (length y ≡ n) ⊎ ((length y < n) × NoPrefix P (drop (length y) text))
+        → ⊥
+    by_case zs each l behind (inl same) =
+        let d : length (drop n text) ≡ length text - n = length-drop n text in
+        rest.longest (m - n) (omega (arith, next.fits)) (omega (arith, d)) (zs, each, sym (rw (← same) behind))
+    by_case [] each l behind (inr shorter) = absurd (omega (arith, shorter.0))
+    by_case (z ∷ zs) each l behind (inr shorter) =
+        let d : length (drop (length y) text) ≡ length text - length y = length-drop (length y) text in
+        let ll = length-append z (joined zs) in
+        shorter.1 (length z) (omega arith) (subst P (front_of (drop (length y) text) z (joined zs) (m - length y) (omega arith) (sym behind)) each.0)
+
+pub more_repeated : (P : List ℕ → Type 0) (text : List ℕ) (n k : ℕ) → IsNext P text n → Longest (Repeated P) (drop n text) k → Longest (Repeated P) text (n + k)
+more_repeated P text n k next rest =
+    let d : length (drop n text) ≡ length text - n = length-drop n text in
+    record {
+      fits = omega (arith, rest.fits, next.fits);
+      prefix = (take n text ∷ rest.prefix.0, (next.part, rest.prefix.1), split ∙ ap (λ z. take n text ++ z) rest.prefix.2);
+      longest = λ m more fits r. no_longer_more P text n k next rest m more fits r.0 r.1 r.2;
+    }
+  where
+    split : take (n + k) text ≡ take n text ++ take k (drop n text)
+    split = take-add n k text
+
+-- The only prefix in P, and then the longest in Q, are the longest prefix in `Then P Q`.
+pub then_longest : (P Q : List ℕ → Type 0) (text : List ℕ) (n k : ℕ) → IsOnly P text n → Longest Q (drop n text) k → Longest (Then P Q) text (n + k)
+then_longest P Q text n k p q =
+    let d : length (drop n text) ≡ length text - n = length-drop n text in
+    record {
+      fits = omega (arith, q.fits, p.fits);
+      prefix = (take n text, take k (drop n text), take-add n k text, p.part, q.prefix);
+      longest = λ m more fits r. longer m more fits r.0 r.1 r.2 r.3 r.4;
+    }
+  where
+    longer : (m : ℕ) → n + k < m → m ≤ length text → (a b : List ℕ) → take m text ≡ a ++ b → P a → Q b → ⊥
+    longer m more fits a b e pa qb =
+        let l = front_length text a b m fits e in
+        let same : length a ≡ n = p.only (length a) (omega (arith, l)) (subst P (front_of text a b m fits e) pa) in
+        let d : length (drop n text) ≡ length text - n = length-drop n text in
+        q.longest (m - n) (omega (arith, p.fits)) (omega (arith, d)) (subst Q (behind_front text a b m fits e ∙ ap (λ j. take (m - j) (drop j text)) same) qb)
+
+-- ---- prefixes of a text that are in a language
 
 -- If A implies that the test is true, and the test is false, A does not hold.
 pub lacks : {A : Type 0} (b : Bool) → b ≡ false → (A → b ≡ true) → A → ⊥
@@ -213,3 +317,177 @@ ident_part_here text l t =
 
 pub ident_part_later : (text : List ℕ) (n : ℕ) → is_digit (get_or text 0 0) ≡ false → OnlyPart IsNondigit text n → OnlyPart (Either IsNondigit (One is_digit)) text n
 ident_part_later text n f p = either_left_part IsNondigit (One is_digit) text n p (one_lacks is_digit text f)
+
+-- ---- prefixes of a text in composed languages
+
+pub then_lacks : (P Q : List ℕ → Type 0) (text : List ℕ) → NoPrefix P text → NoPrefix (Then P Q) text
+then_lacks P Q text none m fits (a, b, e, pa, qb) =
+    let l = front_length text a b m fits e in
+    none (length a) (omega (arith, l)) (subst P (front_of text a b m fits e) pa)
+
+-- A prefix in `Then P Q` is the only prefix in P, and then a prefix in Q of the rest.
+after_only : (P Q : List ℕ → Type 0) (text : List ℕ) (n : ℕ) → IsOnly P text n → (m : ℕ) → m ≤ length text → Then P Q (take m text) → (n ≤ m) × (m - n ≤ length (drop n text)) × Q (take (m - n) (drop n text))
+after_only P Q text n p m fits (a, b, e, pa, qb) =
+    let l = front_length text a b m fits e in
+    let same : length a ≡ n = p.only (length a) (omega (arith, l)) (subst P (front_of text a b m fits e) pa) in
+    let d : length (drop n text) ≡ length text - n = length-drop n text in
+    (omega arith, omega (arith, d), subst Q (behind_front text a b m fits e ∙ ap (λ j. take (m - j) (drop j text)) same) qb)
+
+pub then_only : (P Q : List ℕ → Type 0) (text : List ℕ) (n k : ℕ) → IsOnly P text n → IsOnly Q (drop n text) k → IsOnly (Then P Q) text (n + k)
+then_only P Q text n k p q =
+    let d : length (drop n text) ≡ length text - n = length-drop n text in
+    record {
+      positive = omega (arith, p.positive);
+      fits = omega (arith, q.fits, p.fits);
+      part = (take n text, take k (drop n text), take-add n k text, p.part, q.part);
+      only = λ m fits t. same m (after_only P Q text n p m fits t);
+    }
+  where
+    same : (m : ℕ) → (n ≤ m) × (m - n ≤ length (drop n text)) × Q (take (m - n) (drop n text)) → m ≡ n + k
+    same m (le, fits, t) = let e : m - n ≡ k = q.only (m - n) fits t in omega arith
+
+pub then_lacks_rest : (P Q : List ℕ → Type 0) (text : List ℕ) (n : ℕ) → IsOnly P text n → NoPrefix Q (drop n text) → NoPrefix (Then P Q) text
+then_lacks_rest P Q text n p none m fits t = let h = after_only P Q text n p m fits t in none (m - n) h.1 h.2
+
+pub next_some : (P : List ℕ → Type 0) (text : List ℕ) (n : ℕ) → IsNext P text n → NextPart P text n
+next_some P text n p = (λ z. absurd (omega (arith, p.positive)), λ _. p)
+
+-- Results for a language carry over to another one with the same texts.
+pub lacks_along : (P Q : List ℕ → Type 0) (text : List ℕ) → ((s : List ℕ) → Q s → P s) → NoPrefix P text → NoPrefix Q text
+lacks_along P Q text back none m fits q = none m fits (back (take m text) q)
+
+pub only_along : (P Q : List ℕ → Type 0) (text : List ℕ) (n : ℕ) → ((s : List ℕ) → P s → Q s) → ((s : List ℕ) → Q s → P s) → IsOnly P text n → IsOnly Q text n
+only_along P Q text n forth back p =
+    record { positive = p.positive; fits = p.fits; part = forth (take n text) p.part; only = λ m fits q. p.only m fits (back (take m text) q) }
+
+pub then_left : (P Q R : List ℕ → Type 0) (s : List ℕ) → Then P (Then Q R) s → Then (Then P Q) R s
+then_left P Q R s (a, b, e, pa, (c, d, f, qc, rd)) = (a ++ c, d, e ∙ ap (λ z. a ++ z) f ∙ sym (append_assoc a c d), (a, c, refl, pa, qc), rd)
+
+pub then_right : (P Q R : List ℕ → Type 0) (s : List ℕ) → Then (Then P Q) R s → Then P (Then Q R) s
+then_right P Q R s (a, b, e, (c, d, f, pc, qd), rb) = (c, d ++ b, e ∙ ap (λ z. z ++ b) f ∙ append_assoc c d b, pc, (d, b, refl, qd, rb))
+
+-- `BeginsWith` one, two or three bytes, in terms of the bytes.
+pub begins_one : (text : List ℕ) (c : ℕ) (w : List ℕ) → BeginsWith text (c ∷ w) → (0 < length text) × (get_or text 0 0 ≡ c)
+begins_one [] c w e = absurd (cc)
+begins_one (x ∷ text) c w e = (omega arith, cc)
+
+pub begins_two : (text : List ℕ) (c d : ℕ) (w : List ℕ) → BeginsWith text (c ∷ d ∷ w) → (2 ≤ length text) × (get_or text 0 0 ≡ c) × (get_or text 1 0 ≡ d)
+begins_two [] c d w e = absurd (cc)
+begins_two (x ∷ []) c d w e = absurd (cc)
+begins_two (x ∷ y ∷ text) c d w e = (omega arith, cc, cc)
+
+pub begins_three : (text : List ℕ) (c d f : ℕ) (w : List ℕ) → BeginsWith text (c ∷ d ∷ f ∷ w) → (3 ≤ length text) × (get_or text 0 0 ≡ c) × (get_or text 1 0 ≡ d) × (get_or text 2 0 ≡ f)
+begins_three [] c d f w e = absurd (cc)
+begins_three (x ∷ []) c d f w e = absurd (cc)
+begins_three (x ∷ y ∷ []) c d f w e = absurd (cc)
+begins_three (x ∷ y ∷ z ∷ text) c d f w e = (omega arith, cc, cc, cc)
+
+pub one_begins : (text : List ℕ) (c : ℕ) → 0 < length text → get_or text 0 0 ≡ c → BeginsWith text (c ∷ [])
+one_begins [] c l e = absurd (omega arith)
+one_begins (x ∷ text) c l e = cc
+
+pub three_begins : (text : List ℕ) (c d f : ℕ) → 3 ≤ length text → get_or text 0 0 ≡ c → get_or text 1 0 ≡ d → get_or text 2 0 ≡ f → BeginsWith text (c ∷ d ∷ f ∷ [])
+three_begins [] c d f l e g h = absurd (omega arith)
+three_begins (x ∷ []) c d f l e g h = absurd (omega arith)
+three_begins (x ∷ y ∷ []) c d f l e g h = absurd (omega arith)
+three_begins (x ∷ y ∷ z ∷ text) c d f l e g h = cc
+
+pub head_behind : (text : List ℕ) → get_or (drop 1 text) 0 0 ≡ get_or text 1 0
+head_behind [] = refl
+head_behind (x ∷ text) = refl
+
+-- A prefix of two characters, in terms of its bytes.
+pub two_front : (f g : ℕ → Bool) (text : List ℕ) (m : ℕ) → m ≤ length text → Then (One f) (One g) (take m text) → (m ≡ 2) × (2 ≤ length text) × (f (get_or text 0 0) ≡ true) × (g (get_or text 1 0) ≡ true)
+two_front f g text m fits (a, b, e, (c, ac, fc), (d, bd, gd)) =
+    let e' : take m text ≡ (c ∷ d ∷ []) ++ [] = cc in
+    let l : length (c ∷ d ∷ []) + 0 ≡ m = front_length text (c ∷ d ∷ []) [] m fits e' in
+    let h = begins_two text c d [] (sym (front_of text (c ∷ d ∷ []) [] m fits e')) in
+    (omega arith, h.0, ap f h.1 ∙ fc, ap g h.2 ∙ gd)
+
+pub two_here : (f g : ℕ → Bool) (text : List ℕ) → 2 ≤ length text → f (get_or text 0 0) ≡ true → g (get_or text 1 0) ≡ true → IsOnly (Then (One f) (One g)) text 2
+two_here f g text l p q =
+    let d : length (drop 1 text) ≡ length text - 1 = length-drop 1 text in
+    then_only (One f) (One g) text 1 1 (one_here f text (omega arith) p) (one_here g (drop 1 text) (omega arith) (ap g (head_behind text) ∙ q))
+
+-- If a text begins with w, its only prefix in `Exactly w` is w.
+pub exactly_here : (w text : List ℕ) → 0 < length w → BeginsWith text w → length w ≤ length text → IsOnly (Exactly w) text (length w)
+exactly_here w text some begins fits = record {
+  positive = some;
+  fits = fits;
+  part = begins;
+  only = λ m le e. let l = front_length text w [] m le (e ∙ sym (append-nil w)) in omega arith;
+}
+
+-- The longest prefix in `Then P Q` is the part in P, and then the longest prefix in Q.
+pub first_longest : (P Q : List ℕ → Type 0) (text : List ℕ) (n k : ℕ) → OnlyPart P text n → (n ≡ 0 → ⊥) → Longest Q (drop n text) k → LongestOrNone (Then P Q) text (n + k)
+first_longest P Q text n k p some q =
+    let s : 0 < n = grind arith in
+    (λ z. absurd (omega arith), λ _. then_longest P Q text n k (p.1 s) q)
+
+pub first_lacks : (P Q : List ℕ → Type 0) (text : List ℕ) → NoPrefix P text → LongestOrNone (Then P Q) text 0
+first_lacks P Q text none = (λ _. then_lacks P Q text none, λ s. absurd (omega arith))
+
+-- One more part preserves the loop invariant: the longest prefix from `at` on completes the longest.
+pub completed : (P : List ℕ → Type 0) (text : List ℕ) (at n : ℕ) → at ≤ length text → ((k : ℕ) → Longest (Repeated P) (drop at text) k → Longest (Repeated P) text (at + k)) → IsNext P (drop at text) n
+    → (at + n ≤ length text) × ((k : ℕ) → Longest (Repeated P) (drop (at + n) text) k → Longest (Repeated P) text ((at + n) + k))
+completed P text at n within h p =
+    let d = length-drop at text in (
+      omega (arith, p.fits, d),
+      λ k rest.
+          let e : (at + n) + k ≡ at + (n + k) = omega arith in
+          rw e (h (n + k) (more_repeated P (drop at text) n k p (rw drop-drop rest))),
+    )
+
+-- As `completed`, from the result of a call that returns the length of the next part.
+pub completed_next : (P : List ℕ → Type 0) (text : List ℕ) (at n : ℕ)
+    → at ≤ length text
+    → ((k : ℕ) → Longest (Repeated P) (drop at text) k → Longest (Repeated P) text (at + k))
+    → NextPart P (drop at text) n
+    → (n ≡ 0 → ⊥)
+    → (at + n ≤ length text) × ((k : ℕ) → Longest (Repeated P) (drop (at + n) text) k → Longest (Repeated P) text ((at + n) + k))
+completed_next P text at n within h p some = let s : 0 < n = grind arith in completed P text at n within h (p.1 s)
+
+-- If no part begins at `at`, the longest prefix ends there.
+pub completed_all : (P : List ℕ → Type 0) (text : List ℕ) (at : ℕ) → ((k : ℕ) → Longest (Repeated P) (drop at text) k → Longest (Repeated P) text (at + k)) → NoPrefix P (drop at text) → Longest (Repeated P) text at
+completed_all P text at h none = let e : at + 0 ≡ at = omega arith in rw e at (h 0 (none_repeated P (drop at text) none))
+
+pub lacks_nothing : (P : List ℕ → Type 0) (text : List ℕ) → (P [] → ⊥) → length text ≡ 0 → NoPrefix P text
+lacks_nothing P [] none l zero fits p = none p
+lacks_nothing P [] none l (suc m) fits p = absurd (omega arith)
+lacks_nothing P (x ∷ text) none l m fits p = absurd (omega arith)
+
+-- The text from a position on: its first byte, and whether it is empty.
+pub head_at : (text : List ℕ) (at : ℕ) → get_or (drop at text) 0 0 ≡ get_or text at 0
+head_at text at = let e : at + 0 ≡ at = omega arith in get_or-drop at text 0 0 ∙ ap (λ i. get_or text i 0) e
+
+pub room_at : (text : List ℕ) (at : ℕ) → at < length text → 0 < length (drop at text)
+room_at text at l = let d : length (drop at text) ≡ length text - at = length-drop at text in omega arith
+
+pub end_at : (text : List ℕ) (at : ℕ) → length text ≤ at → length (drop at text) ≡ 0
+end_at text at l = let d : length (drop at text) ≡ length text - at = length-drop at text in omega arith
+
+-- If no part in P begins the text, no part in `Then P Q` does.
+pub then_none_first : (P Q : List ℕ → Type 0) (text : List ℕ) (n : ℕ) → OnlyPart P text n → n ≡ 0 → OnlyPart (Then P Q) text 0
+then_none_first P Q text n p z = only_zero (Then P Q) text (then_lacks P Q text (p.0 z))
+
+pub part_along : (P Q : List ℕ → Type 0) (text : List ℕ) (n : ℕ) → ((s : List ℕ) → P s → Q s) → ((s : List ℕ) → Q s → P s) → OnlyPart P text n → OnlyPart Q text n
+part_along P Q text n forth back p = (λ z. lacks_along P Q text back (p.0 z), λ s. only_along P Q text n forth back (p.1 s))
+
+pub exactly_lacks : (c : ℕ) (w text : List ℕ) → (get_or text 0 0 ≡ c → ⊥) → NoPrefix (Exactly (c ∷ w)) text
+exactly_lacks c w text h m fits e =
+    h (begins_one text c w (sym (front_of text (c ∷ w) [] m fits (e ∙ sym (append-nil (c ∷ w)))))).1
+
+-- The only part in `Then P Q`: a first part of known length, and then the result of a search after it.
+pub then_found : (P Q : List ℕ → Type 0) (text : List ℕ) (n k : ℕ)
+    → OnlyPart P text n
+    → (n ≡ 0 → ⊥)
+    → (k ≡ 0 → NoPrefix Q (drop n text))
+    → (0 < k → (n < k) × IsOnly Q (drop n text) (k - n))
+    → OnlyPart (Then P Q) text k
+then_found P Q text n k p some none found = (λ z. then_lacks_rest P Q text n first (none z), λ s. whole (found s))
+  where
+    first : IsOnly P text n
+    first = p.1 (grind arith)
+
+    whole : (n < k) × IsOnly Q (drop n text) (k - n) → IsOnly (Then P Q) text k
+    whole (lt, q) = let e : n + (k - n) ≡ k = omega arith in subst (λ i. IsOnly (Then P Q) text i) e (then_only P Q text n (k - n) first q)

@@ -14,7 +14,11 @@ front_meant (variant.Comment n) = Some (Comment, n)
 front_meant variant.Unclosed = None
 front_meant (variant.Token k n) = Some (Spelled k, n)
 
-pub found_here : (profile : Profile) (line : List (List ℕ)) (text : List ℕ) (prefix here : code.LeadingLexeme) (found : Option (LexemeKind × ℕ)) → front_meant prefix ≡ found → prefix ≡ here → FindsLexeme profile line text found → FindsLexeme profile line text (front_meant here)
+pub found_here : (profile : Profile) (line : List (List ℕ)) (text : List ℕ) (prefix here : code.LeadingLexeme) (found : Option (LexemeKind × ℕ))
+    → front_meant prefix ≡ found
+    → prefix ≡ here
+    → FindsLexeme profile line text found
+    → FindsLexeme profile line text (front_meant here)
 found_here profile line text prefix here found means is finds = subst (FindsLexeme profile line text) (sym means ∙ ap front_meant is) finds
 
 abbrev sort_of : Option (LexemeKind × ℕ) → LexemeKind

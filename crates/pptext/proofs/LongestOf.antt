@@ -8,15 +8,11 @@ use Rattle.pptext.specs.declared.tokens.Kind.TheVariants.{Ident, Number, CharCon
 use Rattle.pptext.specs.Languages.{Exactly, One, Then, Repeated, Longest}
 use Rattle.pptext.specs.code.Scanning.{NoPrefix, IsNext, IsOnly, IsQuoted}
 use Rattle.pptext.specs.Spellings.{is_digit, is_nondigit, is_blank, IsNondigit, IsIdent, IsNumber, IsNumberPart, IsCharConst, IsStr, IsPunct, IsOther, Spells, IsSpelling, punctuators, char_prefixes, str_prefixes}
-use Rattle.pptext.proofs.RepeatedParts.{front_of, front_length, none_repeated, more_repeated, then_longest}
-use Rattle.pptext.proofs.LanguagePrefixes.{one_front, one_lacks, either_lacks, nondigit_here}
+use Rattle.pptext.proofs.LanguagePrefixes.{front_of, front_length, none_repeated, more_repeated, then_longest, one_front, one_lacks, either_lacks, nondigit_here, then_lacks, exactly_lacks, head_behind, then_left, one_begins, begins_one}
 use Rattle.pptext.proofs.LongestPunctuator.{any_passes}
 use Rattle.pptext.proofs.KindUniqueness.{is_ident_head, is_number_head}
-use Rattle.pptext.proofs.ComposedLanguages.{then_lacks, exactly_lacks, head_behind, then_left, one_begins, begins_one}
-use Rattle.pptext.proofs.Numbers.{lacks_nondigit, Fraction, NumberStart, period_front}
-use Rattle.pptext.proofs.Idents.{IdentPart, ident_byte}
-use Rattle.pptext.proofs.UnmatchedQuoteLemmas.{CharRest}
-use Rattle.pptext.proofs.Literals.{CharOpening, StrOpening, CharOpens, StrOpens, IsLetter, char_opens, str_opens, letter-no_quote}
+use Rattle.pptext.proofs.WordParts.{lacks_nondigit, Fraction, NumberStart, period_front, IdentPart, ident_byte}
+use Rattle.pptext.proofs.Literals.{CharRest, CharOpening, StrOpening, CharOpens, StrOpens, IsLetter, char_opens, str_opens, letter-no_quote}
 
 -- no prefix longer than n is in the language
 abbrev pub NoLonger : (List ℕ → Type 0) → List ℕ → ℕ → Type 0

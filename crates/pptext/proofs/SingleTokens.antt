@@ -13,8 +13,8 @@ use Rattle.pptext.specs.Spellings.{IsSpelling, Spells}
 use Rattle.pptext.specs.Lexemes.{LexemeKind, NewLine, Blank, Comment, Spelled, IsLexemeAt, AreLexemes, Tokenizes, Lexeme, characters_of, with_lexeme, BeginsWith, OpensBlock, OpensLine}
 use Rattle.pptext.specs.Sources.{IsOneToken}
 use Rattle.pptext.specs.code.FoundLexemes.{FindsLexeme, AreBlanks}
-use Rattle.pptext.proofs.LexemeUniqueness.{one_piece, no_piece_open}
-use Rattle.pptext.proofs.Lengths.{placed_length}
+use Rattle.pptext.proofs.TokenizationUniqueness.{one_piece, no_piece_open}
+use Rattle.pptext.proofs.Locations.{placed_length}
 
 codes_of-with_locations : (file line col : ℕ) (bytes : List ℕ) → codes_of (with_locations file line col bytes) ≡ bytes
 codes_of-with_locations file line col [] = refl

@@ -1,24 +1,87 @@
--- The loop that tokenizes a text: its invariant, and each kind of iteration.
-use Rattle.std.proofs.Common.{◌≡◌, ℕ, zero, suc, ◌+◌, ◌-◌, ◌<◌, ◌≤◌, Bool, true, false, List, [], ◌∷◌, ◌++◌, length, take, drop, refl}
-use Rattle.std.proofs.Common.{sym, ap, ◌∙◌, subst, arith, length-drop, get_or, None, Ok, IsTrue, add-zero}
+-- The loop that tokenizes a text: a tokenization grows by one lexeme, and its lines with it.
+use Rattle.std.proofs.Common.{◌≡◌, ℕ, Bool, true, List, [], ◌∷◌, ◌++◌, length, refl, sym, ap, ◌∙◌, subst, append_assoc, zero, suc, ◌+◌, ◌-◌, ◌<◌, ◌≤◌, false, take, drop, arith, length-drop, get_or, None, Ok, IsTrue, add-zero}
 use Rattle.std.proofs.lemmas.List.{append-nil, length-map, take-append-drop, drop-drop, length-take-le, take-append-le, drop-append-le, drop_all, length_push, take-map, drop-map, drop_more, take_all}
+use Rattle.std.specs.List.{AllByRecursion}
 use Rattle.pptext.specs.declared.tokens.Token.{Token}
-use Rattle.pptext.specs.declared.tokens.Place.{Place}
-use Rattle.pptext.specs.declared.tokens.Kind.{Kind}
 use Rattle.pptext.specs.declared.characters.Char.{Char}
-use Rattle.pptext.specs.declared.sources.Line.{Line}
 use Rattle.pptext.specs.declared.sources.Profile.{Profile}
 use Rattle.pptext.specs.Clean.{codes_of}
-use Rattle.pptext.specs.Lexemes.{Lexeme, LexemeKind, NewLine, Blank, Comment, Spelled, with_lexeme, IsLexemeAt, TokenizesPrefix, head_place, Unclosed, OpensBlock, ClosesAt, BeginsWith}
-use Rattle.std.specs.List.{AllByRecursion}
-use Rattle.pptext.specs.Lines.{LogicalLine, line_of, lines_ended, leaves_space, tokens_after, token_of, IsDirected}
+use Rattle.pptext.specs.Lexemes.{Lexeme, characters_of, with_lexeme, IsLexemeAt, AreLexemes, TokenizesPrefix, LexemeKind, NewLine, Blank, Comment, Spelled, head_place, Unclosed, OpensBlock, ClosesAt, BeginsWith}
+use Rattle.pptext.specs.Lines.{LogicalLine, lines_after, lines_ended, leaves_space, tokens_after, line_of, token_of, IsDirected}
+use Rattle.pptext.specs.declared.tokens.Place.{Place}
+use Rattle.pptext.specs.declared.tokens.Kind.{Kind}
+use Rattle.pptext.specs.declared.sources.Line.{Line}
 use Rattle.pptext.specs.code.FoundLexemes.{spellings, TokenizesInto}
 use Rattle.pptext.specs.Spellings.{is_blank}
 use Rattle.pptext.specs.Sources.{line_tokens}
 use Rattle.pptext.specs.code.Grouping.{line_span, line_spans}
 use Rattle.pptext.proofs.Spans.{drafts_are, line_spans-append, tokens_of-append}
-use Rattle.pptext.proofs.LineDirectives.{pieces_are_directed}
-use Rattle.pptext.proofs.TokenizationSteps.{cut_more, no_piece, line_after, line_after-append, LinesSoFar, lines_start, lines_more, lines_all}
+use Rattle.pptext.proofs.DirectiveLines.{pieces_are_directed}
+
+-- ---- a tokenization grows by one lexeme; the lines of its lexemes grow with it
+
+-- the token spellings of the current line after the lexemes
+abbrev pub line_after : List (List ℕ) → List Lexeme → List (List ℕ)
+line_after line [] = line
+line_after line (p ∷ ps) = line_after (with_lexeme line p p.kind) ps
+
+characters_of-append : (ps qs : List Lexeme) → characters_of (ps ++ qs) ≡ characters_of ps ++ characters_of qs
+characters_of-append [] qs = refl
+characters_of-append (p ∷ ps) qs = ap (λ z. p.chars ++ z) (characters_of-append ps qs) ∙ sym (append_assoc p.chars (characters_of ps) (characters_of qs))
+
+laid_one : (p : Lexeme) (ps : List Lexeme) (rest : List Char) → characters_of (ps ++ p ∷ []) ++ rest ≡ characters_of ps ++ (p.chars ++ rest)
+laid_one p ps rest =
+    ap (λ z. z ++ rest) (characters_of-append ps (p ∷ []) ∙ ap (λ z. characters_of ps ++ z) (append-nil p.chars)) ∙ append_assoc (characters_of ps) p.chars rest
+
+each_more : (profile : Profile) (line : List (List ℕ)) (ps : List Lexeme) (p : Lexeme) (rest : List Char)
+    → AreLexemes profile line ps (p.chars ++ rest)
+    → IsLexemeAt profile (line_after line ps) (codes_of (p.chars ++ rest)) (length p.chars) p.kind
+    → AreLexemes profile line (ps ++ p ∷ []) rest
+each_more profile line [] p rest each here = (here, tt)
+each_more profile line (q ∷ qs) p rest each here =
+    (subst (λ z. IsLexemeAt profile line (codes_of (q.chars ++ z)) (length q.chars) q.kind) (sym (laid_one p qs rest)) each.0, each_more profile (with_lexeme line q q.kind) qs p rest each.1 here)
+
+-- One more lexeme extends the tokenization of a prefix.
+pub cut_more : (profile : Profile) (chars : List Char) (ps : List Lexeme) (p : Lexeme) (rest : List Char)
+    → TokenizesPrefix profile chars ps (p.chars ++ rest)
+    → IsLexemeAt profile (line_after [] ps) (codes_of (p.chars ++ rest)) (length p.chars) p.kind
+    → TokenizesPrefix profile chars (ps ++ p ∷ []) rest
+cut_more profile chars ps p rest tokenized here = record {
+  whole = laid_one p ps rest ∙ tokenized.whole;
+  each = each_more profile [] ps p rest tokenized.each here;
+}
+
+pub no_piece : (profile : Profile) (chars : List Char) → TokenizesPrefix profile chars [] chars
+no_piece profile chars = record { whole = refl; each = tt }
+
+pub line_after-append : (line : List (List ℕ)) (ps : List Lexeme) (p : Lexeme) → line_after line (ps ++ p ∷ []) ≡ with_lexeme (line_after line ps) p p.kind
+line_after-append line [] p = refl
+line_after-append line (q ∷ qs) p = line_after-append (with_lexeme line q q.kind) qs p
+
+-- The lines of any list that begins with these lexemes: `done`, and then the lines of the later lexemes.
+pub LinesSoFar : Profile → List Lexeme → List LogicalLine → Bool → List Token → Type 0
+LinesSoFar profile ps done space open_tokens =
+    (more : List Lexeme) → lines_after profile true [] (ps ++ more) ≡ done ++ lines_after profile space open_tokens more
+
+pub lines_start : (profile : Profile) → LinesSoFar profile [] [] true []
+unfolding LinesSoFar
+lines_start profile more = refl
+
+pub lines_more : (profile : Profile) (ps : List Lexeme) (done : List LogicalLine) (space : Bool) (ts : List Token) (p : Lexeme)
+    → LinesSoFar profile ps done space ts
+    → LinesSoFar profile (ps ++ p ∷ []) (done ++ lines_ended profile ts p.chars p.kind) (leaves_space p.kind) (tokens_after space ts p.chars p.kind)
+unfolding LinesSoFar
+lines_more profile ps done space ts p sofar more =
+    ap (lines_after profile true []) (append_assoc ps (p ∷ []) more)
+    ∙ sofar (p ∷ more)
+    ∙ sym
+    (append_assoc done (lines_ended profile ts p.chars p.kind) (lines_after profile (leaves_space p.kind) (tokens_after space ts p.chars p.kind) more))
+
+pub lines_all : (profile : Profile) (ps : List Lexeme) (done : List LogicalLine) (space : Bool) (ts : List Token) → LinesSoFar profile ps done space ts → lines_after profile true [] ps ≡ done
+unfolding LinesSoFar
+lines_all profile ps done space ts sofar = ap (lines_after profile true []) (sym (append-nil ps)) ∙ sofar [] ∙ append-nil done
+
+-- ---- the loop that tokenizes a text: its invariant, and each kind of iteration
 
 spellings-append : (ts : List Token) (t : Token) → spellings (ts ++ t ∷ []) ≡ spellings ts ++ t.text ∷ []
 spellings-append [] t = refl
@@ -220,4 +283,11 @@ module _ (profile : Profile) (chars : List Char) where
       → p ≡ head_place (drop at chars)
       → OpensBlock (drop at (codes_of chars)) × ClosesAt (drop at (codes_of chars)) None
       → Unclosed profile chars p
-  left_unclosed at start space ts ls p st is open_block = record { lexemes = st.lexemes; rest = drop at chars; tokenized = st.tokenized; opens = rw (codes_from chars at) open_block.0; not_closed = rw (codes_from chars at) open_block.1; at_is = is }
+  left_unclosed at start space ts ls p st is open_block = record {
+    lexemes = st.lexemes;
+    rest = drop at chars;
+    tokenized = st.tokenized;
+    opens = rw (codes_from chars at) open_block.0;
+    not_closed = rw (codes_from chars at) open_block.1;
+    at_is = is;
+  }

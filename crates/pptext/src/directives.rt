@@ -210,7 +210,7 @@ fn added_directive(name: &[u8]) -> Directive
 }
 
 /// Returns the directive that a name is in this profile.
-#[tactic(auto, using(crate::proofs::DirectiveNames::known_named, crate::proofs::DirectiveNames::later_named, crate::proofs::DirectiveNames::gnu_named))]
+#[tactic(auto, using(crate::proofs::DirectiveLines::known_named, crate::proofs::DirectiveLines::later_named, crate::proofs::DirectiveLines::gnu_named))]
 fn directive_named(profile: Profile, name: &[u8]) -> Directive
     ensures { result ≡ directive_named profile name.now }
 {

@@ -18,7 +18,7 @@ pub(crate) fn place_after(start: Place, bytes: &[u8]) -> Place
 
 /// Moves a location from the first of these bytes to after the last.
 #[inline(always)]
-#[tactic(auto, using(crate::proofs::ByteLocations::no_line_passed))]
+#[tactic(auto, using(crate::proofs::Locations::no_line_passed))]
 pub(crate) fn move_after(place: &mut Place, bytes: &[u8])
     requires line { place.old.line + length bytes.now < 2 ^ 32 }
     requires col { place.old.col + length bytes.now < 2 ^ 32 }

@@ -1,6 +1,6 @@
 use Rattle.std.proofs.Common.{◌∙◌, [], ap, sym, length, arith}
 use Rattle.pptext.specs.Tree.{group_fault}
-use Rattle.pptext.proofs.BranchLinking.{linked_are, linked_length}
+use Rattle.pptext.proofs.NextBranchFacts.{linked_are, linked_length}
 use Rattle.pptext.proofs.Spans.{same_lines}
 use Rattle.pptext.proofs.grouping.group_lines.Goals as goal
 

@@ -1,4 +1,4 @@
-use Rattle.pptext.proofs.GuardScan.{guard_found}
+use Rattle.pptext.proofs.Guards.{guard_found}
 use Rattle.pptext.proofs.grouping.source_of.Goals as goal
 
 pub guard_token-guard-requires : goal.guard_token-guard-requires

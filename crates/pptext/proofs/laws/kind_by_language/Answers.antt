@@ -1,4 +1,4 @@
-use Rattle.pptext.proofs.KindTests.{kind_by_language}
+use Rattle.pptext.proofs.TextKinds.{kind_by_language}
 use Rattle.pptext.proofs.laws.kind_by_language.Goals as goal
 
 pub returns : goal.returns

@@ -1,4 +1,4 @@
-use Rattle.pptext.proofs.NextBranches.{next_branches}
+use Rattle.pptext.proofs.NextBranchFacts.{next_branches}
 use Rattle.pptext.proofs.laws.next_branches.Goals as goal
 
 pub returns : goal.returns

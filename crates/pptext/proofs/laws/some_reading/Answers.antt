@@ -1,4 +1,4 @@
-use Rattle.pptext.proofs.ReadingExistence.{some_reading}
+use Rattle.pptext.proofs.Readings.{some_reading}
 use Rattle.pptext.proofs.laws.some_reading.Goals as goal
 
 pub returns : goal.returns

@@ -6,7 +6,7 @@ use Rattle.pptext.specs.declared.tokens.Token.{Token}
 use Rattle.pptext.specs.declared.lexer.LeadingLexeme.TheVariants as variant
 use Rattle.pptext.specs.Clean.{place, codes_of}
 use Rattle.pptext.specs.code.Scanning.{KnowsUnmatched}
-use Rattle.pptext.proofs.UnmatchedQuoteLemmas.{knows_later, knows_nothing}
+use Rattle.pptext.proofs.Literals.{knows_later, knows_nothing}
 use Rattle.pptext.proofs.TokenizationLoop.{state_start, skip_blanks, skip_comment, end_line, add_token, cut_all, left_unclosed, codes_length, head_of_drop, head_of_take, token_is}
 use Rattle.pptext.proofs.LexemeMeanings.{found_here}
 use Rattle.pptext.proofs.NewLineFreeTokens.{line_start, line_over_blanks, line_over_token}

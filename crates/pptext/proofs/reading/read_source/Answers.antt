@@ -14,7 +14,7 @@ use Rattle.pptext.specs.code.FoundLexemes.{TokenizesInto}
 use Rattle.pptext.specs.code.CleanedText.{Cleans}
 use Rattle.pptext.specs.code.Grouping.{GroupsInto}
 use Rattle.pptext.proofs.Spans.{same_lines}
-use Rattle.pptext.proofs.Lengths.{cleaned_length}
+use Rattle.pptext.proofs.Locations.{cleaned_length}
 use Rattle.pptext.proofs.reading.read_source.Goals as goal
 
 -- The result of grouping is the result of reading.

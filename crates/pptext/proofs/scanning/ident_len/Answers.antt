@@ -2,8 +2,8 @@ use Rattle.std.proofs.Common.{drop}
 use Rattle.std.proofs.lemmas.List.{take_rest}
 use Rattle.pptext.specs.Languages.{Longest, Repeated}
 use Rattle.pptext.specs.Spellings.{IsNondigit}
-use Rattle.pptext.proofs.Idents.{IdentPart}
-use Rattle.pptext.proofs.ComposedLanguages.{first_longest, first_lacks}
+use Rattle.pptext.proofs.WordParts.{IdentPart}
+use Rattle.pptext.proofs.LanguagePrefixes.{first_longest, first_lacks}
 use Rattle.pptext.proofs.scanning.ident_len.Goals as goal
 
 pub returns-then-first-eq0 : goal.returns-then-first-eq0

@@ -2,9 +2,8 @@ use Rattle.std.proofs.Common.{ℕ, drop, sym, ◌∙◌, ap, ◌||◌, Bool, ref
 use Rattle.std.proofs.lemmas.List.{take_rest}
 use Rattle.pptext.specs.code.Scanning.{OnlyPart}
 use Rattle.pptext.specs.Spellings.{IsUniversal, is_nondigit, is_digit}
-use Rattle.pptext.proofs.LanguagePrefixes.{only_zero, universal_lacks}
-use Rattle.pptext.proofs.Idents.{IdentPart, ident_byte, ident_universal, ident_end}
-use Rattle.pptext.proofs.ComposedLanguages.{completed, completed_next, completed_all, head_at, room_at, end_at}
+use Rattle.pptext.proofs.LanguagePrefixes.{only_zero, universal_lacks, completed, completed_next, completed_all, head_at, room_at, end_at}
+use Rattle.pptext.proofs.WordParts.{IdentPart, ident_byte, ident_universal, ident_end}
 use Rattle.pptext.proofs.scanning.ident_rest_len.Goals as goal
 
 abbrev ident_byte_test : ℕ → Bool

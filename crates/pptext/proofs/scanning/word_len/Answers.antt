@@ -2,9 +2,8 @@ use Rattle.std.proofs.Common.{drop, arith}
 use Rattle.std.proofs.lemmas.List.{take_rest}
 use Rattle.pptext.specs.Languages.{Longest, Repeated}
 use Rattle.pptext.specs.Spellings.{IsNondigit}
-use Rattle.pptext.proofs.LanguagePrefixes.{nondigit_here}
-use Rattle.pptext.proofs.Idents.{IdentPart}
-use Rattle.pptext.proofs.ComposedLanguages.{first_longest}
+use Rattle.pptext.proofs.LanguagePrefixes.{nondigit_here, first_longest}
+use Rattle.pptext.proofs.WordParts.{IdentPart}
 use Rattle.pptext.proofs.scanning.word_len.Goals as goal
 
 pub returns-clause-longest : goal.returns-clause-longest

@@ -3,7 +3,7 @@ use Rattle.std.proofs.lemmas.List.{take_rest, drop-drop}
 use Rattle.pptext.specs.declared.tokens.Place.{Place}
 use Rattle.pptext.specs.Clean.{place}
 use Rattle.pptext.specs.code.Steps.{place_after}
-use Rattle.pptext.proofs.ByteLocations.{along_line, line_passed}
+use Rattle.pptext.proofs.Locations.{along_line, line_passed}
 use Rattle.pptext.proofs.characters.advance.move_after_lines.Goals as goal
 
 pub loop-len-preserved : goal.loop-len-preserved

@@ -1,5 +1,5 @@
 use Rattle.std.proofs.Common.{◌-◌, length, sym, arith}
-use Rattle.pptext.proofs.Offsets.{open_end_is}
+use Rattle.pptext.proofs.Locations.{open_end_is}
 use Rattle.pptext.proofs.characters.steps.lacks_newline.Goals as goal
 
 pub returns-in-len1-up : goal.returns-in-len1-up

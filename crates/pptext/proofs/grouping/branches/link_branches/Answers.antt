@@ -1,6 +1,6 @@
 use Rattle.std.proofs.Common.{◌≡◌, ◌+◌, ◌-◌, ℕ, length, reverse, subst, arith}
 use Rattle.pptext.proofs.Spans.{no_line}
-use Rattle.pptext.proofs.BranchLinking.{LinkedFrom, linked_start, linked_step, linked_all}
+use Rattle.pptext.proofs.NextBranchFacts.{LinkedFrom, linked_start, linked_step, linked_all}
 use Rattle.pptext.proofs.grouping.branches.link_branches.Goals as goal
 
 pub loop-at-init : goal.loop-at-init

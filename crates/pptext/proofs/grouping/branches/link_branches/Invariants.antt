@@ -1,5 +1,5 @@
 use Rattle.std.proofs.Common.{reverse}
-use Rattle.pptext.proofs.BranchLinking.{LinkedFrom}
+use Rattle.pptext.proofs.NextBranchFacts.{LinkedFrom}
 use Rattle.pptext.proofs.grouping.branches.link_branches.Given as goal
 
 abbrev pub invariant-loop-at : goal.invariant-loop-at

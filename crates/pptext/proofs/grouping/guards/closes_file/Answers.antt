@@ -1,6 +1,6 @@
 use Rattle.std.proofs.Common.{◌≡◌, true, false}
 use Rattle.pptext.proofs.Spans.{no_line}
-use Rattle.pptext.proofs.GuardScan.{branch_in, never_closed, closed_if, closed_only_if}
+use Rattle.pptext.proofs.Guards.{branch_in, never_closed, closed_if, closed_only_if}
 use Rattle.pptext.proofs.grouping.guards.closes_file.Goals as goal
 
 pub ends_file-requires : goal.ends_file-requires

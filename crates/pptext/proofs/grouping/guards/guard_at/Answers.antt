@@ -5,8 +5,8 @@ use Rattle.pptext.specs.Sources.{lines_from}
 use Rattle.pptext.specs.Guard.{guard_name}
 use Rattle.pptext.specs.code.Grouping.{line_role, FlatGuard}
 use Rattle.pptext.proofs.Spans.{no_line, line_at, line_from}
-use Rattle.pptext.proofs.Roles.{opens_meant}
-use Rattle.pptext.proofs.GuardScan.{flat_here, only_here, if_none, if_some}
+use Rattle.pptext.proofs.DirectiveLines.{opens_meant}
+use Rattle.pptext.proofs.Guards.{flat_here, only_here, if_none, if_some}
 use Rattle.pptext.proofs.grouping.guards.guard_at.Goals as goal
 
 pub returns-in_default : goal.returns-in_default

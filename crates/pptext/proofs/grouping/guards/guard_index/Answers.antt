@@ -1,7 +1,7 @@
 use Rattle.std.proofs.Common.{◌∙◌, Some, ap}
 use Rattle.pptext.specs.declared.tokens.Token.{Token}
 use Rattle.pptext.proofs.Faults.{no_token}
-use Rattle.pptext.proofs.GuardScan.{part_index}
+use Rattle.pptext.proofs.Guards.{part_index}
 use Rattle.pptext.proofs.grouping.guards.guard_index.Goals as goal
 
 pub returns-clause-some : goal.returns-clause-some

@@ -1,6 +1,6 @@
 use Rattle.std.proofs.Common.{arith}
 use Rattle.pptext.proofs.Spans.{no_line}
-use Rattle.pptext.proofs.GuardScan.{flat_past}
+use Rattle.pptext.proofs.Guards.{flat_past}
 use Rattle.pptext.proofs.grouping.guards.guard_token.Goals as goal
 
 pub loop-at-preserved : goal.loop-at-preserved

@@ -1,6 +1,6 @@
 use Rattle.std.proofs.Common.{sym, ap, ◌∙◌}
 use Rattle.pptext.specs.Spellings.{is_exponent}
-use Rattle.pptext.proofs.TextEndings.{positive, last_is, letter_last, no_letter_last}
+use Rattle.pptext.proofs.TokenContinuation.{positive, last_is, letter_last, no_letter_last}
 use Rattle.pptext.proofs.scanning.continuing.ends_in_exponent.Goals as goal
 
 pub returns-then-is_exponent : goal.returns-then-is_exponent

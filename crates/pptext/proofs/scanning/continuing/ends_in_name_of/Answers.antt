@@ -2,7 +2,7 @@ use Rattle.std.proofs.Common.{drop, length, ◌-◌, arith, length-drop}
 use Rattle.std.proofs.lemmas.List.{take_rest}
 use Rattle.pptext.specs.code.Scanning.{OnlyPart}
 use Rattle.pptext.specs.Spellings.{IsUniversal}
-use Rattle.pptext.proofs.TextEndings.{name_is}
+use Rattle.pptext.proofs.TokenContinuation.{name_is}
 use Rattle.pptext.proofs.scanning.continuing.ends_in_name_of.Goals as goal
 
 pub returns : goal.returns

@@ -1,4 +1,4 @@
-use Rattle.pptext.proofs.TextEndings.{ends_first, ends_second}
+use Rattle.pptext.proofs.TokenContinuation.{ends_first, ends_second}
 use Rattle.pptext.proofs.scanning.continuing.ends_in_universal.Goals as goal
 
 pub returns-then-ends_in_name_of : goal.returns-then-ends_in_name_of

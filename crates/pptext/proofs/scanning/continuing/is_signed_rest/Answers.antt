@@ -1,7 +1,7 @@
 use Rattle.std.proofs.Common.{drop, sym, ◌∙◌, IsTrue}
 use Rattle.std.proofs.lemmas.List.{take_rest}
 use Rattle.pptext.specs.Continuations.{IsNumberRest}
-use Rattle.pptext.proofs.TextEndings.{Iff, positive, signed_is}
+use Rattle.pptext.proofs.TokenContinuation.{Iff, positive, signed_is}
 use Rattle.pptext.proofs.scanning.continuing.is_signed_rest.Goals as goal
 
 pub returns-then-is_sign : goal.returns-then-is_sign

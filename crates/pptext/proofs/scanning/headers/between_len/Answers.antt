@@ -1,7 +1,7 @@
 use Rattle.std.proofs.Common.{◌≡◌, drop, get_or, arith}
 use Rattle.std.proofs.lemmas.List.{take_rest}
 use Rattle.pptext.specs.code.Scanning.{OnlyPart}
-use Rattle.pptext.proofs.ClosedTexts.{Closed, Inner, between_none, between_some}
+use Rattle.pptext.proofs.Literals.{Closed, Inner, between_none, between_some}
 use Rattle.pptext.proofs.scanning.headers.between_len.Goals as goal
 
 pub returns-then-rest-eq0 : goal.returns-then-rest-eq0

@@ -1,8 +1,6 @@
 use Rattle.std.proofs.Common.{◌≡◌, ◌+◌, drop, get_or, arith, sym, ◌∙◌}
-use Rattle.pptext.proofs.ClosedTexts.{Closed, Inner, closes_here, closes_nowhere, one_more, closing_lacks, newline_lacks, inner_here, inner_empty}
-use Rattle.pptext.proofs.LanguagePrefixes.{only_zero}
-use Rattle.pptext.proofs.LanguagePrefixes.{only_some}
-use Rattle.pptext.proofs.ComposedLanguages.{head_at, room_at, end_at}
+use Rattle.pptext.proofs.Literals.{Closed, Inner, closes_here, closes_nowhere, one_more, closing_lacks, newline_lacks, inner_here, inner_empty}
+use Rattle.pptext.proofs.LanguagePrefixes.{only_zero, only_some, head_at, room_at, end_at}
 use Rattle.pptext.proofs.scanning.headers.between_rest_len.Goals as goal
 
 pub returns-then-text-at : goal.returns-then-text-at

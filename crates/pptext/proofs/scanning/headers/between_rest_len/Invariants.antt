@@ -1,6 +1,6 @@
 use Rattle.std.proofs.Common.{ℕ, ◌+◌, ◌-◌, ◌≤◌, length, drop}
 use Rattle.pptext.specs.code.Scanning.{NoPrefix, IsOnly}
-use Rattle.pptext.proofs.ClosedTexts.{Inner, Closed}
+use Rattle.pptext.proofs.Literals.{Inner, Closed}
 use Rattle.pptext.proofs.scanning.headers.between_rest_len.Given as goal
 
 -- If the text is closed from `at` on, it is closed from the start; if not from `at` on, then not at all.

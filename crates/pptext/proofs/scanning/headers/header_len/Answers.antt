@@ -1,5 +1,5 @@
 use Rattle.std.proofs.Common.{arith}
-use Rattle.pptext.proofs.ClosedTexts.{angled_header, quoted_header}
+use Rattle.pptext.proofs.Literals.{angled_header, quoted_header}
 use Rattle.pptext.proofs.scanning.headers.header_len.Goals as goal
 
 pub returns-then-angled-gt0 : goal.returns-then-angled-gt0

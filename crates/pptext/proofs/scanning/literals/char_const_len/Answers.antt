@@ -1,10 +1,8 @@
 use Rattle.std.proofs.Common.{◌≡◌, ◌-◌, ◌<◌, length, drop, get_or, true, arith, sym, ◌∙◌}
 use Rattle.std.proofs.lemmas.Bool.{false≢true}
 use Rattle.std.proofs.lemmas.List.{take_rest}
-use Rattle.pptext.proofs.LanguagePrefixes.{only_zero}
-use Rattle.pptext.proofs.ComposedLanguages.{then_none_first, then_lacks_rest, then_found}
-use Rattle.pptext.proofs.Literals.{CharOpening, char_const_part}
-use Rattle.pptext.proofs.UnmatchedQuoteLemmas.{CharRest, char_rest_lacks, char_rest_only, char_rest_empty}
+use Rattle.pptext.proofs.LanguagePrefixes.{only_zero, then_none_first, then_lacks_rest, then_found}
+use Rattle.pptext.proofs.Literals.{CharOpening, char_const_part, CharRest, char_rest_lacks, char_rest_only, char_rest_empty}
 use Rattle.pptext.proofs.scanning.literals.char_const_len.Goals as goal
 
 pub returns-then-opening-eq0-clause-part : goal.returns-then-opening-eq0-clause-part

@@ -3,8 +3,7 @@ use Rattle.std.proofs.lemmas.Bool.Decides.{nat_tests}
 use Rattle.pptext.specs.Languages.{Exactly, One}
 use Rattle.pptext.specs.code.Scanning.{OnlyPart}
 use Rattle.pptext.specs.Spellings.{IsElement}
-use Rattle.pptext.proofs.LanguagePrefixes.{either_lacks, either_left, one_empty, one_here, one_lacks, only_some, only_zero}
-use Rattle.pptext.proofs.ComposedLanguages.{exactly_here, exactly_lacks, one_begins, then_lacks, then_lacks_rest}
+use Rattle.pptext.proofs.LanguagePrefixes.{either_lacks, either_left, one_empty, one_here, one_lacks, only_some, only_zero, exactly_here, exactly_lacks, one_begins, then_lacks, then_lacks_rest}
 use Rattle.pptext.proofs.Literals.{Escape, escape_here, escape_lacks, escaped, plain, quote_lacks}
 use Rattle.pptext.proofs.scanning.literals.element_len.Goals as goal
 

@@ -1,7 +1,7 @@
 use Rattle.std.proofs.Common.{◌≡◌, ◌+◌, ◌-◌, ◌≤◌, length, drop, arith, subst}
 use Rattle.std.proofs.lemmas.List.{take_rest, length-drop}
 use Rattle.pptext.specs.code.Scanning.{NoPrefix, IsOnly, IsQuoted, AreUnmatched}
-use Rattle.pptext.proofs.UnmatchedQuoteLemmas.{lone_opening, lone_literal}
+use Rattle.pptext.proofs.Literals.{lone_opening, lone_literal}
 use Rattle.pptext.proofs.scanning.literals.literal_len.Goals as goal
 
 pub returns-then-unknown_len-text-clause-none : goal.returns-then-unknown_len-text-clause-none

@@ -2,10 +2,8 @@ use Rattle.std.proofs.Common.{◌≡◌, ◌<◌, drop, get_or, arith, sym, ◌�
 use Rattle.std.proofs.lemmas.List.{take_rest}
 use Rattle.pptext.specs.code.Scanning.{OnlyPart, NoPrefix, IsQuoted}
 use Rattle.pptext.specs.Spellings.{IsElement}
-use Rattle.pptext.proofs.ClosedTexts.{closes_here, closes_nowhere, one_more}
-use Rattle.pptext.proofs.ComposedLanguages.{head_at, room_at, end_at, lacks_nothing}
-use Rattle.pptext.proofs.Literals.{quote_lacks, empty_lacks}
-use Rattle.pptext.proofs.UnmatchedQuoteLemmas.{passed_more}
+use Rattle.pptext.proofs.Literals.{closes_here, closes_nowhere, one_more, quote_lacks, empty_lacks, passed_more}
+use Rattle.pptext.proofs.LanguagePrefixes.{head_at, room_at, end_at, lacks_nothing}
 use Rattle.pptext.proofs.scanning.literals.quoted_rest.Goals as goal
 
 pub returns-then-text-at : goal.returns-then-text-at

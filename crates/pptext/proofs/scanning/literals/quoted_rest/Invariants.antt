@@ -1,6 +1,6 @@
 use Rattle.std.proofs.Common.{ℕ, ◌+◌, ◌-◌, ◌≤◌, length, drop}
 use Rattle.pptext.specs.code.Scanning.{NoPrefix, IsOnly, IsQuoted}
-use Rattle.pptext.proofs.UnmatchedQuoteLemmas.{Passed}
+use Rattle.pptext.proofs.Literals.{Passed}
 use Rattle.pptext.proofs.scanning.literals.quoted_rest.Given as goal
 
 -- If the text is closed from `at` on, it is closed from the start; if not from `at` on, then not at all.

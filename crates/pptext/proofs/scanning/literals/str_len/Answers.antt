@@ -1,5 +1,5 @@
 use Rattle.pptext.specs.code.Scanning.{IsQuoted}
-use Rattle.pptext.proofs.ComposedLanguages.{then_none_first, then_found}
+use Rattle.pptext.proofs.LanguagePrefixes.{then_none_first, then_found}
 use Rattle.pptext.proofs.Literals.{StrOpening, str_part}
 use Rattle.pptext.proofs.scanning.literals.str_len.Goals as goal
 

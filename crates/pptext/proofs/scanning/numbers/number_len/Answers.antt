@@ -2,8 +2,8 @@ use Rattle.std.proofs.Common.{drop}
 use Rattle.std.proofs.lemmas.List.{take_rest}
 use Rattle.pptext.specs.Languages.{Longest, Repeated}
 use Rattle.pptext.specs.Spellings.{IsNumberPart}
-use Rattle.pptext.proofs.Numbers.{NumberStart}
-use Rattle.pptext.proofs.ComposedLanguages.{first_longest, first_lacks}
+use Rattle.pptext.proofs.WordParts.{NumberStart}
+use Rattle.pptext.proofs.LanguagePrefixes.{first_longest, first_lacks}
 use Rattle.pptext.proofs.scanning.numbers.number_len.Goals as goal
 
 pub returns-then-start-eq0 : goal.returns-then-start-eq0

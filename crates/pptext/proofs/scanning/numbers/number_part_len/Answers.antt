@@ -1,7 +1,7 @@
 use Rattle.std.proofs.Common.{arith, sym, ◌∙◌}
 use Rattle.std.proofs.lemmas.Bool.{false≢true}
 use Rattle.std.proofs.lemmas.Bool.Decides.{nat_tests}
-use Rattle.pptext.proofs.Numbers.{digit_part, exponent_part, nondigit_part}
+use Rattle.pptext.proofs.WordParts.{digit_part, exponent_part, nondigit_part}
 use Rattle.pptext.proofs.scanning.numbers.number_part_len.Goals as goal
 
 pub returns-then-is_digit_or_period : goal.returns-then-is_digit_or_period

@@ -2,7 +2,7 @@ use Rattle.std.proofs.Common.{drop}
 use Rattle.std.proofs.lemmas.List.{take_rest}
 use Rattle.pptext.specs.code.Scanning.{NextPart}
 use Rattle.pptext.specs.Spellings.{IsNumberPart}
-use Rattle.pptext.proofs.ComposedLanguages.{completed_next, completed_all}
+use Rattle.pptext.proofs.LanguagePrefixes.{completed_next, completed_all}
 use Rattle.pptext.proofs.scanning.numbers.number_rest_len.Goals as goal
 
 pub returns-then-n-eq0-clause-longest : goal.returns-then-n-eq0-clause-longest

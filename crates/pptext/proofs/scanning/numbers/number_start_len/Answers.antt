@@ -1,7 +1,7 @@
 use Rattle.std.proofs.Common.{arith, sym, ◌∙◌}
 use Rattle.std.proofs.lemmas.Bool.{false≢true}
 use Rattle.std.proofs.lemmas.Bool.Decides.{nat_tests}
-use Rattle.pptext.proofs.Numbers.{digit_start, period_start, no_start}
+use Rattle.pptext.proofs.WordParts.{digit_start, period_start, no_start}
 use Rattle.pptext.proofs.scanning.numbers.number_start_len.Goals as goal
 
 pub returns-then-is_digit : goal.returns-then-is_digit
