@@ -54,6 +54,8 @@ pub mod Trees
 pub mod Guards
 -- A text that continues an identifier or a number forms one token with it; how a text ends.
 pub mod TokenContinuation
+-- What forms one token with an identifier or a number continues it.
+pub mod ContinuationCompleteness
 -- Reading a file has exactly one result. Each text has a tokenization or an unclosed comment.
 pub mod Readings
 -- The fault of lines that have no tree, in terms of trees alone.

@@ -117,9 +117,9 @@ line_spans-append start (q ∷ rs) r =
     let n : start + length q.tokens + length (line_tokens rs) ≡ start + length (q.tokens ++ line_tokens rs) = omega (arith, length-append q.tokens (line_tokens rs)) in
     ap (λ (z : List Line). line_span start q ∷ z) (line_spans-append (start + length q.tokens) rs r ∙ ap (λ (k : ℕ). line_spans (start + length q.tokens) rs ++ line_span k r ∷ []) n)
 
-pub tokens_of-append : (rs : List LogicalLine) (r : LogicalLine) → line_tokens (rs ++ r ∷ []) ≡ line_tokens rs ++ r.tokens
-tokens_of-append [] r = append-nil r.tokens
-tokens_of-append (q ∷ rs) r = ap (λ (z : List Token). q.tokens ++ z) (tokens_of-append rs r) ∙ sym (append_assoc q.tokens (line_tokens rs) r.tokens)
+pub line_tokens-append : (rs : List LogicalLine) (r : LogicalLine) → line_tokens (rs ++ r ∷ []) ≡ line_tokens rs ++ r.tokens
+line_tokens-append [] r = append-nil r.tokens
+line_tokens-append (q ∷ rs) r = ap (λ (z : List Token). q.tokens ++ z) (line_tokens-append rs r) ∙ sym (append_assoc q.tokens (line_tokens rs) r.tokens)
 
 -- Equal tokens and spans represent equal lines.
 pub same_lines : (ts ts' : List Token) (ls ls' : List Line) → ts' ≡ ts → ls' ≡ ls → lines_from ts' ls' ≡ lines_from ts ls

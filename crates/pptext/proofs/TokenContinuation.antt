@@ -117,7 +117,7 @@ no_letter_last text letter is f = (λ t. absurd (false≢true (sym f ∙ t)), λ
 -- ---- a text that continues an identifier or a number forms one token with it
 
 -- Repeated parts followed by repeated parts are repeated parts.
-more_parts : (P : List ℕ → Type 0) (ps : List (List ℕ)) (b : List ℕ) → AllByRecursion P ps → Repeated P b → Repeated P (flat_map (λ p. p) ps ++ b)
+pub more_parts : (P : List ℕ → Type 0) (ps : List (List ℕ)) (b : List ℕ) → AllByRecursion P ps → Repeated P b → Repeated P (flat_map (λ p. p) ps ++ b)
 more_parts P [] b all second = second
 more_parts P (p ∷ ps) b all second =
     let rest = more_parts P ps b all.1 second in
@@ -251,7 +251,7 @@ no_quote s t (inr e) = false≢true (subst (λ z. begins is_word_head z ≡ true
 
 -- ---- the theorem
 
-spelled_by : (text : List ℕ) (k : Kind) → IsOneToken text k → Spells k text
+pub spelled_by : (text : List ℕ) (k : Kind) → IsOneToken text k → Spells k text
 spelled_by text k one = subst (Spells k) (take_all (length text) text (omega arith)) (plain_token text k one).spelled
 
 pub continued_token : (text more : List ℕ) (k : Kind) → IsOneToken text k → ContinuesToken k text more → IsOneToken (text ++ more) k × (¬ IsUnmatchedQuote (text ++ more))

@@ -15,7 +15,7 @@ use Rattle.pptext.specs.code.FoundLexemes.{spellings, TokenizesInto}
 use Rattle.pptext.specs.Spellings.{is_blank}
 use Rattle.pptext.specs.Sources.{line_tokens}
 use Rattle.pptext.specs.code.Grouping.{line_span, line_spans}
-use Rattle.pptext.proofs.Spans.{drafts_are, line_spans-append, tokens_of-append}
+use Rattle.pptext.proofs.Spans.{drafts_are, line_spans-append, line_tokens-append}
 use Rattle.pptext.proofs.DirectiveLines.{pieces_are_directed}
 
 -- ---- a tokenization grows by one lexeme; the lines of its lexemes grow with it
@@ -236,7 +236,7 @@ module _ (profile : Profile) (chars : List Char) where
         lexemes = st.lexemes ++ lexeme_at chars at 1 NewLine ∷ [];
         tokenized = g.tokenized;
         lines = st.lines ++ line ∷ [];
-        tokens = tokens_of-append st.lines line ∙ ap (λ (z : List Token). z ++ drop start ts) st.tokens ∙ take-append-drop start ts ∙ sym (take_all stop ts (omega arith));
+        tokens = line_tokens-append st.lines line ∙ ap (λ (z : List Token). z ++ drop start ts) st.tokens ∙ take-append-drop start ts ∙ sym (take_all stop ts (omega arith));
         spans = ap (λ (z : List Line). z ++ line_span start (line_of profile (drop start ts) number) ∷ []) st.spans ∙ ap (λ (n : ℕ). line_spans 0 st.lines ++ line_span n line ∷ []) (sym before) ∙ sym (line_spans-append 0 st.lines line);
         sofar = rw (none, sym done) g.sofar;
         line = rw none g.line;

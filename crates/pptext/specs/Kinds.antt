@@ -22,7 +22,8 @@ one_test test s = false
 abbrev pub either_test : (List ℕ → Bool) → (List ℕ → Bool) → List ℕ → Bool
 either_test p q s = p s || q s
 
--- one of the first, and then one of the second. Either the first is empty, or it begins with the text's first character.
+-- The text has two parts, one after the other: the first passes `p`, the second `q`. Either the first part is empty, or it begins with the text's
+-- first character, and the rest of it passes `λ a. p (c ∷ a)`.
 abbrev pub then_test : (List ℕ → Bool) → (List ℕ → Bool) → List ℕ → Bool
 then_test p q [] = p [] && q []
 then_test p q (c ∷ s) = (p [] && q (c ∷ s)) || then_test (λ a. p (c ∷ a)) q s
@@ -31,7 +32,7 @@ then_test p q (c ∷ s) = (p [] && q (c ∷ s)) || then_test (λ a. p (c ∷ a))
 abbrev pub run_test : ℕ → (ℕ → Bool) → List ℕ → Bool
 run_test n test s = length s == n && list_all test s
 
--- one of the first, and then any number of the second
+-- The text has parts, one after another: the first passes `p`, and each later one `q`.
 abbrev pub then_repeated_test : (List ℕ → Bool) → (List ℕ → Bool) → List ℕ → Bool
 then_repeated_test p q [] = p []
 then_repeated_test p q (c ∷ s) = (p [] && then_repeated_test (λ a. q (c ∷ a)) q s) || then_repeated_test (λ a. p (c ∷ a)) q s

@@ -1,4 +1,12 @@
 //! The classes of directives, and their names.
+//!
+//! The name of a directive depends on the profile, and what it is for does not. So `directive_of` finds the directive
+//! among the profile's names, and `class` is the one table of what each directive is for. Conditions, groups and the
+//! walk over the lines see only classes. A new directive is a variant of `Directive`, a name here, and a line of
+//! `class`.
+//!
+//! `Role` is what grouping sees of a line. It also has a case for text lines, which have no class. Names are compared
+//! one after another, because only the lines that begin with `#` get here.
 ghost use Rattle.std.specs.Prelude.{◌≡◌, ◌++◌, codes, ◌||◌};
 ghost use Rattle.std.specs.Str.{bytes_eq};
 ghost use Rattle.pptext.specs.Classes.{class_of, question_of, opens_section, begins_elif_group, ends_group};

@@ -1,10 +1,10 @@
 //! Theorems about the specification. Each is the contract of a function that does nothing.
-ghost use Rattle.std.specs.Prelude.{◌≡◌, ◌≢◌, ◌↔◌, ◌++◌, ℕ, true, List, [], map, None, Some, Result, Ok, Contains};
+ghost use Rattle.std.specs.Prelude.{◌≡◌, ◌≢◌, ◌↔◌, ◌⊎◌, ◌++◌, ℕ, true, List, [], map, None, Some, Result, Ok, Contains};
 ghost use Rattle.pptext.specs.declared.tokens.Fault.{Fault};
 ghost use Rattle.pptext.specs.declared.tokens.Place.{Place};
 ghost use Rattle.pptext.specs.declared.sources.Profile.{Profile};
 ghost use Rattle.pptext.specs.declared.tokens.Kind.{Kind};
-ghost use Rattle.pptext.specs.declared.tokens.Kind.TheVariants.{Header};
+ghost use Rattle.pptext.specs.declared.tokens.Kind.TheVariants.{Ident, Number, Header};
 ghost use Rattle.pptext.specs.declared.characters.Char.{Char};
 ghost use Rattle.pptext.specs.Continuations.{ContinuesToken};
 ghost use Rattle.pptext.specs.Clean.{cleaned, codes_of};
@@ -52,9 +52,11 @@ pub fn relexes_tokens()
     ensures { (profile : Profile) (chars : List Char) (lexemes : List Lexeme) → Tokenizes profile chars lexemes → (p : Lexeme) (k : Kind) → Contains lexemes p → p.kind ≡ Spelled k → k ≢ Header → IsOneToken (codes_of p.chars) k }
 {}
 
-/// Text that continues an identifier (6.4.2) or a number (6.4.8) forms one token of that kind with it.
+/// Text continues an identifier (6.4.2) or a number (6.4.8) if and only if it forms one token of that kind with it.
+/// `ContinuesToken` says so by the end of the token and the text alone. For other kinds it never holds.
 pub fn continued_token()
-    ensures { (text more : List ℕ) (k : Kind) → IsOneToken text k → ContinuesToken k text more → IsOneToken (text ++ more) k }
+    ensures sound { (text more : List ℕ) (k : Kind) → IsOneToken text k → ContinuesToken k text more → IsOneToken (text ++ more) k }
+    ensures complete { (text more : List ℕ) (k : Kind) → IsOneToken text k → (k ≡ Ident) ⊎ (k ≡ Number) → IsOneToken (text ++ more) k → ContinuesToken k text more }
 {}
 
 /// A file's lines have a tree of groups (6.10) if and only if they have no fault.
