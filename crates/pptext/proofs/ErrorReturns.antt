@@ -1,11 +1,11 @@
 -- Steps that fail: how a fault or a failed allocation is returned, also by a public call.
-use Rattle.std.proofs.Common.{◌≡◌, Result, Ok, Err, IfOk, sym}
+use Rattle.std.proofs.Common.{◌≡◌, Result, Ok, Err, IfOk, sym, subst}
 use Rattle.std.proofs.lemmas.Result.{IfOk-at_ok}
 use Rattle.std.specs.Result.{IsErrAnd}
 use Rattle.pptext.specs.declared.tokens.Fault.{Fault}
 use Rattle.pptext.specs.declared.error.Error.{Error}
 use Rattle.pptext.specs.declared.error.Error.TheVariants.{Fault as Faulted, Memory as OutOfMemory}
-use Rattle.pptext.specs.Errors.{Returns, UnlessOutOfMemory, split_memory}
+use Rattle.pptext.specs.Errors.{Raises, Returns, UnlessOutOfMemory, split_memory}
 
 -- If a part of a step satisfies `Returns`, so does the step that returns the part's error.
 pub stops : {A B C D : Type 0} (r : Result C Error) (y : Error) (m : A → B) (n : C → D) (v : Result B Fault) (w : Result D Fault)
@@ -54,6 +54,11 @@ pub if_settled-weaker : {A : Type 0} (r : Result A Error) (P Q : Result A Fault 
 if_settled-weaker (Ok a) P Q more p = more (Ok a) p
 if_settled-weaker (Err (Faulted f)) P Q more p = more (Err f) p
 if_settled-weaker (Err OutOfMemory) P Q more p = tt
+
+-- A step that returns the error of a fault returns the fault, unless an allocation failed.
+pub raised : {A : Type 0} (e : Error) (f : Fault) (P : Result A Fault → Type 0) → Raises e f → P (Err f) → UnlessOutOfMemory (Err e) P
+raised (Faulted g) f P same p = subst (λ f. P (Err f)) (sym same) p
+raised OutOfMemory f P same p = tt
 
 -- ---- public functions
 

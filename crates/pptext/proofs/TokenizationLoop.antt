@@ -266,7 +266,7 @@ module _ (profile : Profile) (chars : List Char) where
         sofar = subst (λ (z : List Token). LinesSoFar profile (st.lexemes ++ lexeme_at chars at n (Spelled k) ∷ []) st.lines false z) (after_line ∙ sym more)
             (subst (λ (z : List LogicalLine). LinesSoFar profile (st.lexemes ++ lexeme_at chars at n (Spelled k) ∷ []) z false
             (tokens_after space (drop start ts) (take n (drop at chars)) (Spelled k))) (append-nil st.lines) g.sofar);
-        line = g.line ∙ ap (λ (z : List ℕ). spellings (drop start ts) ++ z ∷ []) (sym (ap (λ (u : Token). u.text) is)) ∙ sym (ap spelled more ∙ spellings-append (drop start ts) t);
+        line = g.line ∙ ap (λ (z : List ℕ). spellings (drop start ts) ++ z ∷ []) (sym (ap (λ (u : Token). u.text) is)) ∙ sym (ap spellings more ∙ spellings-append (drop start ts) t);
       }
 
   -- At the end of the text, the tokens after the last new-line are dropped.

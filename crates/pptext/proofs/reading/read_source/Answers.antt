@@ -13,6 +13,7 @@ use Rattle.pptext.specs.Sources.{lines_from, Reads, spliced_end, open_comment, b
 use Rattle.pptext.specs.code.FoundLexemes.{TokenizesInto}
 use Rattle.pptext.specs.code.CleanedText.{Cleans}
 use Rattle.pptext.specs.code.Grouping.{GroupsInto}
+use Rattle.pptext.proofs.ErrorReturns.{raised}
 use Rattle.pptext.proofs.Spans.{same_lines}
 use Rattle.pptext.proofs.Locations.{cleaned_length}
 use Rattle.pptext.proofs.reading.read_source.Goals as goal
@@ -38,13 +39,13 @@ group_lines-requires-clause-few c =
 pub returns-in-Err : goal.returns-in-Err
 returns-in-Err c =
     let text = subst (Cleans c.args.file c.args.bytes.now) c.in-Err.is c.in_ok-text.ensures in
-    rw c.fault_at.ensures (spliced_end text)
+    raised c.bare.result _ (Reads c.args.profile c.args.file c.args.bytes.now) c.bare.ensures (spliced_end text)
 
 pub returns-in-Err-2 : goal.returns-in-Err-2
 returns-in-Err-2 c =
     let text = subst (Cleans c.args.file c.args.bytes.now) c.in-Ok.is c.in_ok-text.ensures in
     let unclosed = subst (TokenizesInto c.args.profile c.in-Ok.text c.tokenize_lines.new.tokens.items c.tokenize_lines.new.lines.items) c.in-Err-2.is c.in_ok-place.ensures in
-    rw c.fault_at-in-Err-2.ensures (open_comment text unclosed)
+    raised c.bare-in-Err-2.result _ (Reads c.args.profile c.args.file c.args.bytes.now) c.bare-in-Err-2.ensures (open_comment text unclosed)
 
 pub returns : goal.returns
 returns c =
