@@ -10,7 +10,7 @@ use Rattle.pptext.specs.code.LineNotes.{IsTable, OwnPrefix, PlainRun, step_len}
 use Rattle.pptext.specs.code.Steps.{CharStep, Code, Removed, lacks_newline, step_of, after_byte, place_after}
 use Rattle.pptext.specs.code.CleanedText.{supply, unspliced, start, unspliced_from, text_from, end_from, EndsAt, HasLineNotes, IsChangedText}
 use Rattle.pptext.proofs.CleanSteps.{CodeStep, RemovedStep, Outcome, outcome, open_end_drop, dropped, kept, returns_some}
-use Rattle.pptext.proofs.LineNoteLemmas.{Begun, begun_all, begun_more, begun_none}
+use Rattle.pptext.proofs.LineNoteLemmas.{Begun, begun_all, begun_more}
 use Rattle.pptext.proofs.Locations.{Here, here, placed_at, placed_codes, placed_tail}
 
 -- `done` holds the codes of the cleaned text before this offset.

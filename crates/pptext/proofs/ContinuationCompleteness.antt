@@ -6,7 +6,7 @@ use Rattle.std.proofs.lemmas.Bool.Decides.{nat_tests}
 use Rattle.std.proofs.lemmas.List.{append_cancel_left}
 use Rattle.pptext.specs.declared.tokens.Kind.{Kind}
 use Rattle.pptext.specs.declared.tokens.Kind.TheVariants.{Ident, Number, CharConst, Str, Punct, Header, Other}
-use Rattle.pptext.specs.Languages.{One, Then, Either, Repeated}
+use Rattle.pptext.specs.Languages.{One, Either, Repeated}
 use Rattle.pptext.specs.Spellings.{is_digit, is_hex, is_nondigit, is_exponent, is_sign, IsUniversal, IsNondigit, IsNumberPart, Spells}
 use Rattle.pptext.specs.Continuations.{IsIdentRest, IsNumberRest, IsSignedRest, last_of, EndsInUniversal, EndsInExponent, ContinuesToken}
 use Rattle.pptext.specs.Sources.{IsOneToken}
