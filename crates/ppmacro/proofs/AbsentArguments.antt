@@ -18,8 +18,10 @@ use Rattle.ppmacro.specs.declared.macros.MacroKind.TheVariants.{ObjectLike, Func
 use Rattle.ppmacro.specs.declared.macros.Macro.{Macro}
 use Rattle.ppmacro.specs.declared.macros.Chain.{Chain}
 use Rattle.ppmacro.specs.declared.macros.Operand.{Operand}
-use Rattle.ppmacro.specs.Chains.{HashSign, ChainPart, OperandPart, PastePart, hash_sign, parameter_of, is_operator_hash, plain_part, stringized_part, parts_at, parts_after, begins_joined, join_first, group_parts, lenient_parameter, with_variadic, chains_of}
-use Rattle.ppmacro.specs.Define.{Named, Refusal, ParameterList, Spacing, VariableArguments, repeats, has_variable_arguments, all_parameters, variadic_by, function_like, read_parameter_list, read_definition, refusal_of, unless_refused, check_body, with_macro_name, is_reserved, check_define}
+use Rattle.ppmacro.specs.Chains.{HashSign, ChainPart, OperandPart, PastePart, hash_sign, parameter_of, is_operator_hash, plain_part, stringized_part}
+use Rattle.ppmacro.specs.Chains.{parts_at, parts_after, begins_joined, join_first, group_parts, lenient_parameter, with_variadic, chains_of}
+use Rattle.ppmacro.specs.Define.{Named, Refusal, ParameterList, Spacing, VariableArguments}
+use Rattle.ppmacro.specs.Define.{repeats, has_variable_arguments, all_parameters, variadic_by, function_like, read_parameter_list, read_definition, refusal_of, unless_refused, check_body, with_macro_name, is_reserved, check_define}
 use Rattle.ppmacro.specs.Laws.{is_variadic, holds_variadic}
 
 -- ---- definitions
@@ -82,8 +84,8 @@ judged_strict p macros at (t ∷ ts) g =
     let malformed : Result Named Fault = Err (fault 9 at (codes "define")) in
     let fit : Result Macro Refusal = check_body p macros t.text (read_definition p ts) in
     let named : Result Named Fault = with_macro_name at t.text fit in
-    names_either (is_identifier t) (if is_reserved p macros t.text then reserved else named) malformed
-    (names_either (is_reserved p macros t.text) reserved named tt (named_strict at t.text fit (fitting_strict p macros t.text (read_definition p ts) (read_strict p ts g)))) tt
+    names_either (is_identifier t) (if is_reserved p t.text then reserved else named) malformed
+    (names_either (is_reserved p t.text) reserved named tt (named_strict at t.text fit (fitting_strict p macros t.text (read_definition p ts) (read_strict p ts g)))) tt
 
 pub strict : (p : Profile) (macros : Macros) (at : Place) (line : List Token) (n : Named)
     → is_gnu p ≡ false

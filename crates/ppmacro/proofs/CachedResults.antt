@@ -33,24 +33,6 @@ pub unknown : (o : Operation) (ps : CachedPairs) (a b : ℕ) → known o ps a b 
 unknown Union ps a b h = let c = none-chosen (nat_eq a 0) (nat_eq b 0) (nat_eq a b) b a a (cached_result ps a b) h in record { left = c.0; right = c.1; apart = c.2; none = c.3 }
 unknown Intersection ps a b h = let c = none-chosen (nat_eq a 0) (nat_eq b 0) (nat_eq a b) a b a (cached_result ps a b) h in record { left = c.0; right = c.1; apart = c.2; none = c.3 }
 
--- A trivial result is known, whatever is cached. Any other result is known if it is cached.
-pub trivial_result-known : (o : Operation) (ps : CachedPairs) (a b n : ℕ) → known o [] a b ≡ Some n → known o ps a b ≡ Some n
-trivial_result-known o ps a b n = at o
-  where
-    from : (x y z : Bool) (p q r : ℕ) → (if x then Some p else (if y then Some q else (if z then Some r else None))) ≡ Some n → (if x then Some p else (if y then Some q else (if z then Some r else cached_result ps a b))) ≡ Some n
-    from true y z p q r e = e
-    from false true z p q r e = e
-    from false false true p q r e = e
-    from false false false p q r e = absurd (cc e)
-
-    at : (o : Operation) → known o [] a b ≡ Some n → known o ps a b ≡ Some n
-    at Union = from (nat_eq a 0) (nat_eq b 0) (nat_eq a b) b a a
-    at Intersection = from (nat_eq a 0) (nat_eq b 0) (nat_eq a b) a b a
-
-pub unsettled-known : (o : Operation) (ps : CachedPairs) (a b : ℕ) → known o [] a b ≡ None → known o ps a b ≡ cached_result ps a b
-unsettled-known Union ps a b h = let u = unknown Union [] a b h in λ i. if u.left i then Some b else (if u.right i then Some a else (if u.apart i then Some a else cached_result ps a b))
-unsettled-known Intersection ps a b h = let u = unknown Intersection [] a b h in λ i. if u.left i then Some a else (if u.right i then Some b else (if u.apart i then Some a else cached_result ps a b))
-
 -- A pair that wasn't known is known after its result is cached.
 pub known-by : (o : Operation) (old new : CachedPairs) (a b n : ℕ) → IsUnknown old a b → cached_result new a b ≡ Some n → known o new a b ≡ Some n
 known-by Union old new a b n u h = rw (u.left, u.right, u.apart) h

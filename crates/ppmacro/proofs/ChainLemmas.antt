@@ -40,19 +40,13 @@ append_parts-begin cs space o is = by_cases (begins_joined is) (group_parts is) 
     by_cases true ds = append_chains-push cs space o ds
     by_cases false ds = append_assoc cs (lone space o ∷ []) ds
 
-pub append_parts-first : (space : Bool) (o : Operand) (is : List ChainPart) → append_parts false (record { space = space; operands = o ∷ [] } ∷ []) is ≡ append_parts true [] (OperandPart space o ∷ is)
-append_parts-first space o is = by_cases (begins_joined is) (group_parts is) ∙ sym (group_parts-added space o is)
-  where
-    by_cases : (b : Bool) (ds : List Chain) → append_chains b (lone space o ∷ []) ds ≡ added b space o ds
-    by_cases true ds = joined_to-lone space o ds
-    by_cases false ds = refl
-
 joined_to-added : (c : Chain) (b space : Bool) (o : Operand) (ds : List Chain) → append_chains b (with_operand c o ∷ []) ds ≡ joined_to c (added b space o ds)
 joined_to-added c true space o [] = refl
 joined_to-added c true space o (d ∷ ds) = λ i. record { space = c.space; operands = append_assoc c.operands (o ∷ []) d.operands i } ∷ ds
 joined_to-added c false space o ds = refl
 
-append_chains-set : (cs : List Chain) (n : ℕ) (c : Chain) (b space : Bool) (o : Operand) (ds : List Chain) → length cs ≡ suc n → c ≡ get_or cs n c → append_chains b (set cs n (with_operand c o)) ds ≡ append_chains true cs (added b space o ds)
+append_chains-set : (cs : List Chain) (n : ℕ) (c : Chain) (b space : Bool) (o : Operand) (ds : List Chain) → length cs ≡ suc n → c ≡ get_or cs n c
+    → append_chains b (set cs n (with_operand c o)) ds ≡ append_chains true cs (added b space o ds)
 append_chains-set [] n c b space o ds h e = absurd (omega arith)
 append_chains-set (x ∷ []) zero c b space o ds h e = joined_to-added c b space o ds ∙ ap (λ y. joined_to y (added b space o ds)) e
 append_chains-set (x ∷ []) (suc n) c b space o ds h e = absurd (omega arith)
@@ -71,13 +65,6 @@ pub append_parts-joined : (cs : List Chain) (n : ℕ) (c : Chain) (space : Bool)
 append_parts-joined cs n c space o is h e = append_chains-set cs n c (begins_joined is) space o (group_parts is) h e ∙ ap (λ ds. append_chains true cs ds) (sym (group_parts-added space o is))
 
 -- ---- no chain so far, a `##`, and no part left
-
-pub append_parts-none : (is : List ChainPart) → append_parts false [] is ≡ group_parts is
-append_parts-none is = elim (begins_joined is) as (λ b. append_chains b [] (group_parts is) ≡ group_parts is) [ true ↦ refl | false ↦ refl ]
-
-pub append_parts-joins : (joined : Bool) (cs : List Chain) (is : List ChainPart) → append_parts joined cs (PastePart ∷ is) ≡ append_parts true cs is
-append_parts-joins true cs is = refl
-append_parts-joins false cs is = refl
 
 pub append_parts-end : (joined : Bool) (cs : List Chain) → append_parts joined cs [] ≡ cs
 append_parts-end false cs = append-nil cs

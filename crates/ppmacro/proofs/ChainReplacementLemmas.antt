@@ -10,7 +10,8 @@ use Rattle.ppmacro.specs.HideSetPool.{HideSetPool}
 use Rattle.ppmacro.specs.Hiding.{Hiding}
 use Rattle.ppmacro.specs.HideSets.{set_at, IsKnown, hiding, hidings, HasSets, AllKnown, KeepsSets}
 use Rattle.ppmacro.specs.Substitution.{Arguments, Replacement, after_ok, argument_at, expanded_at, chain_tokens, space_first, chains_tokens, hsadd}
-use Rattle.ppmacro.specs.Substituting.{lists_of, expansions_if_computed, ArgumentsKnown, arguments_in, pushed, IsSubset}
+use Rattle.ppmacro.specs.Substituting.{lists_of, expansions_if_computed, ArgumentsKnown, arguments_in}
+use Rattle.ppmacro.specs.code.Replacing.{pushed, HasSubset}
 use Rattle.ppmacro.specs.declared.hidden_token.Hidden.{Hidden}
 use Rattle.ppmacro.specs.declared.hidden_token.ArgumentExpansion.{ArgumentExpansion}
 use Rattle.ppmacro.specs.declared.macros.Chain.{Chain}
@@ -23,9 +24,6 @@ following xs (Err f) = Err f
 
 pub drop-item : {X : Type 0} (xs : List X) (i : ℕ) (x : X) → i < length xs → x ≡ get_or xs i x → drop i xs ≡ x ∷ drop (i + 1) xs
 drop-item xs i x h e = drop_more xs i x h ∙ ap (λ y. y ∷ drop (i + 1) xs) (sym e)
-
-pub take-item : {X : Type 0} (xs : List X) (i : ℕ) (x : X) → i < length xs → x ≡ get_or xs i x → take (i + 1) xs ≡ take i xs ++ x ∷ []
-take-item xs i x h e = take_more xs i x h ∙ ap (λ y. take i xs ++ y ∷ []) (sym e)
 
 pub known-each : (s : HideSetPool) (hs : List Hidden) (i : ℕ) (h : Hidden) → i < length hs → h ≡ get_or hs i h → AllKnown s hs → HasSets s h
 known-each s [] i h less e known = absurd (omega arith)
@@ -78,11 +76,6 @@ chains-more args used pending first c cs front ts h =
     sym (following-following front (space_first (pending || (not first && c.space)) ts).tokens (chains_tokens args used (space_first (pending || (not first && c.space)) ts).pending false cs))
     ∙ ap (λ r. marked_behind front (after_ok r (goes_on args used (pending || (not first && c.space)) cs))) h
 
-chains-refused : (args : Arguments) (used : Place) (pending first : Bool) (c : Chain) (cs : List Chain) (front : List Hiding) (f : Fault)
-    → Err f ≡ chain_tokens args used c
-    → Err f ≡ marked_behind front (chains_tokens args used pending first (c ∷ cs))
-chains-refused args used pending first c cs front f h = ap (λ r. marked_behind front (after_ok r (goes_on args used (pending || (not first && c.space)) cs))) h
-
 -- The tokens of one chain are appended, and then those of the other chains.
 pub chains-pushed : (args : Arguments) (used : Place) (pending first : Bool) (c : Chain) (cs : List Chain) (front new : List Hiding) (left : Bool)
     (r : Result (List Hiding) Fault)
@@ -94,6 +87,11 @@ chains-pushed args used pending first c cs front new left (Ok ts) h e =
     let same : record { tokens = new; pending = left } ≡ record { tokens = front ++ here.tokens; pending = here.pending } = cc in
     ap (λ (m : Replacement). marked_behind m.tokens (chains_tokens args used m.pending false cs)) same ∙ chains-more args used pending first c cs front ts h
 chains-pushed args used pending first c cs front new left (Err f) h e = absurd (cc)
+
+chains-refused : (args : Arguments) (used : Place) (pending first : Bool) (c : Chain) (cs : List Chain) (front : List Hiding) (f : Fault)
+    → Err f ≡ chain_tokens args used c
+    → Err f ≡ marked_behind front (chains_tokens args used pending first (c ∷ cs))
+chains-refused args used pending first c cs front f h = ap (λ r. marked_behind front (after_ok r (goes_on args used (pending || (not first && c.space)) cs))) h
 
 pub chains-refused-pushed : (args : Arguments) (used : Place) (pending first : Bool) (c : Chain) (cs : List Chain) (front : List Hiding) (f : Fault)
     (r : Result (List Hiding) Fault)
@@ -123,7 +121,7 @@ hsadd-more s t u g used done earlier item one k l added known here is so_far =
     ∙ sym (map-append (hsadd (set_at s g) used) (hidings s earlier) (hiding s item ∷ []))
     ∙ ap (map (hsadd (set_at s g) used)) (sym (map-append (hiding s) earlier (item ∷ [])))
 
-pub within-keeps : {s t : HideSetPool} (added n : ℕ) → KeepsSets s t → IsKnown s added → IsKnown s n → IsSubset s added n → IsSubset t added n
+pub within-keeps : {s t : HideSetPool} (added n : ℕ) → KeepsSets s t → IsKnown s added → IsKnown s n → HasSubset s added n → HasSubset t added n
 within-keeps added n k gain_known known h =
     let more = set-keeps added k gain_known in
     (λ i. set.union (set-keeps n k known i) (more i)) ∙ h ∙ sym more

@@ -236,7 +236,8 @@ member_rule-below Union a b k l = or_lt 64 a b k l
 member_rule-below Intersection a b k l = let m = and_le_l a b in omega (arith, m, k)
 
 -- A set with the members of the result has the words of the result.
-pub combine-words : (o : Operation) (ns : List Node) (n one two : ℕ) → IsPool ns → n < length ns → one < length ns → two < length ns → ((x : ℕ) → member ns n x ≡ member_rule o (member ns one x) (member ns two x)) → IsJoin (word_rule o) ns n one two
+pub combine-words : (o : Operation) (ns : List Node) (n one two : ℕ) → IsPool ns → n < length ns → one < length ns → two < length ns
+    → ((x : ℕ) → member ns n x ≡ member_rule o (member ns one x) (member ns two x)) → IsJoin (word_rule o) ns n one two
 combine-words o ns n one two p ln lo lt h =
     words-of ns n (λ w. word_rule o (word ns one w) (word ns two w)) p ln (λ w. member_rule-below o (word ns one w) (word ns two w) (word-lt ns one w p lo) (word-lt ns two w p lt))
     (λ x. h x ∙ sym (member_rule-bits o ns one two x))

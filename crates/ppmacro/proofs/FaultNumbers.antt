@@ -37,20 +37,20 @@ judged_up_to profile macros at (t ∷ ts) =
     let reserved : Result Named Fault = Err (fault 10 at t.text) in
     let malformed : Result Named Fault = check_define profile macros at [] in
     let named : Result Named Fault = with_macro_name at t.text (check_body profile macros t.text (read_definition profile ts)) in
-    up_to_either 16 (is_identifier t) (if is_reserved profile macros t.text then reserved else named) malformed
-    (up_to_either 16 (is_reserved profile macros t.text) reserved named (omega arith) (named_up_to at t.text (check_body profile macros t.text (read_definition profile ts)))) (omega arith)
+    up_to_either 16 (is_identifier t) (if is_reserved profile t.text then reserved else named) malformed
+    (up_to_either 16 (is_reserved profile t.text) reserved named (omega arith) (named_up_to at t.text (check_body profile macros t.text (read_definition profile ts)))) (omega arith)
 
 entered_up_to : (macros : Macros) (r : Result Named Fault) → IsUpTo 16 r → IsUpTo 16 (insert_definition macros r)
 entered_up_to macros (Ok n) h = tt
 entered_up_to macros (Err f) h = h
 
-undefined_up_to : (profile : Profile) (macros : Macros) (at : Place) (line : List Token) → IsUpTo 16 (undefined profile macros at line)
-undefined_up_to profile macros at [] = omega arith
-undefined_up_to profile macros at (t ∷ []) =
+undefined_up_to : (profile : Profile) (at : Place) (line : List Token) → IsUpTo 16 (undefined profile at line)
+undefined_up_to profile at [] = omega arith
+undefined_up_to profile at (t ∷ []) =
     let reserved : Result Name Fault = Err (fault 10 at t.text) in
-    let malformed : Result Name Fault = undefined profile macros at [] in
-    up_to_either 16 (is_identifier t) (if is_reserved profile macros t.text then reserved else Ok t.text) malformed (up_to_either 16 (is_reserved profile macros t.text) reserved (Ok t.text) (omega arith) tt) (omega arith)
-undefined_up_to profile macros at (t ∷ u ∷ us) = omega arith
+    let malformed : Result Name Fault = undefined profile at [] in
+    up_to_either 16 (is_identifier t) (if is_reserved profile t.text then reserved else Ok t.text) malformed (up_to_either 16 (is_reserved profile t.text) reserved (Ok t.text) (omega arith) tt) (omega arith)
+undefined_up_to profile at (t ∷ u ∷ us) = omega arith
 
 taken_out_up_to : (macros : Macros) (r : Result Name Fault) → IsUpTo 16 r → IsUpTo 16 (remove_name macros r)
 taken_out_up_to macros (Ok name) h = tt
@@ -60,4 +60,4 @@ pub define_number : (profile : Profile) (macros : Macros) (at : Place) (line : L
 define_number profile macros at line f e = subst (IsUpTo 16) e (entered_up_to macros (check_define profile macros at line) (judged_up_to profile macros at line))
 
 pub undef_number : (profile : Profile) (macros : Macros) (at : Place) (line : List Token) (f : Fault) → after_undef profile macros at line ≡ Err f → f.number ≤ 16
-undef_number profile macros at line f e = subst (IsUpTo 16) e (taken_out_up_to macros (undefined profile macros at line) (undefined_up_to profile macros at line))
+undef_number profile macros at line f e = subst (IsUpTo 16) e (taken_out_up_to macros (undefined profile at line) (undefined_up_to profile at line))

@@ -2,6 +2,8 @@
 use Rattle.std.proofs.Common.{◌≡◌, ℕ, ◌<◌, ◌||◌, ◌++◌, nat_eq, [], List, length, get_or, refl, sym, ap, ◌∙◌, subst}
 use Rattle.std.specs.FinSet as set
 use Rattle.std.specs.List.{IsDistinct}
+use Rattle.std.specs.HashSet.{hasher_of}
+use Rattle.pptext.specs.declared.hashing.Hashing.{Hashing}
 use Rattle.ppmacro.specs.declared.hide_sets.HideSets.TheInside.{Inside}
 use Rattle.ppmacro.specs.Names.{Name}
 use Rattle.ppmacro.specs.code.Nodes as nodes
@@ -42,75 +44,85 @@ sets_are_unique-seen names ns us ms v m n is k km kn e =
 
 -- The fields as callers see them.
 abbrev seen : Inside → HideSetPool
-seen s = record { sets = hide_sets s.names s.nodes.keys; unions = s.unions; intersections = s.intersections }
+seen s = record { sets = hide_sets s.names.names s.nodes.keys; unions = s.unions.results; intersections = s.intersections.results; hashing = hasher_of s.nodes }
 
 -- A known number in a precondition is the number of a node.
 pub node-asked : (s : Inside) {v : HideSetPool} {n m : ℕ} → seen s ≡ v → n ≡ m → IsKnown v m → n < length s.nodes.keys
-node-asked s {v = v} is same k = node-known s.names s.nodes.keys v _ _ (ap (λ v. v.sets) is) same k
+node-asked s {v = v} is same k = node-known s.names.names s.nodes.keys v _ _ (ap (λ v. v.sets) is) same k
 
-pub keeps-seen : (s : Inside) (new : List Node) {v : HideSetPool} {us ms : CachedPairs}
+pub keeps-seen : (s : Inside) (new : List Node) {v : HideSetPool} {us ms : CachedPairs} {hashing : Hashing}
     → seen s ≡ v
+    → hashing ≡ hasher_of s.nodes
     → IsPool s.nodes.keys
     → nodes.KeepsNodes s.nodes.keys new
-    → KeepsPairs s.unions us
-    → KeepsPairs s.intersections ms
-    → KeepsSets v (record { sets = hide_sets s.names new; unions = us; intersections = ms })
-keeps-seen s new {us = us} {ms = ms} is p k unions intersections = record {
-  more = tabulated (hide_set s.names new) (past-by 0 s.nodes.keys) k.more;
-  is = sets-keep s.names s.nodes.keys new p k ∙ ap (λ v. v.sets ++ tabulated (hide_set s.names new) (past-by 0 s.nodes.keys) k.more) is;
+    → KeepsPairs s.unions.results us
+    → KeepsPairs s.intersections.results ms
+    → KeepsSets v (record { sets = hide_sets s.names.names new; unions = us; intersections = ms; hashing = hashing })
+keeps-seen s new {us = us} {ms = ms} is hashed p k unions intersections = record {
+  more = tabulated (hide_set s.names.names new) (past-by 0 s.nodes.keys) k.more;
+  is = sets-keep s.names.names s.nodes.keys new p k ∙ ap (λ v. v.sets ++ tabulated (hide_set s.names.names new) (past-by 0 s.nodes.keys) k.more) is;
   unions = subst (λ ps. KeepsPairs ps us) (ap (λ v. v.unions) is) unions;
   intersections = subst (λ ps. KeepsPairs ps ms) (ap (λ v. v.intersections) is) intersections;
+  hashing = hashed ∙ ap (λ v. v.hashing) is;
 }
 
 -- The result of an operation on two sets.
 pub made-seen : (o : Operation) (s : Inside) (new : List Node) {v : HideSetPool} {a b a' b' n : ℕ}
     → seen s ≡ v
-    → IsDistinct same_name s.names
+    → IsDistinct same_name s.names.names
     → a ≡ a'
     → b ≡ b'
     → IsKnown v a'
     → IsKnown v b'
     → n < length new
     → ((x : ℕ) → member new n x ≡ member_rule o (member s.nodes.keys a x) (member s.nodes.keys b x))
-    → get_or (hide_sets s.names new) n set.empty ≡ made_of o (set_at v a') (set_at v b')
+    → get_or (hide_sets s.names.names new) n set.empty ≡ made_of o (set_at v a') (set_at v b')
 made-seen o s new {v = v} {a = a} {b = b} {n = n} is d sa sb ka kb ln h =
     let old = s.nodes.keys in
     let sets = ap (λ v. v.sets) is in
-    set-at s.names new n ln ∙ made-is o s.names old new a b n d h
-    ∙ (λ i. made_of o (set-seen s.names old v _ _ sets sa (node-asked s is sa ka) i) (set-seen s.names old v _ _ sets sb (node-asked s is sb kb) i))
+    set-at s.names.names new n ln ∙ made-is o s.names.names old new a b n d h
+    ∙ (λ i. made_of o (set-seen s.names.names old v _ _ sets sa (node-asked s is sa ka) i) (set-seen s.names.names old v _ _ sets sb (node-asked s is sb kb) i))
 
 -- The invariant of the fields holds for new nodes, and for new cached pairs of this operation.
 abbrev AreKeptThen : Operation → Inside → List Node → CachedPairs → Type 0
-AreKeptThen Union s new ps = IsConsistentPool s.names new ps s.intersections
-AreKeptThen Intersection s new ps = IsConsistentPool s.names new s.unions ps
+AreKeptThen Union s new ps = IsConsistentPool s.names.names new ps s.intersections.results
+AreKeptThen Intersection s new ps = IsConsistentPool s.names.names new s.unions.results ps
 
 pub selected-made : (o : Operation) (s : Inside) {new : List Node} {ps : CachedPairs}
-    → IsConsistentPool s.names s.nodes.keys s.unions s.intersections
+    → IsConsistentPool s.names.names s.nodes.keys s.unions.results s.intersections.results
     → IsPool new
     → nodes.KeepsNodes s.nodes.keys new
     → ((limit : ℕ) → IsBounded limit s.nodes.keys → IsBounded limit new)
     → AreCachedResults (member_rule o) new ps
     → AreKeptThen o s new ps
 selected-made Union s {new = new} k p keeps bounded results =
-    record { distinct = k.distinct; pool = p; bounded = bounded (length s.names) k.bounded; unions = results; intersections = results-keep (member_rule Intersection) s.nodes.keys new s.intersections k.pool keeps k.intersections }
+    record {
+      distinct = k.distinct;
+      pool = p;
+      bounded = bounded (length s.names.names) k.bounded;
+      unions = results;
+      intersections = results-keep (member_rule Intersection) s.nodes.keys new s.intersections.results k.pool keeps k.intersections;
+    }
 selected-made Intersection s {new = new} k p keeps bounded results =
-    record { distinct = k.distinct; pool = p; bounded = bounded (length s.names) k.bounded; unions = results-keep (member_rule Union) s.nodes.keys new s.unions k.pool keeps k.unions; intersections = results }
+    record { distinct = k.distinct; pool = p; bounded = bounded (length s.names.names) k.bounded; unions = results-keep (member_rule Union) s.nodes.keys new s.unions.results k.pool keeps k.unions; intersections = results }
 
 -- ---- names and nodes are added
 
-pub keeps-named : (names more after : List Name) (old new : List Node) (us ms : CachedPairs) (v w : HideSetPool)
+pub keeps-named : (names more after : List Name) (old new : List Node) (us ms : CachedPairs) (hashing hashed : Hashing) (v w : HideSetPool)
     → after ≡ names ++ more
-    → record { sets = hide_sets names old; unions = us; intersections = ms } ≡ v
-    → record { sets = hide_sets after new; unions = us; intersections = ms } ≡ w
+    → hashed ≡ hashing
+    → record { sets = hide_sets names old; unions = us; intersections = ms; hashing = hashing } ≡ v
+    → record { sets = hide_sets after new; unions = us; intersections = ms; hashing = hashed } ≡ w
     → IsConsistentPool names old us ms
     → nodes.KeepsNodes old new
     → KeepsSets v w
-keeps-named names more after old new us ms v w grown is now p k = record {
+keeps-named names more after old new us ms hashing hashed v w grown same is now p k = record {
   more = tabulated (hide_set after new) (past-by 0 old) k.more;
   is = sym (ap (λ w. w.sets) now) ∙ sets-keep after old new p.pool k
       ∙ ap (λ ss. ss ++ tabulated (hide_set after new) (past-by 0 old) k.more) ((λ i. hide_sets (grown i) old) ∙ sets-named names more old p.bounded ∙ ap (λ v. v.sets) is);
   unions = pairs-are (sym (ap (λ v. v.unions) is) ∙ ap (λ w. w.unions) now);
   intersections = pairs-are (sym (ap (λ v. v.intersections) is) ∙ ap (λ w. w.intersections) now);
+  hashing = sym (ap (λ w. w.hashing) now) ∙ same ∙ ap (λ v. v.hashing) is;
 }
 
 pub selected-named : (names more after : List Name) (old new : List Node) (us ms : CachedPairs) (n : ℕ)
@@ -158,31 +170,31 @@ pub more-there : (s : Inside) {v : HideSetPool} {a a' : ℕ} (n : ℕ) (q : Name
     → IsKnown v a'
     → IsKnown v n
     → set_at v n ≡ set.insert (set_at v a') q
-    → hide_set s.names s.nodes.keys n ≡ set.insert (hide_set s.names s.nodes.keys a) q
+    → hide_set s.names.names s.nodes.keys n ≡ set.insert (hide_set s.names.names s.nodes.keys a) q
 more-there s {v = v} {a = a} {a' = a'} n q is same ka kn e =
     let sets = ap (λ v. v.sets) is in
-    set-seen s.names s.nodes.keys v n n sets refl (node-asked s is refl kn)
+    set-seen s.names.names s.nodes.keys v n n sets refl (node-asked s is refl kn)
     ∙ e
-    ∙ ap (λ t. set.insert t q) (sym (set-seen s.names s.nodes.keys v a a' sets same (node-asked s is same ka)))
+    ∙ ap (λ t. set.insert t q) (sym (set-seen s.names.names s.nodes.keys v a a' sets same (node-asked s is same ka)))
 
 pub more-seen : (s : Inside) {v : HideSetPool} {a a' : ℕ} (n x : ℕ) (q : Name)
     → seen s ≡ v
-    → IsConsistentPool s.names s.nodes.keys s.unions s.intersections
+    → IsConsistentPool s.names.names s.nodes.keys s.unions.results s.intersections.results
     → a ≡ a'
     → IsKnown v a'
     → IsKnown v n
-    → x < length s.names
-    → get_or s.names x [] ≡ q
+    → x < length s.names.names
+    → get_or s.names.names x [] ≡ q
     → set_at v n ≡ set.insert (set_at v a') q
     → (y : ℕ)
     → member s.nodes.keys n y ≡ (nat_eq y x || member s.nodes.keys a y)
 more-seen s {a = a} n x q is k same ka kn lx at e =
-    more-members s.names s.nodes.keys a x n q (named-by k) (node-asked s is same ka) (node-asked s is refl kn) lx at (more-there s n q is same ka kn e)
+    more-members s.names.names s.nodes.keys a x n q (named-by k) (node-asked s is same ka) (node-asked s is refl kn) lx at (more-there s n q is same ka kn e)
 
 -- The result of an operation on two sets, if it exists already.
 pub both-seen : (o : Operation) (s : Inside) {v : HideSetPool} {a b a' b' : ℕ} (n : ℕ)
     → seen s ≡ v
-    → IsConsistentPool s.names s.nodes.keys s.unions s.intersections
+    → IsConsistentPool s.names.names s.nodes.keys s.unions.results s.intersections.results
     → a ≡ a'
     → b ≡ b'
     → IsKnown v a'
@@ -196,7 +208,7 @@ both-seen o s {v = v} {a = a} {b = b} n is k sa sb ka kb kn e =
     let la = node-asked s is sa ka in
     let lb = node-asked s is sb kb in
     let ln = node-asked s is refl kn in
-    made-members o s.names s.nodes.keys a b n (named-by k) la lb ln
-    (set-seen s.names s.nodes.keys v n n sets refl ln
+    made-members o s.names.names s.nodes.keys a b n (named-by k) la lb ln
+    (set-seen s.names.names s.nodes.keys v n n sets refl ln
     ∙ e
-    ∙ (λ i. made_of o (sym (set-seen s.names s.nodes.keys v _ _ sets sa la) i) (sym (set-seen s.names s.nodes.keys v _ _ sets sb lb) i)))
+    ∙ (λ i. made_of o (sym (set-seen s.names.names s.nodes.keys v _ _ sets sa la) i) (sym (set-seen s.names.names s.nodes.keys v _ _ sets sb lb) i)))

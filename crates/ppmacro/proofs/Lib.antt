@@ -10,8 +10,8 @@ pub mod ChainLemmas
 pub mod LexerLemmas
 -- Tokens keep their hide sets while sets are added.
 pub mod PoolGrowthLemmas
--- `split_memory` preserves the meaning of a result: a token, or tokens and the pending flag.
-pub mod SplitMemoryLemmas
+-- Definitions that are refused or accepted once they are read.
+pub mod CheckedDefinitions
 -- Token lists that `##` joins, while hide sets are added to the pool.
 pub mod JoinLemmas
 -- Tokens whose kind is the kind of their spelling, as after `##`.

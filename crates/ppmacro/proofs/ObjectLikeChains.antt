@@ -61,10 +61,6 @@ gained_each : (added : HideSet) (used : Place) (ts : List Token) → map (hsadd 
 gained_each added used [] = refl
 gained_each added used (t ∷ ts) = ap (λ hs. hsadd added used (unhidden t) ∷ hs) (gained_each added used ts)
 
--- An empty replacement list leaves the leading-space flag pending.
-pub lone_none : (args : Arguments) (added : HideSet) (used : Place) (space : Bool) → chains_replacement (map lone_chain []) args added used space ≡ Ok (record { tokens = []; pending = space })
-lone_none args added used space = refl
-
 pub lone_substituted : (args : Arguments) (added : HideSet) (used : Place) (space : Bool) (t : Token) (ts : List Token)
     → chains_replacement (map lone_chain (t ∷ ts)) args added used space
     ≡ Ok (record { tokens = hsadd added used (with_space space (unhidden t)) ∷ map (λ t. hsadd added used (unhidden t)) ts; pending = false })

@@ -50,7 +50,7 @@ pairs-after : {a b c : CachedPairs} → KeepsPairs a b → KeepsPairs b c → Ke
 pairs-after h k = record { more = h.more ++ k.more; is = k.is ∙ ap (λ ps. ps ++ k.more) h.is ∙ append_assoc _ h.more k.more }
 
 pub keeps-all : (s : HideSetPool) → KeepsSets s s
-keeps-all s = record { more = []; is = sym (append-nil s.sets); unions = pairs-are refl; intersections = pairs-are refl }
+keeps-all s = record { more = []; is = sym (append-nil s.sets); unions = pairs-are refl; intersections = pairs-are refl; hashing = refl }
 
 pub keeps-after : {a b c : HideSetPool} → KeepsSets a b → KeepsSets b c → KeepsSets a c
 keeps-after h k = record {
@@ -58,6 +58,7 @@ keeps-after h k = record {
   is = k.is ∙ ap (λ s. s ++ k.more) h.is ∙ append_assoc _ h.more k.more;
   unions = pairs-after h.unions k.unions;
   intersections = pairs-after h.intersections k.intersections;
+  hashing = k.hashing ∙ h.hashing;
 }
 
 pub known-append : {s : HideSetPool} (gs hs : List Hidden) → AllKnown s gs → AllKnown s hs → AllKnown s (gs ++ hs)

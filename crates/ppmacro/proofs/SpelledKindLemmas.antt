@@ -15,7 +15,7 @@ use Rattle.ppmacro.specs.HideSets.{set_at, hide_of, hiding}
 use Rattle.ppmacro.specs.HiddenView.{extended}
 use Rattle.ppmacro.specs.Lexing.{kind_of}
 use Rattle.ppmacro.specs.Substitution.{pasted, pasted_as}
-use Rattle.ppmacro.specs.Substituting.{HasSpelledKind, EndsWithSpelledKind}
+use Rattle.ppmacro.specs.code.Replacing.{HasSpelledKind, EndsWithSpelledKind}
 use Rattle.pptext.specs.Errors.{Returns}
 use Rattle.ppmacro.specs.declared.hidden_token.Hidden.{Hidden}
 use Rattle.pptext.specs.declared.error.Error.{Error}
@@ -69,7 +69,3 @@ last-same xs ys x y e =
 pub ends-has_spelled_kind : (ls : List Hidden) (h : Hidden) (rest : List Hidden) → length rest ≡ 0 → HasSpelledKind h → EndsWithSpelledKind (ls ++ h ∷ rest)
 ends-has_spelled_kind ls h [] e has_spelled_kind = λ front last is. subst HasSpelledKind (last-same ls front h last is) has_spelled_kind
 ends-has_spelled_kind ls h (r ∷ rest) e has_spelled_kind = absurd (omega arith)
-
-pub nothing-has_spelled_kind : EndsWithSpelledKind []
-nothing-has_spelled_kind [] last e = absurd (cc e)
-nothing-has_spelled_kind (x ∷ front) last e = absurd (cc e)

@@ -593,15 +593,6 @@ nodes-assoc (x ∷ xs) ys zs = ap (λ t. x ∷ t) (nodes-assoc xs ys zs)
 pub keeps-on : (xs ys zs : List Node) → KeepsNodes xs ys → KeepsNodes ys zs → KeepsNodes xs zs
 keeps-on xs ys zs a b = record { more = a.more ++ b.more; is = b.is ∙ ap (λ t. t ++ b.more) a.is ∙ nodes-assoc xs a.more b.more }
 
-pub below-one : (ns : List Node) (n : ℕ) → IsPool ns → n < length ns → nat_eq n 0 ≡ false → PointsBelow n (node_at ns n)
-below-one ns n p l h = p.older n (pos-of n (λ z. true≢false (sym (eq-eqb n 0 z) ∙ h))) l
-
-pub lt-apart : (a b : ℕ) → a < b → ¬ (b ≡ a)
-lt-apart a b l e = omega (arith, l, e)
-
-pub lt-on : (a b c : ℕ) → a < b → b < c → a < c
-lt-on a b c k l = omega (arith, k, l)
-
 -- ---- a new node, and bounds on the members of sets
 
 fresh-push : (ns : List Node) (node : Node) (n : ℕ) → length ns ≤ n → n < length (ns ++ node ∷ []) → node_at (ns ++ node ∷ []) n ≡ node
@@ -690,9 +681,6 @@ any-node ns node n l e = list_any_at (same_node node) ns n no_node l ((same_node
 -- Inserting an existing node changes nothing.
 pub inserted-there : (ns : List Node) (node : Node) (n : ℕ) → n < length ns → node_at ns n ≡ node → insert_key same_node ns node ≡ ns
 inserted-there ns node n l e = ap (λ b. if b then ns else ns ++ node ∷ []) (any-node ns node n l e)
-
-pub never-absent : (ns : List Node) (node : Node) (n : ℕ) → n < length ns → node_at ns n ≡ node → list_any (same_node node) ns ≡ false → ⊥
-never-absent ns node n l e absent = true≢false (sym (any-node ns node n l e) ∙ absent)
 
 -- A search that finds a node returns its index.
 pub searched : (ns : List Node) (node : Node) (k : ℕ) → position (same_node node) ns ≡ Some k → (k < length ns) × (node_at ns k ≡ node)

@@ -16,14 +16,12 @@ use Rattle.ppmacro.specs.Names.{Name, Macros}
 use Rattle.ppmacro.specs.HashOperators.{is_hash, is_paste}
 use Rattle.ppmacro.specs.ParsedParameters.{ParsedParameters}
 use Rattle.ppmacro.specs.Chains.{parameter_names, parameter_of, is_function_like}
-use Rattle.ppmacro.specs.declared.macros.PredefinedMacro.{PredefinedMacro}
-use Rattle.ppmacro.specs.declared.macros.PredefinedMacro.TheVariants.{StdcVersion}
 use Rattle.ppmacro.specs.declared.macros.Variadic.{Variadic}
 use Rattle.ppmacro.specs.declared.macros.Variadic.TheVariants.{No, Strict, Lenient}
 use Rattle.ppmacro.specs.declared.defining.parameter_lists.Ending.{Ending}
 use Rattle.ppmacro.specs.declared.defining.parameter_lists.Ending.TheVariants.{NoEllipsis, Ellipsis, NamedEllipsis}
 use Rattle.ppmacro.specs.declared.macros.MacroKind.{MacroKind}
-use Rattle.ppmacro.specs.declared.macros.MacroKind.TheVariants.{Predefined, ObjectLike, FunctionLike}
+use Rattle.ppmacro.specs.declared.macros.MacroKind.TheVariants.{ObjectLike, FunctionLike}
 use Rattle.ppmacro.specs.declared.macros.Macro.{Macro}
 
 -- Why a definition with a permitted name is invalid.
@@ -107,7 +105,7 @@ read_definition profile (t ∷ ts) =
 
 -- ---- the replacement list
 
--- Whether there is a `__VA_ARGS__`, but no `...` in the parameter list (6.10.3p5).
+-- Whether there is a `__VA_ARGS__`, but it isn't a parameter (6.10.3p5): the parameter list has no `...`, or its `...` follows a name.
 abbrev pub misplaces_variable_arguments : MacroKind → List Token → Bool
 misplaces_variable_arguments kind ts = list_any (is_identifier_named (codes "__VA_ARGS__")) ts && not (has_variable_arguments (parameter_names kind))
 
@@ -145,10 +143,17 @@ same_body [] [] = true
 same_body (t ∷ ts) (u ∷ us) = bytes_eq t.text u.text && pointwise same_token ts us
 same_body _ _ = false
 
--- The names show whether there is a `...`.
+abbrev pub same_variadic : Variadic → Variadic → Bool
+same_variadic No No = true
+same_variadic Strict Strict = true
+same_variadic Lenient Lenient = true
+same_variadic _ _ = false
+
+-- The names don't show whether there is a `...` (GNU C has `f(x)` and `f(x...)`), nor whether the variable argument may be absent. In
+-- one unit, which has one profile, they do where definitions are compared: only GNU C has such parameters, and it compares none.
 abbrev pub same_kind : MacroKind → MacroKind → Bool
 same_kind ObjectLike ObjectLike = true
-same_kind (FunctionLike ms v) (FunctionLike ns w) = pointwise bytes_eq ms ns
+same_kind (FunctionLike ms v) (FunctionLike ns w) = pointwise bytes_eq ms ns && same_variadic v w
 same_kind _ _ = false
 
 abbrev pub is_identical : Macro → Macro → Bool
@@ -160,27 +165,26 @@ is_conflicting (Some e) d = not (is_identical e d)
 
 -- ---- the whole line
 
--- Whether a predefined macro can't be redefined. In GNU C `__STDC_VERSION__` can, because a list uses it for the `-std` of a
--- build.
-abbrev pub is_fixed_predefined : (gnu : Bool) → PredefinedMacro → Bool
-is_fixed_predefined gnu StdcVersion = not gnu
-is_fixed_predefined gnu _ = true
-
-abbrev pub is_fixed_kind : (gnu : Bool) → MacroKind → Bool
-is_fixed_kind gnu (Predefined b) = is_fixed_predefined gnu b
-is_fixed_kind gnu _ = false
-
-abbrev pub is_fixed : (gnu : Bool) → Option Macro → Bool
-is_fixed gnu None = false
-is_fixed gnu (Some d) = is_fixed_kind gnu d.kind
+-- Whether a name is that of a predefined macro (6.10.8.1) that can't be redefined. In GNU C `__STDC_VERSION__` can, because a list uses
+-- it for the `-std` of a build. The name decides, and not the table: after a redefinition in GNU C the name is still reserved in the
+-- other profiles. In the table of one unit, which has one profile, these names have their predefined macros.
+abbrev pub is_fixed : (gnu : Bool) → Name → Bool
+is_fixed gnu name =
+    bytes_eq name (codes "__FILE__")
+    || (bytes_eq name (codes "__LINE__")
+    || (bytes_eq name (codes "__DATE__")
+    || (bytes_eq name (codes "__TIME__")
+    || (bytes_eq name (codes "__STDC__")
+    || (bytes_eq name (codes "__STDC_HOSTED__")
+    || (bytes_eq name (codes "__STDC_VERSION__") && not gnu))))))
 
 -- Whether a name can never be a macro.
 abbrev pub is_barred : Name → Bool
 is_barred name = bytes_eq name (codes "defined") || bytes_eq name (codes "__VA_ARGS__")
 
 -- Whether a directive must not define or undefine a name (6.10.8p2, 6.10.3p5).
-abbrev pub is_reserved : Profile → Macros → Name → Bool
-is_reserved profile macros name = is_fixed (is_gnu profile) (table.get macros name) || is_barred name
+abbrev pub is_reserved : Profile → Name → Bool
+is_reserved profile name = is_fixed (is_gnu profile) name || is_barred name
 
 -- Why a definition is invalid, if it is. In GNU C a name may be redefined with any definition.
 abbrev pub refusal_of : Profile → Macros → Name → Macro → Option Refusal
@@ -216,13 +220,8 @@ abbrev pub check_define : Profile → Macros → Place → List Token → Result
 check_define profile macros at [] = Err (fault 9 at (codes "define"))
 check_define profile macros at (t ∷ ts) =
     if is_identifier t then (
-    if is_reserved profile macros t.text then Err (fault 10 at t.text) else
+    if is_reserved profile t.text then Err (fault 10 at t.text) else
     with_macro_name at t.text (check_body profile macros t.text (read_definition profile ts))) else Err (fault 9 at (codes "define"))
-
--- The fault of a private function's result, which has only its number and text.
-abbrev pub with_place : {A : Type 0} → Place → Result A (ℕ × Name) → Result A Fault
-with_place at (Ok x) = Ok x
-with_place at (Err r) = Err (fault r.0 at r.1)
 
 abbrev pub insert_definition : Macros → Result Named Fault → Result Macros Fault
 insert_definition macros (Ok n) = Ok (table.insert macros n.name n.definition)
@@ -232,17 +231,17 @@ abbrev pub after_define : Profile → Macros → Place → List Token → Result
 after_define profile macros at line = insert_definition macros (check_define profile macros at line)
 
 -- The name in the tokens after `undef`, or the fault.
-abbrev pub undefined : Profile → Macros → Place → List Token → Result Name Fault
-undefined profile macros at (t ∷ []) =
-    if is_identifier t then (if is_reserved profile macros t.text then Err (fault 10 at t.text) else Ok t.text) else Err (fault 9 at (codes "undef"))
-undefined profile macros at _ = Err (fault 9 at (codes "undef"))
+abbrev pub undefined : Profile → Place → List Token → Result Name Fault
+undefined profile at (t ∷ []) =
+    if is_identifier t then (if is_reserved profile t.text then Err (fault 10 at t.text) else Ok t.text) else Err (fault 9 at (codes "undef"))
+undefined profile at _ = Err (fault 9 at (codes "undef"))
 
 abbrev pub remove_name : Macros → Result Name Fault → Result Macros Fault
 remove_name macros (Ok name) = Ok (table.remove macros name)
 remove_name macros (Err f) = Err f
 
 abbrev pub after_undef : Profile → Macros → Place → List Token → Result Macros Fault
-after_undef profile macros at line = remove_name macros (undefined profile macros at line)
+after_undef profile macros at line = remove_name macros (undefined profile at line)
 
 -- The effect of a call on the table: the table of `r`, or its fault and the old table.
 abbrev pub Leaves : Macros → Macros → Result (Unit {0}) Fault → Result Macros Fault → Type 0

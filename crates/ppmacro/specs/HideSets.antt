@@ -2,6 +2,7 @@
 use Rattle.std.specs.Prelude.{◌≡◌, ℕ, ◌<◌, List, [], ◌∷◌, ◌++◌, map, length, slice_index_or, Option, Some, None, IfSome}
 use Rattle.std.specs.FinSet as set
 use Rattle.std.specs.List.{AllByRecursion}
+use Rattle.pptext.specs.declared.hashing.Hashing.{Hashing}
 use Rattle.ppmacro.specs.Names.{HideSet}
 use Rattle.ppmacro.specs.Hiding.{Hiding}
 use Rattle.ppmacro.specs.HideSetPool.{HideSetPool}
@@ -9,8 +10,8 @@ use Rattle.ppmacro.specs.PairCache.{KeepsPairs}
 use Rattle.ppmacro.specs.declared.hidden_token.Hidden.{Hidden}
 
 -- The pool with only the empty set.
-abbrev pub initial_pool : HideSetPool
-initial_pool = record { sets = set.empty ∷ []; unions = []; intersections = [] }
+abbrev pub initial_pool : Hashing → HideSetPool
+initial_pool hashing = record { sets = set.empty ∷ []; unions = []; intersections = []; hashing = hashing }
 
 -- The set with this number.
 abbrev pub set_at : HideSetPool → ℕ → HideSet
@@ -20,12 +21,13 @@ set_at sets n = slice_index_or sets.sets n set.empty
 abbrev pub IsKnown : HideSetPool → ℕ → Type 0
 IsKnown sets n = n < length sets.sets
 
--- Each set keeps its number, and each pair its result. There may be more.
+-- Each set keeps its number, and each pair its result. There may be more. They are hashed as before.
 pub record KeepsSets (old new : HideSetPool) : Type 0 where
   pub more : List HideSet
   pub is : new.sets ≡ old.sets ++ more
   pub unions : KeepsPairs old.unions new.unions
   pub intersections : KeepsPairs old.intersections new.intersections
+  pub hashing : new.hashing ≡ old.hashing
 
 -- The names of a set, and of an extra set if there is one.
 abbrev pub hidden_names : HideSetPool → ℕ → Option ℕ → HideSet

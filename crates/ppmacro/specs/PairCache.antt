@@ -1,13 +1,9 @@
 -- Results by pairs of numbers.
 use Rattle.std.specs.Prelude.{◌≡◌, ℕ, Bool, ◌&&◌, nat_eq, List, ◌++◌, Option, Some, if◌then◌else◌}
 use Rattle.std.specs.Map.{lookup}
-use Rattle.std.specs.Coded.{Coded, coded_list, coded_ℕ, coded×}
 
 abbrev pub CachedPairs : Type 0
 CachedPairs = List ((ℕ × ℕ) × ℕ)
-
-abbrev pub cached_pairs_code : Coded CachedPairs
-cached_pairs_code = coded_list (coded× (coded× coded_ℕ coded_ℕ) coded_ℕ)
 
 abbrev pub same_pair : ℕ × ℕ → ℕ × ℕ → Bool
 same_pair x y = nat_eq x.0 y.0 && nat_eq x.1 y.1

@@ -1,34 +1,18 @@
 -- The results of the parts of a substitution, as tokens with hide sets.
-use Rattle.std.specs.Prelude.{◌≡◌, ℕ, List, [], ◌∷◌, ◌++◌, map, Option, Some, None, Vec, Bool, Result, Ok, Err}
+use Rattle.std.specs.Prelude.{ℕ, List, [], ◌∷◌, map, Option, Some, None, Vec, Bool}
 use Rattle.std.specs.Global.{Global}
-use Rattle.std.specs.FinSet as set
 use Rattle.std.specs.List.{AllByRecursion}
 use Rattle.std.specs.Option.{option_map}
 use Rattle.pptext.specs.declared.tokens.Token.{Token}
-use Rattle.pptext.specs.declared.tokens.Fault.{Fault}
 use Rattle.ppmacro.specs.HideSetPool.{HideSetPool}
-use Rattle.ppmacro.specs.Hiding.{Hiding}
-use Rattle.ppmacro.specs.HideSets.{set_at, hiding, hidings, AllKnown}
-use Rattle.ppmacro.specs.Lexing.{kind_of}
-use Rattle.ppmacro.specs.Substitution.{Arguments, Replacement, argument_at, expanded_at, space_first}
+use Rattle.ppmacro.specs.HideSets.{hidings, AllKnown}
+use Rattle.ppmacro.specs.Substitution.{Arguments, Replacement, argument_at, expanded_at}
 use Rattle.ppmacro.specs.declared.hidden_token.Hidden.{Hidden}
 use Rattle.ppmacro.specs.declared.hidden_token.ArgumentExpansion.{ArgumentExpansion}
 use Rattle.ppmacro.specs.declared.hidden_token.ArgumentExpansion.TheVariants.{Unused, AsGiven, Owned}
 
 abbrev pub tokens_of : List Hidden → List Token
 tokens_of hs = map (λ h. h.token) hs
-
-abbrev pub hidden_in : HideSetPool → Result Hidden Fault → Result Hiding Fault
-hidden_in sets (Ok h) = Ok (hiding sets h)
-hidden_in sets (Err f) = Err f
-
--- The token's kind is the kind of its spelling.
-abbrev pub HasSpelledKind : Hidden → Type 0
-HasSpelledKind h = kind_of h.token.text ≡ Some h.token.kind
-
--- The last token's kind is the kind of its spelling.
-abbrev pub EndsWithSpelledKind : List Hidden → Type 0
-EndsWithSpelledKind hs = (front : List Hidden) (last : Hidden) → hs ≡ front ++ last ∷ [] → HasSpelledKind last
 
 abbrev pub lists_of : List (Vec Hidden Global) → List (List Hidden)
 lists_of vs = map (λ v. v.items) vs
@@ -57,19 +41,6 @@ pub record ArgumentsKnown (sets : HideSetPool) (given : List (Vec Hidden Global)
 abbrev pub arguments_in : HideSetPool → List (Vec Hidden Global) → List ArgumentExpansion → Arguments
 arguments_in sets given expanded = record { given = map (hidings sets) (lists_of given); expanded = map (λ o. option_map (hidings sets) o) (expansions_if_computed given expanded) }
 
-abbrev pub replacement_in : HideSetPool → Result (Vec Hidden Global × Bool) Fault → Result Replacement Fault
-replacement_in sets (Ok m) = Ok (record { tokens = hidings sets m.0.items; pending = m.1 })
-replacement_in sets (Err f) = Err f
-
--- A list followed by the tokens of a chain, the first with this leading-space flag.
-abbrev pub pushed : List Hiding → Bool → Result (List Hiding) Fault → Result Replacement Fault
-pushed front space (Ok ts) = Ok (record { tokens = front ++ (space_first space ts).tokens; pending = (space_first space ts).pending })
-pushed front space (Err f) = Err f
-
 -- The tokens that a call leaves, with the pending flag that it returns.
 abbrev pub as_replacement : HideSetPool → List Hidden → Bool → Replacement
 as_replacement sets hs pending = record { tokens = hidings sets hs; pending = pending }
-
--- The set with number n is a subset of the set with number `added`.
-abbrev pub IsSubset : HideSetPool → ℕ → ℕ → Type 0
-IsSubset sets added n = set.union (set_at sets n) (set_at sets added) ≡ set_at sets added

@@ -24,12 +24,12 @@ is_literal StringLiteral = true
 is_literal _ = false
 
 -- A backslash before each `"` and `\`.
-abbrev pub escaped : List ℕ → List ℕ
-escaped [] = []
-escaped (b ∷ bs) = if b == 34 || b == 92 then 92 ∷ (b ∷ escaped bs) else b ∷ escaped bs
+abbrev pub escaped_literal : List ℕ → List ℕ
+escaped_literal [] = []
+escaped_literal (b ∷ bs) = if b == 34 || b == 92 then 92 ∷ (b ∷ escaped_literal bs) else b ∷ escaped_literal bs
 
 abbrev pub spelled_in_string : Token → List ℕ
-spelled_in_string t = if is_literal t.kind then escaped t.text else t.text
+spelled_in_string t = if is_literal t.kind then escaped_literal t.text else t.text
 
 -- White space between two tokens becomes one space. There is none before the first token.
 abbrev pub spelled_space : Bool → Token → List ℕ
@@ -84,9 +84,9 @@ join_all left (right ∷ rest) used = after_ok (join left right used) (λ ts. jo
 
 -- ---- operands and chains
 
--- The arguments of an invocation, and for each parameter its argument's expansion, or `None` if the replacement list uses it only
--- next to `#` or `##`. A variable argument that is absent (gcc's manual, "Variadic Macros") isn't in `given`, which is then one
--- shorter than the list of parameters.
+-- The arguments of an invocation, and for each parameter its argument's expansion, or `None` if the replacement list doesn't use
+-- the parameter, or only next to `#` or `##`. A variable argument that is absent (gcc's manual, "Variadic Macros") isn't in `given`,
+-- which is then one shorter than the list of parameters.
 pub record Arguments : Type 0 where
   pub given : List (List Hiding)
   pub expanded : List (Option (List Hiding))

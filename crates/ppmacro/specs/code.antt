@@ -5,3 +5,6 @@ pub mod Operations
 pub mod PoolInvariant
 pub mod NameFilter
 pub mod ChainParts
+pub mod Hashed
+pub mod Defining
+pub mod Replacing

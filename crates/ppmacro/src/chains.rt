@@ -1,4 +1,11 @@
 //! The chains of a replacement list: sequences of operands that `##` joins (6.10.3.2, 6.10.3.3).
+//!
+//! A list is read once, from left to right, as parts: an operand, which is a token, a parameter, or `#` with a parameter; or `##`.
+//! An operand after `##` goes to the last chain, and another begins a chain. In GNU C the last operand of a chain may then become
+//! a variable argument after a comma.
+//!
+//! A macro may have many parameters, and a list may use them often. If there are many of both, the names are indexed. The index
+//! lives only while a list is read, and hashes with the key that the caller gives.
 ghost use Rattle.std.specs.Prelude.{◌≡◌, IfOk, OnOk, None, List, [], ◌∷◌, ◌++◌, map, false, position};
 ghost use Rattle.std.specs.Str.{bytes_eq};
 ghost use Rattle.std.specs.Option.{option_map};
@@ -13,8 +20,8 @@ use crate::name_key::NameKey;
 use crate::parameter_index::{MAX_SCANNED, index_names};
 use crate::replacement_list::BodyToken;
 use indexmap::IndexSet;
-use pptext::{Hashing, Place, Spelling, Token};
-use std::alloc::{AllocError, Global};
+use pptext::{Hashing, Memory, Place, Spelling, Token};
+use std::alloc::Global;
 use std::marker::Model;
 
 /// The leading-space flag and the location of a `#` operator.
@@ -41,24 +48,26 @@ pub(crate) enum ChainPart<'a> {
     PastePart,
 }
 
-/// The kind of a macro, with an index of its parameters if there are many. Contracts see only the kind.
+/// The kind of a macro, with an index of its parameters if there are many. Contracts see the kind, and how the index hashes names.
 #[derive(Drop)]
 pub(crate) struct Parameters<'p> {
     kind: &'p MacroKind,
+    hashing: Hashing,
     index: Option<IndexSet<NameKey<'p>, Hashing>>,
 }
 
 impl<'p> Model for Parameters<'p> {
     ghost use Rattle.std.specs.Prelude.{◌≡◌};
     ghost use Rattle.std.specs.Option.{IfSome};
+    ghost use Rattle.std.specs.HashSet.{hasher_of};
     ghost use Rattle.ppmacro.specs.Chains.{parameter_names};
-    ghost use Rattle.ppmacro.specs.declared.macros.MacroKind.{MacroKind};
+    ghost use Rattle.ppmacro.specs.code.Hashed.{HashedParameters};
 
-    ghost Value = { MacroKind };
+    ghost Value = { HashedParameters };
 
-    ghost view = { λ p. p.kind.now };
+    ghost view = { λ p. record { kind = p.kind.now; hashing = p.hashing } };
 
-    ghost invariant = { λ p. IfSome p.index (λ s. s.keys ≡ parameter_names p.kind.now) };
+    ghost invariant = { λ p. IfSome p.index (λ s. (s.keys ≡ parameter_names p.kind.now) × (hasher_of s ≡ p.hashing)) };
 }
 
 /// Returns the names of the parameters. The name of the variable argument is the last.
@@ -79,20 +88,29 @@ impl<'p> Parameters<'p> {
         kind: &'p MacroKind,
         token_count: usize,
         hashing: Hashing,
-    ) -> Result<Parameters<'p>, AllocError>
-        ensures { IfOk result (λ p. p ≡ kind.now) }
+    ) -> Result<Parameters<'p>, Memory>
+        ensures kind { IfOk result (λ p. p.kind ≡ kind.now) }
+        ensures hashing { IfOk result (λ p. p.hashing ≡ hashing) }
     {
         let names = parameter_names(kind);
         if names.len() <= MAX_SCANNED || token_count <= MAX_SCANNED {
-            return Ok(Parameters { kind, index: None });
+            return Ok(Parameters {
+                kind,
+                hashing,
+                index: None,
+            });
         }
         let index = index_names(alloc, names, hashing)?;
-        Ok(Parameters { kind, index })
+        Ok(Parameters {
+            kind,
+            hashing,
+            index,
+        })
     }
 
     /// Returns the index of the parameter with this name.
     fn index_of(&self, name: &[u8]) -> Option<usize>
-        ensures { result ≡ position (λ n. bytes_eq n name.now) (parameter_names self.now) }
+        ensures { result ≡ position (λ n. bytes_eq n name.now) (parameter_names self.now.kind) }
     {
         match &self.index {
             Some(index) => index.get_index_of(&NameKey { bytes: name }),
@@ -106,7 +124,7 @@ impl<'p> Parameters<'p> {
 /// Returns the index of the parameter with this name. Only identifiers need the call.
 #[inline(never)]
 fn parameter_named(kind: &Parameters, name: &[u8]) -> Option<usize>
-    ensures { result ≡ parameter_named kind.now name.now }
+    ensures { result ≡ parameter_named kind.now.kind name.now }
 {
     kind.index_of(name)
 }
@@ -114,7 +132,7 @@ fn parameter_named(kind: &Parameters, name: &[u8]) -> Option<usize>
 /// Returns the index of the parameter that a token names.
 #[inline(always)]
 pub(crate) fn parameter_of(kind: &Parameters, token: &Token) -> Option<usize>
-    ensures { result ≡ parameter_of kind.now token.now }
+    ensures { result ≡ parameter_of kind.now.kind token.now }
 {
     if token.is_identifier() {
         parameter_named(kind, token.text.as_bytes())
@@ -132,14 +150,14 @@ pub(crate) fn is_function_like(kind: &MacroKind) -> bool
 
 /// Returns whether a token is the operator `#`. In an object-like macro `#` is no operator.
 pub(crate) fn is_operator_hash(kind: &Parameters, token: &Token) -> bool
-    ensures { result ≡ is_operator_hash kind.now token.now }
+    ensures { result ≡ is_operator_hash kind.now.kind token.now }
 {
     is_function_like(kind.kind) && is_hash(token)
 }
 
 /// Returns a token as an operand, with its leading-space flag.
 fn plain_operand<'a>(kind: &Parameters, token: &'a Token) -> (bool, Operand<'a>)
-    ensures { specification.OperandPart result.0 result.1 ≡ plain_part (parameter_of kind.now token.now) token.now }
+    ensures { specification.OperandPart result.0 result.1 ≡ plain_part (parameter_of kind.now.kind token.now) token.now }
 {
     let Some(index) = parameter_of(kind, token) else {
         return (token.space, Operand::Tok(BodyToken::new(token)));
@@ -153,7 +171,7 @@ fn stringized_operand<'a>(
     hash: HashSign,
     token: &'a Token,
 ) -> (bool, Operand<'a>)
-    ensures { specification.OperandPart result.0 result.1 ≡ stringized_part (parameter_of kind.now token.now) hash token.now }
+    ensures { specification.OperandPart result.0 result.1 ≡ stringized_part (parameter_of kind.now.kind token.now) hash token.now }
 {
     let Some(index) = parameter_of(kind, token) else {
         return (token.space, Operand::Tok(BodyToken::new(token)));
@@ -167,7 +185,7 @@ fn next_part<'a>(
     hash: Option<HashSign>,
     token: &'a Token,
 ) -> Option<ChainPart<'a>>
-    ensures { (ts : List Token) → parts_after kind.now hash (token.now ∷ ts) ≡ with_first_part kind.now token.now
+    ensures { (ts : List Token) → parts_after kind.now.kind hash (token.now ∷ ts) ≡ with_first_part kind.now.kind token.now
         (option_map (elim [ ChainPart.OperandPart space operand ↦ specification.OperandPart space operand | ChainPart.PastePart ↦ specification.PastePart ]) result) ts }
 {
     if let Some(sign) = hash {
@@ -189,7 +207,7 @@ fn begin_chain<'a>(
     chains: &mut Vec<Chain<'a>>,
     space: bool,
     operand: Operand<'a>,
-) -> Result<(), AllocError>
+) -> Result<(), Memory>
     ensures { OnOk result (chains.new.items ≡ chains.old.items ++ record { space = space; operands = operand.entry ∷ [] } ∷ []) }
 {
     let operands = Operands::new(operand);
@@ -203,7 +221,7 @@ fn put<'a>(
     joined: bool,
     space: bool,
     operand: Operand<'a>,
-) -> Result<(), AllocError>
+) -> Result<(), Memory>
     ensures { OnOk result ((ps : List specification.ChainPart) →
         append_parts false chains.new.items ps ≡ append_parts joined chains.old.items (specification.OperandPart space operand.entry ∷ ps)) }
 {
@@ -224,7 +242,7 @@ fn put_part<'a>(
     chains: &mut Vec<Chain<'a>>,
     joined: bool,
     item: ChainPart<'a>,
-) -> Result<bool, AllocError>
+) -> Result<bool, Memory>
     ensures { IfOk result (λ j. (ps : List specification.ChainPart) → append_parts j chains.new.items ps ≡ append_parts joined chains.old.items
         ((elim item.entry [ ChainPart.OperandPart space operand ↦ specification.OperandPart space operand | ChainPart.PastePart ↦ specification.PastePart ]) ∷ ps)) }
 {
@@ -235,13 +253,16 @@ fn put_part<'a>(
     Ok(false)
 }
 
-/// Returns the chains of a replacement list, before `end_in_variadic`.
+/// Returns the chains of a replacement list, before `end_in_variadic`. The parameters are indexed with `_hashing`, which only the
+/// contract reads.
 fn chains_in<'a>(
     alloc: Global,
     kind: &Parameters,
+    _hashing: Hashing,
     body: &'a [Token],
-) -> Result<Vec<Chain<'a>>, AllocError>
-    ensures { IfOk result (λ v. v.items ≡ group_parts (parts_after kind.now None body.now)) }
+) -> Result<Vec<Chain<'a>>, Memory>
+    requires { kind.now.hashing ≡ _hashing }
+    ensures { IfOk result (λ v. v.items ≡ group_parts (parts_after kind.now.kind None body.now)) }
 {
     let mut chains = Vec::with_capacity(alloc, body.len())?;
     let mut joined = false;
@@ -290,12 +311,12 @@ pub(crate) fn chains_of<'a>(
     alloc: Global,
     definition: &Macro<'a>,
     hashing: Hashing,
-) -> Result<Chains<'a>, AllocError>
+) -> Result<Chains<'a>, Memory>
     ensures { IfOk result (λ c. c ≡ chains_of definition.now) }
 {
     let body = definition.body.as_slice();
     let kind = Parameters::new(alloc, &definition.kind, body.len(), hashing)?;
-    let mut chains = chains_in(alloc, &kind, body)?;
+    let mut chains = chains_in(alloc, &kind, hashing, body)?;
     end_in_variadic(&definition.kind, chains.as_mut_slice());
     Ok(Chains::new(chains))
 }

@@ -1,10 +1,18 @@
 //! Tokens with their hide sets. Source tokens are borrowed from their file and not copied.
+//!
+//! A token has one hide set or two, and a macro whose name is in either may not replace it. The tokens of an argument go through
+//! many replacements. Each adds the names that the one before added, and one more. So the second set is replaced by its larger
+//! successor without a union, and the first keeps the token's other names. The union is computed when a third set is added, or
+//! when the token is replaced or pasted.
+//!
+//! What differs between two uses of a source token stands beside the reference to it: the leading-space flag, the expansion
+//! location and the hide sets. Only the tokens that `#`, `##` and predefined names make are on the heap.
 ghost use Rattle.std.specs.Prelude.{◌≡◌, ◌++◌, IfOk, if◌then◌else◌, Some, None};
 ghost use Rattle.ppmacro.specs.HiddenView.{used_at, extended, extra_set};
 
 use crate::hide_sets::Set;
-use pptext::{Kind, Place, Spelling, Token};
-use std::alloc::{AllocError, Global};
+use pptext::{Kind, Memory, Place, Spelling, Token};
+use std::alloc::Global;
 use std::marker::Model;
 
 /// A source token or a synthesized one, with its own leading-space flag and its second hide set, if it has two. The flags are
@@ -117,7 +125,7 @@ impl<'a> StoredToken<'a> {
     }
 
     /// Appends bytes to the spelling of a synthesized token. Returns `false` for a source token, which is unchanged.
-    fn extend(&mut self, alloc: Global, more: &[u8]) -> Result<bool, AllocError>
+    fn extend(&mut self, alloc: Global, more: &[u8]) -> Result<bool, Memory>
         ensures { IfOk result (λ synthesized. self.new ≡ (if synthesized then (record self.old.0 { text = self.old.0.text ++ more.now }, self.old.1, self.old.2) else self.old)) }
     {
         match &mut self.storage {
@@ -142,7 +150,7 @@ pub struct Hidden<'a> {
 /// The expansion of an argument.
 #[derive(Drop)]
 pub enum ArgumentExpansion<'a> {
-    /// It isn't computed: the parameter is only used next to `#` and `##`.
+    /// It isn't computed: the parameter isn't used, or only next to `#` and `##`.
     Unused,
     /// It is the argument itself.
     AsGiven,
@@ -178,7 +186,7 @@ impl<'a> Hidden<'a> {
     }
 
     /// Wraps a synthesized token.
-    pub fn synthesized(alloc: Global, token: Token, hide: Set) -> Result<Hidden<'a>, AllocError>
+    pub fn synthesized(alloc: Global, token: Token, hide: Set) -> Result<Hidden<'a>, Memory>
         ensures { IfOk result (λ h. h ≡ record { token = token; hide = hide; extra = None }) }
     {
         let used = token.used;
@@ -219,14 +227,14 @@ impl<'a> Hidden<'a> {
     }
 
     /// Returns a copy of the spelling.
-    pub fn spelling(&self) -> Result<Spelling, AllocError>
+    pub fn spelling(&self) -> Result<Spelling, Memory>
         ensures { IfOk result (λ s. s ≡ self.now.token.text) }
     {
         self.token.token().text.clone()
     }
 
     /// Returns a copy of the token.
-    pub fn to_token(&self) -> Result<Token, AllocError>
+    pub fn to_token(&self) -> Result<Token, Memory>
         ensures { IfOk result (λ t. t ≡ self.now.token) }
     {
         Ok(Token {
@@ -274,7 +282,7 @@ impl<'a> Hidden<'a> {
     }
 
     /// Appends bytes to the spelling of a synthesized token. Returns `false` for a source token, which is unchanged.
-    pub(crate) fn extend(&mut self, alloc: Global, more: &[u8]) -> Result<bool, AllocError>
+    pub(crate) fn extend(&mut self, alloc: Global, more: &[u8]) -> Result<bool, Memory>
         ensures { IfOk result (λ synthesized. self.new ≡ (if synthesized then extended self.old more.now else self.old)) }
     {
         self.token.extend(alloc, more)
@@ -312,7 +320,7 @@ impl<'a> Clone for StoredToken<'a> {
     ghost is_clone = { λ a b. b ≡ a };
 
     #[inline(always)]
-    fn clone(&self) -> Result<StoredToken<'a>, AllocError> {
+    fn clone(&self) -> Result<StoredToken<'a>, Memory> {
         match &self.storage {
             TokenStorage::Source {
                 space,
@@ -350,7 +358,7 @@ impl<'a> Clone for Hidden<'a> {
     ghost is_clone = { λ a b. b ≡ a };
 
     #[inline(always)]
-    fn clone(&self) -> Result<Hidden<'a>, AllocError> {
+    fn clone(&self) -> Result<Hidden<'a>, Memory> {
         let token = self.token.clone()?;
         Ok(Hidden {
             token,

@@ -1,4 +1,13 @@
 //! Hide sets: the names of the macros that may not replace a token (Prosser's algorithm).
+//!
+//! A token has the number of a set, and a pool has the sets. Names have numbers, too, and a set is a node of a trie over these
+//! (`nodes`). Each node exists once, so sets with equal members have equal numbers, and `==` on numbers compares sets.
+//!
+//! A unit computes few different unions and intersections, but computes them for many tokens. So both operations cache their
+//! results by pairs of sets: a second call with the same pair allocates nothing and can't fail. Existing sets never change.
+//!
+//! Names come from the files that are preprocessed, so whoever writes these could choose names that collide. All tables of a pool
+//! hash with the key that the pool is made with, and each contract promises that the key stays.
 ghost use Rattle.std.specs.Prelude.{◌≡◌, ◌↔◌, IsTrue, ℕ, Some, Ok, IfOk, OnErr};
 ghost use Rattle.std.specs.FinSet as set;
 ghost use Rattle.ppmacro.specs.HideSets.{set_at, IsKnown, KeepsSets, initial_pool};
@@ -44,30 +53,35 @@ pub struct HideSets {
 }
 
 impl Model for HideSets {
+    ghost use Rattle.std.specs.HashSet.{hasher_of};
+    ghost use Rattle.std.specs.FinSet as set;
+    ghost use Rattle.std.specs.Coded.{codes, coded_list, coded_ℕ};
+    ghost use Rattle.std.specs.Ordering.{nat_cmp};
+    ghost use Rattle.std.specs.Cmp.Lexicographic.{slice_cmp};
     ghost use Rattle.ppmacro.specs.code.Members.{hide_sets};
-    ghost use Rattle.ppmacro.specs.HideSetPool.{HideSetPool, numbered_code};
-    ghost use Rattle.ppmacro.specs.code.PoolInvariant.{IsConsistentPool};
+    ghost use Rattle.ppmacro.specs.HideSetPool.{HideSetPool};
+    ghost use Rattle.ppmacro.specs.code.PoolInvariant.{IsPoolHashedBy};
 
     ghost Value = { HideSetPool };
 
-    ghost coded = { numbered_code };
+    ghost coded = { Prim.hlevel (codes, coded_list (set.code {R = slice_cmp nat_cmp} (coded_list coded_ℕ))) };
 
-    ghost view = { λ s. record { sets = hide_sets s.names s.nodes.keys; unions = s.unions; intersections = s.intersections } };
+    ghost view = { λ s. record { sets = hide_sets s.names.names s.nodes.keys; unions = s.unions.results; intersections = s.intersections.results; hashing = hasher_of s.nodes } };
 
-    ghost invariant = { λ s. IsConsistentPool s.names s.nodes.keys s.unions s.intersections };
+    ghost invariant = { λ s. IsPoolHashedBy (hasher_of s.nodes) s.names s.nodes.keys s.unions s.intersections };
 }
 
 impl HideSets {
     /// Creates a pool with only the empty set. The hash function has a fixed key: see `with_hasher` for untrusted names.
     pub fn new(alloc: Global) -> Result<HideSets, Memory>
-        ensures { IfOk result (λ s. s ≡ initial_pool) }
+        ensures { IfOk result (λ s. s ≡ initial_pool s.hashing) }
     {
         HideSets::with_hasher(alloc, Hashing::fixed())
     }
 
     /// Creates a pool with only the empty set. Names, nodes and cached pairs are hashed with `hashing`.
     pub fn with_hasher(alloc: Global, hashing: Hashing) -> Result<HideSets, Memory>
-        ensures { IfOk result (λ s. s ≡ initial_pool) }
+        ensures { IfOk result (λ s. s ≡ initial_pool hashing) }
     {
         Ok(HideSets {
             alloc,
@@ -76,6 +90,13 @@ impl HideSets {
             unions: PairCache::new(alloc, hashing),
             intersections: PairCache::new(alloc, hashing),
         })
+    }
+
+    /// Returns how names, nodes and cached pairs are hashed: the `Hashing` that was given.
+    pub fn hashing(&self) -> Hashing
+        ensures { result ≡ self.now.hashing }
+    {
+        *self.nodes.hasher()
     }
 
     /// Returns the empty set.

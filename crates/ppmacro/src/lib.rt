@@ -29,6 +29,6 @@ pub use macros::{
 pub use patterns::{Entry, Pattern};
 pub use replacement_list::{BodyToken, ReplacementList};
 pub use substituting::{
-    decides_each_kind, paste, push_escaped, stringize, substitute, substitute_pattern,
+    argument_of, decides_each_kind, paste, push_escaped, stringize, substitute, substitute_pattern,
 };
 pub use tables::Table;

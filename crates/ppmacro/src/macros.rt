@@ -1,4 +1,11 @@
 //! Macro definitions.
+//!
+//! A macro has its replacement list as it stands in the file, and not in the form that substitution reads: most macros of a unit
+//! are never used, and reading a list costs more than keeping it. An invocation asks for the cheapest form that fits. `lone_tokens`
+//! are for an object-like macro without `##`, `pattern` is for all others, and `chains` are the general form, to which the
+//! contracts of the other two refer.
+//!
+//! A chain of one operand, the usual case, needs no allocation.
 ghost use Rattle.std.specs.Prelude.{◌≡◌, OnOk, IfOk, IfSome, ◌++◌, ◌∷◌, [], map, if◌then◌else◌};
 ghost use Rattle.std.specs.List.{list_any};
 ghost use Rattle.std.specs.Option.{option_copied};
@@ -12,8 +19,8 @@ use crate::chains::chains_of;
 use crate::hash_operators::is_paste;
 use crate::patterns::{Pattern, pattern_of};
 use crate::replacement_list::{BodyToken, ReplacementList};
-use pptext::{Hashing, Place, Sequence, Spelling, Token};
-use std::alloc::{AllocError, Global};
+use pptext::{Hashing, Memory, Place, Sequence, Spelling, Token};
+use std::alloc::Global;
 use std::marker::Model;
 use std::{mem, slice};
 
@@ -154,7 +161,7 @@ impl<'a> Operands<'a> {
     }
 
     /// Appends an operand.
-    pub(crate) fn push(&mut self, alloc: Global, operand: Operand<'a>) -> Result<(), AllocError>
+    pub(crate) fn push(&mut self, alloc: Global, operand: Operand<'a>) -> Result<(), Memory>
         ensures ok { OnOk result (self.new ≡ self.old ++ operand.entry ∷ []) }
     {
         match &mut self.storage {
@@ -226,18 +233,14 @@ impl<'a> Macro<'a> {
 
     /// Returns the chains of the replacement list. The hash function for parameters has a fixed key: see `chains_with_hasher` for
     /// untrusted names.
-    pub fn chains(&self, alloc: Global) -> Result<Chains<'a>, AllocError>
+    pub fn chains(&self, alloc: Global) -> Result<Chains<'a>, Memory>
         ensures { IfOk result (λ c. c ≡ chains_of self.now) }
     {
         self.chains_with_hasher(alloc, Hashing::fixed())
     }
 
     /// Returns the chains of the replacement list. Many parameters are indexed with hash function `hashing`.
-    pub fn chains_with_hasher(
-        &self,
-        alloc: Global,
-        hashing: Hashing,
-    ) -> Result<Chains<'a>, AllocError>
+    pub fn chains_with_hasher(&self, alloc: Global, hashing: Hashing) -> Result<Chains<'a>, Memory>
         ensures { IfOk result (λ c. c ≡ chains_of self.now) }
     {
         chains_of(alloc, self, hashing)
@@ -245,7 +248,7 @@ impl<'a> Macro<'a> {
 
     /// Returns the replacement list for `substitute_pattern`: chains only if it contains `#` or `##`. Many parameters are indexed
     /// with hash function `hashing`.
-    pub fn pattern(&self, alloc: Global, hashing: Hashing) -> Result<Pattern<'a>, AllocError>
+    pub fn pattern(&self, alloc: Global, hashing: Hashing) -> Result<Pattern<'a>, Memory>
         ensures { IfOk result (λ p. pattern_chains p ≡ chains_of self.now) }
     {
         pattern_of(alloc, self, hashing)

@@ -3,8 +3,8 @@
 ghost use Rattle.std.specs.Prelude.{◌≡◌, ◌+◌, ◌<◌, ℕ, List, length, min};
 ghost use Rattle.ppmacro.specs.code.NameFilter.{fingerprint_of, short_fingerprint, slot_of};
 
-use pptext::u32_at;
-use std::alloc::{AllocError, Global};
+use pptext::{Memory, u32_at};
+use std::alloc::Global;
 use std::marker::Model;
 
 /// The number of slots. A fingerprint is the index of a slot.
@@ -70,7 +70,7 @@ fn slot_value(position: usize) -> u16
 
 impl NameFilter {
     /// Creates an empty filter.
-    pub(crate) fn new(alloc: Global) -> Result<NameFilter, AllocError> {
+    pub(crate) fn new(alloc: Global) -> Result<NameFilter, Memory> {
         Ok(NameFilter {
             filter: vec![in alloc; 0; SLOTS]?,
         })

@@ -1,4 +1,7 @@
 //! Names as keys of a hash table.
+ghost use Rattle.std.specs.Prelude.{◌≡◌};
+
+use pptext::Token;
 use std::hash::{Hash, Hasher};
 use std::marker::Model;
 
@@ -14,6 +17,17 @@ impl<'a> Model for NameKey<'a> {
     ghost Value = { List ℕ };
 
     ghost view = { λ k. k.bytes.now };
+}
+
+impl<'a> NameKey<'a> {
+    /// Returns the spelling of a token as a key.
+    pub(crate) fn of(token: &'a Token) -> NameKey<'a>
+        ensures { result ≡ token.now.text }
+    {
+        NameKey {
+            bytes: token.text.as_bytes(),
+        }
+    }
 }
 
 impl PartialEq for NameKey<'_> {

@@ -8,8 +8,8 @@ use crate::chains::{Parameters, chains_of, parameter_of};
 use crate::hash_operators::{is_hash, is_paste};
 use crate::macros::{Chains, Macro};
 use crate::replacement_list::BodyToken;
-use pptext::{Hashing, Kind, Token};
-use std::alloc::{AllocError, Global};
+use pptext::{Hashing, Kind, Memory, Token};
+use std::alloc::Global;
 
 /// A token or a parameter of a replacement list without `#` and `##`.
 #[derive(Drop)]
@@ -53,7 +53,7 @@ fn has_operator(tokens: &[Token]) -> bool
 
 /// Returns the entry for a token.
 fn entry_of<'a>(kind: &Parameters, token: &'a Token) -> Entry<'a>
-    ensures { result ≡ entry_of kind.now token.now }
+    ensures { result ≡ entry_of kind.now.kind token.now }
 {
     match parameter_of(kind, token) {
         Some(index) => Entry::Param(token.space, index),
@@ -66,8 +66,8 @@ fn push_entries<'a>(
     entries: &mut Vec<Entry<'a>>,
     kind: &Parameters,
     tokens: &'a [Token],
-) -> Result<(), AllocError>
-    ensures { OnOk result (entries.new.items ≡ entries.old.items ++ map (entry_of kind.now) tokens.now) }
+) -> Result<(), Memory>
+    ensures { OnOk result (entries.new.items ≡ entries.old.items ++ map (entry_of kind.now.kind) tokens.now) }
 {
     for token in tokens {
         entries.push(entry_of(kind, token))?;
@@ -75,13 +75,16 @@ fn push_entries<'a>(
     Ok(())
 }
 
-/// Returns the entries for the tokens of a replacement list.
+/// Returns the entries for the tokens of a replacement list. The parameters are indexed with `_hashing`, which only the contract
+/// reads.
 fn entries_of<'a>(
     alloc: Global,
     kind: &Parameters,
+    _hashing: Hashing,
     body: &'a [Token],
-) -> Result<Vec<Entry<'a>>, AllocError>
-    ensures { IfOk result (λ v. v.items ≡ map (entry_of kind.now) body.now) }
+) -> Result<Vec<Entry<'a>>, Memory>
+    requires { kind.now.hashing ≡ _hashing }
+    ensures { IfOk result (λ v. v.items ≡ map (entry_of kind.now.kind) body.now) }
 {
     let mut entries = Vec::with_capacity(alloc, body.len())?;
     push_entries(&mut entries, kind, body)?;
@@ -93,12 +96,12 @@ fn entries_in<'a>(
     alloc: Global,
     definition: &Macro<'a>,
     hashing: Hashing,
-) -> Result<Vec<Entry<'a>>, AllocError>
+) -> Result<Vec<Entry<'a>>, Memory>
     ensures { IfOk result (λ v. v.items ≡ map (entry_of definition.now.kind) definition.now.body) }
 {
     let body = definition.body.as_slice();
     let kind = Parameters::new(alloc, &definition.kind, body.len(), hashing)?;
-    entries_of(alloc, &kind, body)
+    entries_of(alloc, &kind, hashing, body)
 }
 
 /// Returns a definition's replacement list. Many parameters are indexed with hash function `hashing`. Not inlined, to keep its
@@ -108,7 +111,7 @@ pub(crate) fn pattern_of<'a>(
     alloc: Global,
     definition: &Macro<'a>,
     hashing: Hashing,
-) -> Result<Pattern<'a>, AllocError>
+) -> Result<Pattern<'a>, Memory>
     ensures { IfOk result (λ p. pattern_chains p ≡ chains_of definition.now) }
 {
     if has_operator(definition.body.as_slice()) {

@@ -4,38 +4,6 @@ ghost use Rattle.std.specs.Prelude.{◌≡◌};
 use pptext::Token;
 use std::marker::Model;
 
-/// The spelling of a source token.
-#[derive(Drop)]
-pub(crate) struct SpellingRef<'a> {
-    bytes: &'a [u8],
-}
-
-impl<'a> Model for SpellingRef<'a> {
-    ghost use Rattle.std.specs.Prelude.{ℕ, List};
-
-    ghost Value = { List ℕ };
-
-    ghost view = { λ t. t.bytes.now };
-}
-
-impl<'a> SpellingRef<'a> {
-    /// Returns the spelling of a token.
-    pub(crate) fn of(token: &'a Token) -> SpellingRef<'a>
-        ensures { result ≡ token.now.text }
-    {
-        SpellingRef {
-            bytes: token.text.as_bytes(),
-        }
-    }
-
-    /// Returns the bytes.
-    pub(crate) fn bytes(&self) -> &'a [u8]
-        ensures { result.now ≡ self.now }
-    {
-        self.bytes
-    }
-}
-
 /// A token of a replacement list.
 #[derive(Drop)]
 pub struct BodyToken<'a> {

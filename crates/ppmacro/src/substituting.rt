@@ -1,11 +1,19 @@
 //! Substitution: what a macro's name or invocation is replaced by (6.10.3.1 to 6.10.3.3).
+//!
+//! A chain of the replacement list becomes tokens in three steps. Each `#` makes a literal, `##` joins the operands from the left,
+//! and then comes the variable argument after a comma. The chains follow one another. White space before a chain without tokens is
+//! pending for the next token, so that it isn't lost. Last, each token gets the names that the invocation adds to its hide set,
+//! and the location of the macro name.
+//!
+//! Most chains are one token or one parameter. Their tokens go straight to the result, without a list of their own.
 ghost use Rattle.std.specs.Prelude.{◌≡◌, ◌++◌, ◌∷◌, IfOk, OnOk, [], true, not, ◌||◌, ◌&&◌};
 ghost use Rattle.std.specs.FinSet as set;
 ghost use Rattle.ppmacro.specs.HideSetPool.{HideSetPool};
 ghost use Rattle.ppmacro.specs.HideSets.{set_at, IsKnown, hidings, AllKnown, KeepsSets};
 ghost use Rattle.ppmacro.specs.Substitution.{is_joined, before_variadic, variadic_of, with_variadic_tokens, chain_tokens, space_first, with_space, unhidden, chains_tokens, chains_replacement};
 ghost use Rattle.pptext.specs.Errors.{Returns};
-ghost use Rattle.ppmacro.specs.Substituting.{lists_of, ArgumentsKnown, arguments_in, replacement_in, pushed, as_replacement};
+ghost use Rattle.ppmacro.specs.Substituting.{lists_of, ArgumentsKnown, arguments_in, as_replacement};
+ghost use Rattle.ppmacro.specs.code.Replacing.{pushed};
 
 mod entries;
 mod hsadd;
@@ -19,6 +27,7 @@ pub use self::entries::substitute_pattern;
 use self::hsadd::hsadd_names;
 use self::joining::{join_all, push_all};
 pub use self::lexing::decides_each_kind;
+pub use self::operands::argument_of;
 use self::operands::{expansion, operands_tokens};
 pub use self::pasting::paste;
 pub use self::stringizing::{push_escaped, stringize};
@@ -26,8 +35,8 @@ use crate::hidden_token::Hidden;
 use crate::hide_sets::HideSets;
 use crate::invocation::{Arguments, MacroName};
 use crate::macros::{Chain, Operand};
-use pptext::{Error, Fault, Memory, Place, Token, split_memory};
-use std::alloc::{AllocError, Global};
+use pptext::{Error, Memory, Place, Token};
+use std::alloc::Global;
 
 /// Returns whether there are at least two operands, so that `##` joins them.
 fn is_joined(operands: &[Operand]) -> bool
@@ -55,7 +64,7 @@ fn append_variadic<'a>(
     tokens: &mut Vec<Hidden<'a>>,
     given: &[Vec<Hidden<'a>>],
     variadic: Option<usize>,
-) -> Result<(), AllocError>
+) -> Result<(), Memory>
     ensures { OnOk result (tokens.new.items ≡ with_variadic_tokens (lists_of given.now) variadic tokens.old.items) }
 {
     let Some(index) = variadic else {
@@ -93,7 +102,7 @@ fn chain_tokens<'x, 'a: 'x>(
 }
 
 /// Returns a copy of a token with this leading-space flag.
-fn copy_with_space<'a>(token: &Hidden<'a>, space: bool) -> Result<Hidden<'a>, AllocError>
+fn copy_with_space<'a>(token: &Hidden<'a>, space: bool) -> Result<Hidden<'a>, Memory>
     ensures { IfOk result (λ h. h ≡ record token.now { token = record token.now.token { space = space } }) }
 {
     let mut hidden = token.clone()?;
@@ -106,7 +115,7 @@ fn push_spaced<'a>(
     tokens: &mut Vec<Hidden<'a>>,
     pending: bool,
     more: &[Hidden<'a>],
-) -> Result<bool, AllocError>
+) -> Result<bool, Memory>
     ensures tokens { IfOk result (λ p. (s : HideSetPool) → hidings s tokens.new.items ≡ hidings s tokens.old.items ++ (space_first pending (hidings s more.now)).tokens) }
     ensures pending { IfOk result (λ p. (s : HideSetPool) → p ≡ (space_first pending (hidings s more.now)).pending) }
     ensures known { OnOk result ((s : HideSetPool) → AllKnown s tokens.old.items → AllKnown s more.now → AllKnown s tokens.new.items) }
@@ -126,7 +135,7 @@ fn push_token<'a>(
     tokens: &mut Vec<Hidden<'a>>,
     space: bool,
     token: &'a Token,
-) -> Result<(), AllocError>
+) -> Result<(), Memory>
     ensures tokens { OnOk result (hidings sets.now tokens.new.items ≡ hidings sets.now tokens.old.items ++ with_space space (unhidden token.now) ∷ []) }
     ensures known { OnOk result (AllKnown sets.now tokens.old.items → AllKnown sets.now tokens.new.items) }
 {
@@ -211,25 +220,30 @@ fn chains_tokens<'x, 'a: 'x>(
 
 /// Appends a token.
 #[inline(always)]
-fn push_one<'a>(tokens: &mut Vec<Hidden<'a>>, hidden: Hidden<'a>) -> Result<(), AllocError>
+fn push_one<'a>(tokens: &mut Vec<Hidden<'a>>, hidden: Hidden<'a>) -> Result<(), Memory>
     ensures { OnOk result (tokens.new.items ≡ tokens.old.items ++ hidden.entry ∷ []) }
 {
     tokens.push(hidden)?;
     Ok(())
 }
 
-/// Returns the replacement of an invocation and the leading-space flag that is pending afterwards, or fault 19 or 20.
-fn chains_replacement<'x, 'a: 'x>(
+/// Returns what a macro's name or invocation is replaced by (6.10.3.1 to 6.10.3.3), and whether white space is pending for the
+/// token after it. `chains` are the chains of the macro.
+///
+/// If a `#` or `##` fails, returns the first of these faults, at the location of the macro name: 19, two pasted tokens aren't
+/// one token, with both spellings as its text; 20, a stringized argument isn't a string literal, with that text.
+pub fn substitute<'x, 'a: 'x>(
     alloc: Global,
-    sets: &mut HideSets,
     chains: &[Chain<'a>],
     arguments: Arguments<'_, 'x>,
     macro_name: &MacroName,
+    sets: &mut HideSets,
 ) -> Result<(Vec<Hidden<'x>>, bool), Error>
     requires arguments { ArgumentsKnown sets.old arguments.given.now arguments.expanded.now }
     requires base { IsKnown sets.old macro_name.now.base }
     ensures is { Returns result (λ m. as_replacement sets.new m.0.items m.1)
-        (chains_replacement chains.now (arguments_in sets.old arguments.entry.given.now arguments.entry.expanded.now) (set.insert (set_at sets.old macro_name.now.base) macro_name.now.name.now) macro_name.now.used macro_name.now.space) }
+        (chains_replacement chains.now (arguments_in sets.old arguments.entry.given.now arguments.entry.expanded.now)
+        (set.insert (set_at sets.old macro_name.now.base) macro_name.now.name.now) macro_name.now.used macro_name.now.space) }
     ensures known { IfOk result (λ m. AllKnown sets.new m.0.items) }
     ensures keeps { KeepsSets sets.old sets.new }
 {
@@ -242,26 +256,4 @@ fn chains_replacement<'x, 'a: 'x>(
     let (mut tokens, pending) = chains_tokens(alloc, sets, arguments, used, space, chains)?;
     hsadd_names(sets, &mut tokens, base, name, used)?;
     Ok((tokens, pending))
-}
-
-/// Returns what a macro's name or invocation is replaced by (6.10.3.1 to 6.10.3.3), and whether white space is pending for the
-/// token after it. `chains` are the chains of the macro.
-///
-/// If a `#` or `##` fails, returns the first of these faults, at the location of the macro name: 19, two pasted tokens aren't
-/// one token, with both spellings as its text; 20, a stringized argument isn't a string literal, with that text. `Memory` means
-/// that an allocation fails.
-pub fn substitute<'x, 'a: 'x>(
-    alloc: Global,
-    chains: &[Chain<'a>],
-    arguments: Arguments<'_, 'x>,
-    macro_name: &MacroName,
-    sets: &mut HideSets,
-) -> Result<Result<(Vec<Hidden<'x>>, bool), Fault>, Memory>
-    requires arguments { ArgumentsKnown sets.old arguments.given.now arguments.expanded.now }
-    requires base { IsKnown sets.old macro_name.now.base }
-    ensures is { IfOk result (λ r. replacement_in sets.new r ≡ chains_replacement chains.now (arguments_in sets.old arguments.entry.given.now arguments.entry.expanded.now) (set.insert (set_at sets.old macro_name.now.base) macro_name.now.name.now) macro_name.now.used macro_name.now.space) }
-    ensures known { IfOk result (λ r. IfOk r (λ m. AllKnown sets.new m.0.items)) }
-    ensures keeps { KeepsSets sets.old sets.new }
-{
-    split_memory(chains_replacement(alloc, sets, chains, arguments, macro_name))
 }

@@ -1,8 +1,16 @@
 //! The macro table.
+//!
+//! Each identifier of a text line is looked up here, and most name no macro. So a filter of fingerprints comes first: it rejects
+//! most of these without a hash and without a comparison. For the others it guesses the index of the macro, and one comparison
+//! confirms it. Only a wrong guess needs a hash.
+//!
+//! The table borrows names and replacement lists from the files that define them. A definition allocates an entry and the names of
+//! its parameters, and nothing else.
+//!
+//! Names are hashed with the key that the table is made with, and each contract promises that the key stays.
 ghost use Rattle.std.specs.Prelude.{◌≡◌, IfOk, OnOk, OnErr};
 ghost use Rattle.std.specs.Option.{option_copied};
 ghost use Rattle.std.specs.FinMap as table;
-ghost use Rattle.ppmacro.specs.Define.{is_barred, is_fixed, is_fixed_kind, is_reserved};
 ghost use Rattle.ppmacro.specs.Predefined.{predefined_as, predefined};
 
 use crate::macros::{Macro, MacroKind, PredefinedMacro};
@@ -10,8 +18,8 @@ use crate::name_filter::NameFilter;
 use crate::name_key::NameKey;
 use crate::replacement_list::ReplacementList;
 use indexmap::IndexMap;
-use pptext::{Hashing, Memory, Profile};
-use std::alloc::{AllocError, Global};
+use pptext::{Hashing, Memory};
+use std::alloc::Global;
 use std::marker::Model;
 
 /// The initial capacity, about the number of macros of a unit in a large project. A table that grows moves its entries.
@@ -48,34 +56,6 @@ impl<'a> Model for Table<'a> {
     ghost use Rattle.ppmacro.specs.code.NameFilter.{RejectsOnlyUnknown};
 
     ghost invariant = { λ t. RejectsOnlyUnknown t.filter (table.from_entries t.macros.entries) };
-}
-
-/// Returns whether a macro is predefined and can't be redefined. In GNU C `__STDC_VERSION__` can.
-fn is_fixed_kind(gnu: bool, kind: &MacroKind) -> bool
-    ensures { result ≡ is_fixed_kind gnu kind.now }
-{
-    match kind {
-        MacroKind::Predefined(PredefinedMacro::StdcVersion) => !gnu,
-        MacroKind::Predefined(_) => true,
-        _ => false,
-    }
-}
-
-/// Returns whether a macro was found that can't be redefined.
-fn is_fixed(gnu: bool, found: Option<&Macro>) -> bool
-    ensures { result ≡ is_fixed gnu (option_copied found.entry) }
-{
-    match found {
-        Some(found) => is_fixed_kind(gnu, &found.kind),
-        None => false,
-    }
-}
-
-/// Returns whether a name can never be a macro (6.10.8p2, 6.10.3p5).
-pub(crate) fn is_barred(name: &[u8]) -> bool
-    ensures { result ≡ is_barred name.now }
-{
-    name == b"defined".as_slice() || name == b"__VA_ARGS__".as_slice()
 }
 
 impl<'a> Table<'a> {
@@ -116,7 +96,7 @@ impl<'a> Table<'a> {
     }
 
     /// Inserts the predefined macros into an empty table.
-    fn predefine_all(&mut self) -> Result<(), AllocError>
+    fn predefine_all(&mut self) -> Result<(), Memory>
         requires { self.old.macros ≡ table.empty }
         ensures macros { OnOk result (self.new.macros ≡ predefined) }
         ensures hashing { self.new.hashing ≡ self.old.hashing }
@@ -131,7 +111,7 @@ impl<'a> Table<'a> {
     }
 
     /// Inserts a predefined macro.
-    fn predefine(&mut self, name: &'a [u8], predefined: PredefinedMacro) -> Result<(), AllocError>
+    fn predefine(&mut self, name: &'a [u8], predefined: PredefinedMacro) -> Result<(), Memory>
         ensures macros { OnOk result (self.new.macros ≡ table.insert self.old.macros name.now (predefined_as predefined)) }
         ensures hashing { self.new.hashing ≡ self.old.hashing }
     {
@@ -183,15 +163,8 @@ impl<'a> Table<'a> {
         }
     }
 
-    /// Returns whether a name must not be defined or undefined by a directive (6.10.8p2, 6.10.3p5).
-    pub(crate) fn is_reserved(&self, profile: Profile, name: &[u8]) -> bool
-        ensures { result ≡ is_reserved profile self.now.macros name.now }
-    {
-        is_fixed(profile.is_gnu(), self.get(name)) || is_barred(name)
-    }
-
     /// Inserts a macro. It replaces an earlier macro with that name.
-    pub(crate) fn insert(&mut self, name: &'a [u8], definition: Macro<'a>) -> Result<(), AllocError>
+    pub(crate) fn insert(&mut self, name: &'a [u8], definition: Macro<'a>) -> Result<(), Memory>
         ensures ok { OnOk result (self.new.macros ≡ table.insert self.old.macros name.now definition.entry) }
         ensures hashing { self.new.hashing ≡ self.old.hashing }
         ensures err { OnErr result (self.new ≡ self.old) }
@@ -201,7 +174,7 @@ impl<'a> Table<'a> {
                 self.filter.put(name, position);
                 Ok(())
             }
-            Err(_) => Err(AllocError),
+            Err(_) => Err(Memory),
         }
     }
 

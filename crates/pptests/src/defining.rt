@@ -2,7 +2,7 @@
 use ppexpand::Env;
 use ppmacro::{Table, define, undef};
 use pptext::{
-    Directive, Fault, Hashing, LONGEST, Memory, Profile, Source, Spelling, Token, read_source,
+    Directive, Error, Hashing, LONGEST, Memory, Profile, Source, Spelling, Token, read_source,
 };
 use std::alloc::Global;
 use std::hash::RandomState;
@@ -36,14 +36,30 @@ pub(crate) fn direct<'a>(
     table: &mut Table<'a>,
     profile: Profile,
     line: &'a [Token],
-) -> Result<Result<(), Fault>, Memory> {
+) -> Result<(), Error> {
     let [hash, name, rest @ ..] = line else {
-        return Ok(Ok(()));
+        return Ok(());
     };
     if name.is_identifier_named(b"undef") {
         return undef(alloc, table, profile, hash.at, rest);
     }
     define(alloc, table, profile, hash.at, rest)
+}
+
+/// Applies a valid `#define` or `#undef` line to a table. Fails if an allocation fails.
+pub(crate) fn define_valid<'a>(
+    rt: &impl Abort,
+    alloc: Global,
+    table: &mut Table<'a>,
+    profile: Profile,
+    line: &'a [Token],
+) -> Result<(), Memory> {
+    let answer = direct(alloc, table, profile, line);
+    if matches!(&answer, Err(Error::Memory)) {
+        return Err(Memory);
+    }
+    assert!(rt; answer.is_ok());
+    Ok(())
 }
 
 /// Adds the macros of a file's lines to a table. Returns the tokens after the last directive.
@@ -57,7 +73,7 @@ pub(crate) fn directed<'a>(
     for line in source.lines() {
         if matches!(line.directive, Some(Directive::Define | Directive::Undef)) {
             let tokens = tokens_at(source, line.start, line.end);
-            assert!(rt; direct(alloc, table, Profile::C11, tokens)?.is_ok());
+            define_valid(rt, alloc, table, Profile::C11, tokens)?;
             after_name = line.end;
         }
     }

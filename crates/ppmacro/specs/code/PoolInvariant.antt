@@ -2,9 +2,11 @@
 -- of private fields use them.
 use Rattle.std.specs.Prelude.{◌≡◌, ℕ, ◌<◌, Bool, List, length}
 use Rattle.std.specs.List.{AllByRecursion, IsDistinct}
+use Rattle.pptext.specs.declared.hashing.Hashing.{Hashing}
 use Rattle.ppmacro.specs.Names.{Name}
 use Rattle.ppmacro.specs.code.Nodes.{Node, member, IsPool, IsBounded}
 use Rattle.ppmacro.specs.code.Members.{same_name}
+use Rattle.ppmacro.specs.code.Hashed.{HashedNames, HashedPairs}
 use Rattle.ppmacro.specs.code.Operations.{Union, Intersection, member_rule}
 use Rattle.ppmacro.specs.PairCache.{CachedPairs}
 
@@ -18,10 +20,17 @@ pub record IsCachedResult (op : Bool → Bool → Bool) (ns : List Node) (e : (�
 pub record AreCachedResults (op : Bool → Bool → Bool) (ns : List Node) (ps : CachedPairs) : Type 0 where
   pub each : AllByRecursion (IsCachedResult op ns) ps
 
--- The invariant of the pool.
+-- The names, the nodes and the cached results agree.
 pub record IsConsistentPool (names : List Name) (ns : List Node) (us ms : CachedPairs) : Type 0 where
   pub distinct : IsDistinct same_name names
   pub pool : IsPool ns
   pub bounded : IsBounded (length names) ns
   pub unions : AreCachedResults (member_rule Union) ns us
   pub intersections : AreCachedResults (member_rule Intersection) ns ms
+
+-- The invariant of the pool: names, nodes and cached pairs are hashed with one hash function.
+pub record IsPoolHashedBy (hashing : Hashing) (names : HashedNames) (ns : List Node) (us ms : HashedPairs) : Type 0 where
+  pub consistent : IsConsistentPool names.names ns us.results ms.results
+  pub names_hashing : names.hashing ≡ hashing
+  pub unions_hashing : us.hashing ≡ hashing
+  pub intersections_hashing : ms.hashing ≡ hashing

@@ -8,8 +8,8 @@ use super::parameter_lists::has_variable_arguments;
 use crate::chains::{Parameters, parameter_names, parameter_of};
 use crate::hash_operators::{is_hash, is_paste};
 use crate::macros::MacroKind;
-use pptext::{Hashing, Token};
-use std::alloc::{AllocError, Global};
+use pptext::{Hashing, Memory, Token};
+use std::alloc::Global;
 
 /// Returns whether a replacement list contains `__VA_ARGS__`.
 fn uses_variable_arguments(body: &[Token]) -> bool
@@ -18,7 +18,7 @@ fn uses_variable_arguments(body: &[Token]) -> bool
     body.iter().any(|t| t.is_identifier_named(b"__VA_ARGS__"))
 }
 
-/// Returns whether a replacement list contains `__VA_ARGS__`, but the parameter list has no `...`.
+/// Returns whether a replacement list contains `__VA_ARGS__`, but it isn't a parameter. It is one if `...` follows no name.
 pub(crate) fn misplaces_variable_arguments(kind: &MacroKind, body: &[Token]) -> bool
     ensures { result ≡ misplaces_variable_arguments kind.now body.now }
 {
@@ -45,7 +45,7 @@ pub(crate) fn misplaces_paste(body: &[Token]) -> bool
 
 /// Returns whether the first token is a parameter.
 fn begins_with_parameter(kind: &Parameters, body: &[Token]) -> bool
-    ensures { result ≡ begins_with_parameter kind.now body.now }
+    ensures { result ≡ begins_with_parameter kind.now.kind body.now }
 {
     match body.first() {
         Some(token) => parameter_of(kind, token).is_some(),
@@ -53,9 +53,11 @@ fn begins_with_parameter(kind: &Parameters, body: &[Token]) -> bool
     }
 }
 
-/// Returns whether there is a `#` without one of these parameters directly after it.
-fn misplaces_hash_before(kind: &Parameters, body: &[Token]) -> bool
-    ensures { result ≡ misplaces_hash kind.now body.now }
+/// Returns whether there is a `#` without one of these parameters directly after it. The parameters are indexed with `_hashing`,
+/// which only the contract reads.
+fn misplaces_hash_before(kind: &Parameters, _hashing: Hashing, body: &[Token]) -> bool
+    requires { kind.now.hashing ≡ _hashing }
+    ensures { result ≡ misplaces_hash kind.now.kind body.now }
 {
     for (i, token) in body.iter().enumerate() {
         if is_hash(token) && !begins_with_parameter(kind, &body[i + 1..]) {
@@ -71,9 +73,9 @@ pub(crate) fn misplaces_hash(
     kind: &MacroKind,
     body: &[Token],
     hashing: Hashing,
-) -> Result<bool, AllocError>
+) -> Result<bool, Memory>
     ensures { IfOk result (λ r. r ≡ misplaces_hash kind.now body.now) }
 {
     let parameters = Parameters::new(alloc, kind, body.len(), hashing)?;
-    Ok(misplaces_hash_before(&parameters, body))
+    Ok(misplaces_hash_before(&parameters, hashing, body))
 }

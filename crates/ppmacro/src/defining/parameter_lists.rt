@@ -1,5 +1,6 @@
 //! The parameter list of a function-like macro (6.10.3p10).
-ghost use Rattle.std.specs.Prelude.{◌≡◌, IfOk, false};
+ghost use Rattle.std.specs.Prelude.{◌≡◌, IfOk, IfSome, is_none, false};
+ghost use Rattle.std.specs.HashSet.{hasher_of};
 ghost use Rattle.std.specs.List.{list_any};
 ghost use Rattle.std.specs.Option.{option_map};
 ghost use Rattle.std.specs.Str.{bytes_eq};
@@ -7,10 +8,12 @@ ghost use Rattle.ppmacro.specs.Define.{close_parameters, after_parameter_name, p
 ghost use Rattle.ppmacro.specs.code.ChainParts.{with_names};
 
 use crate::macros::{Names, Variadic};
+use crate::name_key::NameKey;
 use crate::parameter_index::{MAX_SCANNED, index_names};
 use crate::replacement_list::ReplacementList;
-use pptext::{Hashing, Profile, Spelling, Token};
-use std::alloc::{AllocError, Global};
+use indexmap::IndexSet;
+use pptext::{Hashing, Memory, Profile, Spelling, Token};
+use std::alloc::Global;
 use std::marker::Model;
 
 /// The end of a parameter list.
@@ -83,7 +86,7 @@ fn parameters<'a>(
     alloc: Global,
     gnu: bool,
     line: &'a [Token],
-) -> Result<Option<ParsedParameters<'a>>, AllocError>
+) -> Result<Option<ParsedParameters<'a>>, Memory>
     ensures { IfOk result (λ h. h ≡ parameters_from gnu false line.now) }
 {
     let mut names = Vec::new(alloc);
@@ -113,7 +116,7 @@ pub(crate) fn read_parameter_list<'a>(
     alloc: Global,
     profile: Profile,
     line: &'a [Token],
-) -> Result<Option<ParsedParameters<'a>>, AllocError>
+) -> Result<Option<ParsedParameters<'a>>, Memory>
     ensures { IfOk result (λ h. h ≡ read_parameter_list profile line.now) }
 {
     let Some(first) = line.first() else {
@@ -144,18 +147,24 @@ fn repeats_few(names: &[Spelling]) -> bool
     false
 }
 
+/// Returns whether there is no index of names because a name occurs twice. The index hashes with `_hashing`, which only the
+/// contract reads.
+fn is_missing(index: &Option<IndexSet<NameKey<'_>, Hashing>>, _hashing: Hashing) -> bool
+    requires { IfSome index.now (λ s. hasher_of s ≡ _hashing) }
+    ensures { result ≡ is_none index.now }
+{
+    index.is_none()
+}
+
 /// Returns whether a name occurs twice. Many names are indexed with hash function `hashing`.
-pub(crate) fn repeats(
-    alloc: Global,
-    names: &[Spelling],
-    hashing: Hashing,
-) -> Result<bool, AllocError>
+pub(crate) fn repeats(alloc: Global, names: &[Spelling], hashing: Hashing) -> Result<bool, Memory>
     ensures { IfOk result (λ r. r ≡ repeats names.now) }
 {
     if names.len() <= MAX_SCANNED {
         return Ok(repeats_few(names));
     }
-    Ok(index_names(alloc, names, hashing)?.is_none())
+    let index = index_names(alloc, names, hashing)?;
+    Ok(is_missing(&index, hashing))
 }
 
 /// Returns whether `__VA_ARGS__` is among the names.
@@ -166,11 +175,7 @@ pub(crate) fn has_variable_arguments(names: &[Spelling]) -> bool
 }
 
 /// Returns all parameters. `__VA_ARGS__` is the last if the list ends in `...` (6.10.3.1p2).
-pub(crate) fn all_parameters(
-    alloc: Global,
-    ending: Ending,
-    names: Names,
-) -> Result<Names, AllocError>
+pub(crate) fn all_parameters(alloc: Global, ending: Ending, names: Names) -> Result<Names, Memory>
     ensures { IfOk result (λ all. all ≡ all_parameters ending names) }
 {
     match ending {

@@ -2,9 +2,9 @@
 ghost use Rattle.std.specs.Prelude.{◌≡◌};
 ghost use Rattle.std.specs.FinMap as finite_map;
 ghost use Rattle.std.specs.Cmp.Lexicographic.{pointwise};
-ghost use Rattle.ppmacro.specs.Define.{same_token, same_body, same_kind, is_conflicting};
+ghost use Rattle.ppmacro.specs.Define.{same_token, same_body, same_variadic, same_kind, is_conflicting};
 
-use crate::macros::{Macro, MacroKind};
+use crate::macros::{Macro, MacroKind, Variadic};
 use crate::tables::Table;
 use pptext::Token;
 
@@ -46,7 +46,19 @@ fn same_body(left: &[Token], right: &[Token]) -> bool
     same_tokens(&left[1..], &right[1..])
 }
 
-/// Returns whether two macros have the same kind and the same parameters. The names show whether there is a `...`.
+/// Returns whether two macros take arguments for their last parameter in the same way.
+fn same_variadic(left: Variadic, right: Variadic) -> bool
+    ensures { result ≡ same_variadic left right }
+{
+    matches!(
+        (left, right),
+        (Variadic::No, Variadic::No)
+            | (Variadic::Strict, Variadic::Strict)
+            | (Variadic::Lenient, Variadic::Lenient)
+    )
+}
+
+/// Returns whether two macros have the same kind and the same parameters, and take variable arguments in the same way.
 fn same_kind(left: &MacroKind, right: &MacroKind) -> bool
     ensures { result ≡ same_kind left.now right.now }
 {
@@ -55,13 +67,13 @@ fn same_kind(left: &MacroKind, right: &MacroKind) -> bool
         (
             MacroKind::FunctionLike {
                 parameters: names,
-                ..
+                variadic,
             },
             MacroKind::FunctionLike {
                 parameters: others,
-                ..
+                variadic: other,
             },
-        ) => names.as_slice() == others.as_slice(),
+        ) => names.as_slice() == others.as_slice() && same_variadic(*variadic, *other),
         _ => false,
     }
 }

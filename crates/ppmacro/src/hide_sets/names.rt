@@ -5,8 +5,8 @@ ghost use Rattle.ppmacro.specs.code.Members.{same_name};
 
 use crate::name_key::NameKey;
 use indexmap::IndexSet;
-use pptext::Hashing;
-use std::alloc::{AllocError, Global};
+use pptext::{Hashing, Memory};
+use std::alloc::Global;
 use std::hash::{Hash, Hasher};
 use std::marker::Model;
 
@@ -86,16 +86,14 @@ pub(crate) struct NameNumbers {
 }
 
 impl Model for NameNumbers {
-    ghost use Rattle.std.specs.Prelude.{List, ℕ};
-    ghost use Rattle.std.specs.Coded.{coded_list, coded_ℕ};
+    ghost use Rattle.std.specs.HashSet.{hasher_of};
     ghost use Rattle.std.specs.List.{IsDistinct};
+    ghost use Rattle.ppmacro.specs.code.Hashed.{HashedNames};
     ghost use Rattle.ppmacro.specs.code.Members.{same_name};
 
-    ghost Value = { List (List ℕ) };
+    ghost Value = { HashedNames };
 
-    ghost coded = { coded_list (coded_list coded_ℕ) };
-
-    ghost view = { λ s. s.names.keys };
+    ghost view = { λ s. record { names = s.names.keys; hashing = hasher_of s.names } };
 
     ghost invariant = { λ s. IsDistinct same_name s.names.keys };
 }
@@ -103,7 +101,8 @@ impl Model for NameNumbers {
 impl NameNumbers {
     /// Creates an empty table that hashes names with `hashing`.
     pub(crate) fn new(alloc: Global, hashing: Hashing) -> NameNumbers
-        ensures { result ≡ [] }
+        ensures names { result.names ≡ [] }
+        ensures hashing { result.hashing ≡ hashing }
     {
         NameNumbers {
             names: IndexSet::with_hasher(alloc, hashing),
@@ -112,9 +111,9 @@ impl NameNumbers {
 
     /// Returns the number of a name.
     pub(crate) fn number_of(&self, name: &[u8]) -> Option<usize>
-        ensures found { IfSome result (λ n. (n < length self.now) × (slice_index_or self.now n [] ≡ name.now)) }
-        ensures none { IfNone result (AllByRecursion (λ y. same_name name.now y ≡ false) self.now) }
-        ensures distinct { IsDistinct same_name self.now }
+        ensures found { IfSome result (λ n. (n < length self.now.names) × (slice_index_or self.now.names n [] ≡ name.now)) }
+        ensures none { IfNone result (AllByRecursion (λ y. same_name name.now y ≡ false) self.now.names) }
+        ensures distinct { IsDistinct same_name self.now.names }
     {
         let sought = HiddenName {
             text: NameText::Sought(name),
@@ -123,13 +122,15 @@ impl NameNumbers {
     }
 
     /// Returns the number of a name. Adds the name if it is new.
-    pub(crate) fn number_for(&mut self, alloc: Global, name: &[u8]) -> Result<usize, AllocError>
-        ensures found { IfOk result (λ n. (n < length self.new) × (slice_index_or self.new n [] ≡ name.now)) }
-        ensures keeps { (more : List (List ℕ)) × (self.new ≡ self.old ++ more) }
-        ensures distinct { IsDistinct same_name self.new }
+    pub(crate) fn number_for(&mut self, alloc: Global, name: &[u8]) -> Result<usize, Memory>
+        ensures found { IfOk result (λ n. (n < length self.new.names) × (slice_index_or self.new.names n [] ≡ name.now)) }
+        ensures keeps { (more : List (List ℕ)) × (self.new.names ≡ self.old.names ++ more) }
+        ensures distinct { IsDistinct same_name self.new.names }
+        ensures hashing { self.new.hashing ≡ self.old.hashing }
         ensures err { OnErr result (self.new ≡ self.old) }
-        ensures there { ¬ (AllByRecursion (λ y. same_name name.now y ≡ false) self.old) → IsOk result × (self.new ≡ self.old) }
+        ensures there { ¬ (AllByRecursion (λ y. same_name name.now y ≡ false) self.old.names) → IsOk result × (self.new ≡ self.old) }
     {
+        // A name that exists needs no allocation. So it is looked up first, though a new name is then hashed twice.
         if let Some(number) = self.number_of(name) {
             return Ok(number);
         }
@@ -138,7 +139,7 @@ impl NameNumbers {
             text: NameText::Kept(text),
         };
         let Ok((number, _)) = self.names.insert_full(kept) else {
-            return Err(AllocError);
+            return Err(Memory);
         };
         Ok(number)
     }

@@ -1,7 +1,17 @@
-//! Sets of numbers as nodes of a trie of 64-bit words. Nodes are distinct, so that equal sets have equal numbers, and sets share
-//! common parts.
+//! Sets of numbers as nodes of a trie of 64-bit words.
+//!
+//! A node has one word of the set, for 64 numbers, and the numbers of two other nodes for the words after it: those with an odd
+//! index are in the left one, and those with an even index in the right one. So a set with a large number has few nodes, and sets
+//! share their common parts. Node 0 is the empty set, whose parts are itself.
+//!
+//! A node is added only if there is none like it. So equal sets have equal numbers, and a set that exists is found without a
+//! change of the pool. An operation on two sets works node by node. Its result is cached for the whole sets alone: parts are few,
+//! and most are empty or equal, which needs no lookup.
+//!
+//! Numbers of nodes have 32 bits. A pool that is full refuses new nodes, like a failed allocation, and still finds the others.
 ghost use Rattle.std.specs.Prelude.{◌≡◌, Some, None, Ok, ◌<◌, ◌||◌, ◌+◌, ◌*◌, ℕ, IfOk, IfSome, OnErr, ◌≤◌, [], length, nat_eq};
 ghost use Rattle.std.specs.Int.RustNames.{bit_or};
+ghost use Rattle.std.specs.HashSet.{hasher_of};
 ghost use Rattle.ppmacro.specs.code.Nodes.{node_at, word, word_with, member, IsPool, KeepsNodes, PointsBelow, IsBounded, initial_nodes};
 ghost use Rattle.ppmacro.specs.code.Operations.{member_rule, word_rule, known};
 ghost use Rattle.ppmacro.specs.PairCache.{union_known, intersection_known, KeepsPairs};
@@ -9,8 +19,8 @@ ghost use Rattle.ppmacro.specs.code.PoolInvariant.{AreCachedResults};
 
 use super::pair_cache::PairCache;
 use indexmap::IndexSet;
-use pptext::Hashing;
-use std::alloc::{AllocError, Global};
+use pptext::{Hashing, Memory};
+use std::alloc::Global;
 use std::marker::Model;
 
 /// The number of members that a word holds. The number n is bit n % 64 of the word n / 64.
@@ -78,10 +88,11 @@ impl Operation {
 }
 
 /// Creates a pool with only the empty set. Nodes are hashed with `hashing`.
-pub(crate) fn start(alloc: Global, hashing: Hashing) -> Result<IndexSet<Node, Hashing>, AllocError>
+pub(crate) fn start(alloc: Global, hashing: Hashing) -> Result<IndexSet<Node, Hashing>, Memory>
     ensures pool { IfOk result (λ s. IsPool s.keys) }
     ensures bounded { IfOk result (λ s. IsBounded 0 s.keys) }
     ensures is { IfOk result (λ s. s.keys ≡ initial_nodes) }
+    ensures hashing { IfOk result (λ s. hasher_of s ≡ hashing) }
 {
     let mut nodes = IndexSet::with_hasher(alloc, hashing);
     let none = Node {
@@ -90,7 +101,7 @@ pub(crate) fn start(alloc: Global, hashing: Hashing) -> Result<IndexSet<Node, Ha
         right: 0,
     };
     let Ok(_) = nodes.insert_full(none) else {
-        return Err(AllocError);
+        return Err(Memory);
     };
     Ok(nodes)
 }
@@ -105,24 +116,25 @@ fn read(nodes: &IndexSet<Node, Hashing>, number: u32) -> Node
 
 /// Returns the number of an existing node. Used once the pool is full.
 #[inline(never)]
-fn existing_number(nodes: &IndexSet<Node, Hashing>, node: Node) -> Result<u32, AllocError>
+fn existing_number(nodes: &IndexSet<Node, Hashing>, node: Node) -> Result<u32, Memory>
     requires { IsPool nodes.now.keys }
     ensures known { IfOk result (λ n. n < length nodes.now.keys) }
     ensures is { IfOk result (λ n. node_at nodes.now.keys n ≡ node) }
     ensures there { (n : ℕ) → n < length nodes.now.keys → node_at nodes.now.keys n ≡ node → result ≡ Ok n }
 {
     let Some(number) = nodes.get_index_of(&node) else {
-        return Err(AllocError);
+        return Err(Memory);
     };
     Ok(number as u32)
 }
 
 /// Returns the number of a node. Adds the node if it is new.
-fn number_for(nodes: &mut IndexSet<Node, Hashing>, node: Node) -> Result<u32, AllocError>
+fn number_for(nodes: &mut IndexSet<Node, Hashing>, node: Node) -> Result<u32, Memory>
     requires pool { IsPool nodes.old.keys }
     requires within { PointsBelow (length nodes.old.keys) node }
     ensures pool { IsPool nodes.new.keys }
     ensures keeps { KeepsNodes nodes.old.keys nodes.new.keys }
+    ensures hashing { hasher_of nodes.new ≡ hasher_of nodes.old }
     ensures known { IfOk result (λ n. n < length nodes.new.keys) }
     ensures is { IfOk result (λ n. node_at nodes.new.keys n ≡ node) }
     ensures fresh { IfOk result (λ m. (n : ℕ) → length nodes.old.keys ≤ n → n < length nodes.new.keys → n ≡ m) }
@@ -133,7 +145,7 @@ fn number_for(nodes: &mut IndexSet<Node, Hashing>, node: Node) -> Result<u32, Al
         return existing_number(nodes, node);
     }
     let Ok((number, _)) = nodes.insert_full(node) else {
-        return Err(AllocError);
+        return Err(Memory);
     };
     Ok(number as u32)
 }
@@ -144,13 +156,14 @@ fn reuse_or_number(
     node: Node,
     one: u32,
     two: u32,
-) -> Result<u32, AllocError>
+) -> Result<u32, Memory>
     requires pool { IsPool nodes.old.keys }
     requires within { PointsBelow (length nodes.old.keys) node }
     requires one { one < length nodes.old.keys }
     requires two { two < length nodes.old.keys }
     ensures pool { IsPool nodes.new.keys }
     ensures keeps { KeepsNodes nodes.old.keys nodes.new.keys }
+    ensures hashing { hasher_of nodes.new ≡ hasher_of nodes.old }
     ensures known { IfOk result (λ n. n < length nodes.new.keys) }
     ensures is { IfOk result (λ n. node_at nodes.new.keys n ≡ node) }
     ensures fresh { IfOk result (λ m. (n : ℕ) → length nodes.old.keys ≤ n → n < length nodes.new.keys → n ≡ m) }
@@ -198,11 +211,12 @@ pub(crate) fn insert(
     nodes: &mut IndexSet<Node, Hashing>,
     set: u32,
     number: usize,
-) -> Result<u32, AllocError>
+) -> Result<u32, Memory>
     requires pool { IsPool nodes.old.keys }
     requires known { set < length nodes.old.keys }
     ensures pool { IsPool nodes.new.keys }
     ensures keeps { KeepsNodes nodes.old.keys nodes.new.keys }
+    ensures hashing { hasher_of nodes.new ≡ hasher_of nodes.old }
     ensures known { IfOk result (λ n. n < length nodes.new.keys) }
     ensures bounded { (limit : ℕ) → number < limit → IsBounded limit nodes.old.keys → IsBounded limit nodes.new.keys }
     ensures set { IfOk result (λ n. (x : ℕ) → member nodes.new.keys n x ≡ (nat_eq x number || member nodes.old.keys set x)) }
@@ -219,12 +233,13 @@ fn insert_bit(
     set: u32,
     index: usize,
     bit: usize,
-) -> Result<u32, AllocError>
+) -> Result<u32, Memory>
     requires pool { IsPool nodes.old.keys }
     requires known { set < length nodes.old.keys }
     requires bit { bit < 64 }
     ensures pool { IsPool nodes.new.keys }
     ensures keeps { KeepsNodes nodes.old.keys nodes.new.keys }
+    ensures hashing { hasher_of nodes.new ≡ hasher_of nodes.old }
     ensures known { IfOk result (λ n. n < length nodes.new.keys) }
     ensures bounded { (limit : ℕ) → index * 64 + bit < limit → IsBounded limit nodes.old.keys → IsBounded limit nodes.new.keys }
     ensures set { IfOk result (λ n. (w : ℕ) → word nodes.new.keys n w ≡ bit_or (word nodes.old.keys set w) (word_with index bit w)) }
@@ -290,7 +305,7 @@ fn trivial_result(operation: Operation, one: u32, two: u32) -> Option<u32>
 
 /// Returns the result of an operation if it is trivial or cached.
 fn known(pairs: &PairCache, operation: Operation, one: u32, two: u32) -> Option<u32>
-    ensures { result ≡ known operation pairs.now one two }
+    ensures { result ≡ known operation pairs.now.results one two }
 {
     match trivial_result(operation, one, two) {
         Some(number) => Some(number),
@@ -306,12 +321,13 @@ fn compute(
     operation: Operation,
     one: u32,
     two: u32,
-) -> Result<u32, AllocError>
+) -> Result<u32, Memory>
     requires pool { IsPool nodes.old.keys }
     requires one { one < length nodes.old.keys }
     requires two { two < length nodes.old.keys }
     ensures pool { IsPool nodes.new.keys }
     ensures keeps { KeepsNodes nodes.old.keys nodes.new.keys }
+    ensures hashing { hasher_of nodes.new ≡ hasher_of nodes.old }
     ensures known { IfOk result (λ n. n < length nodes.new.keys) }
     ensures bounded { (limit : ℕ) → IsBounded limit nodes.old.keys → IsBounded limit nodes.new.keys }
     ensures set { IfOk result (λ n. (w : ℕ) → word nodes.new.keys n w ≡ word_rule operation (word nodes.old.keys one w) (word nodes.old.keys two w)) }
@@ -333,13 +349,14 @@ fn compute_node(
     operation: Operation,
     one: u32,
     two: u32,
-) -> Result<u32, AllocError>
+) -> Result<u32, Memory>
     requires pool { IsPool nodes.old.keys }
     requires one { one < length nodes.old.keys }
     requires two { two < length nodes.old.keys }
     requires unsettled { known operation [] one two ≡ None }
     ensures pool { IsPool nodes.new.keys }
     ensures keeps { KeepsNodes nodes.old.keys nodes.new.keys }
+    ensures hashing { hasher_of nodes.new ≡ hasher_of nodes.old }
     ensures known { IfOk result (λ n. n < length nodes.new.keys) }
     ensures bounded { (limit : ℕ) → IsBounded limit nodes.old.keys → IsBounded limit nodes.new.keys }
     ensures set { IfOk result (λ n. (w : ℕ) → word nodes.new.keys n w ≡ word_rule operation (word nodes.old.keys one w) (word nodes.old.keys two w)) }
@@ -363,20 +380,22 @@ pub(crate) fn combine(
     operation: Operation,
     one: u32,
     two: u32,
-) -> Result<u32, AllocError>
+) -> Result<u32, Memory>
     requires pool { IsPool nodes.old.keys }
-    requires results { AreCachedResults (member_rule operation) nodes.old.keys pairs.old }
+    requires results { AreCachedResults (member_rule operation) nodes.old.keys pairs.old.results }
     requires one { one < length nodes.old.keys }
     requires two { two < length nodes.old.keys }
     ensures pool { IsPool nodes.new.keys }
     ensures keeps { KeepsNodes nodes.old.keys nodes.new.keys }
-    ensures pairs { KeepsPairs pairs.old pairs.new }
-    ensures results { AreCachedResults (member_rule operation) nodes.new.keys pairs.new }
+    ensures hashing { hasher_of nodes.new ≡ hasher_of nodes.old }
+    ensures pairs { KeepsPairs pairs.old.results pairs.new.results }
+    ensures pairs_hashing { pairs.new.hashing ≡ pairs.old.hashing }
+    ensures results { AreCachedResults (member_rule operation) nodes.new.keys pairs.new.results }
     ensures known { IfOk result (λ n. n < length nodes.new.keys) }
     ensures bounded { (limit : ℕ) → IsBounded limit nodes.old.keys → IsBounded limit nodes.new.keys }
     ensures set { IfOk result (λ n. (x : ℕ) → member nodes.new.keys n x ≡ member_rule operation (member nodes.old.keys one x) (member nodes.old.keys two x)) }
-    ensures remembered { IfOk result (λ n. known operation pairs.new one two ≡ Some n) }
-    ensures if_cached { (n : ℕ) → known operation pairs.old one two ≡ Some n → (result ≡ Ok n) × (pairs.new ≡ pairs.old) × (nodes.new.keys ≡ nodes.old.keys) }
+    ensures remembered { IfOk result (λ n. known operation pairs.new.results one two ≡ Some n) }
+    ensures if_cached { (n : ℕ) → known operation pairs.old.results one two ≡ Some n → (result ≡ Ok n) × (pairs.new ≡ pairs.old) × (nodes.new.keys ≡ nodes.old.keys) }
     ensures there { (n : ℕ) → n < length nodes.old.keys
         → ((x : ℕ) → member nodes.old.keys n x ≡ member_rule operation (member nodes.old.keys one x) (member nodes.old.keys two x))
         → IfOk result (λ m. m ≡ n) × (nodes.new.keys ≡ nodes.old.keys) × OnErr result (pairs.new ≡ pairs.old) }

@@ -2,10 +2,12 @@
 ghost use Rattle.std.specs.Prelude.{◌≡◌, ◌||◌, ◌&&◌, not, IfOk, OnOk, Ok, true, map};
 ghost use Rattle.std.specs.FinSet as set;
 ghost use Rattle.pptext.specs.declared.tokens.Place.{Place};
+ghost use Rattle.pptext.specs.Errors.{Returns};
 ghost use Rattle.ppmacro.specs.HideSets.{set_at, IsKnown, hidings, AllKnown, KeepsSets};
 ghost use Rattle.ppmacro.specs.Patterns.{entry_chain, pattern_chains};
 ghost use Rattle.ppmacro.specs.Substitution.{chain_tokens, chains_tokens, chains_replacement};
-ghost use Rattle.ppmacro.specs.Substituting.{ArgumentsKnown, arguments_in, replacement_in, pushed, as_replacement};
+ghost use Rattle.ppmacro.specs.Substituting.{ArgumentsKnown, arguments_in, as_replacement};
+ghost use Rattle.ppmacro.specs.code.Replacing.{pushed};
 
 use crate::hidden_token::Hidden;
 use crate::hide_sets::HideSets;
@@ -14,8 +16,8 @@ use crate::patterns::{Entry, Pattern};
 use crate::substituting::hsadd::hsadd_names;
 use crate::substituting::operands::expansion;
 use crate::substituting::{push_spaced, push_token, space_before, substitute};
-use pptext::{Fault, Memory};
-use std::alloc::{AllocError, Global};
+use pptext::{Error, Memory};
+use std::alloc::Global;
 
 /// Returns the leading-space flag of an entry.
 fn space_of(entry: &Entry) -> bool
@@ -52,7 +54,7 @@ fn push_entry<'x, 'a: 'x>(
     space: bool,
     entry: &Entry<'a>,
     tokens: &mut Vec<Hidden<'x>>,
-) -> Result<bool, AllocError>
+) -> Result<bool, Memory>
     requires arguments { ArgumentsKnown sets.now arguments.given.now arguments.expanded.now }
     requires tokens { AllKnown sets.now tokens.old.items }
     ensures is { IfOk result (λ pending. (used : Place) → Ok (as_replacement sets.now tokens.new.items pending)
@@ -82,7 +84,7 @@ fn entries_tokens<'x, 'a: 'x>(
     arguments: Arguments<'_, 'x>,
     space: bool,
     entries: &[Entry<'a>],
-) -> Result<(Vec<Hidden<'x>>, bool), AllocError>
+) -> Result<(Vec<Hidden<'x>>, bool), Memory>
     requires { ArgumentsKnown sets.now arguments.given.now arguments.expanded.now }
     ensures is { IfOk result (λ m. (used : Place) → Ok (as_replacement sets.now m.0.items m.1)
         ≡ chains_tokens (arguments_in sets.now arguments.entry.given.now arguments.entry.expanded.now) used space true (map entry_chain entries.now)) }
@@ -110,7 +112,8 @@ fn substitute_entries<'x, 'a: 'x>(
     requires arguments { ArgumentsKnown sets.old arguments.given.now arguments.expanded.now }
     requires base { IsKnown sets.old macro_name.now.base }
     ensures is { IfOk result (λ m. Ok (as_replacement sets.new m.0.items m.1)
-        ≡ chains_replacement (map entry_chain entries.now) (arguments_in sets.old arguments.entry.given.now arguments.entry.expanded.now) (set.insert (set_at sets.old macro_name.now.base) macro_name.now.name.now) macro_name.now.used macro_name.now.space) }
+        ≡ chains_replacement (map entry_chain entries.now) (arguments_in sets.old arguments.entry.given.now arguments.entry.expanded.now)
+        (set.insert (set_at sets.old macro_name.now.base) macro_name.now.name.now) macro_name.now.used macro_name.now.space) }
     ensures known { IfOk result (λ m. AllKnown sets.new m.0.items) }
     ensures keeps { KeepsSets sets.old sets.new }
 {
@@ -132,11 +135,13 @@ pub fn substitute_pattern<'x, 'a: 'x>(
     arguments: Arguments<'_, 'x>,
     macro_name: &MacroName,
     sets: &mut HideSets,
-) -> Result<Result<(Vec<Hidden<'x>>, bool), Fault>, Memory>
+) -> Result<(Vec<Hidden<'x>>, bool), Error>
     requires arguments { ArgumentsKnown sets.old arguments.given.now arguments.expanded.now }
     requires base { IsKnown sets.old macro_name.now.base }
-    ensures is { IfOk result (λ r. replacement_in sets.new r ≡ chains_replacement (pattern_chains pattern.now) (arguments_in sets.old arguments.entry.given.now arguments.entry.expanded.now) (set.insert (set_at sets.old macro_name.now.base) macro_name.now.name.now) macro_name.now.used macro_name.now.space) }
-    ensures known { IfOk result (λ r. IfOk r (λ m. AllKnown sets.new m.0.items)) }
+    ensures is { Returns result (λ m. as_replacement sets.new m.0.items m.1)
+        (chains_replacement (pattern_chains pattern.now) (arguments_in sets.old arguments.entry.given.now arguments.entry.expanded.now)
+        (set.insert (set_at sets.old macro_name.now.base) macro_name.now.name.now) macro_name.now.used macro_name.now.space) }
+    ensures known { IfOk result (λ m. AllKnown sets.new m.0.items) }
     ensures keeps { KeepsSets sets.old sets.new }
 {
     match pattern {
@@ -145,7 +150,7 @@ pub fn substitute_pattern<'x, 'a: 'x>(
             let tokens_and_pending = substitute_entries(
                 alloc, entries, arguments, macro_name, sets,
             )?;
-            Ok(Ok(tokens_and_pending))
+            Ok(tokens_and_pending)
         }
         Pattern::Pasted(chains) => {
             let chains = chains.as_slice();

@@ -4,7 +4,7 @@ ghost use Rattle.std.specs.FinSet as set;
 ghost use Rattle.ppmacro.specs.HideSetPool.{HideSetPool};
 ghost use Rattle.ppmacro.specs.HideSets.{set_at, IsKnown, HasSets, hiding, hidings, AllKnown, KeepsSets};
 ghost use Rattle.ppmacro.specs.Substitution.{hsadd};
-ghost use Rattle.ppmacro.specs.Substituting.{IsSubset};
+ghost use Rattle.ppmacro.specs.code.Replacing.{HasSubset};
 
 use crate::hidden_token::Hidden;
 use crate::hide_sets::{HideSets, Set};
@@ -12,7 +12,7 @@ use pptext::{Memory, Place};
 
 /// Returns whether a set is known to be a subset of the names to hide, `added`, which are the names of `base` and one more.
 fn is_subset(set: Set, base: Set, added: Set) -> bool
-    ensures { result ≡ true → (sets : HideSetPool) → IsSubset sets added base → IsSubset sets added set }
+    ensures { result ≡ true → (sets : HideSetPool) → HasSubset sets added base → HasSubset sets added set }
 {
     if set == base {
         return true;
@@ -25,7 +25,7 @@ fn hsadd_to_one(sets: &HideSets, hidden: &mut Hidden, base: Set, added: Set, use
     requires hidden { HasSets sets.now hidden.old }
     requires one { hidden.old.extra ≡ None }
     requires added { IsKnown sets.now added }
-    requires within { IsSubset sets.now added base }
+    requires within { HasSubset sets.now added base }
     ensures is { hiding sets.now hidden.new ≡ hsadd (set_at sets.now added) used (hiding sets.now hidden.old) }
     ensures known { HasSets sets.now hidden.new }
 {
@@ -54,7 +54,7 @@ fn hsadd_to_two(
     requires hidden { HasSets sets.old hidden.old }
     requires two { hidden.old.extra ≡ Some extra }
     requires added { IsKnown sets.old added }
-    requires within { IsSubset sets.old added base }
+    requires within { HasSubset sets.old added base }
     ensures is { OnOk result (hiding sets.new hidden.new ≡ hsadd (set_at sets.old added) used (hiding sets.old hidden.old)) }
     ensures known { OnOk result (HasSets sets.new hidden.new) }
     ensures keeps { KeepsSets sets.old sets.new }
@@ -83,7 +83,7 @@ fn hsadd_one(
 ) -> Result<(), Memory>
     requires hidden { HasSets sets.old hidden.old }
     requires added { IsKnown sets.old added }
-    requires within { IsSubset sets.old added base }
+    requires within { HasSubset sets.old added base }
     ensures is { OnOk result (hiding sets.new hidden.new ≡ hsadd (set_at sets.old added) used (hiding sets.old hidden.old)) }
     ensures known { OnOk result (HasSets sets.new hidden.new) }
     ensures keeps { KeepsSets sets.old sets.new }
@@ -107,7 +107,7 @@ fn hsadd_all(
     requires tokens { AllKnown sets.old tokens.old.items }
     requires base { IsKnown sets.old base }
     requires added { IsKnown sets.old added }
-    requires within { IsSubset sets.old added base }
+    requires within { HasSubset sets.old added base }
     ensures is { OnOk result (hidings sets.new tokens.new.items ≡ map (hsadd (set_at sets.old added) used) (hidings sets.old tokens.old.items)) }
     ensures known { OnOk result (AllKnown sets.new tokens.new.items) }
     ensures keeps { KeepsSets sets.old sets.new }

@@ -4,19 +4,17 @@ ghost use Rattle.pptext.specs.Continuations.{ContinuesToken};
 ghost use Rattle.ppmacro.specs.HideSets.{hiding, hidings, HasSets, AllKnown, KeepsSets};
 ghost use Rattle.ppmacro.specs.Substitution.{pasted, join, join_all};
 ghost use Rattle.pptext.specs.Errors.{Returns};
-ghost use Rattle.ppmacro.specs.Substituting.{lists_of, ListsKnown, HasSpelledKind, EndsWithSpelledKind};
+ghost use Rattle.ppmacro.specs.Substituting.{lists_of, ListsKnown};
+ghost use Rattle.ppmacro.specs.code.Replacing.{HasSpelledKind, EndsWithSpelledKind};
 
 use crate::hidden_token::Hidden;
 use crate::hide_sets::HideSets;
-use crate::substituting::pasting::pasted;
-use pptext::{Error, Place, continues};
-use std::alloc::{AllocError, Global};
+use crate::substituting::pasting::paste;
+use pptext::{Error, Memory, Place, continues};
+use std::alloc::Global;
 
 /// Appends copies of tokens.
-pub(crate) fn push_all<'a>(
-    tokens: &mut Vec<Hidden<'a>>,
-    more: &[Hidden<'a>],
-) -> Result<(), AllocError>
+pub(crate) fn push_all<'a>(tokens: &mut Vec<Hidden<'a>>, more: &[Hidden<'a>]) -> Result<(), Memory>
     ensures { OnOk result (tokens.new.items ≡ tokens.old.items ++ more.now) }
 {
     tokens.extend_with_clones(more)
@@ -27,7 +25,7 @@ fn push_joined<'a>(
     tokens: &mut Vec<Hidden<'a>>,
     hidden: Hidden<'a>,
     more: &[Hidden<'a>],
-) -> Result<(), AllocError>
+) -> Result<(), Memory>
     ensures { OnOk result (tokens.new.items ≡ tokens.old.items ++ hidden.entry ∷ more.now) }
 {
     tokens.push(hidden)?;
@@ -66,7 +64,7 @@ fn paste_onto<'a>(
         last.set_use(used, hide);
         return Ok(last);
     }
-    pasted(alloc, sets, &last, first, used)
+    paste(alloc, &last, first, used, sets)
 }
 
 /// Joins the last token of one list with the first of the other, or returns fault 19. `has_spelled_kind`, as a parameter and as the result:

@@ -9,12 +9,12 @@ use crate::hidden_token::{ArgumentExpansion, Hidden};
 use crate::hide_sets::HideSets;
 use crate::invocation::Arguments;
 use crate::macros::Operand;
-use crate::substituting::stringizing::stringized;
-use pptext::{Error, Place, Token};
-use std::alloc::{AllocError, Global};
+use crate::substituting::stringizing::stringize;
+use pptext::{Error, Memory, Place, Token};
+use std::alloc::Global;
 
-/// Returns the tokens of an argument. An absent argument has none.
-fn argument<'g, 'a>(given: &'g [Vec<Hidden<'a>>], index: usize) -> &'g [Hidden<'a>]
+/// Returns the argument of the parameter with this index. An absent argument has no tokens.
+pub fn argument_of<'g, 'a>(given: &'g [Vec<Hidden<'a>>], index: usize) -> &'g [Hidden<'a>]
     ensures { result.now ≡ argument_at (lists_of given.now) index }
 {
     let Some(tokens) = given.get(index) else {
@@ -53,11 +53,11 @@ pub(crate) fn expansion<'g, 'a>(
         let none: &'g [Hidden<'a>] = Default::default();
         return none;
     };
-    expansion_tokens(argument(given, index), expansion)
+    expansion_tokens(argument_of(given, index), expansion)
 }
 
 /// Returns a list of one token.
-fn one_token<'a>(alloc: Global, hidden: Hidden<'a>) -> Result<Vec<Hidden<'a>>, AllocError>
+fn one_token<'a>(alloc: Global, hidden: Hidden<'a>) -> Result<Vec<Hidden<'a>>, Memory>
     ensures { IfOk result (λ v. v.items ≡ hidden.entry ∷ []) }
 {
     let mut tokens = Vec::new(alloc);
@@ -70,7 +70,7 @@ fn source_token<'a>(
     alloc: Global,
     sets: &HideSets,
     token: &'a Token,
-) -> Result<Vec<Hidden<'a>>, AllocError>
+) -> Result<Vec<Hidden<'a>>, Memory>
     ensures is { IfOk result (λ v. hidings sets.now v.items ≡ unhidden token.now ∷ []) }
     ensures known { IfOk result (λ v. AllKnown sets.now v.items) }
 {
@@ -88,7 +88,7 @@ fn literal<'a>(
     ensures is { Returns result (λ v. hidings sets.now v.items) (after_ok (stringized (tokens_of argument.now) at used) (λ t. Ok (t ∷ []))) }
     ensures known { IfOk result (λ v. AllKnown sets.now v.items) }
 {
-    let hidden = stringized(alloc, sets, argument, at, used)?;
+    let hidden = stringize(alloc, argument, at, used, sets)?;
     Ok(one_token(alloc, hidden)?)
 }
 
@@ -109,22 +109,22 @@ pub(crate) fn operand_tokens<'x, 'a: 'x>(
     let Arguments { given, expanded } = arguments;
     match operand {
         Operand::Tok(token) => Ok(source_token(alloc, sets, token.token())?),
-        Operand::Str(index, at) => literal(alloc, sets, argument(given, *index), *at, used),
+        Operand::Str(index, at) => literal(alloc, sets, argument_of(given, *index), *at, used),
         Operand::Param(index) => {
             if next_to_paste {
-                return Ok(Vec::from_clones(alloc, argument(given, *index))?);
+                return Ok(Vec::from_clones(alloc, argument_of(given, *index))?);
             }
             Ok(Vec::from_clones(alloc, expansion(given, expanded, *index))?)
         }
-        Operand::VariadicAfterComma(index) => Ok(Vec::from_clones(alloc, argument(given, *index))?),
+        Operand::VariadicAfterComma(index) => Ok(Vec::from_clones(
+            alloc,
+            argument_of(given, *index),
+        )?),
     }
 }
 
 /// Appends a list.
-fn push_list<'a>(
-    lists: &mut Vec<Vec<Hidden<'a>>>,
-    tokens: Vec<Hidden<'a>>,
-) -> Result<(), AllocError>
+fn push_list<'a>(lists: &mut Vec<Vec<Hidden<'a>>>, tokens: Vec<Hidden<'a>>) -> Result<(), Memory>
     ensures { OnOk result (lists.new.items ≡ lists.old.items ++ tokens.entry ∷ []) }
 {
     lists.push(tokens)?;

@@ -2,18 +2,18 @@
 ghost use Rattle.std.specs.Prelude.{◌≡◌, ℕ, [], ◌∷◌, ◌++◌, take, IfOk, OnOk, OnErr};
 ghost use Rattle.ppmacro.specs.HideSets.{HasSets, hiding};
 ghost use Rattle.pptext.specs.Errors.{Returns};
-ghost use Rattle.ppmacro.specs.Substitution.{escaped, spelled_space, spelled_in_string, string_text, stringized};
-ghost use Rattle.ppmacro.specs.Substituting.{tokens_of, hidden_in};
+ghost use Rattle.ppmacro.specs.Substitution.{escaped_literal, spelled_space, spelled_in_string, string_text, stringized};
+ghost use Rattle.ppmacro.specs.Substituting.{tokens_of};
 
 use crate::hidden_token::Hidden;
 use crate::hide_sets::HideSets;
 use crate::substituting::lexing::kind_of;
-use pptext::{Error, Fault, Kind, Memory, Place, Spelling, Token, split_memory};
-use std::alloc::{AllocError, Global};
+use pptext::{Error, Kind, Memory, Place, Spelling, Token};
+use std::alloc::Global;
 
 /// Appends a byte of a literal, with a backslash before `"` and `\`. If an allocation fails, the text is unchanged.
-fn push_escaped_byte(text: &mut Vec<u8>, byte: u8) -> Result<(), AllocError>
-    ensures put { OnOk result (text.new.items ≡ text.old.items ++ escaped (byte ∷ [])) }
+fn push_escaped_byte(text: &mut Vec<u8>, byte: u8) -> Result<(), Memory>
+    ensures put { OnOk result (text.new.items ≡ text.old.items ++ escaped_literal (byte ∷ [])) }
     ensures refused { OnErr result (text.new.items ≡ text.old.items) }
 {
     if byte == b'"' || byte == b'\\' {
@@ -24,9 +24,9 @@ fn push_escaped_byte(text: &mut Vec<u8>, byte: u8) -> Result<(), AllocError>
 }
 
 /// Appends a literal's spelling, with a backslash before each `"` and `\`. If an allocation fails, a prefix is appended.
-pub fn push_escaped(text: &mut Vec<u8>, spelling: &[u8]) -> Result<(), AllocError>
-    ensures put { OnOk result (text.new.items ≡ text.old.items ++ escaped spelling.now) }
-    ensures refused { OnErr result ((n : ℕ) × (text.new.items ≡ text.old.items ++ escaped (take n spelling.now))) }
+pub fn push_escaped(text: &mut Vec<u8>, spelling: &[u8]) -> Result<(), Memory>
+    ensures put { OnOk result (text.new.items ≡ text.old.items ++ escaped_literal spelling.now) }
+    ensures refused { OnErr result ((n : ℕ) × (text.new.items ≡ text.old.items ++ escaped_literal (take n spelling.now))) }
 {
     for byte in spelling {
         push_escaped_byte(text, *byte)?;
@@ -35,7 +35,7 @@ pub fn push_escaped(text: &mut Vec<u8>, spelling: &[u8]) -> Result<(), AllocErro
 }
 
 /// Appends the spelling of a token, escaped if it is a literal.
-fn push_spelled(text: &mut Vec<u8>, token: &Hidden) -> Result<(), AllocError>
+fn push_spelled(text: &mut Vec<u8>, token: &Hidden) -> Result<(), Memory>
     ensures { OnOk result (text.new.items ≡ text.old.items ++ spelled_in_string token.now.token) }
 {
     if matches!(token.kind(), Kind::CharConst | Kind::Str) {
@@ -45,7 +45,7 @@ fn push_spelled(text: &mut Vec<u8>, token: &Hidden) -> Result<(), AllocError>
 }
 
 /// Appends a token's spelling, after a space if the token has a leading-space flag and isn't the first.
-fn push_with_space(text: &mut Vec<u8>, first: bool, token: &Hidden) -> Result<(), AllocError>
+fn push_with_space(text: &mut Vec<u8>, first: bool, token: &Hidden) -> Result<(), Memory>
     ensures { OnOk result (text.new.items ≡ text.old.items ++ (spelled_space first token.now.token ++ spelled_in_string token.now.token)) }
 {
     if token.space() && !first {
@@ -55,7 +55,7 @@ fn push_with_space(text: &mut Vec<u8>, first: bool, token: &Hidden) -> Result<()
 }
 
 /// Returns the spelling of an argument between quotes.
-fn string_text(alloc: Global, argument: &[Hidden]) -> Result<Vec<u8>, AllocError>
+fn string_text(alloc: Global, argument: &[Hidden]) -> Result<Vec<u8>, Memory>
     ensures { IfOk result (λ v. v.items ≡ string_text (tokens_of argument.now)) }
 {
     let mut text = Vec::new(alloc);
@@ -69,13 +69,16 @@ fn string_text(alloc: Global, argument: &[Hidden]) -> Result<Vec<u8>, AllocError
     Ok(text)
 }
 
-/// Returns the string literal of an argument, or fault 20.
-pub(crate) fn stringized<'a>(
+/// Returns the string literal of an argument (6.10.3.2), without a leading-space flag and with the empty hide set. `at` is the
+/// location of `#`, and `used` that of the macro name.
+///
+/// Fault 20, at `used` and with the text: the text isn't a string literal.
+pub fn stringize<'a>(
     alloc: Global,
-    sets: &HideSets,
     argument: &[Hidden],
     at: Place,
     used: Place,
+    sets: &HideSets,
 ) -> Result<Hidden<'a>, Error>
     ensures is { Returns result (hiding sets.now) (stringized (tokens_of argument.now) at used) }
     ensures known { IfOk result (λ h. HasSets sets.now h) }
@@ -83,7 +86,7 @@ pub(crate) fn stringized<'a>(
     let text = string_text(alloc, argument)?;
     let kind = kind_of(text.as_slice());
     if !matches!(kind, Some(Kind::Str)) {
-        return Err(Error::Fault(Fault::new(alloc, 20, used, text.as_slice())?));
+        return Err(Error::new(alloc, 20, used, text.as_slice()));
     }
     let token = Token {
         kind: Kind::Str,
@@ -93,21 +96,4 @@ pub(crate) fn stringized<'a>(
         used,
     };
     Ok(Hidden::synthesized(alloc, token, sets.empty())?)
-}
-
-/// Returns the string literal of an argument (6.10.3.2), without a leading-space flag and with the empty hide set. `at` is the
-/// location of `#`, and `used` that of the macro name.
-///
-/// Fault 20, at `used` and with the text: the text isn't a string literal. `Memory` means that an allocation fails.
-pub fn stringize<'a>(
-    alloc: Global,
-    argument: &[Hidden],
-    at: Place,
-    used: Place,
-    sets: &HideSets,
-) -> Result<Result<Hidden<'a>, Fault>, Memory>
-    ensures is { IfOk result (λ r. hidden_in sets.now r ≡ stringized (tokens_of argument.now) at used) }
-    ensures known { IfOk result (λ r. IfOk r (λ h. HasSets sets.now h)) }
-{
-    split_memory(stringized(alloc, sets, argument, at, used))
 }

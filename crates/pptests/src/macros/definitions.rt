@@ -1,8 +1,8 @@
 //! Tests of `#define` and `#undef` (6.10.3, 6.10.3.5).
 use super::{HASH, shown, table_of};
-use crate::defining::{direct, drawn, source_of};
+use crate::defining::{define_valid, direct, drawn, source_of};
 use ppmacro::Table;
-use pptext::{Fault, Hashing, Memory, Profile, Source, Token};
+use pptext::{Error, Hashing, Memory, Profile, Source, Token};
 use std::alloc::Global;
 use std::process::Abort;
 use std::test::Fail;
@@ -15,24 +15,26 @@ fn direct_again<'a>(
     table: &mut Table<'a>,
     (profile, line): (Profile, &'a [Token]),
     (name, before): (&str, &[u8]),
-) -> Result<Result<(), Fault>, Memory> {
-    let Ok(answer) = direct(alloc, table, profile, line) else {
-        assert!(rt; shown(alloc, table, name)?.as_slice() == before, "{name}");
-        return direct(alloc, table, profile, line);
-    };
-    Ok(answer)
+) -> Result<(), Error> {
+    let answer = direct(alloc, table, profile, line);
+    if !matches!(&answer, Err(Error::Memory)) {
+        return answer;
+    }
+    assert!(rt; shown(alloc, table, name)?.as_slice() == before, "{name}");
+    direct(alloc, table, profile, line)
 }
 
 /// Returns whether a line gives a name this definition, or returns the fault with this number and leaves the definition.
 fn is_wanted(
-    answer: &Result<(), Fault>,
+    answer: Result<(), Error>,
     name: &str,
     (before, after): (&[u8], &[u8]),
     wanted: Result<&str, u8>,
 ) -> bool {
     match (answer, wanted) {
         (Ok(()), Ok(definition)) => after == definition.as_bytes(),
-        (Err(fault), Err(number)) => {
+        (Err(Error::Fault(fault)), Err(number)) => {
+            let fault = fault.into_fault();
             fault.number == number
                 && fault.at == HASH
                 && fault.text.as_bytes() == name.as_bytes()
@@ -52,10 +54,13 @@ fn assert_changes<'a>(
     wanted: Result<&str, u8>,
 ) -> Result<(), Memory> {
     let before = shown(alloc, table, name)?;
-    let answer = direct_again(rt, alloc, table, line, (name, before.as_slice()))?;
+    let answer = direct_again(rt, alloc, table, line, (name, before.as_slice()));
+    if matches!(&answer, Err(Error::Memory)) {
+        return Err(Memory);
+    }
     let after = shown(alloc, table, name)?;
     assert!(rt;
-        is_wanted(&answer, name, (before.as_slice(), after.as_slice()), wanted),
+        is_wanted(answer, name, (before.as_slice(), after.as_slice()), wanted),
         "{name}"
     );
     Ok(())
@@ -353,6 +358,50 @@ fn holds_the_predefined_names_alone(rt: HostRuntime) -> Result<(), Fail> {
     for hashing in [Hashing::fixed(), drawn(&rt)?] {
         let same = hashed(&rt, rt.alloc(), hashing)?;
         let _same = hashed(&rt, rt.alloc(), same)?;
+    }
+    Ok(())
+}
+
+/// Lines of GNU C, the next line, which has the rules of C11, and the number of its fault. A unit has one profile, so none has
+/// such lines.
+const MIXED: &[(&str, &str, u8)] = &[
+    ("#define f(x...) x", "#define f(x) x", 16),
+    ("#define f(...) 1", "#define f(...) 1", 16),
+    (
+        "#define __STDC_VERSION__ 199901L",
+        "#undef __STDC_VERSION__",
+        10,
+    ),
+    (
+        "#undef __STDC_VERSION__",
+        "#define __STDC_VERSION__ 1",
+        10,
+    ),
+];
+
+/// Asserts the number of the fault of a line with the rules of C11 after a line of GNU C.
+fn assert_refused_after_gnu(
+    rt: &impl Abort,
+    alloc: Global,
+    (gnu, line): (&Source, &Source),
+    number: u8,
+) -> Result<(), Memory> {
+    let mut table = Table::new(alloc)?;
+    define_valid(rt, alloc, &mut table, Profile::Gnu, gnu.tokens())?;
+    match direct(alloc, &mut table, Profile::C11, line.tokens()) {
+        Ok(()) => assert!(rt; false, "no fault"),
+        Err(Error::Fault(fault)) => assert!(rt; fault.into_fault().number == number),
+        Err(Error::Memory) => return Err(Memory),
+    }
+    Ok(())
+}
+
+#[test]
+fn compares_and_reserves_across_profiles(rt: HostRuntime) -> Result<(), Fail> {
+    for &(gnu, line, number) in MIXED {
+        let gnu = source_of(&rt, rt.alloc(), gnu.as_bytes())?;
+        let line = source_of(&rt, rt.alloc(), line.as_bytes())?;
+        assert_refused_after_gnu(&rt, rt.alloc(), (&gnu, &line), number)?;
     }
     Ok(())
 }

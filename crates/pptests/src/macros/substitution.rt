@@ -5,19 +5,19 @@ ghost use Rattle.ppmacro.specs.Substituting.{ListsKnown, ArgumentsKnown};
 ghost use Rattle.ppmacro.specs.declared.hidden_token.ArgumentExpansion.TheVariants.{Owned};
 
 use super::{HASH, has, is_hidden_by, macro_of, push_spelled, set_of, sources_of, table_of};
-use crate::defining::{direct, source_of};
+use crate::defining::{define_valid, source_of};
 use crate::showing::{assert_shown, push_fault, push_fields};
 use ppmacro::{
     ArgumentExpansion, Arguments, Chain, Hidden, HideSets, Macro, MacroName, Pattern, Set, Table,
     decides_each_kind, paste, stringize, substitute, substitute_pattern,
 };
-use pptext::{Fault, Memory, Place, Profile, Source, Token};
-use std::alloc::{AllocError, Global};
+use pptext::{Error, Memory, Place, Profile, Source, Token};
+use std::alloc::Global;
 use std::process::Abort;
 use std::test::Fail;
 
-/// The replacement of an invocation and the pending leading-space flag, or the fault.
-type Replaced<'x> = Result<(Vec<Hidden<'x>>, bool), Fault>;
+/// The replacement of an invocation and the pending leading-space flag, or the error.
+type Replaced<'x> = Result<(Vec<Hidden<'x>>, bool), Error>;
 
 /// The location of the macro name in an invocation.
 pub(super) const USED: Place = Place {
@@ -32,7 +32,7 @@ fn hidden<'a>(
     sets: &HideSets,
     hide: Set,
     tokens: &'a [Token],
-) -> Result<Vec<Hidden<'a>>, AllocError>
+) -> Result<Vec<Hidden<'a>>, Memory>
     requires { IsKnown sets.now hide }
     ensures { IfOk result (λ v. AllKnown sets.now v.items) }
 {
@@ -49,7 +49,7 @@ fn lists_of<'a>(
     sets: &HideSets,
     hide: Set,
     texts: &'a [Source],
-) -> Result<Vec<Vec<Hidden<'a>>>, AllocError>
+) -> Result<Vec<Vec<Hidden<'a>>>, Memory>
     requires { IsKnown sets.now hide }
     ensures { IfOk result (λ v. ListsKnown sets.now v.items) }
 {
@@ -64,7 +64,7 @@ fn lists_of<'a>(
 fn as_they_are<'a>(
     alloc: Global,
     lists: Vec<Vec<Hidden<'a>>>,
-) -> Result<Vec<ArgumentExpansion<'a>>, AllocError>
+) -> Result<Vec<ArgumentExpansion<'a>>, Memory>
     ensures { IfOk result (λ v. v.items ≡ map (λ l. Owned l) lists.entry.items) }
 {
     lists
@@ -82,16 +82,17 @@ fn substituted<'x, 'a: 'x>(
     arguments: Arguments<'_, 'x>,
     name: &MacroName,
     sets: &mut HideSets,
-) -> Result<Replaced<'x>, Memory>
+) -> Replaced<'x>
     requires arguments { ArgumentsKnown sets.old arguments.given.now arguments.expanded.now }
     requires base { IsKnown sets.old name.now.base }
 {
     let base = name.base;
-    let Ok(answer) = substitute(alloc, chains, arguments, name, sets) else {
-        assert!(rt; has(rt, sets, base, b"b") && !has(rt, sets, base, b"f"));
-        return substitute(alloc, chains, arguments, name, sets);
-    };
-    Ok(answer)
+    let answer = substitute(alloc, chains, arguments, name, sets);
+    if !matches!(&answer, Err(Error::Memory)) {
+        return answer;
+    }
+    assert!(rt; has(rt, sets, base, b"b") && !has(rt, sets, base, b"f"));
+    substitute(alloc, chains, arguments, name, sets)
 }
 
 /// Returns the macro name token `f` of an invocation.
@@ -115,7 +116,7 @@ fn replaced_by<'x, 'a: 'x>(
     chains: &[Chain<'a>],
     texts: &'x [Source],
     (hide, base, space): (Set, Set, bool),
-) -> Result<Replaced<'x>, Memory> {
+) -> Replaced<'x> {
     assert!(rt; sets.knows(hide) && sets.knows(base));
     let given = lists_of(alloc, sets, hide, texts)?;
     let expanded = as_they_are(alloc, lists_of(alloc, sets, hide, texts)?)?;
@@ -132,7 +133,7 @@ fn replaced_by_pattern<'x, 'a: 'x>(
     pattern: &Pattern<'a>,
     texts: &'x [Source],
     (hide, base, space): (Set, Set, bool),
-) -> Result<Replaced<'x>, Memory> {
+) -> Replaced<'x> {
     assert!(rt; sets.knows(hide) && sets.knows(base));
     let given = lists_of(alloc, sets, hide, texts)?;
     let expanded = as_they_are(alloc, lists_of(alloc, sets, hide, texts)?)?;
@@ -160,7 +161,7 @@ fn replaced<'x, 'a: 'x>(
     (table, named, by): (&Table<'a>, &Macro<'a>, By),
     texts: &'x [Source],
     with: (Set, Set, bool),
-) -> Result<Replaced<'x>, Memory> {
+) -> Replaced<'x> {
     match by {
         By::Chains => {
             let chains = named.chains(alloc)?;
@@ -186,7 +187,7 @@ fn push_all_spelled(
     text: &mut Vec<u8>,
     sets: &HideSets,
     tokens: &[Hidden],
-) -> Result<(), AllocError> {
+) -> Result<(), Memory> {
     for hidden in tokens {
         assert!(rt; is_gained(rt, sets, hidden));
         push_spelled(text, &hidden.to_token()?)?;
@@ -201,7 +202,7 @@ fn push_all_placed(
     text: &mut Vec<u8>,
     sets: &HideSets,
     tokens: &[Hidden],
-) -> Result<(), AllocError> {
+) -> Result<(), Memory> {
     for hidden in tokens {
         let mark = if is_hidden_by(rt, sets, hidden, b"g") {
             'g'
@@ -220,19 +221,20 @@ fn as_text(
     rt: &impl Abort,
     alloc: Global,
     sets: &HideSets,
-    answer: &Replaced,
+    answer: Replaced,
     hides: bool,
-) -> Result<Vec<u8>, AllocError> {
+) -> Result<Vec<u8>, Memory> {
     let mut text = Vec::new(alloc);
     match answer {
         Ok((tokens, pending)) => {
             push_all_spelled(rt, &mut text, sets, tokens.as_slice())?;
-            text.extend_from_slice(if *pending { b" |+" } else { b" |-" })?;
+            text.extend_from_slice(if pending { b" |+" } else { b" |-" })?;
             if hides {
                 push_all_placed(rt, alloc, &mut text, sets, tokens.as_slice())?;
             }
         }
-        Err(fault) => push_fault(alloc, &mut text, fault)?,
+        Err(Error::Fault(fault)) => push_fault(alloc, &mut text, &fault.into_fault())?,
+        Err(Error::Memory) => return Err(Memory),
     }
     Ok(text)
 }
@@ -257,8 +259,8 @@ fn told_over(
         (table, named, by),
         texts,
         (hide, base, space),
-    )?;
-    Ok(as_text(rt, alloc, sets, &answer, hides)?)
+    );
+    Ok(as_text(rt, alloc, sets, answer, hides)?)
 }
 
 /// Returns the replacement of an invocation as text, with new hide sets.
@@ -281,7 +283,7 @@ fn table_by<'a>(
     line: &'a Source,
 ) -> Result<Table<'a>, Memory> {
     let mut table = Table::new(alloc)?;
-    assert!(rt; direct(alloc, &mut table, profile, line.tokens())?.is_ok());
+    define_valid(rt, alloc, &mut table, profile, line.tokens())?;
     Ok(table)
 }
 
@@ -700,7 +702,7 @@ pub(super) fn assert_made(
     sets: &HideSets,
     made: &Hidden,
     (wanted, names): (&str, &[u8]),
-) -> Result<(), AllocError> {
+) -> Result<(), Memory> {
     let mut text = Vec::new(alloc);
     let marks = (made.kind(), made.space());
     push_fields(
@@ -732,7 +734,7 @@ fn assert_stringized(
     let hide = set_of(rt, sets, b"a")?;
     assert!(rt; sets.knows(hide));
     let argument = hidden(alloc, sets, hide, tokens)?;
-    let Ok(literal) = stringize(alloc, argument.as_slice(), HASH, USED, sets)? else {
+    let Ok(literal) = stringize(alloc, argument.as_slice(), HASH, USED, sets) else {
         return Err(Fail::new("no literal"));
     };
     Ok(assert_made(rt, alloc, sets, &literal, (wanted, b""))?)
@@ -745,7 +747,7 @@ fn pasted<'a>(
     sets: &mut HideSets,
     left: &Token,
     right: &Token,
-) -> Result<Result<Hidden<'a>, Fault>, Memory> {
+) -> Result<Hidden<'a>, Error> {
     let (a, ab) = (set_of(rt, sets, b"a")?, set_of(rt, sets, b"ab")?);
     assert!(rt; sets.knows(a) && sets.knows(ab));
     let (left, right) = (Hidden::new(left, ab), Hidden::new(right, a));
@@ -763,7 +765,7 @@ fn assert_pasted(
     let [_, left, right] = tokens else {
         return Err(Fail::new("other tokens"));
     };
-    let Ok(token) = pasted(rt, alloc, sets, left, right)? else {
+    let Ok(token) = pasted(rt, alloc, sets, left, right) else {
         return Err(Fail::new("no token"));
     };
     Ok(assert_made(rt, alloc, sets, &token, (wanted, b"a"))?)

@@ -15,7 +15,7 @@ meant = elim [ variant.OperandPart space operand ↦ OperandPart space operand |
 
 pub returns : goal.returns
 returns c =
-    let kind = c.args.kind.now in
+    let kind = c.args.kind.now.kind in
     let body = c.args.body.now in
     let at_end : length body ≤ c.loop-token.token-index = omega (arith, c.loop-token-test.false) in
     sym (append_parts-end c.loop-token.joined c.loop-token.chains.items)
@@ -24,7 +24,7 @@ returns c =
 
 pub loop-token-preserved : goal.loop-token-preserved
 loop-token-preserved c =
-    let kind = c.args.kind.now in
+    let kind = c.args.kind.now.kind in
     let i = c.loop-token.token-index in
     let body = c.args.body.now in
     let token = c.token-item.result in
@@ -37,7 +37,7 @@ loop-token-preserved c =
 
 pub loop-token-preserved-in_default : goal.loop-token-preserved-in_default
 loop-token-preserved-in_default c =
-    let kind = c.args.kind.now in
+    let kind = c.args.kind.now.kind in
     let i = c.loop-token.token-index in
     let body = c.args.body.now in
     let token = c.token-item.result in

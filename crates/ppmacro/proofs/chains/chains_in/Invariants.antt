@@ -4,4 +4,4 @@ use Rattle.ppmacro.specs.code.ChainParts.{append_parts}
 use Rattle.ppmacro.proofs.chains.chains_in.Given as goal
 
 abbrev pub invariant-loop-token : goal.invariant-loop-token
-invariant-loop-token l = append_parts l.joined l.chains.items (parts_after l.kind l.hash (drop l.token-index l.body)) ≡ group_parts (parts_after l.kind None l.body)
+invariant-loop-token l = append_parts l.joined l.chains.items (parts_after l.kind.kind l.hash (drop l.token-index l.body)) ≡ group_parts (parts_after l.kind.kind None l.body)

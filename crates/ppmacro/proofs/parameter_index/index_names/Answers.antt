@@ -27,4 +27,5 @@ loop-name-preserved c =
     let keys : c.insert.new.self.keys ≡ c.loop-name.index.keys ++ name ∷ [] = c.in-Ok.ensures.keys ∙ ap (λ b. cond b c.loop-name.index.keys (c.loop-name.index.keys ++ name ∷ [])) absent in (
       keys ∙ ap (λ ks. ks ++ name ∷ []) c.loop-name.invariant.0 ∙ ap (λ n. take i names ++ n ∷ []) (sym at) ∙ sym (take_more names i c.name-item.result (omega arith)),
       repeats-next names i c.name-item.result name false (omega arith) at c.loop-name.invariant.1 (subst P c.loop-name.invariant.0 absent),
+      c.insert.ensures.hasher ∙ c.loop-name.invariant.2,
     )

@@ -1,7 +1,8 @@
 use Rattle.std.proofs.Common.{◌≡◌, ◌∙◌, ◌+◌, refl, sym, ap, ◌∷◌, drop, not, ◌||◌, ◌&&◌, Ok, Err}
 use Rattle.ppmacro.specs.HideSets.{hidings}
 use Rattle.ppmacro.specs.Substitution.{chain_tokens, chains_tokens}
-use Rattle.ppmacro.specs.Substituting.{pushed, arguments_in}
+use Rattle.ppmacro.specs.Substituting.{arguments_in}
+use Rattle.ppmacro.specs.code.Replacing.{pushed}
 use Rattle.pptext.proofs.ErrorReturns.{stops}
 use Rattle.ppmacro.proofs.PoolGrowthLemmas.{keeps-after}
 use Rattle.ppmacro.proofs.ChainReplacementLemmas.{marked_behind, drop-item, arguments-keeps, arguments-known, chains-pushed, chains-refused-pushed}

@@ -1,7 +1,8 @@
 use Rattle.std.proofs.Common.{◌≡◌, ◌∙◌, sym, ap, subst, ◌++◌, Ok}
 use Rattle.ppmacro.specs.HideSets.{hidings, AllKnown}
 use Rattle.ppmacro.specs.Substitution.{chain_tokens, space_first}
-use Rattle.ppmacro.specs.Substituting.{arguments_in, pushed}
+use Rattle.ppmacro.specs.Substituting.{arguments_in}
+use Rattle.ppmacro.specs.code.Replacing.{pushed}
 use Rattle.ppmacro.proofs.PoolGrowthLemmas.{hidings-keeps, known-keeps}
 use Rattle.ppmacro.proofs.substituting.push_chain.Goals as goal
 

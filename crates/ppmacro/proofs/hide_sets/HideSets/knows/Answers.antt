@@ -4,7 +4,7 @@ use Rattle.ppmacro.proofs.hide_sets.HideSets.knows.Goals as goal
 
 pub returns : goal.returns
 returns c =
-    let names = c.self.inside.names in
+    let names = c.self.inside.names.names in
     let ns = c.self.inside.nodes.keys in
     let sets = ap (λ s. s.sets) c.self.view_is in
     let tests : IsTrue (nat_lt c.hide.inside.number (length ns)) ↔ (c.hide.inside.number < length ns) = search rules in

@@ -1,4 +1,4 @@
-use Rattle.std.proofs.Common.{◌≡◌, ◌∙◌, refl, ap}
+use Rattle.std.proofs.Common.{◌≡◌, ◌∙◌, refl, sym, ap}
 use Rattle.ppmacro.specs.code.Members.{hide_sets}
 use Rattle.ppmacro.specs.code.Operations.{Union}
 use Rattle.ppmacro.proofs.PoolGrowthLemmas.{pairs-are}
@@ -14,36 +14,48 @@ pub combine-requires-clause-two : goal.combine-requires-clause-two
 combine-requires-clause-two c = node-asked c.self.inside c.self.view_is c.right.view_is c.requires.right
 
 pub invariant_of-self : goal.invariant_of-self
-invariant_of-self c = selected-made Union c.self.inside c.self.invariant c.combine.ensures.pool c.combine.ensures.keeps c.combine.ensures.bounded c.combine.ensures.results
+invariant_of-self c =
+    record {
+      consistent = selected-made Union c.self.inside c.self.invariant.consistent c.combine.ensures.pool c.combine.ensures.keeps c.combine.ensures.bounded c.combine.ensures.results;
+      names_hashing = c.self.invariant.names_hashing ∙ sym c.combine.ensures.hashing;
+      unions_hashing = c.combine.ensures.pairs_hashing ∙ c.self.invariant.unions_hashing ∙ sym c.combine.ensures.hashing;
+      intersections_hashing = c.self.invariant.intersections_hashing ∙ sym c.combine.ensures.hashing;
+    }
 
 pub invariant_of-self-2 : goal.invariant_of-self-2
-invariant_of-self-2 c = selected-made Union c.self.inside c.self.invariant c.combine.ensures.pool c.combine.ensures.keeps c.combine.ensures.bounded c.combine.ensures.results
+invariant_of-self-2 c =
+    record {
+      consistent = selected-made Union c.self.inside c.self.invariant.consistent c.combine.ensures.pool c.combine.ensures.keeps c.combine.ensures.bounded c.combine.ensures.results;
+      names_hashing = c.self.invariant.names_hashing ∙ sym c.combine.ensures.hashing;
+      unions_hashing = c.combine.ensures.pairs_hashing ∙ c.self.invariant.unions_hashing ∙ sym c.combine.ensures.hashing;
+      intersections_hashing = c.self.invariant.intersections_hashing ∙ sym c.combine.ensures.hashing;
+    }
 
 pub returns-in_err-number-clause-keeps : goal.returns-in_err-number-clause-keeps
 returns-in_err-number-clause-keeps c =
-    keeps-seen c.self.inside c.combine.new.nodes.keys c.self.view_is c.self.invariant.pool c.in_err-number.ensures.keeps c.combine.ensures.pairs (pairs-are refl)
+    keeps-seen c.self.inside c.combine.new.nodes.keys c.self.view_is c.combine.ensures.hashing c.self.invariant.consistent.pool c.in_err-number.ensures.keeps c.combine.ensures.pairs (pairs-are refl)
 
 pub returns-clause-keeps : goal.returns-clause-keeps
-returns-clause-keeps c = keeps-seen c.self.inside c.combine.new.nodes.keys c.self.view_is c.self.invariant.pool c.in_ok-number.ensures.keeps c.combine.ensures.pairs (pairs-are refl)
+returns-clause-keeps c = keeps-seen c.self.inside c.combine.new.nodes.keys c.self.view_is c.combine.ensures.hashing c.self.invariant.consistent.pool c.in_ok-number.ensures.keeps c.combine.ensures.pairs (pairs-are refl)
 
 pub returns-clause-known : goal.returns-clause-known
-returns-clause-known c = known-at c.self.inside.names c.combine.new.nodes.keys c.in_ok-number.number c.in_ok-number.ensures.known
+returns-clause-known c = known-at c.self.inside.names.names c.combine.new.nodes.keys c.in_ok-number.number c.in_ok-number.ensures.known
 
 pub returns-clause-set : goal.returns-clause-set
 returns-clause-set c =
-    made-seen Union c.self.inside c.combine.new.nodes.keys c.self.view_is c.self.invariant.distinct c.left.view_is c.right.view_is c.requires.left
+    made-seen Union c.self.inside c.combine.new.nodes.keys c.self.view_is c.self.invariant.consistent.distinct c.left.view_is c.right.view_is c.requires.left
     c.requires.right c.in_ok-number.ensures.known c.in_ok-number.ensures.set
 
 pub returns-in_err-number-clause-there : goal.returns-in_err-number-clause-there
 returns-in_err-number-clause-there c = λ n k e.
-    let members = both-seen Union c.self.inside n c.self.view_is c.self.invariant c.left.view_is c.right.view_is c.requires.left c.requires.right k e in
+    let members = both-seen Union c.self.inside n c.self.view_is c.self.invariant.consistent c.left.view_is c.right.view_is c.requires.left c.requires.right k e in
     let found = c.in_err-number.ensures.there n (node-asked c.self.inside c.self.view_is refl k) members in
-    let same = (λ i. record { sets = hide_sets c.self.inside.names (found.1 i); unions = (found.2 i); intersections = c.self.inside.intersections }) ∙ c.self.view_is in
+    let same = (λ i. record { sets = hide_sets c.self.inside.names.names (found.1 i); unions = (found.2 i).results; intersections = c.self.inside.intersections.results; hashing = c.combine.ensures.hashing i }) ∙ c.self.view_is in
     let told = refused c.from_residual.result (λ m. m ≡ n) _ c.from_residual.ensures.0 same in
     (told.0, ap (λ v. v.sets) same, told.1)
 
 pub returns-clause-there : goal.returns-clause-there
 returns-clause-there c = λ n k e.
-    let members = both-seen Union c.self.inside n c.self.view_is c.self.invariant c.left.view_is c.right.view_is c.requires.left c.requires.right k e in
+    let members = both-seen Union c.self.inside n c.self.view_is c.self.invariant.consistent c.left.view_is c.right.view_is c.requires.left c.requires.right k e in
     let found = c.in_ok-number.ensures.there n (node-asked c.self.inside c.self.view_is refl k) members in
-    (found.0, (λ i. hide_sets c.self.inside.names (found.1 i)) ∙ ap (λ v. v.sets) c.self.view_is, tt)
+    (found.0, (λ i. hide_sets c.self.inside.names.names (found.1 i)) ∙ ap (λ v. v.sets) c.self.view_is, tt)

@@ -2,7 +2,8 @@ use Rattle.std.proofs.Common.{◌≡◌, ◌∙◌, ◌+◌, refl, sym, ap, ◌�
 use Rattle.ppmacro.specs.HideSets.{hidings}
 use Rattle.ppmacro.specs.Patterns.{entry_chain}
 use Rattle.ppmacro.specs.Substitution.{chain_tokens, chains_tokens}
-use Rattle.ppmacro.specs.Substituting.{pushed, arguments_in}
+use Rattle.ppmacro.specs.Substituting.{arguments_in}
+use Rattle.ppmacro.specs.code.Replacing.{pushed}
 use Rattle.ppmacro.proofs.ChainReplacementLemmas.{marked_behind, drop-item, chains-pushed}
 use Rattle.ppmacro.proofs.substituting.entries.entries_tokens.Goals as goal
 

@@ -1,7 +1,7 @@
 use Rattle.std.proofs.Common.{◌≡◌, ◌∙◌, sym, ap, subst, [], ◌∷◌, ◌++◌, drop, length, arith, Ok}
 use Rattle.ppmacro.specs.HideSets.{hiding, hidings, AllKnown}
 use Rattle.ppmacro.specs.Substitution.{join, pasted}
-use Rattle.ppmacro.specs.Substituting.{EndsWithSpelledKind}
+use Rattle.ppmacro.specs.code.Replacing.{EndsWithSpelledKind}
 use Rattle.std.proofs.lemmas.Bool.{eqb-true}
 use Rattle.std.proofs.lemmas.List.{take_rest}
 use Rattle.ppmacro.proofs.JoinLemmas.{split-first, no-first, join-nothing, join-pasted, join-refused, known-joined, known-last}

@@ -1,7 +1,8 @@
 use Rattle.std.proofs.Common.{◌≡◌, IsTrue, [], map, drop}
 use Rattle.ppmacro.specs.HideSets.{hidings, AllKnown, KeepsSets}
 use Rattle.ppmacro.specs.Substitution.{join_all}
-use Rattle.ppmacro.specs.Substituting.{lists_of, ListsKnown, EndsWithSpelledKind}
+use Rattle.ppmacro.specs.Substituting.{lists_of, ListsKnown}
+use Rattle.ppmacro.specs.code.Replacing.{EndsWithSpelledKind}
 use Rattle.ppmacro.proofs.substituting.joining.join_all.Given as goal
 
 abbrev pub invariant-loop-right : goal.invariant-loop-right

@@ -26,4 +26,4 @@ returns-then-branch-clause-has_spelled_kind c =
     (c.requires.has_spelled_kind (c.if-is_continued.ensures.has_spelled_kind refl)) (more c) (grown c) c.set_use.ensures
 
 pub returns-clause-has_spelled_kind : goal.returns-clause-has_spelled_kind
-returns-clause-has_spelled_kind c = paste-has_spelled_kind c.args.sets.now c.pasted.new.sets _ c.args.first.now c.args.used c.pasted.result c.pasted.ensures.is
+returns-clause-has_spelled_kind c = paste-has_spelled_kind c.args.sets.now c.paste.new.sets _ c.args.first.now c.args.used c.paste.result c.paste.ensures.is

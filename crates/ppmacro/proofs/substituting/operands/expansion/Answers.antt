@@ -11,4 +11,4 @@ returns-in_default c =
 pub returns : goal.returns
 returns c =
     let at = c.in-Some.ensures.lookup in
-    c.expansion_tokens.ensures ∙ ap (λ hs. unwrap_or (expansion_if_computed hs c.in-Some.expansion.now) []) c.argument.ensures ∙ expansion-at c.args.given.now c.args.expanded.now c.args.index c.in-Some.expansion.now at.3.0 at.1
+    c.expansion_tokens.ensures ∙ ap (λ hs. unwrap_or (expansion_if_computed hs c.in-Some.expansion.now) []) c.argument_of.ensures ∙ expansion-at c.args.given.now c.args.expanded.now c.args.index c.in-Some.expansion.now at.3.0 at.1

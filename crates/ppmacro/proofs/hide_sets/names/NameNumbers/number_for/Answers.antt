@@ -18,7 +18,7 @@ pub returns-clause-keeps : goal.returns-clause-keeps
 returns-clause-keeps c =
     let ks = c.self.inside.names.keys in
     let k = names-keep (list_any (λ y. bytes_eq c.in_ok-text.text.items y) ks) ks c.in_ok-text.text.items in
-    (k.0, c.in-Ok.ensures.keys ∙ k.1 ∙ ap (λ xs. xs ++ k.0) c.self.view_is)
+    (k.0, c.in-Ok.ensures.keys ∙ k.1 ∙ ap (λ s. s.names ++ k.0) c.self.view_is)
 
 pub returns-clause-distinct : goal.returns-clause-distinct
 returns-clause-distinct c = distinct-names c.insert_full.new.self.keys c.in-Ok.ensures.unique
