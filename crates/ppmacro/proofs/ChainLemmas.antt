@@ -2,7 +2,7 @@
 use Rattle.std.proofs.Common.{◌≡◌, ℕ, zero, suc, Bool, true, false, List, [], ◌∷◌, ◌++◌, length, set, get_or, refl, sym, ap, ◌∙◌, arith, append_assoc, append-nil}
 use Rattle.ppmacro.specs.declared.macros.Chain.{Chain}
 use Rattle.ppmacro.specs.declared.macros.Operand.{Operand}
-use Rattle.ppmacro.specs.Chains.{ChainPart, OperandPart, PastePart, begins_joined, join_first, group_parts}
+use Rattle.ppmacro.specs.Chains.{ChainPart, OperandPart, begins_joined, join_first, group_parts}
 use Rattle.ppmacro.specs.code.ChainParts.{joined_to, append_chains, append_parts}
 
 -- ---- one more operand

@@ -1,6 +1,6 @@
 -- The origin, the hide set and the leading-space flag of each token of a replacement.
 use Rattle.std.proofs.Common.{◌+◌, length-append, ◌≡◌, ℕ, zero, suc, ◌<◌, ◌-◌, Bool, true, false, not, ◌&&◌, ◌||◌, List, [], ◌∷◌, ◌++◌, map, take, length, Option, Some, None, Result, Ok, Err}
-use Rattle.std.proofs.Common.{if◌then◌else◌, ◌⊎◌, inl, inr, ◌≤◌, refl, sym, ap, ◌∙◌, subst, unwrap_or, slice_get, slice_index_or, append-nil, append_assoc, arith}
+use Rattle.std.proofs.Common.{if◌then◌else◌, ◌⊎◌, inl, inr, ◌≤◌, refl, sym, ap, ◌∙◌, subst, unwrap_or, slice_get, append-nil, append_assoc, arith}
 use Rattle.std.proofs.lemmas.Bool.{cases_lt}
 use Rattle.std.specs.List.{AllByRecursion, Contains}
 use Rattle.pptext.specs.declared.tokens.Place.{Place}
@@ -11,7 +11,7 @@ use Rattle.pptext.specs.Tokens.{fault}
 use Rattle.ppmacro.specs.Names.{HideSet}
 use Rattle.ppmacro.specs.Hiding.{Hiding}
 use Rattle.ppmacro.specs.Lexing.{kind_of}
-use Rattle.ppmacro.specs.Substitution.{Arguments, Replacement, argument_at, expanded_at, stringized, is_string_literal, string_text, string_token, pasted, pasted_as, after_ok, join, join_all}
+use Rattle.ppmacro.specs.Substitution.{Arguments, Replacement, argument_at, stringized, is_string_literal, string_text, string_token, pasted, pasted_as, after_ok, join, join_all}
 use Rattle.ppmacro.specs.Substitution.{operand_tokens, operands_tokens, is_joined, before_variadic, variadic_of, variadic_after_comma, with_variadic_tokens, chain_tokens, space_first, chains_tokens}
 use Rattle.ppmacro.specs.Substitution.{hsadd, chains_replacement}
 use Rattle.ppmacro.specs.Origins.{OperandTokens, listed, expanded, given, variadic, literal, AreNeighbors, IsPaste, IsLastToken, own_last, paste_last, ComesFrom, own, paste}

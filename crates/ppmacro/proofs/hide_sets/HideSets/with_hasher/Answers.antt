@@ -1,4 +1,3 @@
-use Rattle.std.proofs.Common.{◌∙◌, sym}
 use Rattle.ppmacro.specs.code.Members.{hide_sets}
 use Rattle.ppmacro.proofs.hide_sets.HideSets.with_hasher.Goals as goal
 
