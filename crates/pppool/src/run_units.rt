@@ -55,7 +55,7 @@ pub fn run<'a, R: Threads + Sync, D: Disk + Send + Sync, G: Gate + Sync>(
 {
     let outs = run_retaining(threads, alloc, pass, batch, Retain::Everything)?;
     // For proofs only: cites a promise of the file table and the theorems about budgets.
-    batch.shelf.contents_permitted();
+    batch.shelf.names_are_distinct();
     stays_in_budget();
     budget_caps_units();
     Ok(outs)
@@ -116,7 +116,7 @@ pub fn run_retaining<'a, R: Threads + Sync, D: Disk + Send + Sync, G: Gate + Syn
     );
     // For proofs only: cites promises of the pass and the file table.
     pass.contents_permitted();
-    shelf.contents_permitted();
+    shelf.names_are_distinct();
     // For proofs only: cites the theorems about budgets.
     stays_in_budget();
     budget_caps_units();

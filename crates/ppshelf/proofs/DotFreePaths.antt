@@ -5,8 +5,9 @@ use Rattle.std.proofs.lemmas.Bool.{false≢true}
 use Rattle.std.proofs.lemmas.List.{append-nil}
 use Rattle.std.proofs.lemmas.List.Splits.{join_with_byte-slice_split, length-slice_split}
 use Rattle.std.proofs.Math.Dec.{eqb-suc-zero}
-use Rattle.ppshelf.specs.Names.{segments, starts_without_dot, IsRowOf}
-use Rattle.ppshelf.specs.Search.{Path, follow_segment, walk, follow, path_name, IsRowAt}
+use Rattle.ppshelf.specs.Names.{segments, IsRowOf}
+use Rattle.ppshelf.specs.Search.{Path, follow_segment, walk, follow, path_name}
+use Rattle.ppshelf.specs.code.Paths.{starts_without_dot, IsRowAt}
 
 both : (a b : Bool) → (a && b) ≡ true → (a ≡ true) × (b ≡ true)
 both true true e = (refl, refl)

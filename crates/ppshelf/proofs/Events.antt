@@ -9,7 +9,8 @@ use Rattle.std.proofs.lemmas.Option.{none-some, same_Some}
 use Rattle.ppshelf.specs.Content.{Content}
 use Rattle.ppshelf.specs.Files.{Files, file_at, Extends}
 use Rattle.ppshelf.proofs.ObservedContents.{none_known}
-use Rattle.ppshelf.specs.Events.{Caller, no_caller, Shared, caller_at, observed_by, with_changed_caller, observing, caching, with_block, with_no_block_left, with_next_block, Event, Happens, caches, reads, claims, finds_none, Happen, none, next, initial_state, ObservedStays, CallersAgree, times, claims_of, EachBlockOnce}
+use Rattle.ppshelf.specs.Events.{Caller, no_caller, Shared, caller_at, observed_by, with_changed_caller, observing, caching, with_block, with_no_block_left, with_next_block}
+use Rattle.ppshelf.specs.Events.{Event, Happens, caches, reads, claims, finds_none, Happen, none, next, initial_state, ObservedStays, CallersAgree, times, claims_of, EachBlockOnce}
 
 -- Each content that a caller has observed is cached.
 abbrev Sound : Shared → Type 0
@@ -70,7 +71,11 @@ learnt_after shared caller row c who within =
           inr (subst P (sym is) (ap (λ (k : Caller). k.observed) (changed_same shared caller change within)))
     ]
 
-learns : (shared : Shared) (caller row : ℕ) (c : Content) → caller < length shared.callers → Sound shared → file_at shared.cached row ≡ Some c → Sound (observing shared caller row c) × Grown shared (observing shared caller row c)
+learns : (shared : Shared) (caller row : ℕ) (c : Content)
+    → caller < length shared.callers
+    → Sound shared
+    → file_at shared.cached row ≡ Some c
+    → Sound (observing shared caller row c) × Grown shared (observing shared caller row c)
 learns shared caller row c within sound cached =
     let same : (who : ℕ) (d : Content) → file_at (observed_by shared who) row ≡ Some d → d ≡ c = λ who d e. same_Some d c (sym (sound who row d e) ∙ cached) in (
       λ who at d e.
@@ -90,7 +95,11 @@ learns shared caller row c within sound cached =
     )
 
 -- A change that leaves one caller's observations leaves those of all callers.
-keeps_learnt : (shared : Shared) (caller : ℕ) (change : Caller → Caller) → ((k : Caller) → (change k).observed ≡ k.observed) → caller < length shared.callers → (who : ℕ) → observed_by (with_changed_caller shared caller change) who ≡ observed_by shared who
+keeps_learnt : (shared : Shared) (caller : ℕ) (change : Caller → Caller)
+    → ((k : Caller) → (change k).observed ≡ k.observed)
+    → caller < length shared.callers
+    → (who : ℕ)
+    → observed_by (with_changed_caller shared caller change) who ≡ observed_by shared who
 keeps_learnt shared caller change same within who =
     elim (cases_eq who caller) [
       | inr other ↦ ap (λ (k : Caller). k.observed) (changed_other shared caller change who other)
@@ -175,7 +184,11 @@ none_more : (x n blocks : ℕ) → blocks ≤ n → (if nat_lt x (min n blocks) 
 none_more x n blocks past = grind (arith, nat_tests)
 
 -- A change that leaves one caller's `found_empty` leaves that of all callers.
-keeps_empty : (shared : Shared) (caller : ℕ) (change : Caller → Caller) → ((k : Caller) → (change k).found_empty ≡ k.found_empty) → caller < length shared.callers → (who : ℕ) → (caller_at (with_changed_caller shared caller change) who).found_empty ≡ (caller_at shared who).found_empty
+keeps_empty : (shared : Shared) (caller : ℕ) (change : Caller → Caller)
+    → ((k : Caller) → (change k).found_empty ≡ k.found_empty)
+    → caller < length shared.callers
+    → (who : ℕ)
+    → (caller_at (with_changed_caller shared caller change) who).found_empty ≡ (caller_at shared who).found_empty
 keeps_empty shared caller change same within who =
     elim (cases_eq who caller) [
       | inr other ↦ ap (λ (k : Caller). k.found_empty) (changed_other shared caller change who other)

@@ -3,7 +3,7 @@ use Rattle.std.proofs.Common.{Option, zero, suc, take, ◌-◌, ◌+◌, ◌++�
 use Rattle.std.proofs.Common.{Some, None, refl, sym, ◌∙◌, ap, arith, inl, inr, subst}
 use Rattle.std.specs.Option.{option_map}
 use Rattle.std.proofs.lemmas.Grind.{common_steps}
-use Rattle.std.proofs.lemmas.List.{length-map, map-append, replicate_more, map-set, get_or_past, get_or_read, get_or-set_other, length-set}
+use Rattle.std.proofs.lemmas.List.{map-append, replicate_more, map-set, get_or_past, get_or_read, get_or-set_other, length-set}
 use Rattle.std.proofs.Math.ListN.{get_or-map}
 use Rattle.std.proofs.Math.Seq.{map-set_same}
 use Rattle.std.proofs.lemmas.Bool.{cases_lt, cases_eq}
@@ -11,9 +11,10 @@ use Rattle.std.proofs.lemmas.Option.{none-some, same_Some}
 use Rattle.ppshelf.specs.Content.{Content, IsPermitted}
 use Rattle.ppshelf.specs.Names.{name_in}
 use Rattle.ppshelf.specs.Files.{Files, ShelfView, file_at, AllPermitted, or_else, Agree, IsMerged, Extends}
-use Rattle.pptext.specs.declared.hashing.Hashing.{Hashing}
+use Rattle.ppshelf.specs.NamesView.{NamesView}
 use Rattle.pptext.specs.declared.sources.Profile.{Profile}
-use Rattle.ppshelf.specs.code.ShelfRows.{LoadedView, RowState, Observation, IsPlaced, FitsRow, Placed, IsPass, files_of, names_of, filled_of, cells_of, shelf_view, row_state_at, no_observation, no_row_state}
+use Rattle.ppshelf.specs.code.ShelfRows.{LoadedView, FileView, file_in, RowState, Observation, IsPlaced, FitsRow, Placed, IsShelf, IsPass}
+use Rattle.ppshelf.specs.code.ShelfRows.{files_of, filled_of, cells_of, shelf_view, row_state_at, no_observation, no_row_state}
 
 -- A map of only `None` has no content for any row.
 pub none_known : (rows row : ℕ) → file_at (replicate rows None) row ≡ None
@@ -45,40 +46,39 @@ known_within observations row c e =
 
 -- ---- a row as callers see it
 
-abbrev held : Profile → ℕ → List ℕ → Content → LoadedView
-held profile row name c = record { row = row; name = name; profile = profile; content = c }
+abbrev held : FileView → Content → LoadedView
+held file c = record { row = file.row; name = file.name; profile = file.profile; content = c }
 
-held_is : (o : Option LoadedView) (profile : Profile) (row : ℕ) (name : List ℕ) → ((h : LoadedView) → o ≡ Some h → IsPlaced profile row name h) → o ≡ option_map (held profile row name) (option_map (λ (h : LoadedView). h.content) o)
-held_is None profile row name p = refl
-held_is (Some h) profile row name p =
+held_is : (o : Option LoadedView) (file : FileView) → ((h : LoadedView) → o ≡ Some h → IsPlaced file h) → o ≡ option_map (held file) (option_map (λ (h : LoadedView). h.content) o)
+held_is None file p = refl
+held_is (Some h) file p =
     let e = p h refl in
-    let one : Some h ≡ Some (record h { row = row }) = ap (λ (r : ℕ). Some (record h { row = r })) e.0 in
-    let two : Some (record h { row = row }) ≡ Some (record h { row = row; name = name }) = ap (λ (n : List ℕ). Some (record h { row = row; name = n })) e.1 in
-    one ∙ (two ∙ ap (λ (p : Profile). Some (held p row name h.content)) e.2)
+    let one : Some h ≡ Some (record h { row = file.row }) = ap (λ (r : ℕ). Some (record h { row = r })) e.0 in
+    let two : Some (record h { row = file.row }) ≡ Some (record h { row = file.row; name = file.name }) = ap (λ (n : List ℕ). Some (record h { row = file.row; name = n })) e.1 in
+    one ∙ (two ∙ ap (λ (p : Profile). Some (held (record file { profile = p }) h.content)) e.2)
 
-spot_by : (s : RowState) (profile : Profile) (row : ℕ) (name : List ℕ) (filled : Option Content) (cell : ℕ)
-    → name ≡ s.name
+spot_by : (s : RowState) (file : FileView) (filled : Option Content) (cell : ℕ)
     → filled ≡ option_map (λ (h : LoadedView). h.content) s.filled
     → cell ≡ s.cell
-    → ((h : LoadedView) → s.filled ≡ Some h → IsPlaced profile row s.name h)
-    → s ≡ record { name = name; filled = option_map (held profile row name) filled; cell = cell }
-spot_by s profile row name filled cell named based celled p =
-    let contents : Option Content = option_map (λ (h : LoadedView). h.content) s.filled in
-    let a : s ≡ record s { filled = option_map (held profile row s.name) contents } = ap (λ (b : Option LoadedView). record s { filled = b }) (held_is s.filled profile row s.name p) in
-    a
-    ∙ (ap (λ (n : List ℕ). record { name = n; filled = option_map (held profile row n) contents; cell = s.cell }) (sym named)
-    ∙ (ap (λ (b : Option Content). record { name = name; filled = option_map (held profile row name) b; cell = s.cell }) (sym based)
-    ∙ ap (λ (k : ℕ). record { name = name; filled = option_map (held profile row name) filled; cell = k }) (sym celled)))
+    → ((h : LoadedView) → s.filled ≡ Some h → IsPlaced file h)
+    → s ≡ record { filled = option_map (held file) filled; cell = cell }
+spot_by s file filled cell based celled p =
+    ap (λ (b : Option LoadedView). record s { filled = b }) (held_is s.filled file p)
+    ∙ (ap (λ (b : Option Content). record s { filled = option_map (held file) b }) (sym based)
+    ∙ ap (λ (k : ℕ). record { filled = option_map (held file) filled; cell = k }) (sym celled))
 
 -- The state of a row is its state in the view of the shelf.
-pub spot_is : (profile : Profile) (hashing : Hashing) (rows : List RowState) (row : ℕ) (state : RowState) → Placed profile rows → row < length rows → state ≡ get_or rows row state → state ≡ row_state_at (shelf_view profile hashing rows) row
-spot_is profile hashing rows row state placed within read =
-    let name : RowState → List ℕ = λ s. s.name in
+pub spot_is : (profile : Profile) (names : NamesView) (rows : List RowState) (row : ℕ) (state : RowState)
+    → Placed profile names.names rows
+    → row < length rows
+    → state ≡ get_or rows row state
+    → state ≡ row_state_at (shelf_view profile names rows) row
+spot_is profile names rows row state placed within read =
     let filled : RowState → Option Content = λ s. option_map (λ (h : LoadedView). h.content) s.filled in
     let cell : RowState → ℕ = λ s. s.cell in
     get_or_read rows row state within read no_row_state
-    ∙ spot_by (get_or rows row no_row_state) profile row (name_in (names_of rows) row) (file_at (filled_of rows) row) (get_or (cells_of rows) row 0)
-    (get_or-map name rows row no_row_state) (get_or-map filled rows row no_row_state) (get_or-map cell rows row no_row_state) (placed row)
+    ∙ spot_by (get_or rows row no_row_state) (file_in profile names.names row) (file_at (filled_of rows) row) (get_or (cells_of rows) row 0)
+    (get_or-map filled rows row no_row_state) (get_or-map cell rows row no_row_state) (placed row)
 
 -- ---- the contents that a pass has observed
 
@@ -89,7 +89,7 @@ lawful_files may stock observations is row c e =
     let f = (is.rows row within).fits s.0 s.1 in
     let P : Content → Type 0 = λ x. IsPermitted may (name_in stock.names row) x in
     let Q : List ℕ → Type 0 = λ n. IsPermitted may n s.0.content in
-    subst P s.2 (subst Q f.name_is f.contents_permitted)
+    subst P s.2 (subst Q f.placed.1 f.contents_permitted)
 
 -- The observed content of a filled row is its content from the fill.
 pub filled_files : (may : List ℕ → Content → Type 0) (stock : ShelfView) (observations : List Observation) → IsPass may stock observations → Agree stock.filled (files_of observations)
@@ -97,32 +97,35 @@ filled_files may stock observations is row c d filled known =
     let s = shown_of observations row d known in
     let within : row < length stock.names = let k = known_within observations row d known in let l = is.len in omega arith in
     let f = (is.rows row within).fits s.0 s.1 in
-    let b : LoadedView = held stock.profile row (name_in stock.names row) c in
-    let there : (row_state_at stock row).filled ≡ Some b = ap (option_map (held stock.profile row (name_in stock.names row))) filled in
+    let file = file_in stock.profile stock.names row in
+    let b : LoadedView = held file c in
+    let there : (row_state_at stock row).filled ≡ Some b = ap (option_map (held file)) filled in
     elim f.from [
       | inl e ↦ ap (λ (h : LoadedView). h.content) (same_Some b s.0 (sym there ∙ e)) ∙ s.2
       | inr n ↦ absurd (none-some b (sym n.0 ∙ there))
     ]
 
-pub placed_read : (profile : Profile) (stock : List RowState) (row : ℕ) (state : RowState)
-    → Placed profile stock
+pub placed_read : (profile : Profile) (names : List (List ℕ)) (stock : List RowState) (row : ℕ) (state : RowState)
+    → Placed profile names stock
     → row < length stock
     → state ≡ get_or stock row state
     → (h : LoadedView)
     → state.filled ≡ Some h
-    → IsPlaced profile row state.name h
-placed_read profile stock row state placed within read h is =
+    → IsPlaced (file_in profile names row) h
+placed_read profile names stock row state placed within read h is =
     let same : state ≡ get_or stock row no_row_state = get_or_read stock row state within read no_row_state in
-    let at : (get_or stock row no_row_state).filled ≡ Some h = ap (λ (s : RowState). s.filled) (sym same) ∙ is in
-    let p = placed row h at in
-    (p.0, p.1 ∙ ap (λ (s : RowState). s.name) (sym same), p.2)
+    placed row h (ap (λ (s : RowState). s.filled) (sym same) ∙ is)
 
 -- After h is shown for a row, the files have the content of h there.
 pub files_of-set : (observations : List Observation) (row : ℕ) (s : Observation) (h : LoadedView) → s.shown ≡ Some h → files_of (set observations row s) ≡ set (files_of observations) row (Some h.content)
 files_of-set observations row s h is = map-set content_of_sight observations row s ∙ ap (λ (o : Option LoadedView). set (files_of observations) row (option_map (λ (x : LoadedView). x.content) o)) is
 
 -- If nothing new is shown for a row, the files don't change.
-pub files_of-same : (observations : List Observation) (row : ℕ) (s old : Observation) → row < length observations → old ≡ get_or observations row old → s.shown ≡ old.shown → files_of (set observations row s) ≡ files_of observations
+pub files_of-same : (observations : List Observation) (row : ℕ) (s old : Observation)
+    → row < length observations
+    → old ≡ get_or observations row old
+    → s.shown ≡ old.shown
+    → files_of (set observations row s) ≡ files_of observations
 files_of-same observations row s old within read is =
     let same : old ≡ get_or observations row no_observation = get_or_read observations row old within read no_observation in
     map-set_same content_of_sight observations row s no_observation (ap (λ (o : Option LoadedView). option_map (λ (x : LoadedView). x.content) o) (is ∙ ap (λ (x : Observation). x.shown) same))
@@ -162,15 +165,16 @@ unseen_more stock observations n state s u within read cell shown = let len = u.
       ∙ (ap (λ (o : Option LoadedView). replicate n None ++ option_map (λ (h : LoadedView). h.content) o ∷ []) shown ∙ replicate_more n None));
 }
 
-pub unseen_pass : (may : List ℕ → Content → Type 0) (profile : Profile) (hashing : Hashing) (rows : List RowState) (observations : List Observation) → Unseen rows observations (length rows) → IsPass may (shelf_view profile hashing rows) observations
-unseen_pass may profile hashing rows observations u =
-    let count : length (names_of rows) ≡ length rows = length-map rows (λ (s : RowState). s.name) in
-    record {
-      len = u.len ∙ sym count;
-      rows = λ row below.
-          let e = u.each row (omega arith) in
-          record { cell_is = e.0 ∙ sym (get_or-map (λ (s : RowState). s.cell) rows row no_row_state); fits = λ h is. absurd (none-some h (sym e.1 ∙ is)) };
-    }
+pub unseen_pass : (may : List ℕ → Content → Type 0) (profile : Profile) (names : NamesView) (rows : List RowState) (observations : List Observation)
+    → length rows ≡ length names.names
+    → Unseen rows observations (length rows)
+    → IsPass may (shelf_view profile names rows) observations
+unseen_pass may profile names rows observations count u = record {
+  len = u.len ∙ count;
+  rows = λ row below.
+      let e = u.each row (omega arith) in
+      record { cell_is = e.0 ∙ sym (get_or-map (λ (s : RowState). s.cell) rows row no_row_state); fits = λ h is. absurd (none-some h (sym e.1 ∙ is)) };
+}
 
 set_here : (xs : List Observation) (n row : ℕ) (s : Observation) → row ≡ n → n < length xs → get_or (set xs n s) row no_observation ≡ s
 set_here xs n row s e w = grind (arith, common_steps)
@@ -178,61 +182,69 @@ set_here xs n row s e w = grind (arith, common_steps)
 set_there : (xs : List Observation) (n row : ℕ) (s : Observation) → (row ≡ n → ⊥) → get_or (set xs n s) row no_observation ≡ get_or xs row no_observation
 set_there xs n row s e = get_or-set_other xs n row s no_observation e
 
+-- The file of a row, as callers of the shelf see it.
+abbrev pub file_of : ShelfView → ℕ → FileView
+file_of stock row = file_in stock.profile stock.names row
+
 -- A pass remains a pass after a fitting observation of a row replaces the old one.
 pub pass_set : (may : List ℕ → Content → Type 0) (stock : ShelfView) (observations : List Observation) (row : ℕ) (state : RowState) (s : Observation)
     → IsPass may stock observations
     → row < length stock.names
     → state ≡ row_state_at stock row
-    → FitsRow may stock.profile row state s
+    → FitsRow may (file_of stock row) state s
     → IsPass may stock (set observations row s)
 pass_set may stock observations n state s is w at fits = record {
   len = length-set observations n s ∙ is.len;
   rows = λ row within.
       elim (cases_eq row n) [
         | inl e ↦
-            let P : Observation → Type 0 = λ x. FitsRow may stock.profile row (row_state_at stock row) x in
-            let Q : RowState → Type 0 = λ x. FitsRow may stock.profile n x s in
-            let R : ℕ → Type 0 = λ k. FitsRow may stock.profile k (row_state_at stock k) s in
+            let P : Observation → Type 0 = λ x. FitsRow may (file_of stock row) (row_state_at stock row) x in
+            let Q : RowState → Type 0 = λ x. FitsRow may (file_of stock n) x s in
+            let R : ℕ → Type 0 = λ k. FitsRow may (file_of stock k) (row_state_at stock k) s in
             let len = is.len in
             subst P (sym (set_here observations n row s e (omega arith))) (subst R (sym e) (subst Q at fits))
         | inr e ↦
-            let P : Observation → Type 0 = λ x. FitsRow may stock.profile row (row_state_at stock row) x in
+            let P : Observation → Type 0 = λ x. FitsRow may (file_of stock row) (row_state_at stock row) x in
             subst P (sym (set_there observations n row s e)) (is.rows row within)
       ];
 }
 
 -- ---- looking at a row of a shelf
 
-pub fits_at : (may : List ℕ → Content → Type 0) (profile : Profile) (hashing : Hashing) (rows : List RowState) (stock : ShelfView) (observations : List Observation) (row : ℕ) (state : RowState) (s : Observation)
-    → Placed profile rows
-    → stock ≡ shelf_view profile hashing rows
-    → row < length rows
-    → state ≡ get_or rows row state
-    → IsPass may stock observations
-    → s ≡ get_or observations row s → FitsRow may profile row state s
-fits_at may profile hashing rows stock observations row state s placed same w read is mine =
-    let count : length (names_of rows) ≡ length rows = length-map rows (λ (x : RowState). x.name) in
-    let long : length stock.names ≡ length (names_of rows) = ap (λ (x : ShelfView). length x.names) same in
-    let len = is.len in
-    let at : state ≡ row_state_at stock row = spot_is profile hashing rows row state placed w read ∙ ap (λ (x : ShelfView). row_state_at x row) (sym same) in
-    let P : Observation → Type 0 = λ x. FitsRow may profile row state x in
-    let Q : RowState → Type 0 = λ x. FitsRow may profile row x (get_or observations row no_observation) in
-    let R : Profile → Type 0 = λ p. FitsRow may p row (row_state_at stock row) (get_or observations row no_observation) in
-    subst P (sym (get_or_read observations row s (omega arith) mine no_observation)) (subst Q (sym at) (subst R (ap (λ (x : ShelfView). x.profile) same) (is.rows row (omega arith))))
+-- A shelf as callers see it, and as it is: its names and its rows.
+pub record SeenShelf (profile : Profile) (names : NamesView) (rows : List RowState) (stock : ShelfView) : Type 0 where
+  pub shelf : IsShelf profile names.names rows
+  pub same : stock ≡ shelf_view profile names rows
 
-pub shown_pass : (may : List ℕ → Content → Type 0) (profile : Profile) (hashing : Hashing) (rows : List RowState) (stock : ShelfView) (observations : List Observation) (row : ℕ) (state : RowState)
-    (s : Observation)
-    → Placed profile rows
-    → stock ≡ shelf_view profile hashing rows
-    → row < length rows
-    → state ≡ get_or rows row state
-    → IsPass may stock observations
-    → FitsRow may profile row state s → IsPass may stock (set observations row s)
-shown_pass may profile hashing rows stock observations row state s placed same w read is fits =
-    let count : length (names_of rows) ≡ length rows = length-map rows (λ (x : RowState). x.name) in
-    let long : length stock.names ≡ length (names_of rows) = ap (λ (x : ShelfView). length x.names) same in
-    pass_set may stock observations row state s is (omega arith) (spot_is profile hashing rows row state placed w read ∙ ap (λ (x : ShelfView). row_state_at x row) (sym same))
-    (let R : Profile → Type 0 = λ p. FitsRow may p row state s in subst R (ap (λ (x : ShelfView). x.profile) (sym same)) fits)
+module _ (profile : Profile) (names : NamesView) (rows : List RowState) (stock : ShelfView) (seen : SeenShelf profile names rows stock) (row : ℕ) (state : RowState) where
+  -- A row that the shelf has names for is there.
+  pub row_there : row < length stock.names → row < length rows
+  row_there within = let e = ap (λ (x : ShelfView). length x.names) seen.same in let c = seen.shelf.count in omega arith
+
+  -- The state of the row, as callers of the shelf see it.
+  pub state_is : row < length stock.names → state ≡ get_or rows row state → state ≡ row_state_at stock row
+  state_is within read =
+      spot_is profile names rows row state seen.shelf.placed (row_there within) read ∙ ap (λ (x : ShelfView). row_state_at x row) (sym seen.same)
+
+  pub fits_at : (may : List ℕ → Content → Type 0) (observations : List Observation) (s : Observation)
+      → row < length stock.names
+      → state ≡ get_or rows row state
+      → IsPass may stock observations
+      → s ≡ get_or observations row s
+      → FitsRow may (file_of stock row) state s
+  fits_at may observations s within read is mine =
+      let len = is.len in
+      let P : Observation → Type 0 = λ x. FitsRow may (file_of stock row) state x in
+      let Q : RowState → Type 0 = λ x. FitsRow may (file_of stock row) x (get_or observations row no_observation) in
+      subst P (sym (get_or_read observations row s (omega arith) mine no_observation)) (subst Q (sym (state_is within read)) (is.rows row within))
+
+  pub shown_pass : (may : List ℕ → Content → Type 0) (observations : List Observation) (s : Observation)
+      → row < length stock.names
+      → state ≡ get_or rows row state
+      → IsPass may stock observations
+      → FitsRow may (file_of stock row) state s
+      → IsPass may stock (set observations row s)
+  shown_pass may observations s within read is fits = pass_set may stock observations row state s is within (state_is within read) fits
 
 -- The pass `new` is `old` merged with `other` at the rows from n on.
 pub record Met (may : List ℕ → Content → Type 0) (stock : ShelfView) (old other new : List Observation) (n : ℕ) : Type 0 where
@@ -249,9 +261,16 @@ met_none may stock old other n is e = record {
   agree = λ row above within. absurd (omega arith);
 }
 
-pub met_more : (may : List ℕ → Content → Type 0) (stock : ShelfView) (old other new : List Observation) (n : ℕ) (state : RowState) (mine theirs s : Observation) → Met may stock old other new (n + 1) → n < length stock.names
-    → state ≡ row_state_at stock n → mine ≡ get_or new n mine → theirs ≡ get_or other n no_observation → FitsRow may stock.profile n state s → s.shown ≡ or_else mine.shown theirs.shown
-    → ((h k : LoadedView) → mine.shown ≡ Some h → theirs.shown ≡ Some k → h ≡ k) → Met may stock old other (set new n s) n
+pub met_more : (may : List ℕ → Content → Type 0) (stock : ShelfView) (old other new : List Observation) (n : ℕ) (state : RowState) (mine theirs s : Observation)
+    → Met may stock old other new (n + 1)
+    → n < length stock.names
+    → state ≡ row_state_at stock n
+    → mine ≡ get_or new n mine
+    → theirs ≡ get_or other n no_observation
+    → FitsRow may (file_of stock n) state s
+    → s.shown ≡ or_else mine.shown theirs.shown
+    → ((h k : LoadedView) → mine.shown ≡ Some h → theirs.shown ≡ Some k → h ≡ k)
+    → Met may stock old other (set new n s) n
 met_more may stock old other new n state mine theirs s m w at mine_read theirs_is fits shown agree =
     let len = m.is.len in
     let mine_is : mine ≡ get_or new n no_observation = get_or_read new n mine (omega arith) mine_read no_observation in
@@ -316,10 +335,10 @@ pub fits_read : (may : List ℕ → Content → Type 0) (stock : ShelfView) (obs
     → row < length stock.names
     → state ≡ row_state_at stock row
     → s ≡ get_or observations row no_observation
-    → FitsRow may stock.profile row state s
+    → FitsRow may (file_of stock row) state s
 fits_read may stock observations row state s is w read at =
-    let P : Observation → Type 0 = λ x. FitsRow may stock.profile row state x in
-    let Q : RowState → Type 0 = λ x. FitsRow may stock.profile row x (get_or observations row no_observation) in
+    let P : Observation → Type 0 = λ x. FitsRow may (file_of stock row) state x in
+    let Q : RowState → Type 0 = λ x. FitsRow may (file_of stock row) x (get_or observations row no_observation) in
     subst P (sym at) (subst Q (sym read) (is.rows row w))
 
 some_join : (a b c' : Option Content) (c : Content) → ((d e : Content) → a ≡ Some d → b ≡ Some e → d ≡ e) → c' ≡ or_else a b → b ≡ Some c → c' ≡ Some c

@@ -8,8 +8,9 @@ use Rattle.std.proofs.lemmas.Bool.{cases_lt}
 use Rattle.std.proofs.lemmas.Option.{none-some}
 use Rattle.std.proofs.lemmas.Slice.Eq.{bytes_eq-Decides}
 use Rattle.ppshelf.specs.Names.{AreNames, IsRowOf}
-use Rattle.ppshelf.specs.Search.{Path, Candidate, IsFirstRow, IsRowAt, IsEndOf, candidate, candidates, candidates_after, candidates_in, follow}
+use Rattle.ppshelf.specs.Search.{Path, Candidate, IsFirstRow, IsEndOf, candidate, candidates, candidates_after, candidates_in, follow}
 use Rattle.ppshelf.specs.declared.search.Form.TheVariants.{Angle}
+use Rattle.ppshelf.specs.code.Paths.{IsRowAt}
 
 nothing_left : (directories : List (List ℕ)) (i : ℕ) → length directories ≤ i → drop i directories ≡ []
 nothing_left directories i past = grind (arith, common_steps)
@@ -118,7 +119,10 @@ behind_ends from text unit setting j =
     (candidates_in 1 (take j (unit ++ setting)) text, parted (unit ++ setting) text j 1 (suc j) first)
 
 -- A file found in directories numbered from k on has a directory number of at least k.
-above_one : (names : List (List ℕ)) (path : Option Path) (k : ℕ) (more : List Candidate) (found : ℕ × ℕ) → (IsFirstRow names more (Some found) → k ≤ found.1) → IsFirstRow names (candidate k path ++ more) (Some found) → k ≤ found.1
+above_one : (names : List (List ℕ)) (path : Option Path) (k : ℕ) (more : List Candidate) (found : ℕ × ℕ)
+    → (IsFirstRow names more (Some found) → k ≤ found.1)
+    → IsFirstRow names (candidate k path ++ more) (Some found)
+    → k ≤ found.1
 above_one names None k more found later h = later h
 above_one names (Some path) k more found later h =
     let P : Option (ℕ × ℕ) → Type 0 = λ o. IfSome o (λ f. k ≤ f.1) in
@@ -150,7 +154,11 @@ some_row_of : (names : List (List ℕ)) (name : List ℕ) → (row : Option ℕ)
 some_row_of [] name = (None, λ row h. absurd (omega arith))
 some_row_of (n ∷ names) name = row_here n names name (bytes_eq n name) refl (some_row_of names name).0 (some_row_of names name).1
 
-first_or : (names : List (List ℕ)) (c : Candidate) (cs : List Candidate) (row : Option ℕ) → IsRowOf names c.name row → (later : Option (ℕ × ℕ)) → IsFirstRow names cs later → (found : Option (ℕ × ℕ)) × IsFirstRow names (c ∷ cs) found
+first_or : (names : List (List ℕ)) (c : Candidate) (cs : List Candidate) (row : Option ℕ)
+    → IsRowOf names c.name row
+    → (later : Option (ℕ × ℕ))
+    → IsFirstRow names cs later
+    → (found : Option (ℕ × ℕ)) × IsFirstRow names (c ∷ cs) found
 first_or names c cs None h later k = (later, inr (h, k))
 first_or names c cs (Some r) h later k = (Some (r, c.directory), inl (r, (refl, h)))
 

@@ -1,5 +1,6 @@
 -- What happens to a shelf and a block counter that several callers use: their shared state, and the three events that
--- change it.
+-- change it. No contract of `look` or of a claim cites these events: that each is one of them is said in prose alone, and
+-- the theorems over them stand for themselves.
 use Rattle.std.specs.Prelude.{◌≡◌, ℕ, suc, ◌+◌, ◌<◌, ◌≤◌, ◌==◌, nat_lt, min, if◌then◌else◌, Bool, true, false, List, [], ◌∷◌, ◌++◌, length, replicate, Some, None, slice_index_or, slice_set}
 use Rattle.ppshelf.specs.Content.{Content}
 use Rattle.ppshelf.specs.Files.{Files, file_at, Extends, Agree}

@@ -37,7 +37,7 @@ abbrev pub AllPermitted : (List ℕ → Content → Type 0) → List (List ℕ) 
 AllPermitted may names files = (row : ℕ) (c : Content) → file_at files row ≡ Some c → IsPermitted may (name_in names row) c
 
 -- A shelf as callers see it: the names of its rows, the contents from `fill`, the profile by which all are read, the
--- hash function of the names, and `cells`, its identity: two shelves that have a row never have equal `cells`
+-- hash function of the names, and the names of its cells, in which looks cache contents. A fill leaves `cells`.
 pub record ShelfView : Type 0 where
   pub names : List (List ℕ)
   pub filled : Files

@@ -1,6 +1,6 @@
 pub mod Content
 pub mod Names
-pub mod IndexView
+pub mod NamesView
 pub mod Files
 pub mod Events
 pub mod Faults

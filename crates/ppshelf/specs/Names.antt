@@ -1,25 +1,16 @@
 -- Names of files, and the row of a name.
-use Rattle.std.specs.Prelude.{◌≡◌, ◌≢◌, ℕ, ◌<◌, ◌==◌, ◌&&◌, ◌||◌, not, Bool, true, false, List, [], ◌∷◌, ◌++◌}
+use Rattle.std.specs.Prelude.{◌≡◌, ◌≢◌, ℕ, ◌<◌, ◌==◌, ◌&&◌, ◌||◌, not, Bool, true, false, List, [], ◌∷◌, ◌++◌, ◌⊎◌}
 use Rattle.std.specs.Prelude.{nat_le, codes, length, Option, Some, None, slice_index_or}
-use Rattle.std.specs.List.{list_all, list_any, position, slice_index, slice_split}
+use Rattle.std.specs.List.{list_all, list_any, position, slice_split}
 use Rattle.std.specs.Str.{bytes_eq}
 
 -- the segments between `/`, which is 47
 abbrev pub segments : List ℕ → List (List ℕ)
 segments text = slice_split (λ b. b == 47) text
 
--- the segments of the remaining text, if there is any
-abbrev pub segments_left : Option (List ℕ) → List (List ℕ)
-segments_left None = []
-segments_left (Some text) = segments text
-
 -- a segment of a name
 abbrev pub is_segment : List ℕ → Bool
 is_segment s = not (length s == 0) && not (bytes_eq s (codes ".")) && not (bytes_eq s (codes ".."))
-
--- a segment with a first byte that is no `.`, which is 46
-abbrev pub starts_without_dot : List ℕ → Bool
-starts_without_dot s = not (length s == 0) && not (slice_index s 0 == 46)
 
 -- no control character of ASCII
 abbrev pub is_name_byte : ℕ → Bool
@@ -66,8 +57,9 @@ IsRowOf names name (Some row) = (row < length names) × (name_in names row ≡ n
 abbrev pub row_among : List ℕ → List (List ℕ) → Option ℕ
 row_among name names = position (bytes_eq name) names
 
--- the result of appending a name to others: a new one is added at the end, and one that occurs among them changes
--- nothing
+-- the result of offering a name to others: it is added at the end if it is in normal form and occurs not among them,
+-- and otherwise nothing changes
 abbrev pub IsAppended : List (List ℕ) → List ℕ → Bool → List (List ℕ) → Type 0
-IsAppended names name true after = (after ≡ names ++ name ∷ []) × IsRowOf names name None
-IsAppended names name false after = (after ≡ names) × ((row : ℕ) × IsRowOf names name (Some row))
+IsAppended names name true after = (after ≡ names ++ name ∷ []) × (is_file_name name ≡ true) × IsRowOf names name None
+IsAppended names name false after =
+    (after ≡ names) × ((is_file_name name ≡ false) ⊎ ((row : ℕ) × IsRowOf names name (Some row)))

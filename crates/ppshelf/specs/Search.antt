@@ -74,11 +74,6 @@ candidates_after j unit setting text = candidates_in (suc j) (drop j (unit ++ se
 abbrev pub IsEndOf : List Candidate → List Candidate → Type 0
 IsEndOf end all = (front : List Candidate) × (all ≡ front ++ end)
 
--- the row of the name that a path spells, if there is a path
-abbrev pub IsRowAt : List (List ℕ) → Option Path → Option ℕ → Type 0
-IsRowAt names None row = row ≡ None
-IsRowAt names (Some path) row = IsRowOf names (path_name path) row
-
 -- the first candidate that is a name of the shelf, as its row and the number of its directory
 abbrev pub IsFirstRow : List (List ℕ) → List Candidate → Option (ℕ × ℕ) → Type 0
 IsFirstRow names [] found = found ≡ None

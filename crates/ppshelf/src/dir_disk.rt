@@ -2,20 +2,21 @@
 ghost use Rattle.std.specs.Prelude.{◌≡◌, ◌≤◌, ◌↔◌, ◌++◌, ◌∷◌, suc, take, IfOk, IfSome};
 ghost use Rattle.std.specs.String.{string_bytes};
 ghost use Rattle.ppshelf.specs.Content.{longest};
-ghost use Rattle.ppshelf.specs.Faults.{IsShortage};
-ghost use Rattle.ppshelf.specs.declared.disk.ReadFault.TheVariants.{Memory};
+ghost use Rattle.ppshelf.specs.code.Shortage.{IsShortage};
+ghost use Rattle.ppshelf.specs.declared.disk.ReadFault.TheVariants.{Memory as OutOfMemory};
 
 use crate::disk::{Disk, ReadFault};
-use pptext::LONGEST;
-use std::alloc::{AllocError, Global};
+use pptext::{LONGEST, Memory};
+use std::alloc::Global;
 use std::io::{ErrorKind, Read};
 use std::rt::Files;
 use std::{fs, io};
 
 /// The files below a directory. The path of a file is the directory, `/` and the file's name.
 ///
-/// Regular files are read, also through links. Everything else is unreadable. Files may change at any time, so nothing
-/// is claimed about what a read returns.
+/// Regular files are read, also through links. Everything else is unreadable. Files may change at any time, and no
+/// contract can say what the system's files hold. So every content is one that a read may return: what is proved of
+/// permitted contents says nothing about this disk.
 pub struct DirDisk<'a, R: Files> {
     /// The file system.
     pub files: &'a R,
@@ -65,7 +66,7 @@ fn open_regular<R: Files>(files: &R, path: &str) -> Result<(R::File, usize), Rea
 }
 
 /// Returns the path of the file of a name.
-fn path_in_directory(alloc: Global, directory: &str, name: &str) -> Result<String, AllocError>
+fn path_in_directory(alloc: Global, directory: &str, name: &str) -> Result<String, Memory>
     ensures { IfOk result (λ path. string_bytes path ≡ directory.now ++ 47 ∷ name.now) }
 {
     let mut path = String::from_str(alloc, directory)?;
@@ -101,7 +102,7 @@ const EMFILE: i32 = 24;
 
 /// Returns the fault of a system error. A lack of memory or file descriptors says nothing about the file.
 fn fault_of(error: &io::Error) -> ReadFault
-    ensures { (result ≡ Memory) ↔ IsShortage error.now }
+    ensures { (result ≡ OutOfMemory) ↔ IsShortage error.now }
 {
     match (error.kind(), error.raw_os_error()) {
         (ErrorKind::OutOfMemory, _) | (_, Some(ENFILE | EMFILE)) => ReadFault::Memory,

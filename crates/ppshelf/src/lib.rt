@@ -4,7 +4,8 @@
 
 mod dir_disk;
 mod disk;
-mod index;
+mod file_name;
+mod file_names;
 mod laws;
 mod loaded;
 mod memory_disk;
@@ -16,7 +17,8 @@ mod shelf;
 
 pub use dir_disk::DirDisk;
 pub use disk::{Disk, ReadFault};
-pub use index::Index;
+pub use file_name::FileName;
+pub use file_names::FileNames;
 pub use laws::{
     callers_agree, each_block_once, names_decide, next_advances, next_ends_search, observed_stays,
     one_row, some_row,
@@ -26,4 +28,4 @@ pub use memory_disk::{File, MemoryDisk};
 pub use names::{is_directory, is_file_name};
 pub use pptext::LONGEST;
 pub use search::{Directories, Form, resolve, resolve_next};
-pub use shelf::{Contents, LookFault, MAX_ROWS, Pass, Shelf, ShelfFault};
+pub use shelf::{Contents, MAX_ROWS, Pass, Shelf, ShelfFault};

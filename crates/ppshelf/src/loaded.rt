@@ -1,4 +1,9 @@
 //! The content of a row, with its name and the profile that it was read by.
+//!
+//! Phases 1 to 3 run when a file is read, so that all units share its lines. A content says whose it is: a look tests that
+//! what a cell holds is of the row's file (`verify`), since the contract of a cell that threads share can't say so. The
+//! invariant has what must be true of every content: it is permitted for its name, and its lines are those of its bytes.
+//! `D` is the type of the disk that permits it; no disk is held.
 ghost use Rattle.std.specs.Prelude.{◌≡◌, ◌<◌, ◌≤◌, ◌↔◌, length, Ok, Err, option_copied};
 ghost use Rattle.std.specs.Prelude.{IfOk, IfSome, IsTrue, MatchOption, MatchResult, OnErr};
 ghost use Rattle.std.specs.Option.{option_map};
@@ -12,6 +17,22 @@ use crate::disk::{Disk, ReadFault};
 use pptext::{Fault, LONGEST, Memory, Profile, Source, read_source, split_memory};
 use std::alloc::Global;
 use std::marker::{Model, PhantomData};
+
+/// A file of a shelf: its row, its name, and the profile by which it is read.
+#[derive(Drop)]
+pub(crate) struct FileId<'a> {
+    pub(crate) row: usize,
+    pub(crate) name: &'a str,
+    pub(crate) profile: Profile,
+}
+
+impl<'a> Model for FileId<'a> {
+    ghost use Rattle.ppshelf.specs.code.ShelfRows.{FileView};
+
+    ghost Value = { FileView };
+
+    ghost view = { λ f. record { row = f.row; name = f.name.now; profile = f.profile } };
+}
 
 /// The bytes of a file, with its lines or its first fault.
 #[derive(Drop)]
@@ -63,40 +84,33 @@ impl<D: Disk> Drop for Loaded<D> {
     }
 }
 
-/// Reads the lines of a row's file from its bytes.
-fn parse_bytes(
-    alloc: Global,
-    profile: Profile,
-    row: usize,
-    bytes: Vec<u8>,
-) -> Result<Parsed, Memory>
-    requires row { row < max_rows }
+/// Reads the lines of a file from its bytes.
+fn parse_bytes(alloc: Global, file: &FileId<'_>, bytes: Vec<u8>) -> Result<Parsed, Memory>
+    requires row { file.now.row < max_rows }
     requires short { length bytes.items ≤ longest }
     ensures bytes { IfOk result (λ p. p.bytes.items ≡ bytes.items) }
-    ensures reading { IfOk result (λ p. Reads profile row p.bytes.items p.lines) }
+    ensures reading { IfOk result (λ p. Reads file.now.profile file.now.row p.bytes.items p.lines) }
 {
-    let lines = split_memory(read_source(alloc, bytes.as_slice(), row as u32, profile))?;
+    let lines = split_memory(read_source(alloc, bytes.as_slice(), file.row as u32, file.profile))?;
     Ok(Parsed { bytes, lines })
 }
 
-/// Reads the file of a name from the disk. Returns None if it can't be read or is too long.
+/// Reads a file from the disk. Returns None if it can't be read or is too long.
 fn read_parsed<D: Disk>(
     alloc: Global,
     disk: &D,
-    profile: Profile,
-    row: usize,
-    name: &str,
+    file: &FileId<'_>,
 ) -> Result<Option<Parsed>, Memory>
-    requires { row < max_rows }
-    ensures content { IfOk result (λ parsed. IsPermitted (D.may_return disk.now) name.now (content_of (option_map (λ p. p.bytes.items) parsed))) }
-    ensures reading { IfOk result (λ parsed. IfSome parsed (λ p. Reads profile row p.bytes.items p.lines)) }
+    requires { file.now.row < max_rows }
+    ensures content { IfOk result (λ parsed. IsPermitted (D.may_return disk.now) file.now.name (content_of (option_map (λ p. p.bytes.items) parsed))) }
+    ensures reading { IfOk result (λ parsed. IfSome parsed (λ p. Reads file.now.profile file.now.row p.bytes.items p.lines)) }
 {
-    match disk.read(alloc, name) {
+    match disk.read(alloc, file.name) {
         Ok(bytes) => {
             if bytes.len() > LONGEST {
                 return Ok(None);
             }
-            Ok(Some(parse_bytes(alloc, profile, row, bytes)?))
+            Ok(Some(parse_bytes(alloc, file, bytes)?))
         }
         Err(ReadFault::Unreadable) => Ok(None),
         Err(ReadFault::Memory) => Err(Memory),
@@ -104,48 +118,40 @@ fn read_parsed<D: Disk>(
 }
 
 impl<D: Disk> Loaded<D> {
-    /// Reads the content of a row from the disk.
-    pub(crate) fn read(
-        alloc: Global,
-        disk: &D,
-        profile: Profile,
-        row: usize,
-        name: &str,
-    ) -> Result<Loaded<D>, Memory>
-        requires { row < max_rows }
-        ensures place { IfOk result (λ l. IsPlaced profile row name.now l) }
-        ensures content { IfOk result (λ l. IsPermitted (D.may_return disk.now) name.now l.content) }
+    /// Reads the content of a file from the disk.
+    pub(crate) fn read(alloc: Global, disk: &D, file: &FileId<'_>) -> Result<Loaded<D>, Memory>
+        requires { file.now.row < max_rows }
+        ensures place { IfOk result (IsPlaced file.now) }
+        ensures content { IfOk result (λ l. IsPermitted (D.may_return disk.now) file.now.name l.content) }
     {
-        let parsed = read_parsed(alloc, disk, profile, row, name)?;
-        let name = String::from_str(alloc, name)?;
+        let parsed = read_parsed(alloc, disk, file)?;
+        let name = String::from_str(alloc, file.name)?;
         Ok(Loaded {
-            row,
+            row: file.row,
             name,
-            profile,
+            profile: file.profile,
             parsed,
             disk: PhantomData,
         })
     }
 
-    /// Makes the content of a row from these bytes.
+    /// Makes the content of a file from these bytes.
     pub(crate) fn from_bytes(
         alloc: Global,
-        profile: Profile,
-        row: usize,
-        name: &str,
+        file: &FileId<'_>,
         bytes: Vec<u8>,
     ) -> Result<Loaded<D>, Memory>
-        requires row { row < max_rows }
-        requires contents_permitted { IsPermitted D.may name.now (readable bytes.items) }
-        ensures place { IfOk result (λ l. IsPlaced profile row name.now l) }
+        requires row { file.now.row < max_rows }
+        requires contents_permitted { IsPermitted D.may file.now.name (readable bytes.items) }
+        ensures place { IfOk result (IsPlaced file.now) }
         ensures content { IfOk result (λ l. l.content ≡ readable bytes.items) }
     {
-        let parsed = parse_bytes(alloc, profile, row, bytes)?;
-        let name = String::from_str(alloc, name)?;
+        let parsed = parse_bytes(alloc, file, bytes)?;
+        let name = String::from_str(alloc, file.name)?;
         Ok(Loaded {
-            row,
+            row: file.row,
             name,
-            profile,
+            profile: file.profile,
             parsed: Some(parsed),
             disk: PhantomData,
         })
@@ -173,12 +179,12 @@ impl<D: Disk> Loaded<D> {
         }
     }
 
-    /// Returns whether the content is that of this row and name, read by this profile.
-    pub(crate) fn is_of(&self, profile: Profile, row: usize, name: &str) -> bool
-        ensures same { IsTrue result ↔ IsPlaced profile row name.now self.now }
+    /// Returns whether the content is that of this file.
+    pub(crate) fn is_of(&self, file: &FileId<'_>) -> bool
+        ensures same { IsTrue result ↔ IsPlaced file.now self.now }
         ensures contents_permitted { IsPermitted D.may self.now.name self.now.content }
     {
-        self.row == row && self.name.as_str() == name && self.profile == profile
+        self.row == file.row && self.name.as_str() == file.name && self.profile == file.profile
     }
 
     /// Shows proofs that the content is permitted. Does nothing.
@@ -188,20 +194,15 @@ impl<D: Disk> Loaded<D> {
         let _row = &self.row;
     }
 
-    /// Returns the content itself if it is that of this row and name, read by this profile. It always is, so no caller
-    /// gets an error.
-    pub(crate) fn verify(
-        &self,
-        profile: Profile,
-        row: usize,
-        name: &str,
-    ) -> Result<&Loaded<D>, Memory>
+    /// Returns the content itself if it is that of this file, and otherwise `Memory`. A cell only caches contents of
+    /// its row's file, but no contract of the cell says so: so `look` tests what it finds there.
+    pub(crate) fn verify(&self, file: &FileId<'_>) -> Result<&Loaded<D>, Memory>
         ensures same { IfOk result (λ l. l.now ≡ self.now) }
-        ensures place { IfOk result (λ l. IsPlaced profile row name.now l.now) }
+        ensures place { IfOk result (λ l. IsPlaced file.now l.now) }
         ensures contents_permitted { IfOk result (λ l. IsPermitted D.may l.now.name l.now.content) }
-        ensures err { OnErr result (IsPlaced profile row name.now self.now → ⊥) }
+        ensures err { OnErr result (IsPlaced file.now self.now → ⊥) }
     {
-        if self.is_of(profile, row, name) {
+        if self.is_of(file) {
             Ok(self)
         } else {
             Err(Memory)

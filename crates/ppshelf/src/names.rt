@@ -2,6 +2,7 @@
 ghost use Rattle.std.specs.Prelude.{◌≡◌};
 ghost use Rattle.std.specs.List.{list_all};
 ghost use Rattle.ppshelf.specs.Names as spec;
+ghost use Rattle.ppshelf.specs.code.Paths as code;
 
 /// The maximum length of a name, in bytes.
 pub(crate) const LONGEST_NAME: usize = 1024;
@@ -53,7 +54,7 @@ fn is_segment(segment: &[u8]) -> bool
 /// Returns whether each segment of the text has a first byte that is no `.`. If so, the text has no segment that is
 /// dropped or leads up, so it spells its own path.
 pub(crate) fn has_no_dot_segments(text: &[u8]) -> bool
-    ensures { result ≡ list_all spec.starts_without_dot (spec.segments text.now) }
+    ensures { result ≡ list_all code.starts_without_dot (spec.segments text.now) }
 {
     text.split(|byte| *byte == b'/')
         .all(|segment| starts_without_dot(segment))
@@ -61,7 +62,7 @@ pub(crate) fn has_no_dot_segments(text: &[u8]) -> bool
 
 /// Returns whether the segment has a first byte that is no `.`.
 fn starts_without_dot(segment: &[u8]) -> bool
-    ensures { result ≡ spec.starts_without_dot segment.now }
+    ensures { result ≡ code.starts_without_dot segment.now }
 {
     !segment.is_empty() && segment[0] != b'.'
 }

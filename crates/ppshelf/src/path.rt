@@ -1,12 +1,13 @@
 //! Paths of included files.
 ghost use Rattle.std.specs.Prelude.{◌≡◌, ◌∷◌, [], if◌then◌else◌, ℕ, List, length, ◌<◌, IfOk, IfSome, OnOk, ◌++◌, Some, None, option_copied};
 ghost use Rattle.std.specs.List.{join_with_byte};
-ghost use Rattle.ppshelf.specs.Names.{segments, segments_left};
+ghost use Rattle.ppshelf.specs.Names.{segments};
 ghost use Rattle.ppshelf.specs.Search as spec;
+ghost use Rattle.ppshelf.specs.code.Paths.{segments_left};
 
 use memchr::memchr;
 use pptext::Memory;
-use std::alloc::{AllocError, Global};
+use std::alloc::Global;
 use std::marker::Model;
 
 /// A capacity in bytes that is enough for nearly every name.
@@ -72,9 +73,7 @@ impl<'a> Path<'a> {
         if segment == b"..".as_slice() {
             return Ok(self.go_to_parent());
         }
-        let Ok(()) = self.segments.push(segment) else {
-            return Err(Memory);
-        };
+        self.segments.push(segment)?;
         Ok(true)
     }
 
@@ -101,7 +100,7 @@ impl<'a> Path<'a> {
 }
 
 /// Appends a `/`.
-fn push_slash(name: &mut Vec<u8>) -> Result<(), AllocError>
+fn push_slash(name: &mut Vec<u8>) -> Result<(), Memory>
     ensures { OnOk result (name.new.items ≡ name.old.items ++ 47 ∷ []) }
 {
     name.push(b'/')?;

@@ -1,42 +1,40 @@
 //! Rows that are filled once, and what callers have observed of them.
+//!
+//! A row doesn't know its own number and name: the shelf has the names, and hands a `FileId` to each function. A cell
+//! (`OnceBox`) is shared, so no contract says what it holds; a `Note` says what one caller knows of it. `RowObservation` is
+//! that note with the reference that the caller was given. A later look returns the reference itself, without access to
+//! the cell. The functions here are apart from `shelf.rt`, so that each proof speaks of one row and not of a list.
 ghost use Rattle.std.specs.Prelude.{◌≡◌, ◌<◌, IfOk, OnErr, OnOk, IsSome, IfSome, IsOkAnd, Some, None};
-ghost use Rattle.std.specs.String.{string_bytes};
 ghost use Rattle.ppshelf.specs.Content.{IsPermitted, readable};
 ghost use Rattle.ppshelf.specs.Files.{max_rows, or_else};
 ghost use Rattle.ppshelf.specs.code.ShelfRows.{LoadedView, IsPlaced, FitsRow, FilledRow};
 
 use crate::disk::Disk;
-use crate::loaded::Loaded;
+use crate::loaded::{FileId, Loaded};
 use once_cell::race::{Note, OnceBox};
-use pptext::{Memory, Profile};
+use pptext::Memory;
 use std::alloc::Global;
 use std::marker::Model;
 use std::mem;
 
-/// One row: its name, its content from a fill, and the cell in which looks cache a content.
+/// One row: its content from a fill, and the cell in which looks cache a content.
 pub(crate) struct Row<D: Disk> {
-    name: String,
     filled: Option<Loaded<D>>,
     cell: OnceBox<Loaded<D>>,
 }
 
 impl<D: Disk> Model for Row<D> {
-    ghost use Rattle.std.specs.String.{string_bytes};
     ghost use Rattle.once_cell.specs.Once.{cell_name};
     ghost use Rattle.ppshelf.specs.code.ShelfRows.{RowState};
 
     ghost Value = { RowState };
 
-    ghost view = { λ r. record { name = string_bytes r.name; filled = r.filled; cell = cell_name r.cell } };
+    ghost view = { λ r. record { filled = r.filled; cell = cell_name r.cell } };
 }
 
 impl<D: Disk> Drop for Row<D> {
     fn drop(self) {
-        let Row {
-            name: _,
-            filled: _,
-            cell: _,
-        } = self;
+        let Row { filled: _, cell: _ } = self;
     }
 }
 
@@ -62,22 +60,14 @@ impl<D: Disk> Drop for RowObservation<'_, D> {
 }
 
 impl<D: Disk> Row<D> {
-    /// Creates an empty row with this name.
-    pub(crate) fn new(alloc: Global, name: String) -> Row<D>
-        ensures { (result.name ≡ string_bytes name) × (result.filled ≡ None) }
+    /// Creates an empty row.
+    pub(crate) fn new(alloc: Global) -> Row<D>
+        ensures { result.filled ≡ None }
     {
         Row {
-            name,
             filled: None,
             cell: OnceBox::new(alloc),
         }
-    }
-
-    /// Returns its name.
-    pub(crate) fn name(&self) -> &str
-        ensures { result.now ≡ self.now.name }
-    {
-        self.name.as_str()
     }
 
     /// Creates the observation of a caller that has observed nothing of the row.
@@ -91,19 +81,13 @@ impl<D: Disk> Row<D> {
     }
 
     /// Reads the row's file, unless the row was filled before.
-    pub(crate) fn fill(
-        &mut self,
-        alloc: Global,
-        profile: Profile,
-        row: usize,
-        disk: &D,
-    ) -> Result<(), Memory>
-        requires { row < max_rows }
-        ensures fill_effect { FilledRow (IsPermitted (D.may_return disk.now)) profile row self.old self.new }
+    pub(crate) fn fill(&mut self, alloc: Global, file: &FileId<'_>, disk: &D) -> Result<(), Memory>
+        requires { file.now.row < max_rows }
+        ensures fill_effect { FilledRow (IsPermitted (D.may_return disk.now) file.now.name) file.now self.old self.new }
         ensures full { OnOk result (IsSome self.new.filled) }
     {
         if self.filled.is_none() {
-            let loaded = Loaded::read(alloc, disk, profile, row, self.name.as_str())?;
+            let loaded = Loaded::read(alloc, disk, file)?;
             self.filled = Some(loaded);
         }
         Ok(())
@@ -113,19 +97,18 @@ impl<D: Disk> Row<D> {
     pub(crate) fn put(
         &mut self,
         alloc: Global,
-        profile: Profile,
-        row: usize,
+        file: &FileId<'_>,
         bytes: Vec<u8>,
     ) -> Result<(), Memory>
-        requires row { row < max_rows }
-        requires contents_permitted { IsPermitted D.may self.old.name (readable bytes.items) }
-        ensures fill_effect { FilledRow (λ name c. c ≡ readable bytes.items) profile row self.old self.new }
+        requires row { file.now.row < max_rows }
+        requires contents_permitted { IsPermitted D.may file.now.name (readable bytes.items) }
+        ensures fill_effect { FilledRow (λ c. c ≡ readable bytes.items) file.now self.old self.new }
         ensures full { OnOk result (IsSome self.new.filled) }
     {
         if self.filled.is_some() {
             return Ok(());
         }
-        let loaded = Loaded::from_bytes(alloc, profile, row, self.name.as_str(), bytes)?;
+        let loaded = Loaded::from_bytes(alloc, file, bytes)?;
         self.filled = Some(loaded);
         Ok(())
     }
@@ -135,14 +118,13 @@ impl<D: Disk> Row<D> {
         &'a self,
         observation: &mut RowObservation<'a, D>,
         alloc: Global,
-        profile: Profile,
-        row: usize,
+        file: &FileId<'_>,
         disk: &D,
     ) -> Result<&'a Loaded<D>, Memory>
-        requires row { row < max_rows }
-        requires placed { (h : LoadedView) → self.now.filled ≡ Some h → IsPlaced profile row self.now.name h }
-        requires fits { FitsRow D.may profile row self.now observation.old }
-        ensures fits { FitsRow D.may profile row self.now observation.new }
+        requires row { file.now.row < max_rows }
+        requires placed { (h : LoadedView) → self.now.filled ≡ Some h → IsPlaced file.now h }
+        requires fits { FitsRow D.may file.now self.now observation.old }
+        ensures fits { FitsRow D.may file.now self.now observation.new }
         ensures shown { IfOk result (λ l. observation.new.shown ≡ Some l.now) }
         ensures stays { IfSome observation.old.shown (λ h. IsOkAnd result (λ l. l.now ≡ h)) }
         ensures filled { IfSome self.now.filled (λ h. IsOkAnd result (λ l. l.now ≡ h)) }
@@ -156,7 +138,7 @@ impl<D: Disk> Row<D> {
             observation.shown = Some(loaded);
             return Ok(loaded);
         }
-        let loaded = self.cached(&mut observation.note, alloc, profile, row, disk)?;
+        let loaded = self.cached(&mut observation.note, alloc, file, disk)?;
         observation.shown = Some(loaded);
         Ok(loaded)
     }
@@ -167,27 +149,24 @@ impl<D: Disk> Row<D> {
         &'a self,
         note: &mut Note<Loaded<D>>,
         alloc: Global,
-        profile: Profile,
-        row: usize,
+        file: &FileId<'_>,
         disk: &D,
     ) -> Result<&'a Loaded<D>, Memory>
-        requires row { row < max_rows }
+        requires row { file.now.row < max_rows }
         requires cell { note.old.cell ≡ self.now.cell }
         ensures cell { note.new.cell ≡ note.old.cell }
         ensures known { IfOk result (λ l. note.new.known ≡ Some l.now) }
-        ensures place { IfOk result (λ l. IsPlaced profile row self.now.name l.now) }
+        ensures place { IfOk result (λ l. IsPlaced file.now l.now) }
         ensures contents_permitted { IfOk result (λ l. IsPermitted D.may l.now.name l.now.content) }
     {
         if let Some(loaded) = self.cell.get_as(note) {
-            return loaded.verify(profile, row, self.name.as_str());
+            return loaded.verify(file);
         }
-        let new_content = Loaded::read(alloc, disk, profile, row, self.name.as_str())?;
-        let Ok(new_content) = Box::new(alloc, new_content) else {
-            return Err(Memory);
-        };
+        let new_content = Loaded::read(alloc, disk, file)?;
+        let new_content = Box::new(alloc, new_content)?;
         let _lost = self.cell.set_as(new_content, note);
         match self.cell.get_as(note) {
-            Some(loaded) => loaded.verify(profile, row, self.name.as_str()),
+            Some(loaded) => loaded.verify(file),
             None => unreachable!(),
         }
     }
@@ -195,10 +174,10 @@ impl<D: Disk> Row<D> {
 
 impl<'a, D: Disk> RowObservation<'a, D> {
     /// Adds what another caller has observed of the same row.
-    pub(crate) fn merge(&mut self, shelf_row: &Row<D>, profile: Profile, row: usize, other: Self)
-        requires mine { FitsRow D.may profile row shelf_row.now self.old }
-        requires theirs { FitsRow D.may profile row shelf_row.now other }
-        ensures fits { FitsRow D.may profile row shelf_row.now self.new }
+    pub(crate) fn merge(&mut self, shelf_row: &Row<D>, file: &FileId<'_>, other: Self)
+        requires mine { FitsRow D.may file.now shelf_row.now self.old }
+        requires theirs { FitsRow D.may file.now shelf_row.now other }
+        ensures fits { FitsRow D.may file.now shelf_row.now self.new }
         ensures agree { (h k : LoadedView) → self.old.shown ≡ Some h → other.entry.shown ≡ Some k → h ≡ k }
         ensures shown { self.new.shown ≡ or_else self.old.shown other.entry.shown }
     {

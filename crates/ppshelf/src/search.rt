@@ -1,9 +1,17 @@
 //! The search for included files (6.10.2).
+//!
+//! The names of a list are all that exists: a search asks the shelf for the row of each name that it tries, and never the
+//! disk. A name is made from a directory and the text of an include line by following segments (`path.rt`), as a system
+//! without links would do. Most texts have no `.` and no `..` segments: then both are joined as they are, which the fast
+//! path of `row_in_directory` does, into one buffer for all directories.
+//!
+//! The number of the directory is returned with the row, since `#include_next` goes on after it.
 ghost use Rattle.std.specs.Prelude.{◌≡◌, ◌<◌, ◌+◌, ◌++◌, ◌∷◌, [], length, slice_index_or, IfOk, IfSome, OnOk, Some, true};
 ghost use Rattle.std.specs.Option.{option_map};
 ghost use Rattle.std.specs.List.{list_all};
-ghost use Rattle.ppshelf.specs.Names.{is_file_name, starts_without_dot, name_in, segments};
+ghost use Rattle.ppshelf.specs.Names.{is_file_name, name_in, segments};
 ghost use Rattle.ppshelf.specs.Search as spec;
+ghost use Rattle.ppshelf.specs.code.Paths.{IsRowAt, starts_without_dot};
 
 use crate::disk::Disk;
 use crate::names::has_no_dot_segments;
@@ -11,7 +19,7 @@ use crate::path::{Path, USUAL_NAME_LEN};
 use crate::shelf::Shelf;
 use memchr::memrchr;
 use pptext::{Memory, OwnedText};
-use std::alloc::{AllocError, Global};
+use std::alloc::Global;
 
 /// The syntax of an include name (6.10.2).
 #[derive(Clone, Copy, PartialEq, Eq, Debug)]
@@ -116,7 +124,7 @@ fn row_in_includer_dir<D: Disk>(
         return Ok(None);
     }
     // For proofs: the names are in normal form.
-    shelf.contents_permitted();
+    shelf.names_are_distinct();
     let directory = directory_of(shelf.name(from).as_bytes());
     row_in_directory(
         alloc,
@@ -183,7 +191,7 @@ fn row_in_directory<D: Disk>(
     joined: &mut Vec<u8>,
 ) -> Result<Option<usize>, Memory>
     requires { dotless ≡ list_all starts_without_dot (segments name.now) }
-    ensures { IfOk result (λ row. spec.IsRowAt shelf.now.names (spec.follow (spec.follow (Some []) directory.now) name.now) row) }
+    ensures { IfOk result (λ row. IsRowAt shelf.now.names (spec.follow (spec.follow (Some []) directory.now) name.now) row) }
 {
     if dotless && has_no_dot_segments(directory) {
         join_path(joined, directory, name)?;
@@ -197,7 +205,7 @@ fn row_in_directory<D: Disk>(
 }
 
 /// Replaces `joined` by both texts with `/` between them.
-fn join_path(joined: &mut Vec<u8>, directory: &[u8], name: &[u8]) -> Result<(), AllocError>
+fn join_path(joined: &mut Vec<u8>, directory: &[u8], name: &[u8]) -> Result<(), Memory>
     ensures { OnOk result (joined.new.items ≡ directory.now ++ 47 ∷ name.now) }
 {
     joined.clear();
@@ -214,7 +222,7 @@ fn row_of_path<'a, D: Disk>(
     mut path: Path<'a>,
     text: &'a [u8],
 ) -> Result<Option<usize>, Memory>
-    ensures { IfOk result (λ row. spec.IsRowAt shelf.now.names (spec.follow (Some path.entry) text.now) row) }
+    ensures { IfOk result (λ row. IsRowAt shelf.now.names (spec.follow (Some path.entry) text.now) row) }
 {
     if !path.follow(text)? {
         return Ok(None);

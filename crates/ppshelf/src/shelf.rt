@@ -1,4 +1,13 @@
 //! The file table (`Shelf`), and what one caller has observed of it (`Pass`).
+//!
+//! Units and threads share a shelf, so its rows must give all of them one content, without a lock. Each row has a cell
+//! that is written once (`row.rt`), and each caller keeps in its pass which contents it was given. The contract of a look
+//! speaks of the pass alone: what it had observed stays, and what it observes is permitted. So a caller's results depend
+//! on its own pass, whatever other callers do at the same time. `meet` compares two passes, and shows that they agree on
+//! every row that both have observed: that carries results of one caller to another.
+//!
+//! A fill puts contents into rows before callers share the shelf. They are beside the cells, since a fill has a `&mut` and
+//! needs no atomic access; a look takes them first.
 ghost use Rattle.std.specs.Prelude.{◌≡◌, ℕ, ◌<◌, ◌≤◌, length, map, replicate, Some, None, slice_set};
 ghost use Rattle.std.specs.Prelude.{IfErr, IfOk, OnErr, OnOk, IfSome, IsOkAnd};
 ghost use Rattle.std.specs.String.{string_bytes};
@@ -7,11 +16,11 @@ ghost use Rattle.ppshelf.specs.Content.{IsPermitted, readable};
 ghost use Rattle.ppshelf.specs.Faults.{IsShelfFault};
 ghost use Rattle.ppshelf.specs.Files.{max_rows, file_at, AllPermitted, Agree, Extends, IsMerged, IsFull, Filled, bytes_at};
 ghost use Rattle.ppshelf.specs.Names.{AreNames, IsRowOf, name_in};
-ghost use Rattle.ppshelf.specs.code.ShelfRows.{names_of, filled_of};
+ghost use Rattle.ppshelf.specs.code.ShelfRows.{file_in, filled_of};
 
 use crate::disk::Disk;
-use crate::index::{Index, index_names};
-use crate::loaded::Loaded;
+use crate::file_names::FileNames;
+use crate::loaded::{FileId, Loaded};
 use crate::row::{Row, RowObservation};
 use pptext::{Hashing, Memory, Profile, Sequence};
 use std::alloc::Global;
@@ -27,12 +36,12 @@ pub const MAX_ROWS: usize = 65_535;
 /// that of `fill` or `fill_with`, or otherwise the one that the first look cached. Simultaneous looks may each read the
 /// disk, but only one result is cached.
 ///
-/// Contracts see the names of its rows, the contents from `fill`, its profile, its hash function, and its identity: no
-/// two shelves with a row are equal.
+/// Contracts see the names of its rows, the contents from `fill`, its profile, its hash function, and `cells`, which no
+/// look or fill changes. A pass belongs to the shelf whose view it has.
 pub struct Shelf<D: Disk> {
     alloc: Global,
     profile: Profile,
-    index: Index,
+    names: FileNames,
     rows: Vec<Row<D>>,
 }
 
@@ -42,9 +51,9 @@ impl<D: Disk> Model for Shelf<D> {
 
     ghost Value = { ShelfView };
 
-    ghost view = { λ s. shelf_view s.profile s.index.hashing s.rows.items };
+    ghost view = { λ s. shelf_view s.profile s.names s.rows.items };
 
-    ghost invariant = { λ s. IsShelf s.profile s.index.names s.rows.items };
+    ghost invariant = { λ s. IsShelf s.profile s.names.names s.rows.items };
 }
 
 impl<D: Disk> Drop for Shelf<D> {
@@ -52,7 +61,7 @@ impl<D: Disk> Drop for Shelf<D> {
         let Shelf {
             alloc: _,
             profile: _,
-            index: _,
+            names: _,
             rows: _,
         } = self;
     }
@@ -88,13 +97,6 @@ impl<D: Disk> Drop for Pass<'_, D> {
     fn drop(self) {
         let Pass { shelf: _, rows: _ } = self;
     }
-}
-
-/// The reason why a look returns no content.
-#[derive(Clone, Copy, PartialEq, Eq, Debug, Drop)]
-pub enum LookFault {
-    /// An allocation fails.
-    Memory,
 }
 
 impl<D: Disk> Shelf<D> {
@@ -135,14 +137,31 @@ impl<D: Disk> Shelf<D> {
         ensures empty { IfOk result (λ s. s.filled ≡ replicate (length names.items) None) }
         ensures fault { IfErr result (λ e. IsShelfFault e (map string_bytes names.items)) }
     {
-        let index = index_names(alloc, names.as_slice(), hashing)?;
-        let Ok(rows) = empty_rows(alloc, names) else {
+        let names = FileNames::from_strings(alloc, names, hashing)?;
+        let Ok(shelf) = Shelf::over(alloc, names, profile) else {
             return Err(ShelfFault::Memory);
         };
+        Ok(shelf)
+    }
+
+    /// Creates a shelf of files with these names, at most `MAX_ROWS`, to be read by this profile. No row is filled. The
+    /// names' hash function also serves for the names of macros of the units over its files.
+    ///
+    /// # Errors
+    ///
+    /// An allocation fails.
+    pub fn over(alloc: Global, names: FileNames, profile: Profile) -> Result<Shelf<D>, Memory>
+        requires { length names.names ≤ max_rows }
+        ensures names { IfOk result (λ s. s.names ≡ names.names) }
+        ensures profile { IfOk result (λ s. s.profile ≡ profile) }
+        ensures hashing { IfOk result (λ s. s.hashing ≡ names.hashing) }
+        ensures empty { IfOk result (λ s. s.filled ≡ replicate (length names.names) None) }
+    {
+        let rows = empty_rows(alloc, names.len())?;
         Ok(Shelf {
             alloc,
             profile,
-            index,
+            names,
             rows,
         })
     }
@@ -153,6 +172,14 @@ impl<D: Disk> Shelf<D> {
         ensures small { result ≤ max_rows }
     {
         self.rows.len()
+    }
+
+    /// Returns the names of the rows. Allocates nothing.
+    pub fn names(&self) -> &FileNames
+        ensures names { result.now.names ≡ self.now.names }
+        ensures hashing { result.now.hashing ≡ self.now.hashing }
+    {
+        &self.names
     }
 
     /// Returns the profile by which its rows are read. Allocates nothing.
@@ -166,7 +193,7 @@ impl<D: Disk> Shelf<D> {
     pub fn hashing(&self) -> Hashing
         ensures { result ≡ self.now.hashing }
     {
-        self.index.hashing()
+        self.names.hashing()
     }
 
     /// Returns the row of this name. Allocates nothing.
@@ -174,7 +201,7 @@ impl<D: Disk> Shelf<D> {
         ensures row { IsRowOf self.now.names name.now result }
         ensures within { IfSome result (λ row. row < length self.now.names) }
     {
-        self.index.row_of(name)
+        self.names.row_of(name)
     }
 
     /// Returns the name of a row.
@@ -182,23 +209,35 @@ impl<D: Disk> Shelf<D> {
         requires { row < length self.now.names }
         ensures { result.now ≡ name_in self.now.names row }
     {
-        self.rows[row].name()
+        self.names.get(row)
     }
 
-    /// Shows proofs that a shelf's names are in normal form, each once, and that its list of filled contents has one entry for each name.
-    /// Does nothing.
-    pub fn contents_permitted(&self)
+    /// Returns the file of a row.
+    fn file(&self, row: usize) -> FileId<'_>
+        requires { row < length self.now.names }
+        ensures { result ≡ file_in self.now.profile self.now.names row }
+    {
+        FileId {
+            row,
+            name: self.names.get(row),
+            profile: self.profile,
+        }
+    }
+
+    /// Shows proofs that a shelf's names are in normal form, each once, and that its list of filled contents has one
+    /// entry for each name. Does nothing.
+    pub fn names_are_distinct(&self)
         ensures names { AreNames self.now.names }
         ensures filled { length self.now.filled ≡ length self.now.names }
     {
-        let _rows = &self.rows;
+        self.names.names_are_distinct();
     }
 
     /// Reads the file of each row that no earlier fill read, even if a look has cached a content.
     ///
     /// # Errors
     ///
-    /// An allocation fails. The rows that were read stay filled.
+    /// An allocation fails, or the disk answers `Memory`. The rows that were read stay filled.
     pub fn fill(&mut self, disk: &D) -> Result<(), Memory>
         ensures shelf { (self.new.names ≡ self.old.names) × (self.new.profile ≡ self.old.profile) × (self.new.cells ≡ self.old.cells) }
         ensures hashing { self.new.hashing ≡ self.old.hashing }
@@ -209,7 +248,9 @@ impl<D: Disk> Shelf<D> {
     {
         let (alloc, profile) = (self.alloc, self.profile);
         for row in 0..self.rows.len() {
-            self.rows[row].fill(alloc, profile, row, disk)?;
+            let name = self.names.get(row);
+            let file = FileId { row, name, profile };
+            self.rows[row].fill(alloc, &file, disk)?;
         }
         Ok(())
     }
@@ -234,7 +275,9 @@ impl<D: Disk> Shelf<D> {
         let (alloc, profile) = (self.alloc, self.profile);
         let mut row = 0;
         for bytes in contents.into_vec() {
-            self.rows[row].put(alloc, profile, row, bytes.into_vec())?;
+            let name = self.names.get(row);
+            let file = FileId { row, name, profile };
+            self.rows[row].put(alloc, &file, bytes.into_vec())?;
             row += 1;
         }
         Ok(())
@@ -251,9 +294,7 @@ impl<D: Disk> Shelf<D> {
     {
         let mut rows = Vec::with_capacity(self.alloc, self.rows.len())?;
         for row in &self.rows {
-            let Ok(()) = rows.push(row.new_observation()) else {
-                return Err(Memory);
-            };
+            rows.push(row.new_observation())?;
         }
         Ok(Pass { shelf: self, rows })
     }
@@ -264,13 +305,13 @@ impl<D: Disk> Shelf<D> {
     ///
     /// # Errors
     ///
-    /// An allocation fails. The pass is unchanged.
+    /// An allocation fails, or the disk answers `Memory`. The pass is unchanged.
     pub fn look<'a>(
         &'a self,
         pass: &mut Pass<'a, D>,
         row: usize,
         disk: &D,
-    ) -> Result<&'a Loaded<D>, LookFault>
+    ) -> Result<&'a Loaded<D>, Memory>
         requires shelf { pass.old.shelf ≡ self.now }
         requires row { row < length self.now.names }
         ensures shelf { pass.new.shelf ≡ self.now }
@@ -287,10 +328,7 @@ impl<D: Disk> Shelf<D> {
         pass.contents_permitted();
         let look_result = pass.look_at_row(self, row, disk);
         pass.contents_permitted();
-        let Ok(loaded) = look_result else {
-            return Err(LookFault::Memory);
-        };
-        Ok(loaded)
+        look_result
     }
 
     /// Merges two passes of the shelf, which agree on every row that both have observed. Allocates nothing.
@@ -310,14 +348,14 @@ impl<D: Disk> Shelf<D> {
     }
 }
 
-/// Creates empty rows with these names.
-fn empty_rows<D: Disk>(alloc: Global, names: Vec<String>) -> Result<Vec<Row<D>>, Memory>
-    ensures names { IfOk result (λ rows. names_of rows.items ≡ map string_bytes names.items) }
-    ensures empty { IfOk result (λ rows. filled_of rows.items ≡ replicate (length names.items) None) }
+/// Creates empty rows.
+fn empty_rows<D: Disk>(alloc: Global, count: usize) -> Result<Vec<Row<D>>, Memory>
+    ensures count { IfOk result (λ rows. length rows.items ≡ count) }
+    ensures empty { IfOk result (λ rows. filled_of rows.items ≡ replicate count None) }
 {
-    let mut rows = Vec::with_capacity(alloc, names.len())?;
-    for name in names {
-        let Ok(()) = rows.push(Row::new(alloc, name)) else {
+    let mut rows = Vec::with_capacity(alloc, count)?;
+    for _row in 0..count {
+        let Ok(()) = rows.push(Row::new(alloc)) else {
             return Err(Memory);
         };
     }
@@ -341,7 +379,7 @@ impl<'a, D: Disk> Pass<'a, D> {
         shelf: &'a Shelf<D>,
         row: usize,
         disk: &D,
-    ) -> Result<&'a Loaded<D>, LookFault>
+    ) -> Result<&'a Loaded<D>, Memory>
         requires shelf { self.old.shelf ≡ shelf.now }
         requires row { row < length shelf.now.names }
         ensures shelf { self.new.shelf ≡ shelf.now }
@@ -352,11 +390,7 @@ impl<'a, D: Disk> Pass<'a, D> {
         ensures err { OnErr result (self.new ≡ self.old) }
     {
         let observation = &mut self.rows[row];
-        let Ok(loaded) = shelf.rows[row].look(observation, shelf.alloc, shelf.profile, row, disk)
-        else {
-            return Err(LookFault::Memory);
-        };
-        Ok(loaded)
+        shelf.rows[row].look(observation, shelf.alloc, &shelf.file(row), disk)
     }
 
     /// Adds what the other pass has observed.
@@ -370,7 +404,7 @@ impl<'a, D: Disk> Pass<'a, D> {
         let Pass { shelf: _, mut rows } = other;
         while let Some(theirs) = rows.pop() {
             let row = rows.len();
-            self.rows[row].merge(&shelf.rows[row], shelf.profile, row, theirs);
+            self.rows[row].merge(&shelf.rows[row], &shelf.file(row), theirs);
         }
     }
 }

@@ -107,10 +107,7 @@ fn shown_of<'a, D: Disk>(
     if row >= shelf.len() {
         return Ok(None);
     }
-    let Ok(loaded) = shelf.look(pass, row, disk) else {
-        return Err(Memory);
-    };
-    Ok(Some(loaded))
+    Ok(Some(shelf.look(pass, row, disk)?))
 }
 
 /// Returns the bytes that a pass observes of a row.

@@ -201,7 +201,7 @@ pub fn preprocess<'x, 'a: 'x, D: Disk>(
     let context = UnitContext::new(alloc, shelf, disk, directories);
     let output = run_unit(&context, pass, setting, unit);
     // For proofs: file names are distinct, the contents are permitted, and the theorems about budgets hold.
-    shelf.contents_permitted();
+    shelf.names_are_distinct();
     pass.contents_permitted();
     stays_in_budget();
     budget_caps_units();

@@ -1,4 +1,10 @@
 //! Drafts: a list as it is written in JSON, before it is validated.
+//!
+//! A list is read in two steps. A draft has the members of the JSON value with their types and nothing more: names are
+//! texts, a budget is any number. So refusal 2, for the shape of the value, is decided here, and all later refusals in
+//! `validation.rt`, which needs no JSON. Each function reads one member, or the items of one array, and its contract names
+//! the part of the specification that it computes (`Drafting`); the law `shape_decides` ties these to the shape of a list.
+//! A draft owns copies of its texts, so that the JSON value is freed before the list is validated.
 ghost use Rattle.std.specs.Prelude.{◌≡◌, Some, None, IfOk, IfErr, codes, map, option_and_then, ◌<◌, IfSome};
 ghost use Rattle.serde_json.specs.Find.{as_str};
 ghost use Rattle.serde_json.specs.View.{view, members_view, items_view};

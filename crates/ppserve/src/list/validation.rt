@@ -1,4 +1,10 @@
 //! Validates the names, sizes and texts of a list.
+//!
+//! Refusals have numbers, and a list is refused with the lowest that applies. So the checks run in the order of the
+//! numbers, each over all files or units, and the specification (`validated`) has them in the same order. The first part
+//! checks a draft that it borrows; the second takes a valid draft apart and builds the list from it, so that its texts are
+//! moved. `FileNames` refuses a name that isn't in normal form or that occurs before, and knows the row of each name, by
+//! which units refer to their files.
 ghost use Rattle.std.specs.Prelude.{◌≡◌, ◌≤◌, ℕ, List as ListOf, Bool, IfOk, IfErr, OnOk, IsErrOf, true, false, [], map, length, nat_le, if◌then◌else◌};
 ghost use Rattle.std.specs.List.{list_all};
 ghost use Rattle.ppshelf.specs.Content.{longest};
@@ -11,7 +17,7 @@ ghost use Rattle.ppserve.specs.declared.list.ListFault.TheVariants.{Bad, Memory 
 
 use crate::list::drafts::{Draft, DraftBudget, DraftFile, DraftSetting, DraftUnit, WrittenBudget};
 use crate::list::{List, ListFault, Units};
-use ppshelf::{Contents, Index, LONGEST, MAX_ROWS, is_directory, is_file_name};
+use ppshelf::{Contents, FileNames, LONGEST, MAX_ROWS, is_directory};
 use pptext::{Hashing, Memory, Profile, Sequence};
 use ppunit::{
     CommandMacros, OwnedTexts, Setting, Unit, fits_command, is_date, is_one_line, is_time,
@@ -105,17 +111,14 @@ fn profile_if_choices_valid(draft: &Draft) -> Result<Profile, u8>
 /// # Errors
 ///
 /// `Bad(3)` if a name isn't in normal form or occurs twice, and `Memory`.
-fn index_files(alloc: Global, files: &[DraftFile], hashing: Hashing) -> Result<Index, ListFault>
+fn index_files(alloc: Global, files: &[DraftFile], hashing: Hashing) -> Result<FileNames, ListFault>
     ensures all { IfOk result (λ i. i.names ≡ spec.names_of files.now) }
     ensures ok { OnOk result (spec.names_hold files.now ≡ true) }
     ensures err { IfErr result (RefusedFor 3 (spec.names_hold files.now ≡ false)) }
 {
-    let mut index = Index::new(alloc, hashing);
+    let mut index = FileNames::new(alloc, hashing);
     for file in files {
-        let name = file.name.as_str().as_bytes();
-        if !is_file_name(name) {
-            return Err(ListFault::Bad(3));
-        }
+        let name = String::from_str(alloc, file.name.as_str())?;
         let new = index.push(name)?;
         if !new {
             return Err(ListFault::Bad(3));
@@ -129,7 +132,7 @@ fn index_files(alloc: Global, files: &[DraftFile], hashing: Hashing) -> Result<I
 /// # Errors
 ///
 /// `Bad(5)` if a unit's file isn't among the names, and `Memory`.
-fn file_rows(alloc: Global, index: &Index, units: &[DraftUnit]) -> Result<Vec<usize>, ListFault>
+fn file_rows(alloc: Global, index: &FileNames, units: &[DraftUnit]) -> Result<Vec<usize>, ListFault>
     ensures rows { IfOk result (λ rows. rows.items ≡ map (spec.file_row index.now.names) units.now) }
     ensures known { OnOk result (spec.are_known index.now.names units.now ≡ true) }
     ensures err { IfErr result (RefusedFor 5 (spec.are_known index.now.names units.now ≡ false)) }

@@ -105,12 +105,7 @@ fn all_open<'a>(
 {
     let mut open = Vec::new(alloc);
     for row in 0..shelf.len() {
-        let Ok(loaded) = shelf.look(pass, row, disk) else {
-            return Err(Memory);
-        };
-        let Ok(()) = open.push(loaded) else {
-            return Err(Memory);
-        };
+        open.push(shelf.look(pass, row, disk)?)?;
     }
     Ok(open)
 }

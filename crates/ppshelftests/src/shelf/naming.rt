@@ -4,7 +4,8 @@ ghost use Rattle.ppshelf.specs.Files.{max_rows};
 
 use super::{owned, texts};
 use ppshelf::{
-    Directories, Form, Index, MemoryDisk, Shelf, ShelfFault, is_directory, is_file_name, resolve,
+    Directories, FileNames, Form, MemoryDisk, Shelf, ShelfFault, is_directory, is_file_name,
+    resolve,
 };
 use pptext::{Hashing, Memory, OwnedText, Profile};
 use std::alloc::Global;
@@ -20,31 +21,40 @@ fn drawn(rt: &HostRuntime) -> Result<Hashing, Fail> {
     }
 }
 
-/// Names that are appended to an index, and whether each was new.
-const PUT: &[(&str, bool)] = &[("a", true), ("inc/b.h", true), ("a", false)];
+/// Names that are offered, and whether each was appended: it was in normal form and new.
+const PUT: &[(&str, bool)] = &[("a", true), ("inc/b.h", true), ("a", false), ("b/", false)];
 
 /// Names, and the row of each.
 const NUMBERED: &[(&str, Option<usize>)] = &[("a", Some(0)), ("inc/b.h", Some(1)), ("b", None)];
 
-/// Appends names to an index, and finds them there.
-fn assert_numbers(rt: &impl Abort, index: &mut Index) -> Result<(), Memory> {
+/// Appends names, and finds them by their names and rows.
+fn assert_numbers(rt: &impl Abort, alloc: Global, names: &mut FileNames) -> Result<(), Memory> {
     for &(name, is_new) in PUT {
+        assert!(rt; is_file_name(name.as_bytes()) == (name != "b/"), "{name}");
+        assert!(rt; is_directory(name.as_bytes()) == (name != "b/"), "{name}");
         assert!(rt;
-            is_file_name(name.as_bytes()) && is_directory(name.as_bytes()),
+            names.push(String::from_str(alloc, name)?)? == is_new,
             "{name}"
         );
-        assert!(rt; index.push(name.as_bytes())? == is_new, "{name}");
     }
     for &(name, row) in NUMBERED {
-        assert!(rt; index.row_of(name.as_bytes()) == row, "{name}");
+        assert!(rt; names.row_of(name.as_bytes()) == row, "{name}");
+    }
+    match names.as_slice() {
+        [_, last] => assert!(rt; last.as_str() == "inc/b.h"),
+        _ => assert!(rt; false, "not two names"),
     }
     Ok(())
 }
 
 #[test]
-fn an_index_numbers_each_name_once(rt: HostRuntime) -> Result<(), Fail> {
-    let mut index = Index::new(rt.alloc(), drawn(&rt)?);
-    Ok(assert_numbers(&rt, &mut index)?)
+fn file_names_number_each_name_once(rt: HostRuntime) -> Result<(), Fail> {
+    let alloc = rt.alloc();
+    let mut names = FileNames::new(alloc, drawn(&rt)?);
+    assert_numbers(&rt, alloc, &mut names)?;
+    assert!(rt; names.len() == 2);
+    assert_numbered(&rt, &Shelf::over(alloc, names, Profile::C11)?);
+    Ok(())
 }
 
 /// Asserts that no shelf is made of these names, because of the one at this index.
@@ -76,6 +86,16 @@ fn keyed(alloc: Global, hashing: Hashing) -> Result<Shelf<MemoryDisk>, Fail> {
     Ok(Shelf::with_hasher(alloc, names, Profile::C11, hashing)?)
 }
 
+/// Asserts that a shelf of the two names finds its rows by them.
+fn assert_numbered(rt: &impl Abort, shelf: &Shelf<MemoryDisk>) {
+    for &(name, row) in NUMBERED {
+        assert!(rt; shelf.row_of(name.as_bytes()) == row, "{name}");
+    }
+    assert!(rt; shelf.len() == 2);
+    assert!(rt; shelf.names().len() == 2);
+    assert!(rt; shelf.name(1) == "inc/b.h");
+}
+
 /// Asserts that a shelf finds its rows by their names, and the second from the first, and that it returns its hash
 /// function.
 fn assert_finds(
@@ -84,11 +104,8 @@ fn assert_finds(
     shelf: &Shelf<MemoryDisk>,
     setting: &[OwnedText],
 ) -> Result<Hashing, Memory> {
-    for &(name, row) in NUMBERED {
-        assert!(rt; shelf.row_of(name.as_bytes()) == row, "{name}");
-    }
+    assert_numbered(rt, shelf);
     assert!(rt; shelf.len() == 2);
-    assert!(rt; shelf.name(1) == "inc/b.h");
     let directories = Directories { unit: &[], setting };
     let found = resolve(alloc, shelf, 0, Form::Angle, b"b.h", directories)?;
     assert!(rt; found == Some((1, 1)));

@@ -46,7 +46,7 @@ returns-clause-capped g c =
     let names = c.args.batch.now.shelf.now.names in
     if_ok_then c.take_all.result (returns-clause-retained g c) (λ v retained. record {
       retained = retained;
-      capped = are_capped c.budget_caps_units.ensures names files c.args.batch.now.setting.now c.args.batch.now.units.now retained.wholes c.contents_permitted-3.ensures.names retained.values;
+      capped = are_capped c.budget_caps_units.ensures names files c.args.batch.now.setting.now c.args.batch.now.units.now retained.wholes c.names_are_distinct.ensures.names retained.values;
     })
 
 pub returns-clause-filled : goal.returns-clause-filled

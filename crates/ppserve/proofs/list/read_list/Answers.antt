@@ -5,7 +5,9 @@ use Rattle.ppserve.proofs.DraftValidation.{validated-runnable, validated-content
 use Rattle.ppserve.proofs.list.read_list.Goals as goal
 
 pub returns-clause-ok : goal.returns-clause-ok
-returns-clause-ok c = IfOk-weaker c.validate.result (λ l. validated c.args.inline c.in_ok-draft.draft ≡ accepted l) (λ l. outcome_of c.args.inline c.args.bytes.now ≡ accepted l) (λ l e. c.in_ok-draft.ensures.ok ∙ e) c.validate.ensures.ok
+returns-clause-ok c =
+    IfOk-weaker c.validate.result (λ l. validated c.args.inline c.in_ok-draft.draft ≡ accepted l) (λ l. outcome_of c.args.inline c.args.bytes.now ≡ accepted l)
+    (λ l e. c.in_ok-draft.ensures.ok ∙ e) c.validate.ensures.ok
 
 pub returns-clause-bad : goal.returns-clause-bad
 returns-clause-bad c = λ n e. c.in_ok-draft.ensures.ok ∙ c.validate.ensures.bad n e

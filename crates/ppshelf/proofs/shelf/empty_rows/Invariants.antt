@@ -1,9 +1,6 @@
-use Rattle.std.proofs.Common.{◌≡◌, map, replicate, length, None}
-use Rattle.std.specs.String.{string_bytes}
-use Rattle.ppshelf.specs.code.ShelfRows.{names_of, filled_of}
+use Rattle.std.proofs.Common.{◌≡◌, replicate, length, None}
+use Rattle.ppshelf.specs.code.ShelfRows.{filled_of}
 use Rattle.ppshelf.proofs.shelf.empty_rows.Given as goal
 
-abbrev pub invariant-loop-name : goal.invariant-loop-name
-invariant-loop-name g l =
-    (names_of l.rows.items ≡ map string_bytes l.yielded)
-    × (filled_of l.rows.items ≡ replicate (length l.yielded) None)
+abbrev pub invariant-loop-row : goal.invariant-loop-row
+invariant-loop-row g l = (length l.rows.items ≡ l._row) × (filled_of l.rows.items ≡ replicate l._row None)

@@ -27,7 +27,7 @@ returns-clause-deps g c =
 pub returns-clause-capped : goal.returns-clause-capped
 returns-clause-capped g c =
     IfOk-weaker _ _ _ (λ out is. c.budget_caps_units.ensures c.args.shelf.now.names c.run_unit-output.new.pass.files c.args.setting.now c.args.unit.now out
-    c.contents_permitted.ensures.names is)
+    c.names_are_distinct.ensures.names is)
     (returns-clause-is g c)
 
 pub returns-clause-within : goal.returns-clause-within
@@ -38,4 +38,4 @@ returns-clause-within g c =
 pub returns-clause-filled : goal.returns-clause-filled
 returns-clause-filled g c =
     let P : ShelfView → Type 0 = λ s. Agree (s.filled) c.run_unit-output.new.pass.files in
-    subst P (c.run_unit-output.ensures.shelf ∙ ap (λ (l : UnitContext). l.shelf) c.new-context.ensures) c.contents_permitted-2.ensures.filled
+    subst P (c.run_unit-output.ensures.shelf ∙ ap (λ (l : UnitContext). l.shelf) c.new-context.ensures) c.contents_permitted.ensures.filled

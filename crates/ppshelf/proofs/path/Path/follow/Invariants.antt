@@ -1,7 +1,7 @@
 use Rattle.std.proofs.Common.{◌≡◌, ◌+◌, length, Some}
 use Rattle.std.specs.Option.{option_copied, option_map_or}
-use Rattle.ppshelf.specs.Names.{segments_left}
 use Rattle.ppshelf.specs.Search.{follow, walk}
+use Rattle.ppshelf.specs.code.Paths.{segments_left}
 use Rattle.ppshelf.proofs.path.Path.follow.Given as goal
 
 abbrev pub invariant-loop-rest : goal.invariant-loop-rest

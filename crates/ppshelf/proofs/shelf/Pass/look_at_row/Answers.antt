@@ -1,57 +1,53 @@
-use Rattle.std.proofs.Common.{◌≡◌, ◌<◌, ap, ◌∙◌, sym, arith, length, set, Some}
-use Rattle.std.proofs.lemmas.List.{length-map}
+use Rattle.std.proofs.Common.{◌≡◌, ◌<◌, ap, ◌∙◌, sym, subst, arith, length, set, Some}
+use Rattle.std.proofs.lemmas.Result.{IfOk-weaker, on_err_weaker}
 use Rattle.ppshelf.specs.Files.{PassView, Files, ShelfView}
-use Rattle.ppshelf.specs.code.ShelfRows.{RowState, files_of, names_of, shelf_view}
-use Rattle.ppshelf.proofs.ObservedContents.{placed_read, files_of-set, files_of-same, fits_at, shown_pass}
+use Rattle.ppshelf.specs.code.ShelfRows.{FileView, FitsRow, files_of}
+use Rattle.ppshelf.proofs.ObservedContents.{SeenShelf, file_of, files_of-set, files_of-same, fits_at, shown_pass}
+use Rattle.ppshelf.proofs.shelf.Pass.look_at_row.Given.{Over}
 use Rattle.ppshelf.proofs.shelf.Pass.look_at_row.Goals as goal
+use Rattle.ppshelf.proofs.shelf.Pass.look_at_row.Goals.{After-file}
 
-pub look-requires-clause-placed : goal.look-requires-clause-placed
-look-requires-clause-placed g c =
-    let rows = c.shelf.inside.rows.items in
-    let count : length (names_of rows) ≡ length rows = length-map rows (λ (s : RowState). s.name) in
-    let w : c.args.row < length rows = let e = ap (λ (s : ShelfView). length s.names) c.shelf.view_is in let r = c.requires.row in omega arith in
-    placed_read c.shelf.inside.profile rows c.args.row c.index.result.now c.shelf.invariant.placed w c.index.ensures
+-- The pass belongs to the shelf, which has the row, and the file is that of the row.
+module _ (g : Over) (c : After-file g) where
+  same : c.self.inside.shelf.now ≡ c.args.shelf.now
+  same = ap (λ (k : PassView). k.shelf) c.self.view_is ∙ c.requires.shelf
+
+  seen : SeenShelf c.shelf.inside.profile c.shelf.inside.names c.shelf.inside.rows.items c.self.inside.shelf.now
+  seen = record { shelf = c.shelf.invariant; same = same ∙ sym c.shelf.view_is }
+
+  within : c.args.row < length c.self.inside.shelf.now.names
+  within = let e = ap (λ (s : ShelfView). length s.names) same in let r = c.requires.row in omega arith
+
+  file_is : c.file.result ≡ file_of c.self.inside.shelf.now c.args.row
+  file_is = c.file.ensures ∙ ap (λ (s : ShelfView). file_of s c.args.row) (sym same)
 
 pub look-requires-clause-fits : goal.look-requires-clause-fits
 look-requires-clause-fits g c =
-    let rows = c.shelf.inside.rows.items in
-    let count : length (names_of rows) ≡ length rows = length-map rows (λ (s : RowState). s.name) in
-    let w : c.args.row < length rows = let e = ap (λ (s : ShelfView). length s.names) c.shelf.view_is in let r = c.requires.row in omega arith in
-    let same : c.self.inside.shelf.now ≡ shelf_view c.shelf.inside.profile c.shelf.inside.index.hashing rows = ap (λ (k : PassView). k.shelf) c.self.view_is ∙ (c.requires.shelf ∙ sym c.shelf.view_is) in
-    fits_at g.D.Disk.may c.shelf.inside.profile c.shelf.inside.index.hashing rows c.self.inside.shelf.now c.self.inside.rows.items c.args.row c.index.result.now c.index_mut-observation.result.now
-    c.shelf.invariant.placed same w c.index.ensures c.self.invariant c.index_mut-observation.ensures.value
+    let at = (goal.at.look-requires-clause-fits g c).After-file in
+    let P : FileView → Type 0 = λ f. FitsRow g.D.Disk.may f c.index.result.now c.index_mut-observation.result.now in
+    subst P (sym (file_is g at))
+    (fits_at c.shelf.inside.profile c.shelf.inside.names c.shelf.inside.rows.items c.self.inside.shelf.now (seen g at) c.args.row c.index.result.now
+    g.D.Disk.may c.self.inside.rows.items c.index_mut-observation.result.now (within g at) c.index.ensures c.self.invariant c.index_mut-observation.ensures.value)
 
 pub invariant_of-self : goal.invariant_of-self
 invariant_of-self g c =
-    let rows = c.shelf.inside.rows.items in
-    let count : length (names_of rows) ≡ length rows = length-map rows (λ (s : RowState). s.name) in
-    let w : c.args.row < length rows = let e = ap (λ (s : ShelfView). length s.names) c.shelf.view_is in let r = c.requires.row in omega arith in
-    let same : c.self.inside.shelf.now ≡ shelf_view c.shelf.inside.profile c.shelf.inside.index.hashing rows = ap (λ (k : PassView). k.shelf) c.self.view_is ∙ (c.requires.shelf ∙ sym c.shelf.view_is) in
-    shown_pass g.D.Disk.may c.shelf.inside.profile c.shelf.inside.index.hashing rows c.self.inside.shelf.now c.self.inside.rows.items c.args.row c.index.result.now c.look.new.observation c.shelf.invariant.placed same w c.index.ensures c.self.invariant c.look.ensures.fits
-
-pub invariant_of-self-2 : goal.invariant_of-self-2
-invariant_of-self-2 g c =
-    let rows = c.shelf.inside.rows.items in
-    let count : length (names_of rows) ≡ length rows = length-map rows (λ (s : RowState). s.name) in
-    let w : c.args.row < length rows = let e = ap (λ (s : ShelfView). length s.names) c.shelf.view_is in let r = c.requires.row in omega arith in
-    let same : c.self.inside.shelf.now ≡ shelf_view c.shelf.inside.profile c.shelf.inside.index.hashing rows = ap (λ (k : PassView). k.shelf) c.self.view_is ∙ (c.requires.shelf ∙ sym c.shelf.view_is) in
-    shown_pass g.D.Disk.may c.shelf.inside.profile c.shelf.inside.index.hashing rows c.self.inside.shelf.now c.self.inside.rows.items c.args.row c.index.result.now c.look.new.observation c.shelf.invariant.placed same w c.index.ensures c.self.invariant c.look.ensures.fits
+    let at = (goal.at.invariant_of-self g c).After-file in
+    let P : FileView → Type 0 = λ f. FitsRow g.D.Disk.may f c.index.result.now c.look.new.observation in
+    shown_pass c.shelf.inside.profile c.shelf.inside.names c.shelf.inside.rows.items c.self.inside.shelf.now (seen g at) c.args.row c.index.result.now
+    g.D.Disk.may c.self.inside.rows.items c.look.new.observation (within g at) c.index.ensures c.self.invariant (subst P (file_is g at) c.look.ensures.fits)
 
 pub returns-clause-known : goal.returns-clause-known
 returns-clause-known g c =
-    let e : files_of (set c.self.inside.rows.items c.args.row c.look.new.observation)
-    ≡ set (files_of c.self.inside.rows.items) c.args.row (Some c.in-Ok.loaded.now.content) =
-    files_of-set c.self.inside.rows.items c.args.row c.look.new.observation c.in-Ok.loaded.now c.in-Ok.ensures.shown in
+    IfOk-weaker c.look.result _ _ (λ l shown.
+    let e : files_of (set c.self.inside.rows.items c.args.row c.look.new.observation) ≡ set (files_of c.self.inside.rows.items) c.args.row (Some l.now.content) =
+    files_of-set c.self.inside.rows.items c.args.row c.look.new.observation l.now shown in
     let f : files_of c.self.inside.rows.items ≡ c.args.self.now.files = ap (λ (k : PassView). k.files) c.self.view_is in
-    rw (← f) e
+    rw (← f) e) c.look.ensures.shown
 
-pub returns-in_default-clause-err : goal.returns-in_default-clause-err
-returns-in_default-clause-err g c =
-    let w : c.args.row < length c.self.inside.rows.items =
-    let r = c.requires.row in
-    let s = c.self.invariant.len in
-    let t : c.self.inside.shelf.now ≡ c.args.shelf.now = ap (λ (k : PassView). k.shelf) c.self.view_is ∙ c.requires.shelf in
-    let u = ap (λ (s : ShelfView). length s.names) t in
-    omega arith in
-    let e = files_of-same c.self.inside.rows.items c.args.row c.look.new.observation c.index_mut-observation.result.now w c.index_mut-observation.ensures.value c.in_default.ensures.err in
-    ap (λ (f : Files). record { shelf = c.self.inside.shelf.now; files = f }) e ∙ c.self.view_is
+pub returns-clause-err : goal.returns-clause-err
+returns-clause-err g c =
+    let at = (goal.at.returns-clause-err g c).After-file in
+    let w : c.args.row < length c.self.inside.rows.items = let s = c.self.invariant.len in let u = within g at in omega arith in
+    on_err_weaker c.look.result (λ unchanged.
+    let e = files_of-same c.self.inside.rows.items c.args.row c.look.new.observation c.index_mut-observation.result.now w c.index_mut-observation.ensures.value unchanged in
+    ap (λ (f : Files). record { shelf = c.self.inside.shelf.now; files = f }) e ∙ c.self.view_is) c.look.ensures.err
