@@ -57,6 +57,21 @@ fn file_names_number_each_name_once(rt: HostRuntime) -> Result<(), Fail> {
     Ok(())
 }
 
+/// Asserts that names are not taken, because of the one at this index.
+fn assert_not_taken(
+    rt: &impl Abort,
+    alloc: Global,
+    names: &[&str],
+    place: usize,
+) -> Result<(), Fail> {
+    match FileNames::from_strings(alloc, texts(alloc, names)?, Hashing::fixed()) {
+        Err(ShelfFault::Name(found)) => assert!(rt; found == place, "{found}"),
+        Err(ShelfFault::Memory) => return Err(Fail::from(Memory)),
+        Ok(_) => assert!(rt; false, "a bad name is taken"),
+    }
+    Ok(())
+}
+
 /// Asserts that no shelf is made of these names, because of the one at this index.
 fn assert_refuses(rt: &impl Abort, alloc: Global, names: &[&str], place: usize) -> Result<(), Fail>
     requires { length names.now ≤ max_rows }
@@ -76,6 +91,7 @@ fn assert_refuses(rt: &impl Abort, alloc: Global, names: &[&str], place: usize) 
 
 #[test]
 fn a_shelf_refuses_the_first_bad_name(rt: HostRuntime) -> Result<(), Fail> {
+    assert_not_taken(&rt, rt.alloc(), &["a", "b", "a", "."], 2)?;
     assert_refuses(&rt, rt.alloc(), &["a", "b", "a", "."], 2)?;
     assert_refuses(&rt, rt.alloc(), &["a", "b/", "a"], 1)
 }

@@ -372,11 +372,7 @@ const MIXED: &[(&str, &str, u8)] = &[
         "#undef __STDC_VERSION__",
         10,
     ),
-    (
-        "#undef __STDC_VERSION__",
-        "#define __STDC_VERSION__ 1",
-        10,
-    ),
+    ("#undef __STDC_VERSION__", "#define __STDC_VERSION__ 1", 10),
 ];
 
 /// Asserts the number of the fault of a line with the rules of C11 after a line of GNU C.

@@ -64,6 +64,25 @@ fn is_fault(fault: &Fault, text: &[u8]) -> bool {
     fault.number == 8 && fault.at == AT && fault.text.as_bytes() == text
 }
 
+/// Returns whether an error is a fault with this text and the location of the tests.
+fn raises(error: Error, text: &[u8]) -> bool {
+    match error {
+        Error::Fault(fault) => is_fault(&fault.into_fault(), text),
+        Error::Memory => false,
+    }
+}
+
+#[test]
+fn errors_hold_their_faults(rt: HostRuntime) -> Result<(), Fail> {
+    let token = word(rt.alloc(), Kind::Ident, b"ab")?;
+    let fault = Fault::bare(8, AT);
+    assert!(rt; raises(Error::of(rt.alloc(), fault), b""));
+    assert!(rt; raises(Error::bare(rt.alloc(), 8, AT), b""));
+    assert!(rt; raises(Error::new(rt.alloc(), 8, AT, b"ab"), b"ab"));
+    assert!(rt; raises(Error::of_token(rt.alloc(), 8, AT, &token), b"ab"));
+    Ok(())
+}
+
 #[test]
 fn makes_lists_faults_and_outcomes(rt: HostRuntime) -> Result<(), Fail> {
     let mut tokens = Vec::new(rt.alloc());
@@ -76,7 +95,7 @@ fn makes_lists_faults_and_outcomes(rt: HostRuntime) -> Result<(), Fail> {
     };
     assert!(rt; is_fault(&Fault::of_token(8, AT, token)?, b"ab"));
     assert!(rt; is_fault(&Fault::new(rt.alloc(), 8, AT, b"ab")?, b"ab"));
-    let bare = Err(Error::Fault(Fault::bare(8, AT)));
+    let bare = Err(Error::bare(rt.alloc(), 8, AT));
     assert!(rt; matches!(&split_memory::<u8>(bare), Ok(Err(fault)) if is_fault(fault, b"")));
     assert!(rt; matches!(split_memory(Ok(7)), Ok(Ok(7))));
     assert!(rt; split_memory::<u8>(Err(Error::Memory)).is_err());
