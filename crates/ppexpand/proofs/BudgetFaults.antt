@@ -17,16 +17,19 @@ use Rattle.ppmacro.specs.declared.macros.Macro.{Macro}
 use Rattle.ppmacro.specs.declared.macros.Chain.{Chain}
 use Rattle.ppmacro.specs.declared.macros.Operand.{Operand}
 use Rattle.ppmacro.specs.declared.macros.Operand.TheVariants.{Tok, Param, Str, VariadicAfterComma}
-use Rattle.ppmacro.specs.Substitution.{string_text, string_token, is_string_literal, stringized, pasted_as, pasted, after_ok, join, join_all, Arguments, argument_at, operand_tokens, operands_tokens, is_joined, before_variadic, chain_tokens, Replacement}
+use Rattle.ppmacro.specs.Substitution.{string_text, string_token, is_string_literal, stringized, pasted_as, pasted, after_ok, join, join_all, Arguments, argument_at, operand_tokens, operands_tokens}
+use Rattle.ppmacro.specs.Substitution.{is_joined, before_variadic, chain_tokens, Replacement}
 use Rattle.ppmacro.specs.Substitution.{chains_tokens, macro_replacement}
 use Rattle.ppexpand.specs.declared.env.Env.{Env}
-use Rattle.ppexpand.specs.declared.expansion.Expanded.{Expanded}
+use Rattle.ppexpand.specs.declared.meter.Meter.{Meter}
 use Rattle.ppexpand.specs.Arguments.{is_open, Gathered, Closed, UnmatchedQuote, Unclosed, gather, separators, fit_arguments}
-use Rattle.ppexpand.specs.ExpansionStep.{Invocation, ExpansionStep, TokenFault, Emits, ReplacementFault, replaced_by, quote_fault, closed_invocation_step, invocation_step, function_step, no_arguments, macro_step, named_step, macro_of, expansion_step, finish_invocation, ExpandedArguments, with_expanded}
-use Rattle.ppexpand.specs.Budget.{spend_one}
-use Rattle.ppexpand.specs.Expansion.{Outcome, step_in_budget, Expands, done, token_fault, emits, replacement_fault, replaced, argument_fault, invocation_fault, invocation_replaced, ExpandsArguments, none, unused, too_deep}
-use Rattle.ppexpand.specs.Expansion.{pre_expanded, pre_expansion_fault, count, count_arguments, ExpandsTo, IsExpansion}
-use Rattle.ppexpand.proofs.BudgetLemmas.{plus-none, spends, spends_arguments}
+use Rattle.ppexpand.specs.ExpansionStep.{Invocation, ExpansionStep, TokenFault, Emits, ReplacementFault, replaced_by, quote_fault, closed_invocation_step, invocation_step, function_step, no_arguments}
+use Rattle.ppexpand.specs.ExpansionStep.{macro_step, named_step, macro_of, expansion_step, finish_invocation, ExpandedArguments, with_expanded}
+use Rattle.ppexpand.specs.Budget.{one_less}
+use Rattle.ppexpand.specs.Expansion.{Outcome, step_in_budget, Expands, done, token_fault, emits, replacement_fault, replaced, argument_fault, invocation_fault, invocation_replaced, ExpandsArguments}
+use Rattle.ppexpand.specs.Expansion.{none, unused, too_deep}
+use Rattle.ppexpand.specs.Expansion.{pre_expanded, pre_expansion_fault, count, count_arguments, ExpandsTo, Expansion, IsExpansion}
+use Rattle.ppexpand.proofs.BudgetLemmas.{unlimited-in_budget, plus-none, spends, spends_arguments}
 
 -- a value, or a fault with a number below 35
 abbrev IsBelow : {A : Type 0} → Result A Fault → Type 0
@@ -57,8 +60,8 @@ below_join (l ∷ ls) [] used = tt
 below_join (l ∷ []) (r ∷ rs) used = below_after (pasted l r used) _ (below_pasted_as (kind_of (l.token.text ++ r.token.text)) l r used) (λ t. tt)
 below_join (l ∷ (m ∷ ls)) (r ∷ rs) used = below_after (join (m ∷ ls) (r ∷ rs) used) _ (below_join (m ∷ ls) (r ∷ rs) used) (λ ts. tt)
 
-below_join_all : (remaining : List Hiding) (lists : List (List Hiding)) (used : Place) → IsBelow (join_all remaining lists used)
-below_join_all remaining [] used = tt
+below_join_all : (so_far : List Hiding) (lists : List (List Hiding)) (used : Place) → IsBelow (join_all so_far lists used)
+below_join_all so_far [] used = tt
 below_join_all left (right ∷ rest) used = below_after (join left right used) _ (below_join left right used) (λ ts. below_join_all ts rest used)
 
 below_operand : (beside : Bool) (args : Arguments) (used : Place) (o : Operand) → IsBelow (operand_tokens beside args used o)
@@ -130,12 +133,15 @@ below_turn : (macros : Macros) (env : Env) (list : List Hiding) → IsTurnBelow 
 unfolding expansion_step
 below_turn macros env [] = tt
 below_turn macros env (t ∷ rest) =
-    turn_either (is_unmatched_quote t.token) (TokenFault (quote_fault t)) (if set.contains t.hide t.token.text then Emits t rest else named_step env t rest (macro_of macros t.token)) (omega arith)
+    turn_either (is_unmatched_quote t.token) (TokenFault (quote_fault t.token)) (if set.contains t.hide t.token.text then Emits t rest else named_step env t rest (macro_of macros t.token)) (omega arith)
     (turn_either (set.contains t.hide t.token.text) (Emits t rest) (named_step env t rest (macro_of macros t.token)) tt (below_named env t rest (macro_of macros t.token)))
 
 below_finished : (invocation : Invocation) (expanded : List (Option (List Hiding))) → IsTurnBelow (finish_invocation invocation expanded)
 unfolding finish_invocation
-below_finished invocation expanded = below_replaced _ invocation.following (below_substituted invocation.macro (record { given = invocation.arguments; expanded = expanded }) invocation.names_to_hide invocation.name_token.token.used invocation.name_token.token.space)
+below_finished invocation expanded =
+    let arguments : Arguments = record { given = invocation.arguments; expanded = expanded } in
+    let name = invocation.name_token.token in
+    below_replaced _ invocation.following (below_substituted invocation.macro arguments invocation.names_to_hide name.used name.space)
 
 -- ---- expansions: fault 21, and the faults of expansion steps
 
@@ -148,33 +154,36 @@ below_expanded a (Ok as') h = tt
 below_expanded a (Err f) h = h
 
 module _ (macros : Macros) (env : Env) where
-  of_turn : {remaining : Option ℕ} (list : List Hiding) {t : ExpansionStep} → remaining ≡ None → step_in_budget macros env remaining list ≡ t → IsTurnBelow t
-  of_turn list {t = t} is e = subst IsTurnBelow (subst (λ l. step_in_budget macros env l list ≡ t) is e) (below_turn macros env list)
+  of_turn : (meter : Meter) (list : List Hiding) {t : ExpansionStep} → meter.remaining ≡ None → step_in_budget macros env meter list ≡ t → IsTurnBelow t
+  of_turn meter list is e = subst IsTurnBelow (sym (unlimited-in_budget meter list (expansion_step macros env list) is) ∙ e) (below_turn macros env list)
 
   mutual
-    below : {level steps : ℕ} {remaining : Option ℕ} {list : List Hiding} {out : Outcome} → remaining ≡ None → Expands macros env level remaining steps list out → IsFaultBelow out.fault
+    below : {level steps : ℕ} {meter : Meter} {list : List Hiding} {out : Outcome} → meter.remaining ≡ None → Expands macros env level meter steps list out → IsFaultBelow out.fault
     below is (done e) = tt
-    below {list = list} is (token_fault e) = of_turn list is e
+    below {meter = meter} {list = list} is (token_fault e) = of_turn meter list is e
     below is (emits e more) = below is more
-    below {list = list} is (replacement_fault e) = of_turn list is e
-    below is (replaced e more) = below (ap spend_one is) more
-    below is (argument_fault e a) = below_arguments (ap spend_one is) a
+    below {meter = meter} {list = list} is (replacement_fault e) = of_turn meter list is e
+    below is (replaced e more) = below (ap one_less is) more
+    below is (argument_fault e a) = below_arguments (ap one_less is) a
     below is (invocation_fault {invocation = invocation} {expanded = expanded} e a f) = subst IsTurnBelow f (below_finished invocation expanded)
-    below is (invocation_replaced {remaining_after = remaining_after} e a f more) = below (plus-none (count_arguments macros env a) remaining_after (sym (ap spend_one is) ∙ spends_arguments macros env a)) more
+    below is (invocation_replaced {meter_after = meter_after} e a f more) = below (plus-none (count_arguments macros env a) meter_after.remaining (sym (ap one_less is) ∙ spends_arguments macros env a)) more
 
-    below_arguments : {level : ℕ} {invocation : Invocation} {remaining remaining_after : Option ℕ} {as' : List (Option (List Hiding))} {r : ExpandedArguments} → remaining ≡ None → ExpandsArguments macros env level invocation remaining as' remaining_after r → IsBelow r
+    below_arguments : {level : ℕ} {invocation : Invocation} {meter meter_after : Meter} {as' : List (Option (List Hiding))} {r : ExpandedArguments}
+        → meter.remaining ≡ None
+        → ExpandsArguments macros env level invocation meter as' meter_after r
+        → IsBelow r
     below_arguments is none = tt
     below_arguments is (unused {out = out} more) = below_expanded None out (below_arguments is more)
     below_arguments is (too_deep h) = omega arith
     below_arguments is (pre_expanded {between = between} {tokens = tokens} {out = out} h one more) =
-        below_expanded (Some tokens) out (below_arguments (plus-none (count macros env one) between (sym is ∙ spends macros env one)) more)
+        below_expanded (Some tokens) out (below_arguments (plus-none (count macros env one) between.remaining (sym is ∙ spends macros env one)) more)
     below_arguments is (pre_expansion_fault h one) = below is one
 
   never : (o : Option Fault) (f : Fault) → o ≡ Some f → IsFaultBelow o → f.number ≢ 35
   never o f is h e = let less : f.number < 35 = subst IsFaultBelow is h in absurd (omega arith)
 
-  pub never_refused : {level : ℕ} {list : List Hiding} {out : Outcome} {f : Fault} → ExpandsTo macros env level None list out → out.fault ≡ Some f → f.number ≢ 35
-  never_refused {out = out} {f = f} d is = never out.fault f is (below refl d.1)
+  pub never_refused : {level : ℕ} {meter : Meter} {list : List Hiding} {out : Outcome} {f : Fault} → meter.remaining ≡ None → ExpandsTo macros env level meter list out → out.fault ≡ Some f → f.number ≢ 35
+  never_refused {out = out} {f = f} unlimited d is = never out.fault f is (below unlimited d.1)
 
-  pub expansion_never_refused : {tokens : List Token} {e : Expanded} {f : Fault} → IsExpansion macros env None tokens e → e.fault ≡ Some f → f.number ≢ 35
-  expansion_never_refused x is = never_refused x.expands (sym x.fault_is ∙ is)
+  pub expansion_never_refused : {meter : Meter} {tokens : List Token} {e : Expansion} {f : Fault} → meter.remaining ≡ None → IsExpansion macros env meter tokens e → e.fault ≡ Some f → f.number ≢ 35
+  expansion_never_refused unlimited x is = never_refused unlimited x.expands (sym x.fault_is ∙ is)

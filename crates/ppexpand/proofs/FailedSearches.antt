@@ -114,7 +114,7 @@ same_quote p q e = cc
 quoted_by : (c : Option ℕ) {list : List Hiding} (q : Hiding) → Layout list → gather 0 c list ≡ UnmatchedQuote q → StopsAtQuote list q
 quoted_by c q (ends inside close following n e) g = absurd (subst IsClosed g (when_ended c inside close following n e))
 quoted_by c q (stops prefix p following n e) g =
-    subst (StopsAtQuote (prefix ++ p ∷ following)) (same_quote p q (sym (when_stopped c prefix p following n e) ∙ g)) (record { prefix = prefix; following = following; laid_out = refl; before = n; lone = e })
+    subst (StopsAtQuote (prefix ++ p ∷ following)) (same_quote p q (sym (when_stopped c prefix p following n e) ∙ g)) (record { prefix = prefix; following = following; laid_out = refl; not_closed = n; lone = e })
 quoted_by c q (goes_on list n) g = let u : gather 0 c list ≡ Unclosed = when_going_on c list n in absurd (cc)
 
 open_by : (c : Option ℕ) {list : List Hiding} → Layout list → gather 0 c list ≡ Unclosed → NeverClosed list
@@ -123,7 +123,7 @@ open_by c (stops prefix p following n e) g = let u : gather 0 c (prefix ++ p ∷
 open_by c (goes_on list n) g = n
 
 pub finds_quote : (c : Option ℕ) (list : List Hiding) (q : Hiding) → (gather 0 c list ≡ UnmatchedQuote q) ↔ StopsAtQuote list q
-finds_quote c list q = (quoted_by c q (layout (suc (length list)) list (omega arith)), λ m. ap (gather 0 c) m.laid_out ∙ when_stopped c m.prefix q m.following m.before m.lone)
+finds_quote c list q = (quoted_by c q (layout (suc (length list)) list (omega arith)), λ m. ap (gather 0 c) m.laid_out ∙ when_stopped c m.prefix q m.following m.not_closed m.lone)
 
 pub finds_no_end : (c : Option ℕ) (list : List Hiding) → (gather 0 c list ≡ Unclosed) ↔ NeverClosed list
 finds_no_end c list = (open_by c (layout (suc (length list)) list (omega arith)), when_going_on c list)

@@ -15,9 +15,11 @@ use Rattle.ppmacro.specs.declared.macros.Variadic.{Variadic}
 use Rattle.ppmacro.specs.declared.macros.MacroKind.{MacroKind}
 use Rattle.ppmacro.specs.declared.macros.MacroKind.TheVariants.{Predefined, ObjectLike, FunctionLike}
 use Rattle.ppexpand.specs.declared.env.Env.{Env}
+use Rattle.ppexpand.specs.declared.meter.Meter.{Meter}
 use Rattle.ppexpand.specs.Arguments.{is_open, Gathered, Closed, UnmatchedQuote, Unclosed, gather, separators, fit_arguments}
-use Rattle.ppexpand.specs.ExpansionStep.{ExpansionStep, Done, TokenFault, Emits, ReplacementFault, Replaced, Invoked, expansion_step, macro_of, quote_fault, named_step, macro_step, function_step, invocation_step, closed_invocation_step, replaced_by}
-use Rattle.ppexpand.specs.Budget.{exhausted_step, in_budget}
+use Rattle.ppexpand.specs.ExpansionStep.{ExpansionStep, Done, TokenFault, Emits, ReplacementFault, Replaced, Invoked, expansion_step, macro_of, quote_fault, named_step, macro_step, function_step}
+use Rattle.ppexpand.specs.ExpansionStep.{invocation_step, closed_invocation_step, replaced_by}
+use Rattle.ppexpand.specs.Budget.{is_exhausted, exhausted_step, refused, in_budget}
 use Rattle.ppexpand.specs.Expansion.{Outcome, Expands, done, token_fault, emits, replacement_fault, replaced, argument_fault, invocation_fault, invocation_replaced}
 use Rattle.ppexpand.specs.Laws.{is_fully_expanded, is_always_replaced}
 
@@ -65,7 +67,7 @@ module _ (macros : Macros) (env : Env) where
   unfolding expansion_step
   turn_settles [] = tt
   turn_settles (t ∷ rest) =
-      elim (is_unmatched_quote t.token) as (λ b. is_unmatched_quote t.token ≡ b → Settles (if b then TokenFault (quote_fault t) else (if set.contains t.hide t.token.text then Emits t rest else named_step env t rest (macro_of macros t.token)))) [
+      elim (is_unmatched_quote t.token) as (λ b. is_unmatched_quote t.token ≡ b → Settles (if b then TokenFault (quote_fault t.token) else (if set.contains t.hide t.token.text then Emits t rest else named_step env t rest (macro_of macros t.token)))) [
         | true ↦ λ _. tt
         | false ↦ λ unquoted. elim (set.contains t.hide t.token.text) as (λ b. set.contains t.hide t.token.text ≡ b → Settles (if b then Emits t rest else named_step env t rest (macro_of macros t.token))) [
           | true ↦ λ hidden. rw (unquoted, hidden) refl
@@ -77,21 +79,22 @@ module _ (macros : Macros) (env : Env) where
   over_settles [] = tt
   over_settles (t ∷ rest) = tt
 
-  within_settles : (remaining : Option ℕ) (list : List Hiding) (t : ExpansionStep) → Settles t → Settles (in_budget remaining list t)
-  within_settles None list t h = h
-  within_settles (Some (suc n)) list t h = h
-  within_settles (Some zero) list Done h = h
-  within_settles (Some zero) list (TokenFault f) h = h
-  within_settles (Some zero) list (Emits t rest) h = h
-  within_settles (Some zero) list (ReplacementFault f) h = over_settles list
-  within_settles (Some zero) list (Replaced next) h = over_settles list
-  within_settles (Some zero) list (Invoked invocation) h = over_settles list
+  refused_settles : (list : List Hiding) (t : ExpansionStep) → Settles t → Settles (refused list t)
+  refused_settles list Done h = h
+  refused_settles list (TokenFault f) h = h
+  refused_settles list (Emits t rest) h = h
+  refused_settles list (ReplacementFault f) h = over_settles list
+  refused_settles list (Replaced next) h = over_settles list
+  refused_settles list (Invoked invocation) h = over_settles list
 
-  pub all_settled : {level n : ℕ} {remaining : Option ℕ} {list : List Hiding} {out : Outcome} → Expands macros env level remaining n list out → AllPass (is_fully_expanded macros) out.tokens
+  within_settles : (meter : Meter) (list : List Hiding) (t : ExpansionStep) → Settles t → Settles (in_budget meter list t)
+  within_settles meter list t h = elim (is_exhausted meter) as (λ b. Settles (if b then refused list t else t)) [ true ↦ refused_settles list t h | false ↦ h ]
+
+  pub all_settled : {level n : ℕ} {meter : Meter} {list : List Hiding} {out : Outcome} → Expands macros env level meter n list out → AllPass (is_fully_expanded macros) out.tokens
   all_settled (done e) = All-nil (λ x. is_fully_expanded macros x ≡ true)
   all_settled (token_fault e) = All-nil (λ x. is_fully_expanded macros x ≡ true)
-  all_settled (emits {remaining = remaining} {list = list} {t = t} {rest = rest} {out = out} e d) =
-      let hide_set_of : Settles (Emits t rest) = subst (λ x. Settles x) e (within_settles remaining list (expansion_step macros env list) (turn_settles list)) in
+  all_settled (emits {meter = meter} {list = list} {t = t} {rest = rest} {out = out} e d) =
+      let hide_set_of : Settles (Emits t rest) = subst (λ x. Settles x) e (within_settles meter list (expansion_step macros env list) (turn_settles list)) in
       All-cons (λ x. is_fully_expanded macros x ≡ true) t out.tokens hide_set_of (all_settled d)
   all_settled (replacement_fault e) = All-nil (λ x. is_fully_expanded macros x ≡ true)
   all_settled (replaced e d) = all_settled d

@@ -26,7 +26,11 @@ given_known-keeps (v ∷ vs) k h =
     let rest = given_known-keeps vs k (record { each = h.each.1 }) in
     record { each = (known-keeps v.items k h.each.0, rest.each) }
 
-option-keeps : {s t : HideSetPool} (given : List Hidden) (e : ArgumentExpansion) → KeepsSets s t → AllKnown s given → AllKnown s (owned_tokens e) → option_map (hidings t) (expansion_if_computed given e) ≡ option_map (hidings s) (expansion_if_computed given e)
+option-keeps : {s t : HideSetPool} (given : List Hidden) (e : ArgumentExpansion)
+    → KeepsSets s t
+    → AllKnown s given
+    → AllKnown s (owned_tokens e)
+    → option_map (hidings t) (expansion_if_computed given e) ≡ option_map (hidings s) (expansion_if_computed given e)
 option-keeps given Unused k g h = refl
 option-keeps given AsGiven k g h = ap Some (hidings-keeps given k g)
 option-keeps given (Owned v) k g h = ap Some (hidings-keeps v.items k h)
@@ -70,9 +74,6 @@ expanded-at (v ∷ vs) (e ∷ es) g h (suc i) = expanded-at vs es (record { each
 
 pub arguments_known : {s : HideSetPool} (vs : List (Vec Hidden Global)) (es : List ArgumentExpansion) → ListsKnown s vs → ExpansionsKnown s es → ArgumentsKnown s vs es
 arguments_known vs es h k = record { given_known = (all-known vs [] vs [] refl refl h (record { each = tt })).given_known; expanded_known = expanded-at vs es h k }
-
-pub no_arguments_known : (s : HideSetPool) → ArgumentsKnown s [] []
-no_arguments_known s = arguments_known [] [] (record { each = tt }) (record { each = tt })
 
 -- the specification's invocation for an invocation of the code and the tokens after its `)`
 abbrev pub invocation_of : HideSetPool → CodeInvocation → List Hidden → Invocation

@@ -21,8 +21,10 @@ use Rattle.ppmacro.specs.Chains.{chains_of}
 use Rattle.ppmacro.specs.Substitution.{Arguments, Replacement, macro_replacement, after_ok, chains_tokens, hsadd}
 use Rattle.ppexpand.specs.Arguments.{Gathered, Closed, UnmatchedQuote, Unclosed, argument_role, gather, separators, fit_arguments, separates, fewer, with_token, with_argument, is_open, Quote, Open, Close, Comma, Inner}
 use Rattle.ppexpand.specs.declared.env.Env.{Env}
-use Rattle.ppexpand.specs.ExpansionStep.{Invocation, ExpansionStep, Done, TokenFault, Emits, ReplacementFault, Replaced, Invoked, expansion_step, finish_invocation, space_next, followed_by, replaced_by, names_to_hide_for, quote_fault, closed_invocation_step, invocation_step, function_step, macro_step, named_step}
-use Rattle.ppexpand.specs.Budget.{exhausted_step, in_budget}
+use Rattle.ppexpand.specs.declared.meter.Meter.{Meter}
+use Rattle.ppexpand.specs.ExpansionStep.{Invocation, ExpansionStep, Done, TokenFault, Emits, ReplacementFault, Replaced, Invoked, expansion_step, finish_invocation, space_next, followed_by}
+use Rattle.ppexpand.specs.ExpansionStep.{replaced_by, names_to_hide_for, quote_fault, closed_invocation_step, invocation_step, function_step, macro_step, named_step}
+use Rattle.ppexpand.specs.Budget.{is_exhausted, exhausted_step, refused, in_budget}
 use Rattle.ppexpand.specs.ExpansionStep.{macro_of}
 use Rattle.ppexpand.specs.Expansion.{step_in_budget}
 use Rattle.ppexpand.specs.Termination.{hides, IsSubset, HidesNames, IsOutside, Step}
@@ -45,13 +47,17 @@ all_have_names : (names_to_hide : HideSet) (used : Place) (ts : List Hiding) →
 all_have_names names_to_hide used [] = tt
 all_have_names names_to_hide used (t ∷ ts) = ((λ q e. set.contains-union nat_list_cmp_total t.hide names_to_hide q ∙ ap (λ b. set.contains t.hide q || b) e ∙ or_right _ true refl), all_have_names names_to_hide used ts)
 
-names_after : (r : Result Replacement Fault) (names_to_hide : HideSet) (used : Place) (m : Replacement) → after_ok r (λ m. Ok (record m { tokens = map (hsadd names_to_hide used) m.tokens })) ≡ Ok m → AllByRecursion (HasNamesToHide names_to_hide) m.tokens
+names_after : (r : Result Replacement Fault) (names_to_hide : HideSet) (used : Place) (m : Replacement)
+    → after_ok r (λ m. Ok (record m { tokens = map (hsadd names_to_hide used) m.tokens })) ≡ Ok m
+    → AllByRecursion (HasNamesToHide names_to_hide) m.tokens
 names_after (Ok n) names_to_hide used m e =
     let tokens : map (hsadd names_to_hide used) n.tokens ≡ m.tokens = ap (λ m. m.tokens) (let inner : record n { tokens = map (hsadd names_to_hide used) n.tokens } ≡ m = cc in inner) in
     subst (AllByRecursion (HasNamesToHide names_to_hide)) tokens (all_have_names names_to_hide used n.tokens)
 names_after (Err f) names_to_hide used m e = absurd (cc)
 
-pub substituted_names : (d : Macro) (args : Arguments) (names_to_hide : HideSet) (used : Place) (space : Bool) (m : Replacement) → macro_replacement d args names_to_hide used space ≡ Ok m → AllByRecursion (HasNamesToHide names_to_hide) m.tokens
+pub substituted_names : (d : Macro) (args : Arguments) (names_to_hide : HideSet) (used : Place) (space : Bool) (m : Replacement)
+    → macro_replacement d args names_to_hide used space ≡ Ok m
+    → AllByRecursion (HasNamesToHide names_to_hide) m.tokens
 substituted_names d args names_to_hide used space m e = names_after (chains_tokens args used space true (chains_of d)) names_to_hide used m e
 
 -- a name with a macro is a key of the table
@@ -210,7 +216,7 @@ module _ (macros : Macros) (env : Env) where
   unfolding expansion_step
   turn_steps [] = tt
   turn_steps (t ∷ rest) =
-      elim (is_unmatched_quote t.token) as (λ b. StepsTo (t ∷ rest) (if b then TokenFault (quote_fault t) else (if set.contains t.hide t.token.text then Emits t rest else named_step env t rest (macro_of macros t.token)))) [
+      elim (is_unmatched_quote t.token) as (λ b. StepsTo (t ∷ rest) (if b then TokenFault (quote_fault t.token) else (if set.contains t.hide t.token.text then Emits t rest else named_step env t rest (macro_of macros t.token)))) [
         | true ↦ tt
         | false ↦ elim (set.contains t.hide t.token.text) as (λ b. set.contains t.hide t.token.text ≡ b → StepsTo (t ∷ rest) (if b then Emits t rest else named_step env t rest (macro_of macros t.token))) [
           | true ↦ λ _. refl
@@ -222,18 +228,19 @@ module _ (macros : Macros) (env : Env) where
   over_steps [] = tt
   over_steps (t ∷ rest) = tt
 
-  within_steps : (remaining : Option ℕ) (list : List Hiding) (t : ExpansionStep) → StepsTo list t → StepsTo list (in_budget remaining list t)
-  within_steps None list t h = h
-  within_steps (Some (suc n)) list t h = h
-  within_steps (Some zero) list Done h = h
-  within_steps (Some zero) list (TokenFault f) h = h
-  within_steps (Some zero) list (Emits t rest) h = h
-  within_steps (Some zero) list (ReplacementFault f) h = over_steps list
-  within_steps (Some zero) list (Replaced next) h = over_steps list
-  within_steps (Some zero) list (Invoked invocation) h = over_steps list
+  refused_steps : (list : List Hiding) (t : ExpansionStep) → StepsTo list t → StepsTo list (refused list t)
+  refused_steps list Done h = h
+  refused_steps list (TokenFault f) h = h
+  refused_steps list (Emits t rest) h = h
+  refused_steps list (ReplacementFault f) h = over_steps list
+  refused_steps list (Replaced next) h = over_steps list
+  refused_steps list (Invoked invocation) h = over_steps list
 
-  pub turn_within_steps : (remaining : Option ℕ) (list : List Hiding) → StepsTo list (step_in_budget macros env remaining list)
-  turn_within_steps remaining list = within_steps remaining list (expansion_step macros env list) (turn_steps list)
+  within_steps : (meter : Meter) (list : List Hiding) (t : ExpansionStep) → StepsTo list t → StepsTo list (in_budget meter list t)
+  within_steps meter list t h = elim (is_exhausted meter) as (λ b. StepsTo list (if b then refused list t else t)) [ true ↦ refused_steps list t h | false ↦ h ]
+
+  pub turn_within_steps : (meter : Meter) (list : List Hiding) → StepsTo list (step_in_budget macros env meter list)
+  turn_within_steps meter list = within_steps meter list (expansion_step macros env list) (turn_steps list)
 
   -- the relation between a list and the step that finishes its invocation
   abbrev pub FinishesTo : List Hiding → ExpansionStep → Type 0
@@ -241,7 +248,11 @@ module _ (macros : Macros) (env : Env) where
   FinishesTo list (ReplacementFault fault) = Unit {0}
   FinishesTo list _ = ⊥
 
-  finishes : (list : List Hiding) (invocation : Invocation) → Found list invocation → (r : Result Replacement Fault) → ((m : Replacement) → r ≡ Ok m → AllByRecursion (HasNamesToHide invocation.names_to_hide) m.tokens) → FinishesTo list (replaced_by r invocation.following)
+  finishes : (list : List Hiding) (invocation : Invocation)
+      → Found list invocation
+      → (r : Result Replacement Fault)
+      → ((m : Replacement) → r ≡ Ok m → AllByRecursion (HasNamesToHide invocation.names_to_hide) m.tokens)
+      → FinishesTo list (replaced_by r invocation.following)
   finishes list invocation found (Ok m) names_to_hide =
       let lists : hides list ≡ invocation.name_token.hide ∷ (hides found.inside ++ found.close.hide ∷ hides invocation.following) = ap hides found.is ∙ ap (λ hs. invocation.name_token.hide ∷ hs) (hides-append found.inside (found.close ∷ invocation.following)) in
       subst (λ hs. HideStep hs (hides (followed_by m invocation.following))) (sym lists)

@@ -4,6 +4,7 @@ use Rattle.std.specs.FinSet as set
 use Rattle.ppmacro.specs.Names.{Name, HideSet, Macros}
 use Rattle.ppmacro.specs.Hiding.{Hiding}
 use Rattle.ppexpand.specs.declared.env.Env.{Env}
+use Rattle.ppexpand.specs.declared.meter.Meter.{Meter}
 use Rattle.ppexpand.specs.ExpansionStep.{ExpansionStep, Emits, Replaced, Invoked}
 use Rattle.ppexpand.specs.Termination.{hides, IsSubset, HidesNames, Step, emits}
 use Rattle.ppexpand.specs.Laws.{Leads, by_emitting, by_replacing, by_invoking}
@@ -12,17 +13,17 @@ use Rattle.ppexpand.proofs.HideSetSteps.{StepsTo, FinishesTo, turn_within_steps,
 use Rattle.ppexpand.proofs.Termination.{extended}
 
 module _ (macros : Macros) (env : Env) (level : ℕ) where
-  by_turn : (remaining : Option ℕ) (list : List Hiding) (t : ExpansionStep) → step_in_budget macros env remaining list ≡ t → StepsTo macros env list t
-  by_turn remaining list t e = subst (StepsTo macros env list) e (turn_within_steps macros env remaining list)
+  by_turn : (meter : Meter) (list : List Hiding) (t : ExpansionStep) → step_in_budget macros env meter list ≡ t → StepsTo macros env list t
+  by_turn meter list t e = subst (StepsTo macros env list) e (turn_within_steps macros env meter list)
 
   passing : (list next : List Hiding) (t : Hiding) → list ≡ t ∷ next → Step macros (hides list) (hides next)
   passing list next t e = subst (λ xs. Step macros (hides xs) (hides next)) (sym e) emits
 
-  pub leads_step : {remaining remaining_after : Option ℕ} {list next : List Hiding} → Leads macros env level remaining list remaining_after next → Step macros (hides list) (hides next)
-  leads_step {remaining = remaining} {list = list} {next = next} (by_emitting {t = t} e) = passing list next t (by_turn remaining list (Emits t next) e)
-  leads_step {remaining = remaining} {list = list} {next = next} (by_replacing e) = by_turn remaining list (Replaced next) e
-  leads_step {remaining = remaining} {list = list} {next = next} (by_invoking {invocation = invocation} {expanded = expanded} e a f) =
-      subst (FinishesTo macros env list) f (finished_steps macros env list invocation expanded (by_turn remaining list (Invoked invocation) e))
+  pub leads_step : {meter meter_after : Meter} {list next : List Hiding} → Leads macros env level meter list meter_after next → Step macros (hides list) (hides next)
+  leads_step {meter = meter} {list = list} {next = next} (by_emitting {t = t} e) = passing list next t (by_turn meter list (Emits t next) e)
+  leads_step {meter = meter} {list = list} {next = next} (by_replacing e) = by_turn meter list (Replaced next) e
+  leads_step {meter = meter} {list = list} {next = next} (by_invoking {invocation = invocation} {expanded = expanded} e a f) =
+      subst (FinishesTo macros env list) f (finished_steps macros env list invocation expanded (by_turn meter list (Invoked invocation) e))
 
 pub one_more_name : (hidden one two whole : HideSet) (name : Name) → IsSubset hidden one → IsSubset hidden two → HidesNames one two name whole → IsSubset (set.insert hidden name) whole
 one_more_name hidden one two whole name first second g = extended hidden name whole (λ q h. g.common q (first q h) (second q h)) g.own

@@ -30,8 +30,6 @@ pub mod ResumedSearch
 pub mod GrowingHideSets
 -- The expansion step of a list by its next token.
 pub mod StepLemmas
--- Steps that stop: how a fault or a failed allocation is returned.
-pub mod StopLemmas
 -- Expansion without a budget agrees with the standard's rules.
 pub mod StandardAgreement
 -- Lemmas for the loop that expands the arguments of an invocation in order.

@@ -16,12 +16,6 @@ resumed done prefix (Closed (a ∷ as') close following) = Closed (done ++ (pref
 resumed done prefix (UnmatchedQuote q) = UnmatchedQuote q
 resumed done prefix Unclosed = Unclosed
 
-pub resumed-start : (g : Gathered) → resumed [] [] g ≡ g
-resumed-start (Closed [] close following) = refl
-resumed-start (Closed (a ∷ as') close following) = refl
-resumed-start (UnmatchedQuote q) = refl
-resumed-start Unclosed = refl
-
 pub resumed-token : (done : List (List Hiding)) (prefix : List Hiding) (t : Hiding) (g : Gathered) → resumed (done) (prefix ++ t ∷ []) g ≡ resumed done prefix (with_token t g)
 resumed-token done [] t (Closed [] close following) = refl
 resumed-token done (x ∷ xs) t (Closed [] close following) = refl

@@ -17,11 +17,11 @@ use Rattle.ppmacro.specs.declared.hidden_token.Hidden.{Hidden}
 use Rattle.ppexpand.specs.declared.env.Env.{Env}
 use Rattle.ppexpand.specs.ExpansionStep.{Emits, macro_of, expansion_step}
 use Rattle.ppexpand.specs.Budget.{in_budget}
-use Rattle.ppexpand.specs.Expansion.{Outcome, step_in_budget, Expands, ExpandsTo, IsExpansion, emits, done, stops_with}
-use Rattle.ppexpand.specs.declared.expansion.Expanded.{Expanded}
+use Rattle.ppexpand.specs.Expansion.{Outcome, step_in_budget, Expands, ExpandsTo, Expansion, IsExpansion, emits, done, stops_with}
+use Rattle.ppexpand.specs.declared.meter.Meter.{Meter}
 use Rattle.ppexpand.specs.code.Lists.{with_set, never_expands, NeverExpand}
 use Rattle.ppexpand.specs.code.Skipping.{HasSkipped}
-use Rattle.ppexpand.proofs.StepLemmas.{expansion_step-unnamed, emits-in_budget}
+use Rattle.ppexpand.proofs.StepLemmas.{expansion_step-unnamed, done-in_budget, emits-in_budget}
 use Rattle.ppexpand.proofs.OutcomeExistence.{total}
 use Rattle.ppexpand.proofs.OutcomeUniqueness.{same_outcome}
 use Rattle.ppexpand.proofs.LoopInvariants.{Follows, turns_left}
@@ -39,17 +39,17 @@ pub none_by : {A : Type 0} (o : Option A) → is_some o ≡ false → o ≡ None
 none_by None h = refl
 none_by (Some a) h = absurd (true≢false h)
 
-expansion_step-unhidden : (macros : Macros) (env : Env) (remaining : Option ℕ) (t : Hiding) (rest : List Hiding) → never_expands macros t.token ≡ true → step_in_budget macros env remaining (t ∷ rest) ≡ Emits t rest
-expansion_step-unhidden macros env remaining t rest h =
+expansion_step-unhidden : (macros : Macros) (env : Env) (meter : Meter) (t : Hiding) (rest : List Hiding) → never_expands macros t.token ≡ true → step_in_budget macros env meter (t ∷ rest) ≡ Emits t rest
+expansion_step-unhidden macros env meter t rest h =
     let parts = both_false (is_unmatched_quote t.token) (is_some (macro_of macros t.token)) h in
     let none : macro_of macros t.token ≡ None = none_by (macro_of macros t.token) parts.1 in
-    ap (in_budget remaining (t ∷ rest)) (expansion_step-unnamed macros env t rest parts.0 none) ∙ emits-in_budget remaining (t ∷ rest) t rest
+    ap (in_budget meter (t ∷ rest)) (expansion_step-unnamed macros env t rest parts.0 none) ∙ emits-in_budget meter (t ∷ rest) t rest
 
 -- the list has this outcome after at least n steps
-pub record Takes (macros : Macros) (env : Env) (level : ℕ) (remaining : Option ℕ) (n : ℕ) (list : List Hiding) (out : Outcome) : Type 0 where
+pub record Takes (macros : Macros) (env : Env) (level : ℕ) (meter : Meter) (n : ℕ) (list : List Hiding) (out : Outcome) : Type 0 where
   pub steps : ℕ
   pub more : n ≤ steps
-  pub is : Expands macros env level remaining steps list out
+  pub is : Expands macros env level meter steps list out
 
 -- ---- skipped tokens
 
@@ -71,39 +71,39 @@ skipped-on macros list emitted next more last all h k = record {
 pub skipped-one : (macros : Macros) (h : Hidden) (list next emitted : List Hidden) → list ≡ h ∷ next → never_expands macros h.token ≡ true → HasSkipped macros list emitted next (emitted ++ h ∷ [])
 skipped-one macros h list next emitted is unhidden = record { skipped = h ∷ []; laid_out = is; emits = refl; unexpanded = record { each = (unhidden, tt) } }
 
-module _ (macros : Macros) (env : Env) (level : ℕ) (remaining : Option ℕ) (s : HideSetPool) where
-  skips : (hs rest : List Hidden) → NeverExpand macros hs → (n : ℕ) (out : Outcome) → Expands macros env level remaining n (hidings s rest) out
-      → Takes macros env level remaining n (hidings s (hs ++ rest)) (record { tokens = hidings s hs ++ out.tokens; fault = out.fault; remaining = out.remaining })
+module _ (macros : Macros) (env : Env) (level : ℕ) (meter : Meter) (s : HideSetPool) where
+  skips : (hs rest : List Hidden) → NeverExpand macros hs → (n : ℕ) (out : Outcome) → Expands macros env level meter n (hidings s rest) out
+      → Takes macros env level meter n (hidings s (hs ++ rest)) (record { tokens = hidings s hs ++ out.tokens; fault = out.fault; meter = out.meter })
   skips [] rest h n out d = record { steps = n; more = omega arith; is = d }
   skips (t ∷ ts) rest h n out d =
-      let remaining_after = skips ts rest (record { each = h.each.1 }) n out d in
-      let more = remaining_after.more in
-      record { steps = suc remaining_after.steps; more = omega arith; is = emits (expansion_step-unhidden macros env remaining (hiding s t) (hidings s (ts ++ rest)) h.each.0) remaining_after.is }
+      let onward = skips ts rest (record { each = h.each.1 }) n out d in
+      let more = onward.more in
+      record { steps = suc onward.steps; more = omega arith; is = emits (expansion_step-unhidden macros env meter (hiding s t) (hidings s (ts ++ rest)) h.each.0) onward.is }
 
-  pub skipped_after : (list emitted next more : List Hidden) (k : HasSkipped macros list emitted next more) → (n : ℕ) (out : Outcome) → Expands macros env level remaining n (hidings s next) out
-      → Takes macros env level remaining n (hidings s list) (record { tokens = hidings s k.skipped ++ out.tokens; fault = out.fault; remaining = out.remaining })
+  pub skipped_after : (list emitted next more : List Hidden) (k : HasSkipped macros list emitted next more) → (n : ℕ) (out : Outcome) → Expands macros env level meter n (hidings s next) out
+      → Takes macros env level meter n (hidings s list) (record { tokens = hidings s k.skipped ++ out.tokens; fault = out.fault; meter = out.meter })
   skipped_after list emitted next more k n out d =
-      subst (λ l. Takes macros env level remaining n (hidings s l) (record { tokens = hidings s k.skipped ++ out.tokens; fault = out.fault; remaining = out.remaining })) (sym k.laid_out) (skips k.skipped next k.unexpanded n out d)
+      subst (λ l. Takes macros env level meter n (hidings s l) (record { tokens = hidings s k.skipped ++ out.tokens; fault = out.fault; meter = out.meter })) (sym k.laid_out) (skips k.skipped next k.unexpanded n out d)
 
   -- Skipping tokens preserves `Follows`.
-  pub follows_skip : (first : Option ℕ) (start : List Hiding) (list emitted next more : List Hidden) → HasSkipped macros list emitted next more
-      → Follows macros env level first start (hidings s emitted) remaining (hidings s list)
-      → Follows macros env level first start (hidings s more) remaining (hidings s next)
+  pub follows_skip : (first : Meter) (start : List Hiding) (list emitted next more : List Hidden) → HasSkipped macros list emitted next more
+      → Follows macros env level first start (hidings s emitted) meter (hidings s list)
+      → Follows macros env level first start (hidings s more) meter (hidings s next)
   follows_skip first start list emitted next more k so_far n out d =
-      let remaining_after = skipped_after list emitted next more k n out d in
-      let whole = so_far remaining_after.steps _ remaining_after.is in
+      let onward = skipped_after list emitted next more k n out d in
+      let whole = so_far onward.steps _ onward.is in
       let tokens : hidings s emitted ++ (hidings s k.skipped ++ out.tokens) ≡ hidings s more ++ out.tokens =
       sym (append_assoc (hidings s emitted) (hidings s k.skipped) out.tokens) ∙ ap (λ hs. hs ++ out.tokens) (sym (ap (hidings s) k.emits ∙ map-append (hiding s) emitted k.skipped)) in
-      (whole.0, subst (λ ts. Expands macros env level first whole.0 start (record { tokens = ts; fault = out.fault; remaining = out.remaining })) tokens whole.1)
+      (whole.0, subst (λ ts. Expands macros env level first whole.0 start (record { tokens = ts; fault = out.fault; meter = out.meter })) tokens whole.1)
 
   -- Skipping tokens does not increase the number of remaining steps.
-  pub skip_falls : (list emitted next more : List Hidden) → HasSkipped macros list emitted next more → turns_left macros env level remaining (hidings s next) ≤ turns_left macros env level remaining (hidings s list)
+  pub skip_falls : (list emitted next more : List Hidden) → HasSkipped macros list emitted next more → turns_left macros env level meter (hidings s next) ≤ turns_left macros env level meter (hidings s list)
   skip_falls list emitted next more k =
-      let here = total macros env level remaining (hidings s list) in
-      let there = total macros env level remaining (hidings s next) in
-      let remaining_after = skipped_after list emitted next more k there.0 there.1 there.2 in
-      let same = (same_outcome macros env remaining_after.is here.0 here.1 here.2).0 in
-      let more = remaining_after.more in
+      let here = total macros env level meter (hidings s list) in
+      let there = total macros env level meter (hidings s next) in
+      let onward = skipped_after list emitted next more k there.0 there.1 there.2 in
+      let same = (same_outcome macros env onward.is here.0 here.1 here.2).0 in
+      let more = onward.more in
       rw (← same) (omega arith)
 
 pub next-known : {macros : Macros} (s : HideSetPool) (list emitted next more : List Hidden) → HasSkipped macros list emitted next more → AllKnown s list → AllKnown s next
@@ -126,53 +126,48 @@ tokens-with_set n [] = refl
 tokens-with_set n (t ∷ ts) = ap (λ us. t ∷ us) (tokens-with_set n ts)
 
 -- A prefix of tokens that never expand is emitted before the expansion of the rest.
-pub expands-prefix : (macros : Macros) (env : Env) (level : ℕ) (remaining : Option ℕ) (prefix : List Token) (rest : List Hiding) (out : Outcome)
+pub expands-prefix : (macros : Macros) (env : Env) (level : ℕ) (meter : Meter) (prefix : List Token) (rest : List Hiding) (out : Outcome)
     → AllByRecursion (λ t. never_expands macros t ≡ true) prefix
-    → ExpandsTo macros env level remaining rest out
-    → ExpandsTo macros env level remaining (map unhidden prefix ++ rest) (record { tokens = map unhidden prefix ++ out.tokens; fault = out.fault; remaining = out.remaining })
-expands-prefix macros env level remaining [] rest out h d = d
-expands-prefix macros env level remaining (t ∷ ts) rest out h d =
-    let remaining_after = expands-prefix macros env level remaining ts rest out h.1 d in
-    (suc remaining_after.0, emits (expansion_step-unhidden macros env remaining (unhidden t) (map unhidden ts ++ rest) h.0) remaining_after.1)
+    → ExpandsTo macros env level meter rest out
+    → ExpandsTo macros env level meter (map unhidden prefix ++ rest) (record { tokens = map unhidden prefix ++ out.tokens; fault = out.fault; meter = out.meter })
+expands-prefix macros env level meter [] rest out h d = d
+expands-prefix macros env level meter (t ∷ ts) rest out h d =
+    let onward = expands-prefix macros env level meter ts rest out h.1 d in
+    (suc onward.0, emits (expansion_step-unhidden macros env meter (unhidden t) (map unhidden ts ++ rest) h.0) onward.1)
 
 -- The empty list expands to no tokens.
-pub expands-nothing : (macros : Macros) (env : Env) (level : ℕ) (remaining : Option ℕ) → ExpandsTo macros env level remaining [] (stops_with remaining None)
+pub expands-nothing : (macros : Macros) (env : Env) (level : ℕ) (meter : Meter) → ExpandsTo macros env level meter [] (stops_with meter None)
 unfolding expansion_step
-expands-nothing macros env level None = (0, done refl)
-expands-nothing macros env level (Some zero) = (0, done refl)
-expands-nothing macros env level (Some (suc n)) = (0, done refl)
+expands-nothing macros env level meter = (0, done (done-in_budget meter []))
 
 pub tokens-unhidden : (ts : List Token) → map (λ t. t.token) (map unhidden ts) ≡ ts
 tokens-unhidden [] = refl
 tokens-unhidden (t ∷ ts) = ap (λ us. t ∷ us) (tokens-unhidden ts)
 
 -- the expansion of a list with a prefix of tokens that never expand, by the outcome of the rest
-pub expansion-following : (macros : Macros) (env : Env) (remaining : Option ℕ) (tokens prefix rest : List Token) (e : Expanded) (out : Outcome)
+pub expansion-following : (macros : Macros) (env : Env) (meter : Meter) (tokens prefix rest : List Token) (e : Expansion) (out : Outcome)
     → tokens ≡ prefix ++ rest
     → AllByRecursion (λ t. never_expands macros t ≡ true) prefix
-    → ExpandsTo macros env 0 remaining (map unhidden rest) out
+    → ExpandsTo macros env 0 meter (map unhidden rest) out
     → e.tokens ≡ prefix ++ map (λ t. t.token) out.tokens
     → e.fault ≡ out.fault
-    → e.remaining ≡ out.remaining
-    → IsExpansion macros env remaining tokens e
-expansion-following macros env remaining tokens prefix rest e out laid_out h d is ends leaves =
-    let whole : Outcome = record { tokens = map unhidden prefix ++ out.tokens; fault = out.fault; remaining = out.remaining } in
+    → e.meter ≡ out.meter
+    → IsExpansion macros env meter tokens e
+expansion-following macros env meter tokens prefix rest e out laid_out h d is ends leaves =
+    let whole : Outcome = record { tokens = map unhidden prefix ++ out.tokens; fault = out.fault; meter = out.meter } in
     record {
       outcome = whole;
-      expands = subst (λ ts. ExpandsTo macros env 0 remaining ts whole) (sym (ap (map unhidden) laid_out ∙ map-append unhidden prefix rest)) (expands-prefix macros env 0 remaining prefix (map unhidden rest) out h d);
+      expands = subst (λ ts. ExpandsTo macros env 0 meter ts whole) (sym (ap (map unhidden) laid_out ∙ map-append unhidden prefix rest)) (expands-prefix macros env 0 meter prefix (map unhidden rest) out h d);
       emitted = is ∙ (λ i. sym (tokens-unhidden prefix) i ++ map (λ t. t.token) out.tokens) ∙ sym (map-append (λ t. t.token) (map unhidden prefix) out.tokens);
       fault_is = ends;
-      remaining_is = leaves;
+      meter_is = leaves;
     }
 
 -- Tokens that are all emitted unchanged expand to themselves.
-pub unhidden-expands : (macros : Macros) (env : Env) (level : ℕ) (remaining : Option ℕ) (s : HideSetPool) (hs : List Hidden)
+pub unhidden-expands : (macros : Macros) (env : Env) (level : ℕ) (meter : Meter) (s : HideSetPool) (hs : List Hidden)
     → NeverExpand macros hs
-    → ExpandsTo macros env level remaining (hidings s hs) (record { tokens = hidings s hs; fault = None; remaining = remaining })
-unhidden-expands macros env level remaining s [] h = expands-nothing macros env level remaining
-unhidden-expands macros env level remaining s (t ∷ ts) h =
-    let remaining_after = unhidden-expands macros env level remaining s ts (record { each = h.each.1 }) in
-    (suc remaining_after.0, emits (expansion_step-unhidden macros env remaining (hiding s t) (hidings s ts) h.each.0) remaining_after.1)
-
-pub unhidden-more : (macros : Macros) (hs : List Hidden) (h : Hidden) → NeverExpand macros hs → never_expands macros h.token ≡ true → NeverExpand macros (hs ++ h ∷ [])
-unhidden-more macros hs h p k = unhidden-append macros hs (h ∷ []) p (record { each = (k, tt) })
+    → ExpandsTo macros env level meter (hidings s hs) (record { tokens = hidings s hs; fault = None; meter = meter })
+unhidden-expands macros env level meter s [] h = expands-nothing macros env level meter
+unhidden-expands macros env level meter s (t ∷ ts) h =
+    let onward = unhidden-expands macros env level meter s ts (record { each = h.each.1 }) in
+    (suc onward.0, emits (expansion_step-unhidden macros env meter (hiding s t) (hidings s ts) h.each.0) onward.1)

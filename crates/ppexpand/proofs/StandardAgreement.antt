@@ -13,16 +13,17 @@ use Rattle.ppmacro.specs.declared.macros.Variadic.{Variadic}
 use Rattle.ppmacro.specs.declared.macros.MacroKind.{MacroKind}
 use Rattle.ppmacro.specs.declared.macros.MacroKind.TheVariants.{Predefined, ObjectLike, FunctionLike}
 use Rattle.ppexpand.specs.declared.env.Env.{Env}
-use Rattle.ppexpand.specs.declared.expansion.Expanded.{Expanded}
+use Rattle.ppexpand.specs.declared.meter.Meter.{Meter}
 use Rattle.ppexpand.specs.Arguments.{is_open, Gathered, Closed, UnmatchedQuote, Unclosed, gather, separators, fit_arguments}
-use Rattle.ppexpand.specs.ExpansionStep.{predefined_value, Invocation, ExpansionStep, Done, TokenFault, Emits, ReplacementFault, Replaced, Invoked, followed_by, replaced_by, fault_at_expansion, quote_fault, names_to_hide_for, closed_invocation_step, invocation_step, function_step, macro_step, named_step, macro_of}
+use Rattle.ppexpand.specs.ExpansionStep.{predefined_value, Invocation, ExpansionStep, Done, TokenFault, Emits, ReplacementFault, Replaced, Invoked, followed_by, replaced_by, fault_at_expansion}
+use Rattle.ppexpand.specs.ExpansionStep.{quote_fault, names_to_hide_for, closed_invocation_step, invocation_step, function_step, macro_step, named_step, macro_of}
 use Rattle.ppexpand.specs.ExpansionStep.{expansion_step, arguments_to_expand, finish_invocation, ExpandedArguments}
-use Rattle.ppexpand.specs.Budget.{spend_one}
-use Rattle.ppexpand.specs.Expansion.{Outcome, step_in_budget, Expands, ExpandsTo, ExpandsArguments, IsExpansion}
+use Rattle.ppexpand.specs.Budget.{new_meter, without_budget, one_less}
+use Rattle.ppexpand.specs.Expansion.{Outcome, step_in_budget, Expands, ExpandsTo, ExpandsArguments, Expansion, IsExpansion}
 use Rattle.ppexpand.specs.Expansion as in_budget
-use Rattle.ppexpand.specs.Standard.{NamesMacro, Opens, Invokes, opens_next, object_result, invocation_result, StandardExpands, StandardExpandsArguments, IsStandardExpansion}
+use Rattle.ppexpand.specs.Standard.{NamesMacro, StartsInvocation, Invokes, opens_next, object_result, invocation_result, StandardExpands, StandardExpandsArguments, IsStandardExpansion}
 use Rattle.ppexpand.proofs.StepLemmas.{expansion_step-quote, expansion_step-hidden, expansion_step-named, expansion_step-unnamed}
-use Rattle.ppexpand.proofs.BudgetLemmas.{remaining_none, arguments_none}
+use Rattle.ppexpand.proofs.BudgetLemmas.{unlimited-in_budget, remaining_none, arguments_none}
 
 expansion_step-nothing : (macros : Macros) (env : Env) → expansion_step macros env [] ≡ Done
 unfolding expansion_step
@@ -36,10 +37,13 @@ module _ (macros : Macros) (env : Env) where
   -- the expansion step of a list, by the standard's rules
   data Means : List Hiding → ExpansionStep → Type 0 where
     nothing_left : Means [] Done
-    unmatched_quote : {t : Hiding} {rest : List Hiding} → is_unmatched_quote t.token ≡ true → Means (t ∷ rest) (TokenFault (quote_fault t))
+    unmatched_quote : {t : Hiding} {rest : List Hiding} → is_unmatched_quote t.token ≡ true → Means (t ∷ rest) (TokenFault (quote_fault t.token))
     no_macro : {t : Hiding} {rest : List Hiding} → is_unmatched_quote t.token ≡ false → macro_of macros t.token ≡ None → Means (t ∷ rest) (Emits t rest)
     hidden : {t : Hiding} {rest : List Hiding} → is_unmatched_quote t.token ≡ false → set.contains t.hide t.token.text ≡ true → Means (t ∷ rest) (Emits t rest)
-    predefined : {t : Hiding} {rest : List Hiding} {d : Macro} {b : PredefinedMacro} → NamesMacro macros t d → d.kind ≡ Predefined b → Means (t ∷ rest) (Replaced (predefined_value b env t (set.insert t.hide t.token.text) ∷ rest))
+    predefined : {t : Hiding} {rest : List Hiding} {d : Macro} {b : PredefinedMacro}
+        → NamesMacro macros t d
+        → d.kind ≡ Predefined b
+        → Means (t ∷ rest) (Replaced (predefined_value b env t (set.insert t.hide t.token.text) ∷ rest))
     object_like : {t : Hiding} {rest : List Hiding} {d : Macro} {m : Replacement} → NamesMacro macros t d → d.kind ≡ ObjectLike → object_result t d ≡ Ok m → Means (t ∷ rest) (Replaced (followed_by m rest))
     object_result_fault : {t : Hiding} {rest : List Hiding} {d : Macro} {f : Fault} → NamesMacro macros t d → d.kind ≡ ObjectLike → object_result t d ≡ Err f → Means (t ∷ rest) (ReplacementFault f)
     not_invoked : {t : Hiding} {rest : List Hiding} {d : Macro} {names : List Name} {variadic : Variadic}
@@ -48,15 +52,15 @@ module _ (macros : Macros) (env : Env) where
         → opens_next rest ≡ false
         → Means (t ∷ rest) (Emits t rest)
     quote_inside : {t paren quote : Hiding} {inside : List Hiding} {d : Macro} {names : List Name} {variadic : Variadic}
-        → Opens macros t paren d names variadic
+        → StartsInvocation macros t paren d names variadic
         → gather 0 (separators names variadic) inside ≡ UnmatchedQuote quote
-        → Means (t ∷ paren ∷ inside) (ReplacementFault (quote_fault quote))
+        → Means (t ∷ paren ∷ inside) (ReplacementFault (quote_fault quote.token))
     unclosed : {t paren : Hiding} {inside : List Hiding} {d : Macro} {names : List Name} {variadic : Variadic}
-        → Opens macros t paren d names variadic
+        → StartsInvocation macros t paren d names variadic
         → gather 0 (separators names variadic) inside ≡ Unclosed
         → Means (t ∷ paren ∷ inside) (ReplacementFault (fault_at_expansion 17 t))
     wrong_number : {t paren close : Hiding} {inside following : List Hiding} {d : Macro} {names : List Name} {variadic : Variadic} {arguments : List (List Hiding)}
-        → Opens macros t paren d names variadic
+        → StartsInvocation macros t paren d names variadic
         → gather 0 (separators names variadic) inside ≡ Closed arguments close following
         → fit_arguments names variadic arguments ≡ None
         → Means (t ∷ paren ∷ inside) (ReplacementFault (fault_at_expansion 18 t))
@@ -65,7 +69,7 @@ module _ (macros : Macros) (env : Env) where
   -- ---- the step of each list follows one of the rules
 
   by_number : (t paren close : Hiding) (inside following : List Hiding) (d : Macro) (names : List Name) (variadic : Variadic) (arguments : List (List Hiding))
-      → Opens macros t paren d names variadic
+      → StartsInvocation macros t paren d names variadic
       → gather 0 (separators names variadic) inside ≡ Closed arguments close following
       → (o : Option (List (List Hiding)))
       → fit_arguments names variadic arguments ≡ o
@@ -75,7 +79,7 @@ module _ (macros : Macros) (env : Env) where
       Means.begins (record { paren = paren; inside = inside; names = names; variadic = variadic; arguments = arguments; close = close; laid_out = refl; opens = i; closed = g; fits = e; to_hide = refl })
 
   by_gathered : (t paren : Hiding) (inside : List Hiding) (d : Macro) (names : List Name) (variadic : Variadic)
-      → Opens macros t paren d names variadic
+      → StartsInvocation macros t paren d names variadic
       → (g : Gathered)
       → gather 0 (separators names variadic) inside ≡ g
       → Means (t ∷ paren ∷ inside) (invocation_step t d names variadic g)
@@ -83,7 +87,10 @@ module _ (macros : Macros) (env : Env) where
   by_gathered t paren inside d names variadic i (UnmatchedQuote q) e = Means.quote_inside i e
   by_gathered t paren inside d names variadic i Unclosed e = Means.unclosed i e
 
-  by_next : (t : Hiding) (rest : List Hiding) (d : Macro) (names : List Name) (variadic : Variadic) → NamesMacro macros t d → d.kind ≡ FunctionLike names variadic → Means (t ∷ rest) (function_step t d names variadic rest)
+  by_next : (t : Hiding) (rest : List Hiding) (d : Macro) (names : List Name) (variadic : Variadic)
+      → NamesMacro macros t d
+      → d.kind ≡ FunctionLike names variadic
+      → Means (t ∷ rest) (function_step t d names variadic rest)
   by_next t [] d names variadic c e = Means.not_invoked c e refl
   by_next t (paren ∷ inside) d names variadic c e = elim (is_open paren.token) as (λ b. is_open paren.token ≡ b → Means (t ∷ paren ∷ inside) (function_step t d names variadic (paren ∷ inside))) [
     | true ↦ λ o. rw o (by_gathered t paren inside d names variadic (record { names_macro = c; kind = e; paren_opens = o }) (gather 0 (separators names variadic) inside) refl)
@@ -99,7 +106,12 @@ module _ (macros : Macros) (env : Env) where
   by_shape t rest d c ObjectLike e = by_result t rest d c e (object_result t d) refl
   by_shape t rest d c (FunctionLike names variadic) e = by_next t rest d names variadic c e
 
-  by_name : (t : Hiding) (rest : List Hiding) → is_unmatched_quote t.token ≡ false → set.contains t.hide t.token.text ≡ false → (o : Option Macro) → macro_of macros t.token ≡ o → Means (t ∷ rest) (named_step env t rest o)
+  by_name : (t : Hiding) (rest : List Hiding)
+      → is_unmatched_quote t.token ≡ false
+      → set.contains t.hide t.token.text ≡ false
+      → (o : Option Macro)
+      → macro_of macros t.token ≡ o
+      → Means (t ∷ rest) (named_step env t rest o)
   by_name t rest q h None e = Means.no_macro q e
   by_name t rest q h (Some d) e = by_shape t rest d (record { no_quote = q; not_hidden = h; named = e }) d.kind refl
 
@@ -125,7 +137,7 @@ module _ (macros : Macros) (env : Env) where
   not_opened t d names variadic (p ∷ rest) e = rw e refl
 
   invokes_turn : {t paren : Hiding} {d : Macro} {names : List Name} {variadic : Variadic} (inside : List Hiding)
-      → Opens macros t paren d names variadic
+      → StartsInvocation macros t paren d names variadic
       → (g : Gathered)
       → gather 0 (separators names variadic) inside ≡ g
       → expansion_step macros env (t ∷ paren ∷ inside) ≡ invocation_step t d names variadic g
@@ -137,7 +149,9 @@ module _ (macros : Macros) (env : Env) where
       → o ≡ Some invocation.arguments
       → invocation.names_to_hide ≡ names_to_hide_for invocation.name_token.hide close.hide invocation.name_token.token.text
       → closed_invocation_step invocation.name_token invocation.macro o close invocation.following ≡ Invoked invocation
-  closed_invocation_step-is invocation close o e g = ap (λ o. closed_invocation_step invocation.name_token invocation.macro o close invocation.following) e ∙ (λ i. Invoked (record { name_token = invocation.name_token; macro = invocation.macro; arguments = invocation.arguments; names_to_hide = (sym g) i; following = invocation.following }))
+  closed_invocation_step-is invocation close o e g =
+      ap (λ o. closed_invocation_step invocation.name_token invocation.macro o close invocation.following) e
+      ∙ (λ i. Invoked (record invocation { names_to_hide = (sym g) i }))
 
   meant : {list : List Hiding} {x : ExpansionStep} → Means list x → expansion_step macros env list ≡ x
   meant Means.nothing_left = expansion_step-nothing macros env
@@ -206,25 +220,26 @@ module _ (macros : Macros) (env : Env) where
 
   -- ---- an expansion without a budget follows the standard's rules
 
-  by_rule : {remaining : Option ℕ} (list : List Hiding) {x : ExpansionStep} → remaining ≡ None → step_in_budget macros env remaining list ≡ x → Means list x
-  by_rule list {x = x} is e = subst (Means list) (subst (λ l. step_in_budget macros env l list ≡ x) is e) (means list)
+  by_rule : (meter : Meter) (list : List Hiding) {x : ExpansionStep} → meter.remaining ≡ None → step_in_budget macros env meter list ≡ x → Means list x
+  by_rule meter list is e = subst (Means list) (sym (unlimited-in_budget meter list (expansion_step macros env list) is) ∙ e) (means list)
 
   mutual
-    standard : {level steps : ℕ} {remaining : Option ℕ} {list : List Hiding} {out : Outcome} → remaining ≡ None → Expands macros env level remaining steps list out → StandardExpands macros env level list out.tokens out.fault
-    standard {list = list} is (in_budget.done e) = at_done (by_rule list is e)
-    standard {list = list} is (in_budget.token_fault e) = at_token_fault (by_rule list is e)
-    standard {list = list} is (in_budget.emits e more) = at_passes (by_rule list is e) (standard is more)
-    standard {list = list} is (in_budget.replacement_fault e) = at_replacement_fault (by_rule list is e)
-    standard {list = list} is (in_budget.replaced e more) = at_replaced (by_rule list is e) (standard (ap spend_one is) more)
-    standard {list = list} is (in_budget.argument_fault e a) = StandardExpands.argument_fault (at_invoked (by_rule list is e)) (standard_arguments (ap spend_one is) a)
-    standard {list = list} is (in_budget.invocation_fault {invocation = invocation} {expanded = expanded} {f = f} e a h) =
-        StandardExpands.invocation_result_fault (at_invoked (by_rule list is e)) (standard_arguments (ap spend_one is) a) (result_failed invocation expanded f (invocation_result invocation expanded) (sym (finish_invocation-is invocation expanded) ∙ h))
-    standard {list = list} is (in_budget.invocation_replaced e a h more) =
-        at_next (at_invoked (by_rule list is e)) (standard_arguments (ap spend_one is) a) h (standard (arguments_none macros env (ap spend_one is) a) more)
+    standard : {level steps : ℕ} {meter : Meter} {list : List Hiding} {out : Outcome} → meter.remaining ≡ None → Expands macros env level meter steps list out → StandardExpands macros env level list out.tokens out.fault
+    standard {meter = meter} {list = list} is (in_budget.done e) = at_done (by_rule meter list is e)
+    standard {meter = meter} {list = list} is (in_budget.token_fault e) = at_token_fault (by_rule meter list is e)
+    standard {meter = meter} {list = list} is (in_budget.emits e more) = at_passes (by_rule meter list is e) (standard is more)
+    standard {meter = meter} {list = list} is (in_budget.replacement_fault e) = at_replacement_fault (by_rule meter list is e)
+    standard {meter = meter} {list = list} is (in_budget.replaced e more) = at_replaced (by_rule meter list is e) (standard (ap one_less is) more)
+    standard {meter = meter} {list = list} is (in_budget.argument_fault e a) = StandardExpands.argument_fault (at_invoked (by_rule meter list is e)) (standard_arguments (ap one_less is) a)
+    standard {meter = meter} {list = list} is (in_budget.invocation_fault {invocation = invocation} {expanded = expanded} {f = f} e a h) =
+        let failed = result_failed invocation expanded f (invocation_result invocation expanded) (sym (finish_invocation-is invocation expanded) ∙ h) in
+        StandardExpands.invocation_result_fault (at_invoked (by_rule meter list is e)) (standard_arguments (ap one_less is) a) failed
+    standard {meter = meter} {list = list} is (in_budget.invocation_replaced e a h more) =
+        at_next (at_invoked (by_rule meter list is e)) (standard_arguments (ap one_less is) a) h (standard (arguments_none macros env (ap one_less is) a) more)
 
-    standard_arguments : {level : ℕ} {invocation : Invocation} {remaining remaining_after : Option ℕ} {as' : List (Option (List Hiding))} {r : ExpandedArguments}
-        → remaining ≡ None
-        → ExpandsArguments macros env level invocation remaining as' remaining_after r
+    standard_arguments : {level : ℕ} {invocation : Invocation} {meter meter_after : Meter} {as' : List (Option (List Hiding))} {r : ExpandedArguments}
+        → meter.remaining ≡ None
+        → ExpandsArguments macros env level invocation meter as' meter_after r
         → StandardExpandsArguments macros env level invocation as' r
     standard_arguments is in_budget.none = StandardExpandsArguments.none
     standard_arguments is (in_budget.unused more) = StandardExpandsArguments.unused (standard_arguments is more)
@@ -234,62 +249,85 @@ module _ (macros : Macros) (env : Env) where
 
   -- ---- an expansion by the standard's rules is an expansion without a budget
 
-  abbrev Unbudgeted : ℕ → List Hiding → List Hiding → Option Fault → Type 0
-  Unbudgeted level list tokens fault = ExpandsTo macros env level None list (record { tokens = tokens; fault = fault; remaining = None })
+  module _ (meter : Meter) where
+    abbrev Unbudgeted : ℕ → List Hiding → List Hiding → Option Fault → Type 0
+    Unbudgeted level list tokens fault = ExpandsTo macros env level (without_budget meter) list (record { tokens = tokens; fault = fault; meter = without_budget meter })
 
-  passing : {level : ℕ} {t : Hiding} {list rest tokens : List Hiding} {fault : Option Fault} → Means list (Emits t rest) → Unbudgeted level rest tokens fault → Unbudgeted level list (t ∷ tokens) fault
-  passing m more = (suc more.0, in_budget.emits (meant m) more.1)
+    passing : {level : ℕ} {t : Hiding} {list rest tokens : List Hiding} {fault : Option Fault} → Means list (Emits t rest) → Unbudgeted level rest tokens fault → Unbudgeted level list (t ∷ tokens) fault
+    passing m more = (suc more.0, in_budget.emits (meant m) more.1)
 
-  replacing : {level : ℕ} {list next tokens : List Hiding} {fault : Option Fault} → Means list (Replaced next) → Unbudgeted level next tokens fault → Unbudgeted level list tokens fault
-  replacing m more = (suc more.0, in_budget.replaced (meant m) more.1)
+    replacing : {level : ℕ} {list next tokens : List Hiding} {fault : Option Fault} → Means list (Replaced next) → Unbudgeted level next tokens fault → Unbudgeted level list tokens fault
+    replacing m more = (suc more.0, in_budget.replaced (meant m) more.1)
 
-  failing : {level : ℕ} {list : List Hiding} {f : Fault} → Means list (ReplacementFault f) → Unbudgeted level list [] (Some f)
-  failing m = (0, in_budget.replacement_fault (meant m))
+    failing : {level : ℕ} {list : List Hiding} {f : Fault} → Means list (ReplacementFault f) → Unbudgeted level list [] (Some f)
+    failing m = (0, in_budget.replacement_fault (meant m))
 
-  mutual
-    unbudgeted : {level : ℕ} {list tokens : List Hiding} {fault : Option Fault} → StandardExpands macros env level list tokens fault → Unbudgeted level list tokens fault
-    unbudgeted StandardExpands.nothing_left = (0, in_budget.done (meant Means.nothing_left))
-    unbudgeted (StandardExpands.unmatched_quote q) = (0, in_budget.token_fault (meant (Means.unmatched_quote q)))
-    unbudgeted (StandardExpands.no_macro q n more) = passing (Means.no_macro q n) (unbudgeted more)
-    unbudgeted (StandardExpands.hidden q h more) = passing (Means.hidden q h) (unbudgeted more)
-    unbudgeted (StandardExpands.predefined c e more) = replacing (Means.predefined c e) (unbudgeted more)
-    unbudgeted (StandardExpands.object_like c e h more) = replacing (Means.object_like c e h) (unbudgeted more)
-    unbudgeted (StandardExpands.object_result_fault c e h) = failing (Means.object_result_fault c e h)
-    unbudgeted (StandardExpands.not_invoked c e n more) = passing (Means.not_invoked c e n) (unbudgeted more)
-    unbudgeted (StandardExpands.quote_inside i g) = failing (Means.quote_inside i g)
-    unbudgeted (StandardExpands.unclosed i g) = failing (Means.unclosed i g)
-    unbudgeted (StandardExpands.wrong_number i g f) = failing (Means.wrong_number i g f)
-    unbudgeted (StandardExpands.argument_fault b a) = (0, in_budget.argument_fault (meant (Means.begins b)) (unbudgeted_arguments a))
-    unbudgeted (StandardExpands.invocation_result_fault {invocation = invocation} {expanded = expanded} b a e) =
-        (0, in_budget.invocation_fault (meant (Means.begins b)) (unbudgeted_arguments a) (finish_invocation-is invocation expanded ∙ ap (λ r. replaced_by r invocation.following) e))
-    unbudgeted (StandardExpands.invocation {invocation = invocation} {expanded = expanded} b a e rest) =
-        let more = unbudgeted rest in
-        (suc more.0, in_budget.invocation_replaced (meant (Means.begins b)) (unbudgeted_arguments a) (finish_invocation-is invocation expanded ∙ ap (λ r. replaced_by r invocation.following) e) more.1)
+    mutual
+      unbudgeted : {level : ℕ} {list tokens : List Hiding} {fault : Option Fault} → StandardExpands macros env level list tokens fault → Unbudgeted level list tokens fault
+      unbudgeted StandardExpands.nothing_left = (0, in_budget.done (meant Means.nothing_left))
+      unbudgeted (StandardExpands.unmatched_quote q) = (0, in_budget.token_fault (meant (Means.unmatched_quote q)))
+      unbudgeted (StandardExpands.no_macro q n more) = passing (Means.no_macro q n) (unbudgeted more)
+      unbudgeted (StandardExpands.hidden q h more) = passing (Means.hidden q h) (unbudgeted more)
+      unbudgeted (StandardExpands.predefined c e more) = replacing (Means.predefined c e) (unbudgeted more)
+      unbudgeted (StandardExpands.object_like c e h more) = replacing (Means.object_like c e h) (unbudgeted more)
+      unbudgeted (StandardExpands.object_result_fault c e h) = failing (Means.object_result_fault c e h)
+      unbudgeted (StandardExpands.not_invoked c e n more) = passing (Means.not_invoked c e n) (unbudgeted more)
+      unbudgeted (StandardExpands.quote_inside i g) = failing (Means.quote_inside i g)
+      unbudgeted (StandardExpands.unclosed i g) = failing (Means.unclosed i g)
+      unbudgeted (StandardExpands.wrong_number i g f) = failing (Means.wrong_number i g f)
+      unbudgeted (StandardExpands.argument_fault b a) = (0, in_budget.argument_fault (meant (Means.begins b)) (unbudgeted_arguments a))
+      unbudgeted (StandardExpands.invocation_result_fault {invocation = invocation} {expanded = expanded} b a e) =
+          (0, in_budget.invocation_fault (meant (Means.begins b)) (unbudgeted_arguments a) (finish_invocation-is invocation expanded ∙ ap (λ r. replaced_by r invocation.following) e))
+      unbudgeted (StandardExpands.invocation {invocation = invocation} {expanded = expanded} b a e rest) =
+          let more = unbudgeted rest in
+          (suc more.0, in_budget.invocation_replaced (meant (Means.begins b)) (unbudgeted_arguments a) (finish_invocation-is invocation expanded ∙ ap (λ r. replaced_by r invocation.following) e) more.1)
 
-    unbudgeted_arguments : {level : ℕ} {invocation : Invocation} {as' : List (Option (List Hiding))} {r : ExpandedArguments} → StandardExpandsArguments macros env level invocation as' r → ExpandsArguments macros env level invocation None as' None r
-    unbudgeted_arguments StandardExpandsArguments.none = in_budget.none
-    unbudgeted_arguments (StandardExpandsArguments.unused more) = in_budget.unused (unbudgeted_arguments more)
-    unbudgeted_arguments (StandardExpandsArguments.too_deep h) = in_budget.too_deep h
-    unbudgeted_arguments (StandardExpandsArguments.pre_expanded h one more) = in_budget.pre_expanded h (unbudgeted one).1 (unbudgeted_arguments more)
-    unbudgeted_arguments (StandardExpandsArguments.pre_expansion_fault h one) = in_budget.pre_expansion_fault h (unbudgeted one).1
+      unbudgeted_arguments : {level : ℕ} {invocation : Invocation} {as' : List (Option (List Hiding))} {r : ExpandedArguments}
+          → StandardExpandsArguments macros env level invocation as' r
+          → ExpandsArguments macros env level invocation (without_budget meter) as' (without_budget meter) r
+      unbudgeted_arguments StandardExpandsArguments.none = in_budget.none
+      unbudgeted_arguments (StandardExpandsArguments.unused more) = in_budget.unused (unbudgeted_arguments more)
+      unbudgeted_arguments (StandardExpandsArguments.too_deep h) = in_budget.too_deep h
+      unbudgeted_arguments (StandardExpandsArguments.pre_expanded h one more) = in_budget.pre_expanded h (unbudgeted one).1 (unbudgeted_arguments more)
+      unbudgeted_arguments (StandardExpandsArguments.pre_expansion_fault h one) = in_budget.pre_expansion_fault h (unbudgeted one).1
 
   -- ---- both directions
 
-  pub list_standard : (level : ℕ) (list : List Hiding) (out : Outcome) → ExpandsTo macros env level None list out ↔ ((out.remaining ≡ None) × StandardExpands macros env level list out.tokens out.fault)
-  list_standard level list out = (
-    λ d. (remaining_none macros env refl d.1, standard refl d.1),
-    λ s. subst (ExpandsTo macros env level None list) (λ i. record { tokens = out.tokens; fault = out.fault; remaining = (sym s.0) i }) (unbudgeted s.1),
+  -- one meter without a budget after another: nothing but the budget is in a meter
+  no_change : (meter after : Meter) → after.remaining ≡ None → after ≡ without_budget meter
+  no_change meter after none = ap new_meter none
+
+  pub list_standard : (level : ℕ) (meter : Meter) (list : List Hiding) (out : Outcome)
+      → ExpandsTo macros env level (without_budget meter) list out
+      ↔ ((out.meter ≡ without_budget meter) × StandardExpands macros env level list out.tokens out.fault)
+  list_standard level meter list out = (
+    λ d. (no_change meter out.meter (remaining_none macros env refl d.1), standard refl d.1),
+    λ s. subst (λ m. ExpandsTo macros env level (without_budget meter) list (record out { meter = m })) (sym s.0) (unbudgeted meter s.1),
   )
 
-  tokens_left : {tokens : List Token} {e : Expanded} → IsExpansion macros env None tokens e → e.remaining ≡ None
-  tokens_left x = x.remaining_is ∙ remaining_none macros env refl x.expands.1
+  tokens_standard : (meter : Meter) {tokens : List Token} {e : Expansion} → IsExpansion macros env (without_budget meter) tokens e → IsStandardExpansion macros env tokens e.tokens e.fault
+  tokens_standard meter x = record {
+    emitted = x.outcome.tokens;
+    expands = subst (λ f. StandardExpands macros env 0 _ x.outcome.tokens f) (sym x.fault_is) (standard refl x.expands.1);
+    is = x.emitted;
+  }
 
-  tokens_standard : {tokens : List Token} {e : Expanded} → IsExpansion macros env None tokens e → IsStandardExpansion macros env tokens e.tokens e.fault
-  tokens_standard x =
-      record { emitted = x.outcome.tokens; expands = subst (λ f. StandardExpands macros env 0 _ x.outcome.tokens f) (sym x.fault_is) (standard refl x.expands.1); is = x.emitted }
+  tokens_unbudgeted : (meter : Meter) {tokens : List Token} {e : Expansion}
+      → e.meter ≡ without_budget meter
+      → IsStandardExpansion macros env tokens e.tokens e.fault
+      → IsExpansion macros env (without_budget meter) tokens e
+  tokens_unbudgeted meter {e = e} none s = record {
+    outcome = record { tokens = s.emitted; fault = e.fault; meter = without_budget meter };
+    expands = unbudgeted meter s.expands;
+    emitted = s.is;
+    fault_is = refl;
+    meter_is = none;
+  }
 
-  tokens_unbudgeted : {tokens : List Token} {e : Expanded} → e.remaining ≡ None → IsStandardExpansion macros env tokens e.tokens e.fault → IsExpansion macros env None tokens e
-  tokens_unbudgeted {e = e} none s = record { outcome = record { tokens = s.emitted; fault = e.fault; remaining = None }; expands = unbudgeted s.expands; emitted = s.is; fault_is = refl; remaining_is = none }
-
-  pub expansion_standard : (tokens : List Token) (e : Expanded) → IsExpansion macros env None tokens e ↔ ((e.remaining ≡ None) × IsStandardExpansion macros env tokens e.tokens e.fault)
-  expansion_standard tokens e = (λ x. (tokens_left x, tokens_standard x), λ s. tokens_unbudgeted s.0 s.1)
+  pub expansion_standard : (meter : Meter) (tokens : List Token) (e : Expansion)
+      → IsExpansion macros env (without_budget meter) tokens e
+      ↔ ((e.meter ≡ without_budget meter) × IsStandardExpansion macros env tokens e.tokens e.fault)
+  expansion_standard meter tokens e = (
+    λ x. (no_change meter e.meter (ap (λ m. m.remaining) x.meter_is ∙ remaining_none macros env refl x.expands.1), tokens_standard meter x),
+    λ s. tokens_unbudgeted meter s.0 s.1,
+  )

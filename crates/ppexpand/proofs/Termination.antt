@@ -59,9 +59,6 @@ extended S k r old new q h =
 not_above : (S h : HideSet) (k : Name) → IsSubset S h → set.contains h k ≡ false → set.contains S k ≡ false
 not_above S h k above out = elim (set.contains S k) as (λ a. set.contains S k ≡ a → a ≡ false) [ true ↦ λ e. sym (above k e) ∙ out | false ↦ λ _. refl ] refl
 
-not_in : (S : HideSet) (k j : Name) → set.contains (set.insert S k) j ≡ false → set.contains S j ≡ false
-not_in S k j = not_above S (set.insert S k) j (in_insert S k)
-
 -- ---- how many names are not in a set
 
 count_outside-more : (S S' : HideSet) → IsSubset S S' → (ns : List Name) → count_outside S' ns ≤ count_outside S ns

@@ -1,28 +1,55 @@
--- A budget of replacements, and the expansion step within one. `None` means no budget.
-use Rattle.std.specs.Prelude.{ℕ, zero, suc, Bool, true, false, List, [], ◌∷◌, Option, Some, None}
+-- The meter of an expansion, and the expansion step within its budget of replacements. `None` means no budget.
+use Rattle.std.specs.Prelude.{ℕ, zero, suc, Bool, true, false, List, [], ◌∷◌, Option, Some, None, if◌then◌else◌}
 use Rattle.pptext.specs.Tokens.{fault}
 use Rattle.ppmacro.specs.Hiding.{Hiding}
+use Rattle.ppexpand.specs.declared.meter.Meter.{Meter}
 use Rattle.ppexpand.specs.ExpansionStep.{ExpansionStep, Done, TokenFault, ReplacementFault, Replaced, Invoked}
 
+-- ---- the meter
+
+-- the meter at the start of a unit with this budget
+abbrev pub new_meter : Option ℕ → Meter
+new_meter budget = record { remaining = budget }
+
+-- a meter with this budget in place of its own
+abbrev pub with_budget : Option ℕ → Meter → Meter
+with_budget budget meter = record meter { remaining = budget }
+
+abbrev pub without_budget : Meter → Meter
+without_budget meter = with_budget None meter
+
 -- there is a budget, and nothing remains of it
-abbrev pub is_exhausted : Option ℕ → Bool
-is_exhausted (Some zero) = true
-is_exhausted remaining = false
+abbrev pub is_used_up : Option ℕ → Bool
+is_used_up (Some zero) = true
+is_used_up budget = false
+
+abbrev pub is_exhausted : Meter → Bool
+is_exhausted meter = is_used_up meter.remaining
+
+-- the budget after one replacement
+abbrev pub one_less : Option ℕ → Option ℕ
+one_less None = None
+one_less (Some zero) = Some zero
+one_less (Some (suc n)) = Some n
+
+-- the meter after one replacement
+abbrev pub spend_one : Meter → Meter
+spend_one meter = record meter { remaining = one_less meter.remaining }
+
+-- ---- the step
 
 -- the step if the budget is exhausted and a name would be replaced: fault 35 at the name's expansion location
 abbrev pub exhausted_step : List Hiding → ExpansionStep
 exhausted_step [] = Done
 exhausted_step (t ∷ rest) = TokenFault (fault 35 t.token.used [])
 
--- the step within the remaining budget: if nothing remains, no macro's name is replaced
-abbrev pub in_budget : Option ℕ → List Hiding → ExpansionStep → ExpansionStep
-in_budget (Some zero) list (ReplacementFault f) = exhausted_step list
-in_budget (Some zero) list (Replaced next) = exhausted_step list
-in_budget (Some zero) list (Invoked invocation) = exhausted_step list
-in_budget remaining list step = step
+-- the step if the budget is exhausted: no macro's name is replaced
+abbrev pub refused : List Hiding → ExpansionStep → ExpansionStep
+refused list (ReplacementFault f) = exhausted_step list
+refused list (Replaced next) = exhausted_step list
+refused list (Invoked invocation) = exhausted_step list
+refused list step = step
 
--- the remaining budget after one replacement
-abbrev pub spend_one : Option ℕ → Option ℕ
-spend_one None = None
-spend_one (Some zero) = Some zero
-spend_one (Some (suc n)) = Some n
+-- the step within the remaining budget
+abbrev pub in_budget : Meter → List Hiding → ExpansionStep → ExpansionStep
+in_budget meter list step = if is_exhausted meter then refused list step else step

@@ -104,8 +104,8 @@ replaced_by (Err f) following = ReplacementFault f
 abbrev pub fault_at_expansion : ℕ → Hiding → Fault
 fault_at_expansion n t = fault n t.token.used t.token.text
 
-abbrev pub quote_fault : Hiding → Fault
-quote_fault t = fault 7 t.token.at t.token.text
+abbrev pub quote_fault : Token → Fault
+quote_fault t = fault 7 t.at t.text
 
 -- the names that an invocation adds to hide sets: the intersection of the hide sets of the macro name and of the `)`,
 -- plus the macro name
@@ -119,7 +119,7 @@ closed_invocation_step t d None close following = ReplacementFault (fault_at_exp
 
 abbrev pub invocation_step : Hiding → Macro → List Name → Variadic → Gathered → ExpansionStep
 invocation_step t d names variadic (Closed as' close following) = closed_invocation_step t d (fit_arguments names variadic as') close following
-invocation_step t d names variadic (UnmatchedQuote q) = ReplacementFault (quote_fault q)
+invocation_step t d names variadic (UnmatchedQuote q) = ReplacementFault (quote_fault q.token)
 invocation_step t d names variadic Unclosed = ReplacementFault (fault_at_expansion 17 t)
 
 -- a function-like macro's name is invoked if `(` is next, and otherwise emitted (6.10.3, paragraph 10)
@@ -147,7 +147,7 @@ macro_of macros t = if is_identifier t then table.get macros t.text else None
 unfoldable pub expansion_step : Macros → Env → List Hiding → ExpansionStep
 expansion_step macros env [] = Done
 expansion_step macros env (t ∷ rest) =
-    if is_unmatched_quote t.token then TokenFault (quote_fault t) else (
+    if is_unmatched_quote t.token then TokenFault (quote_fault t.token) else (
     if set.contains t.hide t.token.text then Emits t rest else named_step env t rest (macro_of macros t.token))
 
 -- ---- the arguments that are expanded (6.10.3.1)

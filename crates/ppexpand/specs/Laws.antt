@@ -9,53 +9,53 @@ use Rattle.ppmacro.specs.Hiding.{Hiding}
 use Rattle.ppmacro.specs.Chains.{is_function_like}
 use Rattle.ppmacro.specs.declared.macros.Macro.{Macro}
 use Rattle.ppexpand.specs.declared.env.Env.{Env}
-use Rattle.ppexpand.specs.declared.expansion.Expanded.{Expanded}
+use Rattle.ppexpand.specs.declared.meter.Meter.{Meter}
 use Rattle.ppexpand.specs.Arguments.{argument_role, separates, fewer, Quote, Open, Close, Comma, Inner}
 use Rattle.ppexpand.specs.ExpansionStep.{Invocation, Emits, Replaced, Invoked, macro_of, arguments_to_expand, finish_invocation}
-use Rattle.ppexpand.specs.Budget.{spend_one}
-use Rattle.ppexpand.specs.Expansion.{Outcome, step_in_budget, ExpandsTo, ExpandsArguments, IsExpansion}
+use Rattle.ppexpand.specs.Budget.{with_budget, without_budget, spend_one}
+use Rattle.ppexpand.specs.Expansion.{Outcome, step_in_budget, ExpandsTo, ExpandsArguments, Expansion, IsExpansion}
 
 -- ---- exactly one expansion, and termination
 
 -- a list has exactly one outcome
-pub record HasOneOutcome (macros : Macros) (env : Env) (level : ℕ) (remaining : Option ℕ) (list : List Hiding) : Type 0 where
+pub record HasOneOutcome (macros : Macros) (env : Env) (level : ℕ) (meter : Meter) (list : List Hiding) : Type 0 where
   pub outcome : Outcome
-  pub is : ExpandsTo macros env level remaining list outcome
-  pub only : (other : Outcome) → ExpandsTo macros env level remaining list other → other ≡ outcome
+  pub is : ExpandsTo macros env level meter list outcome
+  pub only : (other : Outcome) → ExpandsTo macros env level meter list other → other ≡ outcome
 
 -- a list of tokens has exactly one expansion
-pub record HasOneExpansion (macros : Macros) (env : Env) (remaining : Option ℕ) (tokens : List Token) : Type 0 where
-  pub expanded : Expanded
-  pub is : IsExpansion macros env remaining tokens expanded
-  pub only : (other : Expanded) → IsExpansion macros env remaining tokens other → other ≡ expanded
+pub record HasOneExpansion (macros : Macros) (env : Env) (meter : Meter) (tokens : List Token) : Type 0 where
+  pub expansion : Expansion
+  pub is : IsExpansion macros env meter tokens expansion
+  pub only : (other : Expansion) → IsExpansion macros env meter tokens other → other ≡ expansion
 
 -- one expansion step leads from a list to the next
-pub data Leads (macros : Macros) (env : Env) (level : ℕ) : Option ℕ → List Hiding → Option ℕ → List Hiding → Type 0 where
-  by_emitting : {remaining : Option ℕ} {list next : List Hiding} {t : Hiding}
-      → step_in_budget macros env remaining list ≡ Emits t next
-      → Leads macros env level remaining list remaining next
-  by_replacing : {remaining : Option ℕ} {list next : List Hiding}
-      → step_in_budget macros env remaining list ≡ Replaced next
-      → Leads macros env level remaining list (spend_one remaining) next
-  by_invoking : {remaining remaining_after : Option ℕ} {list next : List Hiding} {invocation : Invocation} {expanded : List (Option (List Hiding))}
-      → step_in_budget macros env remaining list ≡ Invoked invocation
-      → ExpandsArguments macros env level invocation (spend_one remaining) (arguments_to_expand invocation) remaining_after (Ok expanded)
+pub data Leads (macros : Macros) (env : Env) (level : ℕ) : Meter → List Hiding → Meter → List Hiding → Type 0 where
+  by_emitting : {meter : Meter} {list next : List Hiding} {t : Hiding}
+      → step_in_budget macros env meter list ≡ Emits t next
+      → Leads macros env level meter list meter next
+  by_replacing : {meter : Meter} {list next : List Hiding}
+      → step_in_budget macros env meter list ≡ Replaced next
+      → Leads macros env level meter list (spend_one meter) next
+  by_invoking : {meter meter_after : Meter} {list next : List Hiding} {invocation : Invocation} {expanded : List (Option (List Hiding))}
+      → step_in_budget macros env meter list ≡ Invoked invocation
+      → ExpandsArguments macros env level invocation (spend_one meter) (arguments_to_expand invocation) meter_after (Ok expanded)
       → finish_invocation invocation expanded ≡ Replaced next
-      → Leads macros env level remaining list remaining_after next
+      → Leads macros env level meter list meter_after next
 
 -- this number of expansion steps leads from a list to another
-pub data LeadsOn (macros : Macros) (env : Env) (level : ℕ) : ℕ → Option ℕ → List Hiding → Option ℕ → List Hiding → Type 0 where
-  stays : {remaining : Option ℕ} {list : List Hiding} → LeadsOn macros env level 0 remaining list remaining list
-  steps : {n : ℕ} {remaining between remaining_after : Option ℕ} {list next last : List Hiding}
-      → Leads macros env level remaining list between next
-      → LeadsOn macros env level n between next remaining_after last
-      → LeadsOn macros env level (suc n) remaining list remaining_after last
+pub data LeadsOn (macros : Macros) (env : Env) (level : ℕ) : ℕ → Meter → List Hiding → Meter → List Hiding → Type 0 where
+  stays : {meter : Meter} {list : List Hiding} → LeadsOn macros env level 0 meter list meter list
+  steps : {n : ℕ} {meter between meter_after : Meter} {list next last : List Hiding}
+      → Leads macros env level meter list between next
+      → LeadsOn macros env level n between next meter_after last
+      → LeadsOn macros env level (suc n) meter list meter_after last
 
 -- a list takes at most this number of expansion steps
-abbrev pub EndsWithin : Macros → Env → ℕ → ℕ → Option ℕ → List Hiding → Type 0
-EndsWithin macros env level most remaining list =
-    (n : ℕ) (remaining_after : Option ℕ) (last : List Hiding)
-    → LeadsOn macros env level n remaining list remaining_after last
+abbrev pub EndsWithin : Macros → Env → ℕ → ℕ → Meter → List Hiding → Type 0
+EndsWithin macros env level most meter list =
+    (n : ℕ) (meter_after : Meter) (last : List Hiding)
+    → LeadsOn macros env level n meter list meter_after last
     → n ≤ most
 
 -- ---- the budget
@@ -63,7 +63,7 @@ EndsWithin macros env level most remaining list =
 -- a budget that is larger by this number
 abbrev pub plus : ℕ → Option ℕ → Option ℕ
 plus n None = None
-plus n (Some remaining) = Some (n + remaining)
+plus n (Some budget) = Some (n + budget)
 
 -- a list is a prefix of another
 abbrev pub IsPrefix : {A : Type 0} → List A → List A → Type 0
@@ -74,19 +74,19 @@ pub record IsOver (out : Outcome) : Type 0 where
   pub fault : Fault
   pub is : out.fault ≡ Some fault
   pub number : fault.number ≡ 35
-  pub remaining : out.remaining ≡ Some 0
+  pub remaining : out.meter.remaining ≡ Some 0
 
 -- an expansion with the budget b, compared with one without a budget that makes this number of replacements
-pub record IsCapped (b replacements : ℕ) (whole out : Outcome) : Type 0 where
+pub record CapsExpansion (b replacements : ℕ) (whole out : Outcome) : Type 0 where
   pub tokens : IsPrefix out.tokens whole.tokens
-  pub enough : replacements ≤ b → (out.tokens ≡ whole.tokens) × (out.fault ≡ whole.fault) × (out.remaining ≡ Some (b - replacements))
+  pub enough : replacements ≤ b → (out.tokens ≡ whole.tokens) × (out.fault ≡ whole.fault) × (out.meter ≡ with_budget (Some (b - replacements)) whole.meter)
   pub short : b < replacements → IsOver out
 
 -- without a budget no expansion ends in fault 35
 abbrev pub OnlyBudgetsRefuse : Type 0
 OnlyBudgetsRefuse =
-    (macros : Macros) (env : Env) (level : ℕ) (list : List Hiding) (out : Outcome) (f : Fault)
-    → ExpandsTo macros env level None list out
+    (macros : Macros) (env : Env) (level : ℕ) (meter : Meter) (list : List Hiding) (out : Outcome) (f : Fault)
+    → ExpandsTo macros env level (without_budget meter) list out
     → out.fault ≡ Some f
     → f.number ≢ 35
 
@@ -155,5 +155,5 @@ pub record StopsAtQuote (list : List Hiding) (quote : Hiding) : Type 0 where
   pub prefix : List Hiding
   pub following : List Hiding
   pub laid_out : list ≡ prefix ++ quote ∷ following
-  pub before : NeverClosed prefix
+  pub not_closed : NeverClosed prefix
   pub lone : argument_role quote.token ≡ Quote

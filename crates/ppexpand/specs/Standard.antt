@@ -1,5 +1,9 @@
 -- Expansion by the rules of the standard, which has no budget (6.10.3, 6.10.3.1, 6.10.3.4, 6.10.8.1). There is one rule for each way to continue,
 -- and one for each fault.
+--
+-- The theorem `without_a_budget` compares these rules with `ExpansionStep` and `Expansion`. Both use the same definitions of arguments (`gather`,
+-- `fit_arguments`, `arguments_to_expand`) and of replacements (`predefined_value`, `macro_replacement`, `followed_by`). So the theorem says that they
+-- apply these definitions in the same cases and in the same order. It says nothing of the definitions themselves.
 use Rattle.std.specs.Prelude.{◌≡◌, ℕ, suc, ◌<◌, ◌≤◌, Bool, true, false, List, [], ◌∷◌, map, Option, Some, None, Result, Ok, Err}
 use Rattle.std.specs.FinSet as set
 use Rattle.pptext.specs.declared.tokens.Token.{Token}
@@ -24,7 +28,7 @@ pub record NamesMacro (macros : Macros) (t : Hiding) (d : Macro) : Type 0 where
   pub named : macro_of macros t.token ≡ Some d
 
 -- a token names a function-like macro, and this `(` is next (6.10.3, paragraph 10)
-pub record Opens (macros : Macros) (t paren : Hiding) (d : Macro) (names : List Name) (variadic : Variadic) : Type 0 where
+pub record StartsInvocation (macros : Macros) (t paren : Hiding) (d : Macro) (names : List Name) (variadic : Variadic) : Type 0 where
   pub names_macro : NamesMacro macros t d
   pub kind : d.kind ≡ FunctionLike names variadic
   pub paren_opens : is_open paren.token ≡ true
@@ -38,7 +42,7 @@ pub record Invokes (macros : Macros) (list : List Hiding) (invocation : Invocati
   pub arguments : List (List Hiding)
   pub close : Hiding
   pub laid_out : list ≡ invocation.name_token ∷ paren ∷ inside
-  pub opens : Opens macros invocation.name_token paren invocation.macro names variadic
+  pub opens : StartsInvocation macros invocation.name_token paren invocation.macro names variadic
   pub closed : gather 0 (separators names variadic) inside ≡ Closed arguments close invocation.following
   pub fits : fit_arguments names variadic arguments ≡ Some invocation.arguments
   pub to_hide : invocation.names_to_hide ≡ names_to_hide_for invocation.name_token.hide close.hide invocation.name_token.token.text
@@ -63,7 +67,7 @@ mutual
     nothing_left : {level : ℕ} → StandardExpands macros env level [] [] None
     unmatched_quote : {level : ℕ} {t : Hiding} {rest : List Hiding}
         → is_unmatched_quote t.token ≡ true
-        → StandardExpands macros env level (t ∷ rest) [] (Some (quote_fault t))
+        → StandardExpands macros env level (t ∷ rest) [] (Some (quote_fault t.token))
     no_macro : {level : ℕ} {t : Hiding} {rest tokens : List Hiding} {fault : Option Fault}
         → is_unmatched_quote t.token ≡ false
         → macro_of macros t.token ≡ None
@@ -100,16 +104,16 @@ mutual
         → StandardExpands macros env level rest tokens fault
         → StandardExpands macros env level (t ∷ rest) (t ∷ tokens) fault
     quote_inside : {level : ℕ} {t paren quote : Hiding} {inside : List Hiding} {d : Macro} {names : List Name} {variadic : Variadic}
-        → Opens macros t paren d names variadic
+        → StartsInvocation macros t paren d names variadic
         → gather 0 (separators names variadic) inside ≡ UnmatchedQuote quote
-        → StandardExpands macros env level (t ∷ paren ∷ inside) [] (Some (quote_fault quote))
+        → StandardExpands macros env level (t ∷ paren ∷ inside) [] (Some (quote_fault quote.token))
     unclosed : {level : ℕ} {t paren : Hiding} {inside : List Hiding} {d : Macro} {names : List Name} {variadic : Variadic}
-        → Opens macros t paren d names variadic
+        → StartsInvocation macros t paren d names variadic
         → gather 0 (separators names variadic) inside ≡ Unclosed
         → StandardExpands macros env level (t ∷ paren ∷ inside) [] (Some (fault_at_expansion 17 t))
     wrong_number : {level : ℕ} {t paren close : Hiding} {inside following : List Hiding} {d : Macro} {names : List Name}
         {variadic : Variadic} {arguments : List (List Hiding)}
-        → Opens macros t paren d names variadic
+        → StartsInvocation macros t paren d names variadic
         → gather 0 (separators names variadic) inside ≡ Closed arguments close following
         → fit_arguments names variadic arguments ≡ None
         → StandardExpands macros env level (t ∷ paren ∷ inside) [] (Some (fault_at_expansion 18 t))

@@ -11,8 +11,8 @@ use crate::token_roles::{ArgumentRole, argument_role};
 use crate::token_stack::TokenStack;
 use crate::vec_pool::VecPool;
 use ppmacro::{Hidden, Variadic};
-use pptext::Spelling;
-use std::alloc::{AllocError, Global};
+use pptext::{Memory, Spelling};
+use std::alloc::Global;
 use std::mem;
 
 /// The initial capacity of an argument, in tokens. Few arguments have more.
@@ -75,7 +75,7 @@ fn end_argument<'a>(
     pool: &mut VecPool<'a>,
     arguments: &mut Vec<Vec<Hidden<'a>>>,
     argument: &mut Vec<Hidden<'a>>,
-) -> Result<(), AllocError>
+) -> Result<(), Memory>
     ensures ended { OnOk result (arguments.new.items ≡ arguments.old.items ++ argument.old ∷ []) }
     ensures begun { OnOk result (argument.new.items ≡ []) }
 {
@@ -93,7 +93,7 @@ pub(crate) fn gather<'a>(
     pool: &mut VecPool<'a>,
     list: &mut TokenStack<'a>,
     commas: Option<usize>,
-) -> Result<Gathered<'a>, AllocError>
+) -> Result<Gathered<'a>, Memory>
     ensures is { IfOk result (λ g. (sets : HideSetPool) → (elim g [
       | Gathered.Closed arguments close ↦ Closed (given_in sets arguments.items) (hiding sets close) (hidings sets list.new)
       | Gathered.UnmatchedQuote quote ↦ UnmatchedQuote (hiding sets quote)

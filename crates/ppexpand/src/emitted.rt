@@ -1,4 +1,10 @@
 //! The emitted tokens of an expansion.
+//!
+//! Most tokens are emitted unchanged, many at a time. So the output is a list of pieces: a span borrows tokens of the file, and a vector
+//! has tokens that were emitted one by one. A short span is copied to the vector instead, since a piece costs more than a few copies.
+//! While a list is expanded, tokens are only appended (`Emitted`). The result adds the prefix of the list before the first macro name,
+//! which is never touched (`TokenRope`). It is kept until all units are done, so its unused capacity is freed.
+//! Contracts see each of these as one list of tokens, and say nothing of its pieces.
 ghost use Rattle.std.specs.Prelude.{◌≡◌, ◌∷◌, ◌++◌, [], flat_map, true, IfOk, IfSome, OnOk};
 ghost use Rattle.ppexpand.specs.Slices.{slice_tokens};
 ghost use Rattle.ppexpand.specs.code.Pieces.{piece_list};
@@ -8,8 +14,8 @@ use crate::lists::put;
 use crate::rope_iter::TokenSlice;
 use crate::token_span::TokenSpan;
 use ppmacro::Hidden;
-use pptext::Token;
-use std::alloc::{AllocError, Global};
+use pptext::{Memory, Token};
+use std::alloc::Global;
 use std::marker::Model;
 
 /// The largest number of tokens of a span that are copied. A longer span becomes a piece, and the tokens after it need a new vector.
@@ -55,7 +61,7 @@ impl<'a> Model for Emitted<'a> {
 }
 
 /// Moves tokens to a new vector without spare capacity. The old vector keeps its capacity, for the tokens that follow.
-fn exact_vec<'a>(singles: &mut Vec<Hidden<'a>>) -> Result<Vec<Hidden<'a>>, AllocError>
+fn exact_vec<'a>(singles: &mut Vec<Hidden<'a>>) -> Result<Vec<Hidden<'a>>, Memory>
     ensures same { IfOk result (λ v. v.items ≡ singles.old.items) }
     ensures none { OnOk result (singles.new.items ≡ []) }
 {
@@ -65,10 +71,7 @@ fn exact_vec<'a>(singles: &mut Vec<Hidden<'a>>) -> Result<Vec<Hidden<'a>>, Alloc
 }
 
 /// Turns the tokens that were emitted one by one into a piece, if there are any.
-fn end_piece<'a>(
-    pieces: &mut Vec<Piece<'a>>,
-    singles: &mut Vec<Hidden<'a>>,
-) -> Result<(), AllocError>
+fn end_piece<'a>(pieces: &mut Vec<Piece<'a>>, singles: &mut Vec<Hidden<'a>>) -> Result<(), Memory>
     ensures same { OnOk result (flat_map piece_list pieces.new.items ≡ flat_map piece_list pieces.old.items ++ singles.old.items) }
     ensures closed { OnOk result (singles.new.items ≡ []) }
 {
@@ -90,7 +93,7 @@ impl<'a> Emitted<'a> {
     }
 
     /// Creates an empty list, with capacity for `count` tokens that are emitted one by one.
-    pub(crate) fn with_capacity(alloc: Global, count: usize) -> Result<Emitted<'a>, AllocError>
+    pub(crate) fn with_capacity(alloc: Global, count: usize) -> Result<Emitted<'a>, Memory>
         ensures { IfOk result (λ p. p ≡ []) }
     {
         Ok(Emitted {
@@ -100,7 +103,7 @@ impl<'a> Emitted<'a> {
     }
 
     /// Appends a span of a file.
-    pub(crate) fn extend(&mut self, span: TokenSpan<'a>) -> Result<(), AllocError>
+    pub(crate) fn extend(&mut self, span: TokenSpan<'a>) -> Result<(), Memory>
         ensures { OnOk result (self.new ≡ self.old ++ span.entry) }
     {
         if span.len() <= MAX_COPIED {
@@ -112,14 +115,14 @@ impl<'a> Emitted<'a> {
 
     /// Appends a token.
     #[inline(always)]
-    pub(crate) fn push_single(&mut self, hidden: Hidden<'a>) -> Result<(), AllocError>
+    pub(crate) fn push_single(&mut self, hidden: Hidden<'a>) -> Result<(), Memory>
         ensures { OnOk result (self.new ≡ self.old ++ hidden.entry ∷ []) }
     {
         put(&mut self.singles, hidden)
     }
 
     /// Frees unused capacity, because the tokens are kept until all units are done.
-    pub(crate) fn free_unused(&mut self) -> Result<(), AllocError>
+    pub(crate) fn free_unused(&mut self) -> Result<(), Memory>
         ensures { OnOk result (self.new ≡ self.old) }
     {
         self.pieces.shrink_to_fit();
@@ -136,7 +139,7 @@ impl<'a> Emitted<'a> {
 
     /// Returns the tokens as one vector.
     #[inline(never)]
-    pub(crate) fn into_vec(self, alloc: Global) -> Result<Vec<Hidden<'a>>, AllocError>
+    pub(crate) fn into_vec(self, alloc: Global) -> Result<Vec<Hidden<'a>>, Memory>
         ensures { IfOk result (λ v. v.items ≡ self.entry) }
     {
         let Emitted { pieces, singles } = self;
@@ -153,7 +156,7 @@ impl<'a> Emitted<'a> {
 }
 
 /// Appends tokens.
-fn push_all<'a>(tokens: &mut Vec<Hidden<'a>>, more: Vec<Hidden<'a>>) -> Result<(), AllocError>
+fn push_all<'a>(tokens: &mut Vec<Hidden<'a>>, more: Vec<Hidden<'a>>) -> Result<(), Memory>
     ensures { OnOk result (tokens.new.items ≡ tokens.old.items ++ more.entry.items) }
 {
     let mut more = more;
@@ -162,7 +165,7 @@ fn push_all<'a>(tokens: &mut Vec<Hidden<'a>>, more: Vec<Hidden<'a>>) -> Result<(
 }
 
 /// Appends the tokens of a span.
-fn push_span<'a>(tokens: &mut Vec<Hidden<'a>>, span: TokenSpan<'a>) -> Result<(), AllocError>
+fn push_span<'a>(tokens: &mut Vec<Hidden<'a>>, span: TokenSpan<'a>) -> Result<(), Memory>
     ensures { OnOk result (tokens.new.items ≡ tokens.old.items ++ span.entry) }
 {
     let mut span = span;
@@ -173,7 +176,7 @@ fn push_span<'a>(tokens: &mut Vec<Hidden<'a>>, span: TokenSpan<'a>) -> Result<()
 }
 
 /// Appends the tokens of a piece.
-fn push_piece<'a>(tokens: &mut Vec<Hidden<'a>>, piece: Piece<'a>) -> Result<(), AllocError>
+fn push_piece<'a>(tokens: &mut Vec<Hidden<'a>>, piece: Piece<'a>) -> Result<(), Memory>
     ensures { OnOk result (tokens.new.items ≡ tokens.old.items ++ piece_list piece.entry) }
 {
     match piece {

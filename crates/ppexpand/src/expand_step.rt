@@ -1,4 +1,11 @@
 //! Makes the expansion step of a list's next token (6.10.3, 6.10.3.4).
+//!
+//! A step takes the next token off the list, with what belongs to it. It emits the token, replaces it in the list, returns an invocation, or
+//! has a fault. The arguments of an invocation are expanded by `expansion.rt`, which then calls `finish_invocation`. So no function here
+//! is recursive, and a step takes no stack while arguments are expanded.
+//!
+//! Each function has the name of the rule in `specs/ExpansionStep.antt` that it computes, and its contract says so. The code has the
+//! number of a hide set where the rules have the set, so each contract also says that the numbers are known in `sets`, before and after.
 ghost use Rattle.std.specs.Prelude.{◌≡◌, IfOk, OnOk, List, ◌∷◌, ◌++◌, Some, None, map};
 ghost use Rattle.std.specs.Option.{option_copied};
 ghost use Rattle.std.specs.FinSet as set;
@@ -14,20 +21,18 @@ ghost use Rattle.ppexpand.specs.Arguments.{gather, separators};
 ghost use Rattle.ppexpand.specs.declared.env.Env.{Env};
 ghost use Rattle.ppexpand.specs.ExpansionStep.{Replaced, macro_of, replaced_by, no_arguments, predefined_value, closed_invocation_step, invocation_step, function_step, macro_step};
 ghost use Rattle.ppexpand.specs.ExpansionStep.{finish_invocation};
-ghost use Rattle.ppexpand.specs.Budget.{in_budget};
+ghost use Rattle.ppexpand.specs.Budget.{refused};
 ghost use Rattle.ppexpand.specs.Expansion.{step_in_budget};
 ghost use Rattle.ppexpand.specs.code.Lists.{next_macro};
-ghost use Rattle.ppexpand.specs.code.ProgramValues.{expanded_in, fitting_in, FittingKnown, ExpansionsKnown, invocation_in, InvocationKnown, step_in, ActionKnown, replaced_in};
-ghost use Rattle.ppexpand.specs.code.Action as next;
-ghost use Rattle.ppexpand.specs.code.Stops.{UnlessFailed};
-ghost use Rattle.pptext.specs.Tokens.{fault as fault_at};
+ghost use Rattle.ppexpand.specs.code.ProgramValues.{expanded_in, fitting_in, FittingKnown, ExpansionsKnown, invocation_in, InvocationKnown};
+ghost use Rattle.ppexpand.specs.code.ProgramValues.{step_in, named_in, refused_in, ActionKnown, HasActed, charged_in, replaced_in};
+ghost use Rattle.pptext.specs.Errors.{UnlessOutOfMemory};
 
 use crate::arguments::{Gathered, fit_arguments, gather, separators};
-use crate::budget::is_exhausted;
 use crate::context::Context;
 use crate::env::Env;
+use crate::meter::Meter;
 use crate::predefined::predefined_value;
-use crate::stop::Stop;
 use crate::token_roles::{budget_fault, fault_at_expansion, is_open, is_quote, quote_fault};
 use crate::token_stack::TokenStack;
 use crate::vec_pool::VecPool;
@@ -35,9 +40,8 @@ use ppmacro::{
     ArgumentExpansion, Arguments, Hidden, HideSets, Macro, MacroKind, MacroName, Pattern,
     PredefinedMacro, Set, Table, Variadic, substitute_pattern,
 };
-use pptext::{Fault, Memory, Place, Spelling, Token};
-use std::alloc::AllocError;
-use std::marker::Model;
+use pptext::{Error, Memory, Place, Spelling, Token};
+use std::alloc::Global;
 
 /// An invocation of a function-like macro, removed from its list.
 #[derive(Drop)]
@@ -53,43 +57,17 @@ pub(crate) struct Invocation<'t, 'x, 'a> {
     pub(crate) base: Set,
 }
 
-/// The kind of the action for the next token of a list.
+/// The action for the next token of a list, which is removed from the list with what belongs to it.
 #[derive(Drop)]
-pub(crate) enum ActionKind<'t, 'x, 'a> {
+pub(crate) enum Action<'t, 'x, 'a> {
     /// There is no token.
     Done,
-    /// The token raises a fault, and no name is replaced. Nothing is spent of the budget.
-    TokenFault(Fault),
-    /// The token is a macro's name whose replacement fails. It costs one of the budget.
-    ReplacementFault(Fault),
     /// The token is emitted unchanged.
     Emits(Hidden<'x>),
     /// The token was replaced in the list.
     Replaced,
     /// The token is to be replaced after the arguments are expanded.
     Invoked(Invocation<'t, 'x, 'a>),
-}
-
-/// The action for the next token of a list, which is removed from the list with what belongs to it.
-#[derive(Drop)]
-pub(crate) struct Action<'t, 'x, 'a> {
-    pub(crate) kind: ActionKind<'t, 'x, 'a>,
-}
-
-impl<'t, 'x, 'a> Model for Action<'t, 'x, 'a> {
-    ghost use Rattle.ppexpand.specs.code.Action as next;
-    ghost use Rattle.ppexpand.specs.declared.expand_step.ActionKind.TheVariants.{Done, TokenFault, ReplacementFault, Emits, Replaced, Invoked};
-
-    ghost Value = { next.Action };
-
-    ghost view = { λ n. elim n.kind [
-      | Done ↦ next.Done
-      | TokenFault f ↦ next.TokenFault f
-      | ReplacementFault f ↦ next.ReplacementFault f
-      | Emits h ↦ next.Emits h
-      | Replaced ↦ next.Replaced
-      | Invoked c ↦ next.Invoked c.name_token c.definition.now c.arguments.items c.base
-    ] };
 }
 
 /// The state of replacement: a pool of vectors, and the hide sets.
@@ -134,7 +112,7 @@ fn push_replacement<'x, 'a: 'x>(
     names_to_hide: Set,
     used: Place,
     list: &mut TokenStack<'x>,
-) -> Result<(), AllocError>
+) -> Result<(), Memory>
     ensures is { OnOk result ((sets : HideSetPool) → hidings sets list.new
         ≡ map (λ t. hsadd (set_at sets names_to_hide) used (unhidden t)) body.now ++ hidings sets list.old) }
     ensures known { OnOk result ((sets : HideSetPool) → IsKnown sets names_to_hide → AllKnown sets list.old → AllKnown sets list.new) }
@@ -174,92 +152,70 @@ fn replace_by<'x, 'a: 'x>(
     Ok(())
 }
 
-/// Returns the action for a macro's name whose replacement fails with this fault, at the expansion location of the name.
-fn failed_at<'t, 'x, 'a>(number: u8, name_token: &Hidden) -> Result<Action<'t, 'x, 'a>, Memory>
-    ensures { IfOk result (λ n. n ≡ next.ReplacementFault (fault_at number name_token.now.token.used name_token.now.token.text)) }
-{
-    Ok(Action {
-        kind: ActionKind::ReplacementFault(fault_at_expansion(number, name_token)?),
-    })
-}
-
-/// Returns the action for an invocation whose `)` is found.
+/// Returns the action for an invocation whose `)` is found, or fault 18.
 fn closed_invocation_step<'t, 'x, 'a: 'x>(
+    alloc: Global,
     sets: &mut HideSets,
     name_token: Hidden<'x>,
     definition: &'t Macro<'a>,
     arguments: Option<Vec<Vec<Hidden<'x>>>>,
     close: &Hidden,
-) -> Result<Action<'t, 'x, 'a>, Memory>
+) -> Result<Action<'t, 'x, 'a>, Error>
     requires name_token { HasSets sets.old name_token }
     requires arguments { FittingKnown sets.old arguments }
     requires close { HasSets sets.old close.now }
-    ensures is { IfOk result (λ n. (rest : List Hidden) → AllKnown sets.old rest → step_in sets.new rest n
+    ensures is { UnlessOutOfMemory result (λ r. (rest : List Hidden) → AllKnown sets.old rest → named_in sets.new rest r
         ≡ closed_invocation_step (hiding sets.old name_token.entry) definition.now (fitting_in sets.old arguments.entry) (hiding sets.old close.now)
         (hidings sets.old rest)) }
     ensures known { IfOk result (λ n. (rest : List Hidden) → AllKnown sets.old rest → ActionKnown sets.new rest n) }
     ensures keeps { KeepsSets sets.old sets.new }
 {
     let Some(arguments) = arguments else {
-        return failed_at(18, &name_token);
+        return Err(fault_at_expansion(alloc, 18, &name_token));
     };
     let base = sets.common_hide_set(&name_token, close)?;
-    Ok(Action {
-        kind: ActionKind::Invoked(Invocation {
-            name_token,
-            definition,
-            arguments,
-            base,
-        }),
-    })
+    Ok(Action::Invoked(Invocation {
+        name_token,
+        definition,
+        arguments,
+        base,
+    }))
 }
 
-/// Returns the action for an invocation that contains an unmatched quote.
-fn failed_quote<'t, 'x, 'a>(quote: &Hidden) -> Result<Action<'t, 'x, 'a>, Memory>
-    ensures { IfOk result (λ n. n ≡ next.ReplacementFault (fault_at 7 quote.now.token.at quote.now.token.text)) }
-{
-    Ok(Action {
-        kind: ActionKind::ReplacementFault(quote_fault(quote)?),
-    })
-}
-
-/// Returns the action for a macro's name if nothing remains of the budget: a name that is to be replaced is refused.
+/// Returns the action for a macro's name if nothing remains of the budget: a name that is to be replaced is fault 35.
 fn exhausted_step<'t, 'x, 'a: 'x>(
+    alloc: Global,
     name_token: Hidden<'x>,
     definition: &Macro<'a>,
     list: &mut TokenStack<'x>,
-) -> Result<Action<'t, 'x, 'a>, Memory>
-    ensures is { IfOk result (λ n.
-        (sets : HideSetPool) (env : Env) → step_in sets list.new n
-        ≡ in_budget (Some 0) (hiding sets name_token.entry ∷ hidings sets list.old)
+) -> Result<Action<'t, 'x, 'a>, Error>
+    ensures is { UnlessOutOfMemory result (λ r.
+        (sets : HideSetPool) (env : Env) → refused_in sets list.new r
+        ≡ refused (hiding sets name_token.entry ∷ hidings sets list.old)
         (macro_step env (hiding sets name_token.entry) (hidings sets list.old) definition.now definition.now.kind)) }
     ensures known { IfOk result (λ n. (sets : HideSetPool) → HasSets sets name_token.entry → AllKnown sets list.old → ActionKnown sets list.new n) }
 {
     if matches!(definition.kind, MacroKind::FunctionLike { .. }) {
         let Some(following) = list.next() else {
-            return Ok(Action {
-                kind: ActionKind::Emits(name_token),
-            });
+            return Ok(Action::Emits(name_token));
         };
         if !is_open(&following) {
             list.push(following)?;
-            return Ok(Action {
-                kind: ActionKind::Emits(name_token),
-            });
+            return Ok(Action::Emits(name_token));
         }
     }
-    Ok(Action {
-        kind: ActionKind::TokenFault(budget_fault(&name_token)),
-    })
+    Err(budget_fault(alloc, &name_token))
 }
 
-/// Returns the action for an unmatched quote.
-fn refused_quote<'t, 'x, 'a>(quote: &Hidden) -> Result<Action<'t, 'x, 'a>, Memory>
-    ensures { IfOk result (λ n. n ≡ next.TokenFault (fault_at 7 quote.now.token.at quote.now.token.text)) }
+/// Takes one from the budget for the replacement of a macro's name, even if it has a fault. A name that is emitted costs nothing.
+#[inline(always)]
+fn charge(meter: &mut Meter, outcome: &Result<Action, Error>)
+    ensures { UnlessOutOfMemory outcome.now (λ r. meter.new ≡ charged_in r meter.old) }
 {
-    Ok(Action {
-        kind: ActionKind::TokenFault(quote_fault(quote)?),
-    })
+    match outcome {
+        Ok(Action::Done | Action::Emits(_)) => {}
+        _ => *meter = meter.spend_one(),
+    }
 }
 
 impl<'x> Replacer<'x> {
@@ -273,15 +229,15 @@ impl<'x> Replacer<'x> {
         base: Set,
         name_token: &Hidden,
         list: &mut TokenStack<'x>,
-    ) -> Result<Result<(), Fault>, Memory>
+    ) -> Result<(), Error>
         requires arguments { ArgumentsKnown self.old.sets arguments.given.now arguments.expanded.now }
         requires base { IsKnown self.old.sets base }
         requires list { AllKnown self.old.sets list.old }
-        ensures is { IfOk result (λ r. replaced_in self.new.sets list.new r
+        ensures is { UnlessOutOfMemory result (λ r. replaced_in self.new.sets list.new r
             ≡ replaced_by (chains_replacement (pattern_chains pattern.now) (arguments_in self.old.sets arguments.entry.given.now arguments.entry.expanded.now)
             (set.insert (set_at self.old.sets base) name_token.now.token.text) name_token.now.token.used name_token.now.token.space)
             (hidings self.old.sets list.old)) }
-        ensures known { IfOk result (λ r. OnOk r (AllKnown self.new.sets list.new)) }
+        ensures known { OnOk result (AllKnown self.new.sets list.new) }
         ensures keeps { KeepsSets self.old.sets self.new.sets }
     {
         let alloc = self.pool.alloc();
@@ -291,14 +247,16 @@ impl<'x> Replacer<'x> {
             used: name_token.used(),
             space: name_token.space(),
         };
-        match substitute_pattern(alloc, pattern, arguments, &name, &mut self.sets)? {
-            Ok((tokens, pending)) => {
-                list.space_next(pending);
-                list.push_all(tokens)?;
-                Ok(Ok(()))
-            }
-            Err(fault) => Ok(Err(fault)),
-        }
+        let (tokens, pending) = substitute_pattern(
+            alloc,
+            pattern,
+            arguments,
+            &name,
+            &mut self.sets,
+        )?;
+        list.space_next(pending);
+        list.push_all(tokens)?;
+        Ok(())
     }
 
     /// Pushes the replacement of a predefined macro's name. Returns the action.
@@ -320,9 +278,7 @@ impl<'x> Replacer<'x> {
         let names_to_hide = self.sets.with_own_name(name_token)?;
         let alloc = self.pool.alloc();
         list.push(predefined_value(alloc, predefined, env, name_token, names_to_hide)?)?;
-        Ok(Action {
-            kind: ActionKind::Replaced,
-        })
+        Ok(Action::Replaced)
     }
 
     /// Pushes the replacement of an object-like macro's name, or returns fault 19.
@@ -334,20 +290,20 @@ impl<'x> Replacer<'x> {
         name_token: &Hidden<'x>,
         definition: &Macro<'a>,
         list: &mut TokenStack<'x>,
-    ) -> Result<Result<(), Fault>, Memory>
+    ) -> Result<(), Error>
         requires base { IsKnown self.old.sets base }
         requires list { AllKnown self.old.sets list.old }
-        ensures is { IfOk result (λ r. replaced_in self.new.sets list.new r
+        ensures is { UnlessOutOfMemory result (λ r. replaced_in self.new.sets list.new r
             ≡ replaced_by (macro_replacement definition.now no_arguments
             (set.insert (set_at self.old.sets base) name_token.now.token.text) name_token.now.token.used name_token.now.token.space)
             (hidings self.old.sets list.old)) }
-        ensures known { IfOk result (λ r. OnOk r (AllKnown self.new.sets list.new)) }
+        ensures known { OnOk result (AllKnown self.new.sets list.new) }
         ensures keeps { KeepsSets self.old.sets self.new.sets }
     {
         // Fast path: most object-like macros have no `##`.
         if let Some(body) = definition.lone_tokens() {
             replace_by(&mut self.sets, body, base, name_token, list)?;
-            return Ok(Ok(()));
+            return Ok(());
         }
         let chains = definition.chains(self.pool.alloc())?;
         let pattern = Pattern::Pasted(chains);
@@ -358,16 +314,16 @@ impl<'x> Replacer<'x> {
         self.replace(&pattern, none, base, name_token, list)
     }
 
-    /// Pushes the replacement of an object-like macro's name. Returns the action, which has the fault if the replacement fails.
+    /// Pushes the replacement of an object-like macro's name. Returns the action, or fault 19.
     fn object_step<'t, 'a: 'x>(
         &mut self,
         name_token: &Hidden<'x>,
         definition: &Macro<'a>,
         list: &mut TokenStack<'x>,
-    ) -> Result<Action<'t, 'x, 'a>, Memory>
+    ) -> Result<Action<'t, 'x, 'a>, Error>
         requires name_token { HasSets self.old.sets name_token.now }
         requires list { AllKnown self.old.sets list.old }
-        ensures is { IfOk result (λ n. step_in self.new.sets list.new n
+        ensures is { UnlessOutOfMemory result (λ r. named_in self.new.sets list.new r
             ≡ replaced_by (macro_replacement definition.now no_arguments
             (set.insert (hide_of self.old.sets name_token.now) name_token.now.token.text) name_token.now.token.used name_token.now.token.space)
             (hidings self.old.sets list.old)) }
@@ -375,17 +331,11 @@ impl<'x> Replacer<'x> {
         ensures keeps { KeepsSets self.old.sets self.new.sets }
     {
         let base = self.sets.hide_set_of(name_token)?;
-        match self.replace_object(base, name_token, definition, list)? {
-            Ok(()) => Ok(Action {
-                kind: ActionKind::Replaced,
-            }),
-            Err(fault) => Ok(Action {
-                kind: ActionKind::ReplacementFault(fault),
-            }),
-        }
+        self.replace_object(base, name_token, definition, list)?;
+        Ok(Action::Replaced)
     }
 
-    /// Removes the rest of an invocation, after its `(`. Returns the action, which has the invocation or the fault.
+    /// Removes the rest of an invocation, after its `(`. Returns the action, which has the invocation, or fault 7, 17 or 18.
     fn invocation_step<'t, 'a: 'x>(
         &mut self,
         name_token: Hidden<'x>,
@@ -393,10 +343,10 @@ impl<'x> Replacer<'x> {
         names: &[Spelling],
         variadic: Variadic,
         list: &mut TokenStack<'x>,
-    ) -> Result<Action<'t, 'x, 'a>, Memory>
+    ) -> Result<Action<'t, 'x, 'a>, Error>
         requires name_token { HasSets self.old.sets name_token }
         requires list { AllKnown self.old.sets list.old }
-        ensures is { IfOk result (λ n. step_in self.new.sets list.new n
+        ensures is { UnlessOutOfMemory result (λ r. named_in self.new.sets list.new r
             ≡ invocation_step (hiding self.old.sets name_token.entry) definition.now names.now variadic
             (gather 0 (separators names.now variadic) (hidings self.old.sets list.old))) }
         ensures known { IfOk result (λ n. ActionKnown self.new.sets list.new n) }
@@ -405,10 +355,17 @@ impl<'x> Replacer<'x> {
         match gather(&mut self.pool, list, separators(names, variadic))? {
             Gathered::Closed(arguments, close) => {
                 let fitting = fit_arguments(self.pool.alloc(), arguments, names, variadic);
-                closed_invocation_step(&mut self.sets, name_token, definition, fitting, &close)
+                closed_invocation_step(
+                    self.pool.alloc(),
+                    &mut self.sets,
+                    name_token,
+                    definition,
+                    fitting,
+                    &close,
+                )
             }
-            Gathered::UnmatchedQuote(quote) => failed_quote(&quote),
-            Gathered::Unclosed => failed_at(17, &name_token),
+            Gathered::UnmatchedQuote(quote) => Err(quote_fault(self.pool.alloc(), &quote)),
+            Gathered::Unclosed => Err(fault_at_expansion(self.pool.alloc(), 17, &name_token)),
         }
     }
 
@@ -420,48 +377,44 @@ impl<'x> Replacer<'x> {
         names: &[Spelling],
         variadic: Variadic,
         list: &mut TokenStack<'x>,
-    ) -> Result<Action<'t, 'x, 'a>, Memory>
+    ) -> Result<Action<'t, 'x, 'a>, Error>
         requires name_token { HasSets self.old.sets name_token }
         requires list { AllKnown self.old.sets list.old }
-        ensures is { IfOk result (λ n. step_in self.new.sets list.new n
+        ensures is { UnlessOutOfMemory result (λ r. named_in self.new.sets list.new r
             ≡ function_step (hiding self.old.sets name_token.entry) definition.now names.now variadic (hidings self.old.sets list.old)) }
         ensures known { IfOk result (λ n. ActionKnown self.new.sets list.new n) }
         ensures keeps { KeepsSets self.old.sets self.new.sets }
     {
         let Some(next) = list.next() else {
-            return Ok(Action {
-                kind: ActionKind::Emits(name_token),
-            });
+            return Ok(Action::Emits(name_token));
         };
         if !is_open(&next) {
             list.push(next)?;
-            return Ok(Action {
-                kind: ActionKind::Emits(name_token),
-            });
+            return Ok(Action::Emits(name_token));
         }
         // The `(` is dropped before the step.
         drop(next);
         self.invocation_step(name_token, definition, names, variadic, list)
     }
 
-    /// Replaces a macro's name, or removes its invocation. Returns the action.
+    /// Replaces a macro's name, or removes its invocation. Returns the action, or the fault of the replacement.
     fn macro_step<'t, 'a: 'x>(
         &mut self,
         env: &Env,
         name_token: Hidden<'x>,
         definition: &'t Macro<'a>,
         list: &mut TokenStack<'x>,
-    ) -> Result<Action<'t, 'x, 'a>, Memory>
+    ) -> Result<Action<'t, 'x, 'a>, Error>
         requires name_token { HasSets self.old.sets name_token }
         requires list { AllKnown self.old.sets list.old }
-        ensures is { IfOk result (λ n. step_in self.new.sets list.new n
+        ensures is { UnlessOutOfMemory result (λ r. named_in self.new.sets list.new r
             ≡ macro_step env.now (hiding self.old.sets name_token.entry) (hidings self.old.sets list.old) definition.now definition.now.kind) }
         ensures known { IfOk result (λ n. ActionKnown self.new.sets list.new n) }
         ensures keeps { KeepsSets self.old.sets self.new.sets }
     {
         match &definition.kind {
             MacroKind::Predefined(predefined) => {
-                self.predefined_step(env, &name_token, *predefined, list)
+                Ok(self.predefined_step(env, &name_token, *predefined, list)?)
             }
             MacroKind::ObjectLike => self.object_step(&name_token, definition, list),
             MacroKind::FunctionLike {
@@ -474,48 +427,47 @@ impl<'x> Replacer<'x> {
         }
     }
 
-    /// Makes the expansion step of a list: removes the next token, with what belongs to it, and returns the action for it. The replacement of an
-    /// object-like or predefined macro's name is pushed. An invocation is returned with its arguments, which are still to be expanded.
+    /// Makes the expansion step of a list: removes the next token, with what belongs to it, and returns the action for it, or a fault. The
+    /// replacement of an object-like or predefined macro's name is pushed. An invocation is returned with its arguments, which are still to
+    /// be expanded.
     ///
-    /// `named` is the macro that the next token names, if any. If nothing remains of the budget, a name that would be replaced is refused.
+    /// `named` is the macro that the next token names, if any. A replacement takes one from the budget of `meter`, even if it has a fault.
+    /// If nothing remains of the budget, a name that would be replaced is refused.
     pub(crate) fn next_step<'t, 'a: 'x>(
         &mut self,
         context: &Context<'_, 'a>,
-        remaining: Option<u64>,
+        meter: &mut Meter,
         named: Option<&'t Macro<'a>>,
         list: &mut TokenStack<'x>,
-    ) -> Result<Action<'t, 'x, 'a>, Memory>
+    ) -> Result<Action<'t, 'x, 'a>, Error>
         requires named { option_copied named ≡ next_macro context.now.table.now.macros (tokens_of list.old) }
         requires known { AllKnown self.old.sets list.old }
-        ensures is { IfOk result (λ n. step_in self.new.sets list.new n ≡ step_in_budget context.now.table.now.macros context.now.env.now remaining (hidings self.old.sets list.old)) }
+        ensures is { UnlessOutOfMemory result (λ r. HasActed self.new.sets list.new
+            (step_in_budget context.now.table.now.macros context.now.env.now meter.old (hidings self.old.sets list.old)) meter.old r meter.new) }
         ensures known { IfOk result (λ n. ActionKnown self.new.sets list.new n) }
         ensures keeps { KeepsSets self.old.sets self.new.sets }
     {
         let Some(token) = list.next() else {
-            return Ok(Action {
-                kind: ActionKind::Done,
-            });
+            return Ok(Action::Done);
         };
         if is_quote(&token) {
-            return refused_quote(&token);
+            return Err(quote_fault(self.pool.alloc(), &token));
         }
         let Some(definition) = named else {
-            return Ok(Action {
-                kind: ActionKind::Emits(token),
-            });
+            return Ok(Action::Emits(token));
         };
         if self.sets.hides(&token) {
-            return Ok(Action {
-                kind: ActionKind::Emits(token),
-            });
+            return Ok(Action::Emits(token));
         }
-        if is_exhausted(remaining) {
-            return exhausted_step(token, definition, list);
+        if meter.is_exhausted() {
+            return exhausted_step(self.pool.alloc(), token, definition, list);
         }
-        self.macro_step(context.env, token, definition, list)
+        let outcome = self.macro_step(context.env, token, definition, list);
+        charge(meter, &outcome);
+        outcome
     }
 
-    /// Pushes the replacement of an invocation whose arguments are expanded, or puts fault 19 or 20 in `fault`.
+    /// Pushes the replacement of an invocation whose arguments are expanded, or returns fault 19 or 20.
     ///
     /// `pattern` is the replacement list of the macro.
     #[inline(never)]
@@ -525,13 +477,12 @@ impl<'x> Replacer<'x> {
         pattern: &Pattern<'a>,
         expanded: &[ArgumentExpansion<'x>],
         list: &mut TokenStack<'x>,
-        fault: &mut Option<Fault>,
-    ) -> Result<(), Stop>
+    ) -> Result<(), Error>
         requires invocation { InvocationKnown self.old.sets invocation.now.name_token invocation.now.arguments.items invocation.now.base }
         requires chains { pattern_chains pattern.now ≡ chains_of invocation.now.definition.now }
         requires expanded { ExpansionsKnown self.old.sets expanded.now }
         requires list { AllKnown self.old.sets list.old }
-        ensures is { UnlessFailed result fault.new (λ r. replaced_in self.new.sets list.new r
+        ensures is { UnlessOutOfMemory result (λ r. replaced_in self.new.sets list.new r
             ≡ finish_invocation (invocation_in self.old.sets invocation.now.name_token invocation.now.definition.now invocation.now.arguments.items invocation.now.base list.old)
             (expanded_in self.old.sets invocation.now.arguments.items expanded.now)) }
         ensures known { OnOk result (AllKnown self.new.sets list.new) }
@@ -541,18 +492,12 @@ impl<'x> Replacer<'x> {
             given: invocation.arguments.as_slice(),
             expanded,
         };
-        match self.replace(
+        self.replace(
             pattern,
             arguments,
             invocation.base,
             &invocation.name_token,
             list,
-        )? {
-            Ok(()) => Ok(()),
-            Err(found) => {
-                *fault = Some(found);
-                Err(Stop::Fault)
-            }
-        }
+        )
     }
 }

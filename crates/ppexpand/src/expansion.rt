@@ -1,15 +1,23 @@
 //! Expands lists of tokens (6.10.3.4).
-ghost use Rattle.std.specs.Prelude.{◌≡◌, ℕ, ◌≤◌, ◌++◌, [], List, map, true, Some, Ok, Err, IfOk, OnOk, MatchOption, IfSome};
+//!
+//! A loop makes one expansion step after another, until the list ends or a step has a fault (`expand_list`). The arguments of an
+//! invocation are expanded first, each as a list of its own, one level deeper. So five functions call one another, at most 256 levels deep,
+//! and each level takes stack. Therefore their results are small, larger values are written through `&mut` parameters, and work that is not
+//! on the path to the next level has functions of its own, which are not inlined.
+//!
+//! Most tokens name no macro, and most arguments expand to themselves. Fast paths take these without a step (`emit_unexpanded`,
+//! `none_expands`, the prefix in `expand`). What an expansion reads (`Context`) and what it changes (`Expander`) are two structs, because a
+//! method that could change the table would have to promise that it does not.
+ghost use Rattle.std.specs.Prelude.{◌≡◌, ℕ, ◌≤◌, ◌++◌, [], List, map, true, Some, Ok, IfOk, OnOk, MatchOption, IfSome};
 ghost use Rattle.std.specs.Result.{result_err, result_and};
-ghost use Rattle.ppexpand.specs.code.Stops.{UnlessFailed};
+ghost use Rattle.pptext.specs.Errors.{UnlessOutOfMemory};
 ghost use Rattle.ppmacro.specs.Chains.{chains_of};
 ghost use Rattle.ppmacro.specs.Patterns.{pattern_chains};
 ghost use Rattle.std.specs.Option.{option_copied};
-ghost use Rattle.ppmacro.specs.Substituting.{tokens_of, lists_of};
+ghost use Rattle.ppmacro.specs.Substituting.{tokens_of};
 ghost use Rattle.ppmacro.specs.HideSets.{hidings, AllKnown, KeepsSets};
 ghost use Rattle.ppmacro.specs.HideSetPool.{HideSetPool};
-ghost use Rattle.ppmacro.specs.Substitution.{argument_at, unhidden};
-ghost use Rattle.pptext.specs.Tokens.{fault as fault_at};
+ghost use Rattle.ppmacro.specs.Substitution.{unhidden};
 ghost use Rattle.ppmacro.specs.declared.hidden_token.Hidden.{Hidden};
 ghost use Rattle.ppexpand.specs.Expansion.{ExpandsTo, IsExpansion};
 ghost use Rattle.ppexpand.specs.code.Lists.{NeverExpand, never_expands, next_macro};
@@ -18,21 +26,20 @@ ghost use Rattle.ppexpand.specs.code.Skipping.{HasSkipped};
 ghost use Rattle.ppexpand.specs.code.ProgramValues.{expanded_in, ExpansionsKnown, invocation_in, InvocationKnown, replaced_in, owned_tokens, HasExpanded};
 ghost use Rattle.ppexpand.specs.code.ProgramValues.{ExpandsInvocationArguments, ClosedStepsTo, HasStepped, HasInvoked};
 
-use crate::budget::spend_one;
 use crate::context::Context;
 use crate::emitted::{Emitted, TokenRope};
 use crate::env::Env;
-use crate::expand_step::{ActionKind, Invocation, Replacer};
+use crate::expand_step::{Action, Invocation, Replacer};
 use crate::lists::put;
+use crate::meter::Meter;
 use crate::pre_expansion::{parameter_count, pre_expanded_parameters};
-use crate::stop::Stop;
 use crate::token_roles::fault_at_expansion;
 use crate::token_span::{never_expands, split_unexpanded};
 use crate::token_stack::{Lookahead, TokenStack};
 use crate::vec_pool::VecPool;
-use ppmacro::{ArgumentExpansion, Hidden, HideSets, Macro, Pattern, Table};
-use pptext::{Fault, Memory, Token};
-use std::alloc::{AllocError, Global};
+use ppmacro::{ArgumentExpansion, Hidden, HideSets, Macro, Pattern, Table, argument_of};
+use pptext::{BoxedFault, Error, Hashing, Memory, Token};
+use std::alloc::Global;
 
 /// The largest level of a token list. A list given to `expand` is at level 0, an argument one level deeper than its invocation.
 ///
@@ -49,7 +56,7 @@ fn emit_pushed<'t, 'x, 'a>(
     table: &'t Table<'a>,
     list: &mut TokenStack<'x>,
     emitted: &mut Emitted<'x>,
-) -> Result<Option<&'t Macro<'a>>, AllocError>
+) -> Result<Option<&'t Macro<'a>>, Memory>
     ensures skipped { OnOk result (HasSkipped table.now.macros list.old emitted.old list.new emitted.new) }
     ensures named { IfOk result (λ r. IfSome r (λ m. Some m.now ≡ next_macro table.now.macros (tokens_of list.new))) }
 {
@@ -69,7 +76,7 @@ fn emit_unexpanded<'t, 'x, 'a>(
     table: &'t Table<'a>,
     list: &mut TokenStack<'x>,
     emitted: &mut Emitted<'x>,
-) -> Result<Option<&'t Macro<'a>>, AllocError>
+) -> Result<Option<&'t Macro<'a>>, Memory>
     ensures skipped { OnOk result (HasSkipped table.now.macros list.old emitted.old list.new emitted.new) }
     ensures named { IfOk result (λ r. option_copied r ≡ next_macro table.now.macros (tokens_of list.new)) }
 {
@@ -94,39 +101,29 @@ fn none_expands(table: &Table, tokens: &[Hidden]) -> bool
     true
 }
 
-/// Sets `fault` to fault 21 at a macro's name, since the argument is nested too deep. Returns `Stop::Fault`.
-#[inline(never)]
-fn depth_fault<'x>(
-    name_token: &Hidden,
-    fault: &mut Option<Fault>,
-) -> Result<ArgumentExpansion<'x>, Stop>
-    ensures { UnlessFailed result fault.new (λ r. r ≡ Err (fault_at 21 name_token.now.token.used name_token.now.token.text)) }
-{
-    *fault = Some(fault_at_expansion(21, name_token)?);
-    Err(Stop::Fault)
-}
-
 /// Returns the vectors of an invocation's arguments to the pool.
 #[inline(never)]
 fn recycle_arguments<'x>(
     pool: &mut VecPool<'x>,
     invocation: &mut Option<Invocation<'_, 'x, '_>>,
-) -> Result<(), AllocError> {
+) -> Result<(), Memory> {
     match invocation.take() {
         Some(invocation) => pool.keep(invocation.arguments),
         None => Ok(()),
     }
 }
 
-/// Returns the argument of a parameter. An absent one has no tokens.
-fn argument_of<'c, 'x>(arguments: &'c [Vec<Hidden<'x>>], parameter: usize) -> &'c [Hidden<'x>]
-    ensures { result.now ≡ argument_at (lists_of arguments.now) parameter }
+/// Returns the replacement list of a macro. `hashing` is the table's, since the names of parameters come from the source.
+fn pattern_of<'a>(
+    alloc: Global,
+    _table: &Table<'a>,
+    hashing: Hashing,
+    definition: &Macro<'a>,
+) -> Result<Pattern<'a>, Memory>
+    requires { hashing ≡ _table.now.hashing }
+    ensures { IfOk result (λ p. pattern_chains p ≡ chains_of definition.now) }
 {
-    let Some(tokens) = arguments.get(parameter) else {
-        let none: &'c [Hidden<'x>] = Default::default();
-        return none;
-    };
-    tokens.as_slice()
+    definition.pattern(alloc, hashing)
 }
 
 /// The state of an expansion, shared by all levels.
@@ -134,15 +131,12 @@ fn argument_of<'c, 'x>(arguments: &'c [Vec<Hidden<'x>>], parameter: usize) -> &'
 struct Expander<'x> {
     /// The state of replacement.
     replacer: Replacer<'x>,
-    /// The remaining budget; `None` means no limit.
-    remaining: Option<u64>,
-    /// The fault that stopped the expansion. It is set before a method returns `Stop::Fault`.
-    fault: Option<Fault>,
+    meter: Meter,
 }
 
 impl<'x> Expander<'x> {
     /// Begins an expansion step of a list. `named` is the macro that the next token names, if any. Returns whether the expansion of the
-    /// list continues. `Stop::Fault` means that it stops with the fault in `self.fault`.
+    /// list continues, or the fault that stops it.
     ///
     /// Appends emitted tokens to `emitted` and removes the processed tokens from `list`. An invocation of a function-like macro is only put in
     /// `invocation`: its arguments are still to be expanded. Otherwise `invocation` becomes `None`.
@@ -154,47 +148,33 @@ impl<'x> Expander<'x> {
         list: &mut TokenStack<'x>,
         emitted: &mut Emitted<'x>,
         invocation: &mut Option<Invocation<'t, 'x, 'a>>,
-    ) -> Result<bool, Stop>
+    ) -> Result<bool, Error>
         requires named { option_copied named ≡ next_macro context.now.table.now.macros (tokens_of list.old) }
         requires list_known { AllKnown self.old.replacer.sets list.old }
         requires emitted_known { AllKnown self.old.replacer.sets emitted.old }
-        ensures progress { UnlessFailed result self.new.fault (λ r. MatchOption invocation.new
-            ((level : ℕ) → HasStepped context.now.table.now.macros context.now.env.now level self.old.remaining (hidings self.old.replacer.sets list.old)
-            (hidings self.old.replacer.sets emitted.old) r self.new.remaining (hidings self.new.replacer.sets list.new) (hidings self.new.replacer.sets emitted.new))
-            (λ c. HasInvoked context.now.table.now.macros context.now.env.now self.old.remaining (hidings self.old.replacer.sets list.old)
+        ensures progress { UnlessOutOfMemory result (λ r. MatchOption invocation.new
+            ((level : ℕ) → HasStepped context.now.table.now.macros context.now.env.now level self.old.meter (hidings self.old.replacer.sets list.old)
+            (hidings self.old.replacer.sets emitted.old) r self.new.meter (hidings self.new.replacer.sets list.new) (hidings self.new.replacer.sets emitted.new))
+            (λ c. HasInvoked context.now.table.now.macros context.now.env.now self.old.meter (hidings self.old.replacer.sets list.old)
             (hidings self.old.replacer.sets emitted.old) (invocation_in self.new.replacer.sets c.name_token c.definition.now c.arguments.items c.base list.new)
-            r self.new.remaining (hidings self.new.replacer.sets emitted.new))) }
+            r self.new.meter (hidings self.new.replacer.sets emitted.new))) }
         ensures invocation_known { OnOk result (IfSome invocation.new (λ c. InvocationKnown self.new.replacer.sets c.name_token c.arguments.items c.base × AllKnown self.new.replacer.sets list.new)) }
         ensures list_known { IfOk result (λ continues. continues ≡ true → AllKnown self.new.replacer.sets list.new) }
         ensures emitted_known { OnOk result (AllKnown self.new.replacer.sets emitted.new) }
         ensures keeps { KeepsSets self.old.replacer.sets self.new.replacer.sets }
     {
         *invocation = None;
-        let next = self
+        let action = self
             .replacer
-            .next_step(context, self.remaining, named, list)?;
-        let kind = next.kind;
-        match kind {
-            ActionKind::Done => Ok(false),
-            ActionKind::TokenFault(fault) => {
-                self.fault = Some(fault);
-                Err(Stop::Fault)
-            }
-            ActionKind::Emits(token) => {
+            .next_step(context, &mut self.meter, named, list)?;
+        match action {
+            Action::Done => Ok(false),
+            Action::Emits(token) => {
                 emitted.push_single(token)?;
                 Ok(true)
             }
-            ActionKind::ReplacementFault(fault) => {
-                self.remaining = spend_one(self.remaining);
-                self.fault = Some(fault);
-                Err(Stop::Fault)
-            }
-            ActionKind::Replaced => {
-                self.remaining = spend_one(self.remaining);
-                Ok(true)
-            }
-            ActionKind::Invoked(found) => {
-                self.remaining = spend_one(self.remaining);
+            Action::Replaced => Ok(true),
+            Action::Invoked(found) => {
                 *invocation = Some(found);
                 Ok(true)
             }
@@ -208,16 +188,17 @@ impl<'x> Expander<'x> {
         context: &Context<'_, 'a>,
         name_token: &Hidden<'x>,
         argument: &[Hidden<'x>],
-    ) -> Result<ArgumentExpansion<'x>, Stop>
+    ) -> Result<ArgumentExpansion<'x>, Error>
         requires level { context.now.level ≤ 256 }
+        requires hashing { self.old.replacer.sets.hashing ≡ context.now.table.now.hashing }
         requires known { AllKnown self.old.replacer.sets argument.now }
-        ensures is { UnlessFailed result self.new.fault (HasExpanded context.now.table.now.macros context.now.env.now context.now.level name_token.now.token
-            self.old.remaining self.new.remaining self.old.replacer.sets self.new.replacer.sets argument.now) }
+        ensures is { UnlessOutOfMemory result (HasExpanded context.now.table.now.macros context.now.env.now context.now.level name_token.now.token
+            self.old.meter self.new.meter self.old.replacer.sets self.new.replacer.sets argument.now) }
         ensures known { IfOk result (λ e. AllKnown self.new.replacer.sets (owned_tokens e)) }
         ensures keeps { KeepsSets self.old.replacer.sets self.new.replacer.sets }
     {
         if context.level >= DEEPEST {
-            return depth_fault(name_token, &mut self.fault);
+            return Err(fault_at_expansion(self.replacer.pool.alloc(), 21, name_token));
         }
         // Fast path: most arguments name no macro, and expand to themselves.
         if none_expands(context.table, argument) {
@@ -250,13 +231,14 @@ impl<'x> Expander<'x> {
         invocation: &Invocation<'_, 'x, 'a>,
         pattern: &Pattern<'a>,
         expanded: &mut Vec<ArgumentExpansion<'x>>,
-    ) -> Result<(), Stop>
+    ) -> Result<(), Error>
         requires level { context.now.level ≤ 256 }
+        requires hashing { self.old.replacer.sets.hashing ≡ context.now.table.now.hashing }
         requires known { InvocationKnown self.old.replacer.sets invocation.now.name_token invocation.now.arguments.items invocation.now.base }
         requires chains { pattern_chains pattern.now ≡ chains_of invocation.now.definition.now }
         requires none { expanded.old.items ≡ [] }
-        ensures is { UnlessFailed result self.new.fault (λ r. (following : List Hidden) → ExpandsInvocationArguments context.now.table.now.macros context.now.env.now context.now.level
-            (invocation_in self.old.replacer.sets invocation.now.name_token invocation.now.definition.now invocation.now.arguments.items invocation.now.base following) self.old.remaining self.new.remaining
+        ensures is { UnlessOutOfMemory result (λ r. (following : List Hidden) → ExpandsInvocationArguments context.now.table.now.macros context.now.env.now context.now.level
+            (invocation_in self.old.replacer.sets invocation.now.name_token invocation.now.definition.now invocation.now.arguments.items invocation.now.base following) self.old.meter self.new.meter
             (result_and r (Ok (expanded_in self.new.replacer.sets invocation.now.arguments.items expanded.new.items)))) }
         ensures known { OnOk result (ExpansionsKnown self.new.replacer.sets expanded.new.items) }
         ensures keeps { KeepsSets self.old.replacer.sets self.new.replacer.sets }
@@ -286,35 +268,34 @@ impl<'x> Expander<'x> {
         context: &Context<'_, 'a>,
         invocation: &Invocation<'_, 'x, 'a>,
         list: &mut TokenStack<'x>,
-    ) -> Result<(), Stop>
+    ) -> Result<(), Error>
         requires level { context.now.level ≤ 256 }
+        requires hashing { self.old.replacer.sets.hashing ≡ context.now.table.now.hashing }
         requires invocation_known { InvocationKnown self.old.replacer.sets invocation.now.name_token invocation.now.arguments.items invocation.now.base }
         requires list_known { AllKnown self.old.replacer.sets list.old }
-        ensures is { UnlessFailed result self.new.fault (λ r. ClosedStepsTo context.now.table.now.macros context.now.env.now context.now.level
-            (invocation_in self.old.replacer.sets invocation.now.name_token invocation.now.definition.now invocation.now.arguments.items invocation.now.base list.old) self.old.remaining self.new.remaining
+        ensures is { UnlessOutOfMemory result (λ r. ClosedStepsTo context.now.table.now.macros context.now.env.now context.now.level
+            (invocation_in self.old.replacer.sets invocation.now.name_token invocation.now.definition.now invocation.now.arguments.items invocation.now.base list.old) self.old.meter self.new.meter
             (replaced_in self.new.replacer.sets list.new r)) }
         ensures known { OnOk result (AllKnown self.new.replacer.sets list.new) }
         ensures keeps { KeepsSets self.old.replacer.sets self.new.replacer.sets }
     {
-        let pattern = invocation
-            .definition
-            .pattern(self.replacer.pool.alloc(), context.table.hashing())?;
+        let pattern = pattern_of(
+            self.replacer.pool.alloc(),
+            context.table,
+            context.table.hashing(),
+            invocation.definition,
+        )?;
         let mut expanded = Vec::with_capacity(
             self.replacer.pool.alloc(),
             parameter_count(invocation.definition),
         )?;
         self.expand_arguments(context, invocation, &pattern, &mut expanded)?;
-        self.replacer.finish_invocation(
-            invocation,
-            &pattern,
-            expanded.as_slice(),
-            list,
-            &mut self.fault,
-        )
+        self.replacer
+            .finish_invocation(invocation, &pattern, expanded.as_slice(), list)
     }
 
     /// Makes one expansion step of a list, including the arguments of an invocation. `named` is the macro that the next token names, if
-    /// any. Returns whether the expansion of the list continues. `Stop::Fault` means that it stops with the fault in `self.fault`.
+    /// any. Returns whether the expansion of the list continues, or the fault that stops it.
     ///
     /// Appends emitted tokens to `emitted` and removes the processed tokens from `list`. `invocation` is an out-parameter, so that its value
     /// is in the caller's frame.
@@ -326,14 +307,15 @@ impl<'x> Expander<'x> {
         list: &mut TokenStack<'x>,
         emitted: &mut Emitted<'x>,
         invocation: &mut Option<Invocation<'t, 'x, 'a>>,
-    ) -> Result<bool, Stop>
+    ) -> Result<bool, Error>
         requires level { context.now.level ≤ 256 }
+        requires hashing { self.old.replacer.sets.hashing ≡ context.now.table.now.hashing }
         requires named { option_copied named ≡ next_macro context.now.table.now.macros (tokens_of list.old) }
         requires list_known { AllKnown self.old.replacer.sets list.old }
         requires emitted_known { AllKnown self.old.replacer.sets emitted.old }
-        ensures progress { UnlessFailed result self.new.fault (λ r.
-            HasStepped context.now.table.now.macros context.now.env.now context.now.level self.old.remaining (hidings self.old.replacer.sets list.old)
-            (hidings self.old.replacer.sets emitted.old) r self.new.remaining (hidings self.new.replacer.sets list.new) (hidings self.new.replacer.sets emitted.new)) }
+        ensures progress { UnlessOutOfMemory result (λ r.
+            HasStepped context.now.table.now.macros context.now.env.now context.now.level self.old.meter (hidings self.old.replacer.sets list.old)
+            (hidings self.old.replacer.sets emitted.old) r self.new.meter (hidings self.new.replacer.sets list.new) (hidings self.new.replacer.sets emitted.new)) }
         ensures list_known { IfOk result (λ continues. continues ≡ true → AllKnown self.new.replacer.sets list.new) }
         ensures emitted_known { OnOk result (AllKnown self.new.replacer.sets emitted.new) }
         ensures keeps { KeepsSets self.old.replacer.sets self.new.replacer.sets }
@@ -354,12 +336,13 @@ impl<'x> Expander<'x> {
         context: &Context<'_, 'a>,
         list: &mut TokenStack<'x>,
         emitted: &mut Emitted<'x>,
-    ) -> Result<(), Stop>
+    ) -> Result<(), Error>
         requires level { context.now.level ≤ 256 }
+        requires hashing { self.old.replacer.sets.hashing ≡ context.now.table.now.hashing }
         requires known { AllKnown self.old.replacer.sets list.old }
         requires none { emitted.old ≡ [] }
-        ensures outcome { UnlessFailed result self.new.fault (λ r. ExpandsTo context.now.table.now.macros context.now.env.now context.now.level self.old.remaining (hidings self.old.replacer.sets list.old)
-            (record { tokens = hidings self.new.replacer.sets emitted.new; fault = result_err r; remaining = self.new.remaining })) }
+        ensures outcome { UnlessOutOfMemory result (λ r. ExpandsTo context.now.table.now.macros context.now.env.now context.now.level self.old.meter (hidings self.old.replacer.sets list.old)
+            (record { tokens = hidings self.new.replacer.sets emitted.new; fault = result_err r; meter = self.new.meter })) }
         ensures known { OnOk result (AllKnown self.new.replacer.sets emitted.new) }
         ensures keeps { KeepsSets self.old.replacer.sets self.new.replacer.sets }
     {
@@ -384,25 +367,23 @@ pub struct Expanded<'a> {
     /// The emitted tokens.
     pub tokens: TokenRope<'a>,
     /// The fault that stopped the expansion, if any.
-    pub fault: Option<Fault>,
-    /// The remaining budget of the unit; `None` means no limit.
-    pub remaining: Option<u64>,
+    pub fault: Option<BoxedFault>,
 }
 
 /// Expands tokens of a file, with empty hide sets at first, and appends the emitted tokens to `emitted`.
 ///
-/// Returns the remaining budget, and the fault that stopped the expansion, if any.
+/// Returns the fault that stopped the expansion, if any.
 fn expand_tokens<'x, 'a: 'x>(
     alloc: Global,
     context: &Context<'_, 'a>,
-    remaining: Option<u64>,
+    meter: &mut Meter,
     tokens: &'x [Token],
     emitted: &mut Emitted<'x>,
-) -> Result<(Option<u64>, Option<Fault>), Memory>
+) -> Result<Option<BoxedFault>, Memory>
     requires level { context.now.level ≡ 0 }
     requires none { emitted.old ≡ [] }
-    ensures { IfOk result (λ r. (sets : HideSetPool) × ExpandsTo context.now.table.now.macros context.now.env.now 0 remaining (map unhidden tokens.now)
-        (record { tokens = hidings sets emitted.new; fault = r.1; remaining = r.0 })) }
+    ensures { IfOk result (λ r. (sets : HideSetPool) × ExpandsTo context.now.table.now.macros context.now.env.now 0 meter.old (map unhidden tokens.now)
+        (record { tokens = hidings sets emitted.new; fault = r; meter = meter.new })) }
 {
     let sets = HideSets::with_hasher(alloc, context.table.hashing())?;
     let mut list = TokenStack::over(alloc, tokens, sets.empty());
@@ -411,13 +392,18 @@ fn expand_tokens<'x, 'a: 'x>(
             pool: VecPool::new(alloc),
             sets,
         },
-        remaining,
-        fault: None,
+        meter: *meter,
     };
     match expander.expand_list(context, &mut list, emitted) {
-        Ok(()) => Ok((expander.remaining, None)),
-        Err(Stop::Fault) => Ok((expander.remaining, expander.fault)),
-        Err(Stop::Memory) => Err(Memory),
+        Ok(()) => {
+            *meter = expander.meter;
+            Ok(None)
+        }
+        Err(Error::Fault(fault)) => {
+            *meter = expander.meter;
+            Ok(Some(fault))
+        }
+        Err(Error::Memory) => Err(Memory),
     }
 }
 
@@ -427,12 +413,12 @@ fn expand_rest<'x, 'a: 'x>(
     alloc: Global,
     table: &Table<'a>,
     env: &Env,
-    remaining: Option<u64>,
+    meter: &mut Meter,
     prefix: &'x [Token],
     rest: &'x [Token],
 ) -> Result<Expanded<'x>, Memory>
     requires unexpanded { AllByRecursion (λ t. never_expands table.now.macros t ≡ true) prefix.now }
-    ensures { IfOk result (λ e. IsExpansion table.now.macros env.now remaining (prefix.now ++ rest.now) e) }
+    ensures { IfOk result (λ e. IsExpansion table.now.macros env.now meter.old (prefix.now ++ rest.now) (record { tokens = e.tokens; fault = e.fault; meter = meter.new })) }
 {
     let context = Context {
         table,
@@ -440,20 +426,19 @@ fn expand_rest<'x, 'a: 'x>(
         level: 0,
     };
     let mut emitted = Emitted::with_capacity(alloc, CAPACITY)?;
-    let (remaining, fault) = expand_tokens(alloc, &context, remaining, rest, &mut emitted)?;
+    let fault = expand_tokens(alloc, &context, meter, rest, &mut emitted)?;
     emitted.free_unused()?;
     Ok(Expanded {
         tokens: TokenRope::new(prefix, emitted),
         fault,
-        remaining,
     })
 }
 
 /// Expands a list of tokens: replaces each macro name, and rescans the replacement together with the tokens after it (6.10.3.4). A token
 /// whose name is in its own hide set is not replaced.
 ///
-/// `remaining` is the budget, the number of replacements that may be made; `None` means no limit. Each name of an object-like or predefined
-/// macro that is replaced counts as one. So does each invocation of a function-like macro, before its arguments are expanded and even if
+/// The budget of `meter` is the number of replacements that may be made; `None` means no limit. Each name of an object-like or predefined
+/// macro that is replaced takes one from it. So does each invocation of a function-like macro, before its arguments are expanded and even if
 /// it has a fault. One more replacement is fault 35 at the expansion location of the name.
 ///
 /// The tokens emitted before a fault are kept. Fault 7, an unmatched quote, is at the spelling location of the quote. The other faults are
@@ -472,18 +457,17 @@ pub fn expand<'x, 'a: 'x>(
     alloc: Global,
     table: &Table<'a>,
     env: &Env,
-    remaining: Option<u64>,
+    meter: &mut Meter,
     tokens: &'x [Token],
 ) -> Result<Expanded<'x>, Memory>
-    ensures { IfOk result (λ e. IsExpansion table.now.macros env.now remaining tokens.now e) }
+    ensures { IfOk result (λ e. IsExpansion table.now.macros env.now meter.old tokens.now (record { tokens = e.tokens; fault = e.fault; meter = meter.new })) }
 {
     let (prefix, rest) = split_unexpanded(table, tokens);
     if rest.is_empty() {
         return Ok(Expanded {
             tokens: TokenRope::new(prefix, Emitted::new(alloc)),
             fault: None,
-            remaining,
         });
     }
-    expand_rest(alloc, table, env, remaining, prefix, rest)
+    expand_rest(alloc, table, env, meter, prefix, rest)
 }

@@ -8,35 +8,36 @@ ghost use Rattle.ppmacro.specs.Hiding.{Hiding};
 ghost use Rattle.ppexpand.specs.declared.env.Env.{Env};
 ghost use Rattle.ppexpand.specs.Arguments.{Closed, UnmatchedQuote, Unclosed, gather};
 ghost use Rattle.ppexpand.specs.ExpansionStep.{expansion_step};
-ghost use Rattle.ppexpand.specs.declared.expansion.Expanded.{Expanded};
-ghost use Rattle.ppexpand.specs.Expansion.{Outcome, step_in_budget, Expands, ExpandsTo, IsExpansion, count};
+ghost use Rattle.ppexpand.specs.Budget.{with_budget, without_budget};
+ghost use Rattle.ppexpand.specs.declared.meter.Meter.{Meter};
+ghost use Rattle.ppexpand.specs.Expansion.{Outcome, step_in_budget, Expands, ExpandsTo, Expansion, IsExpansion, count};
 ghost use Rattle.ppexpand.specs.Standard.{StandardExpands, IsStandardExpansion};
-ghost use Rattle.ppexpand.specs.Laws.{HasOneOutcome, HasOneExpansion, EndsWithin, plus, IsCapped, OnlyBudgetsRefuse, is_fully_expanded, IsInvocation};
+ghost use Rattle.ppexpand.specs.Laws.{HasOneOutcome, HasOneExpansion, EndsWithin, plus, CapsExpansion, OnlyBudgetsRefuse, is_fully_expanded, IsInvocation};
 ghost use Rattle.ppexpand.specs.Laws.{StopsAtQuote, NeverClosed, Leads};
 ghost use Rattle.ppexpand.specs.Termination.{hides, IsSubset, HidesNames, names_left, IsOutside, Step, Ends, PrefixEnds};
 
 /// Each list of tokens with hide sets has exactly one outcome, for all macros and at each level of arguments.
 pub fn one_outcome()
-    ensures { (macros : Macros) (env : Env) (level : ℕ) (remaining : Option ℕ) (list : List Hiding) → HasOneOutcome macros env level remaining list }
+    ensures { (macros : Macros) (env : Env) (level : ℕ) (meter : Meter) (list : List Hiding) → HasOneOutcome macros env level meter list }
 {}
 
 /// Each list of tokens has exactly one expansion, for all macros (6.10.3.4).
 pub fn one_expansion()
-    ensures { (macros : Macros) (env : Env) (remaining : Option ℕ) (tokens : List Token) → HasOneExpansion macros env remaining tokens }
+    ensures { (macros : Macros) (env : Env) (meter : Meter) (tokens : List Token) → HasOneExpansion macros env meter tokens }
 {}
 
 /// Expansion terminates: for all macros and each list, the number of expansion steps has a bound.
 pub fn expansion_terminates()
-    ensures { (macros : Macros) (env : Env) (level : ℕ) (remaining : Option ℕ) (list : List Hiding)
-        → (most : ℕ) × EndsWithin macros env level most remaining list }
+    ensures { (macros : Macros) (env : Env) (level : ℕ) (meter : Meter) (list : List Hiding)
+        → (most : ℕ) × EndsWithin macros env level most meter list }
 {}
 
 /// Why expansion terminates (6.10.3.4). Each expansion step is a step on the hide sets of the list alone. If the hide sets of a prefix all have
 /// some names, the hide sets of a replacement in it have these names and one more, so fewer macro names remain to be replaced there. Hence each prefix
 /// terminates before a rest that terminates, and each list is such a prefix.
 pub fn prefixes_terminate()
-    ensures steps { (macros : Macros) (env : Env) (level : ℕ) (remaining remaining_after : Option ℕ) (list next : List Hiding)
-        → Leads macros env level remaining list remaining_after next
+    ensures steps { (macros : Macros) (env : Env) (level : ℕ) (meter meter_after : Meter) (list next : List Hiding)
+        → Leads macros env level meter list meter_after next
         → Step macros (hides list) (hides next) }
     ensures names { (hidden one two whole : HideSet) (name : Name) → IsSubset hidden one → IsSubset hidden two → HidesNames one two name whole → IsSubset (set.insert hidden name) whole }
     ensures fewer { (macros : Macros) (hidden : HideSet) (name : Name) → IsOutside macros name hidden → names_left macros (set.insert hidden name) < names_left macros hidden }
@@ -46,8 +47,8 @@ pub fn prefixes_terminate()
 
 /// An expanded token is no unmatched quote, and no name of an object-like or predefined macro unless its hide set has the name (6.10.3.4).
 pub fn leaves_fully_expanded_tokens()
-    ensures { (macros : Macros) (env : Env) (level : ℕ) (remaining : Option ℕ) (list : List Hiding) (out : Outcome)
-        → ExpandsTo macros env level remaining list out
+    ensures { (macros : Macros) (env : Env) (level : ℕ) (meter : Meter) (list : List Hiding) (out : Outcome)
+        → ExpandsTo macros env level meter list out
         → AllPass (is_fully_expanded macros) out.tokens }
 {}
 
@@ -66,31 +67,38 @@ pub fn finds_no_arguments()
 
 /// Without a budget nothing is refused and nothing is counted. An expansion step is what the rules of macro replacement require (6.10.3,
 /// 6.10.3.4). There is no budget after an expansion either. The expansion of a list is the one by the standard's rules, which have no budget.
+///
+/// Both sides use the same definitions of arguments (`gather`, `fit_arguments`, `arguments_to_expand`) and of replacements
+/// (`predefined_value`, `macro_replacement`, `followed_by`). So the law says that they apply these definitions in the same cases and in
+/// the same order. It says nothing of the definitions themselves.
 pub fn without_a_budget()
-    ensures steps { (macros : Macros) (env : Env) (list : List Hiding) → step_in_budget macros env None list ≡ expansion_step macros env list }
-    ensures remaining { (macros : Macros) (env : Env) (level : ℕ) (list : List Hiding) (out : Outcome)
-        → ExpandsTo macros env level None list out
-        → out.remaining ≡ None }
-    ensures rules { (macros : Macros) (env : Env) (level : ℕ) (list : List Hiding) (out : Outcome)
-        → ExpandsTo macros env level None list out ↔ ((out.remaining ≡ None) × StandardExpands macros env level list out.tokens out.fault) }
-    ensures expansions { (macros : Macros) (env : Env) (tokens : List Token) (e : Expanded)
-        → IsExpansion macros env None tokens e ↔ ((e.remaining ≡ None) × IsStandardExpansion macros env tokens e.tokens e.fault) }
+    ensures steps { (macros : Macros) (env : Env) (meter : Meter) (list : List Hiding)
+        → step_in_budget macros env (without_budget meter) list ≡ expansion_step macros env list }
+    ensures remaining { (macros : Macros) (env : Env) (level : ℕ) (meter : Meter) (list : List Hiding) (out : Outcome)
+        → ExpandsTo macros env level (without_budget meter) list out
+        → out.meter.remaining ≡ None }
+    ensures rules { (macros : Macros) (env : Env) (level : ℕ) (meter : Meter) (list : List Hiding) (out : Outcome)
+        → ExpandsTo macros env level (without_budget meter) list out
+        ↔ ((out.meter ≡ without_budget meter) × StandardExpands macros env level list out.tokens out.fault) }
+    ensures expansions { (macros : Macros) (env : Env) (meter : Meter) (tokens : List Token) (e : Expansion)
+        → IsExpansion macros env (without_budget meter) tokens e
+        ↔ ((e.meter ≡ without_budget meter) × IsStandardExpansion macros env tokens e.tokens e.fault) }
 {}
 
 /// The cost of an expansion and the rest of the budget add up to the budget.
 pub fn budget_is_spent()
-    ensures { (macros : Macros) (env : Env) (level steps : ℕ) (remaining : Option ℕ) (list : List Hiding) (out : Outcome)
-        → (d : Expands macros env level remaining steps list out)
-        → remaining ≡ plus (count macros env d) out.remaining }
+    ensures { (macros : Macros) (env : Env) (level steps : ℕ) (meter : Meter) (list : List Hiding) (out : Outcome)
+        → (d : Expands macros env level meter steps list out)
+        → meter.remaining ≡ plus (count macros env d) out.meter.remaining }
 {}
 
 /// An expansion within a budget equals the one without a budget if the cost does not exceed the budget. Otherwise it ends in fault 35, nothing remains of the budget,
 /// and the emitted tokens are a prefix.
 pub fn budget_caps()
-    ensures { (macros : Macros) (env : Env) (level steps : ℕ) (list : List Hiding) (whole : Outcome)
-        → (d : Expands macros env level None steps list whole) (b : ℕ) (out : Outcome)
-        → ExpandsTo macros env level (Some b) list out
-        → IsCapped b (count macros env d) whole out }
+    ensures { (macros : Macros) (env : Env) (level steps : ℕ) (meter : Meter) (list : List Hiding) (whole : Outcome)
+        → (d : Expands macros env level (without_budget meter) steps list whole) (b : ℕ) (out : Outcome)
+        → ExpandsTo macros env level (with_budget (Some b) meter) list out
+        → CapsExpansion b (count macros env d) whole out }
 {}
 
 /// Without a budget no expansion ends in fault 35.

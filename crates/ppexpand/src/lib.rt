@@ -2,7 +2,6 @@
 #![tactic(auto)]
 
 mod arguments;
-mod budget;
 mod context;
 mod emitted;
 mod env;
@@ -10,16 +9,15 @@ mod expand_step;
 mod expansion;
 mod laws;
 mod lists;
+mod meter;
 mod pre_expansion;
 mod predefined;
 mod rope_iter;
-mod stop;
 mod token_roles;
 mod token_span;
 mod token_stack;
 mod vec_pool;
 
-pub use budget::{is_exhausted, spend_one};
 pub use emitted::TokenRope;
 pub use env::Env;
 pub use expansion::{Expanded, expand};
@@ -28,4 +26,5 @@ pub use laws::{
     leaves_fully_expanded_tokens, one_expansion, one_outcome, only_budgets_refuse,
     prefixes_terminate, without_a_budget,
 };
+pub use meter::Meter;
 pub use rope_iter::{RopeIter, RopeSlices, SliceIter, TokenRef, TokenSlice};

@@ -1,11 +1,11 @@
 //! Appends to vectors.
 ghost use Rattle.std.specs.Prelude.{◌≡◌, ◌∷◌, ◌++◌, [], OnOk};
 
-use std::alloc::AllocError;
+use pptext::Memory;
 
 /// Appends an item.
 #[inline(always)]
-pub(crate) fn put<T: Drop>(items: &mut Vec<T>, item: T) -> Result<(), AllocError>
+pub(crate) fn put<T: Drop>(items: &mut Vec<T>, item: T) -> Result<(), Memory>
     ensures { OnOk result (items.new.items ≡ items.old.items ++ item ∷ []) }
 {
     items.push(item)?;

@@ -5,7 +5,8 @@ ghost use Rattle.ppmacro.specs.Patterns.{entry_chain, pattern_chains};
 ghost use Rattle.ppexpand.specs.ExpansionStep.{is_lone_parameter, pre_expands};
 
 use ppmacro::{Chain, Entry, Macro, MacroKind, Operand, Pattern};
-use std::alloc::{AllocError, Global};
+use pptext::Memory;
+use std::alloc::Global;
 
 /// Returns the number of parameters of a macro.
 pub(crate) fn parameter_count(definition: &Macro) -> usize
@@ -48,7 +49,7 @@ fn parameters_in_entries(
     alloc: Global,
     parameters: usize,
     entries: &[Entry],
-) -> Result<Vec<bool>, AllocError>
+) -> Result<Vec<bool>, Memory>
     ensures len { IfOk result (λ v. length v.items ≡ parameters) }
     ensures pre_expanded { IfOk result (λ v. (i : ℕ) → i < parameters → get_or v.items i false ≡ pre_expands i (map entry_chain entries.now)) }
 {
@@ -67,7 +68,7 @@ pub(crate) fn pre_expanded_parameters(
     alloc: Global,
     definition: &Macro,
     pattern: &Pattern,
-) -> Result<Vec<bool>, AllocError>
+) -> Result<Vec<bool>, Memory>
     ensures len { IfOk result (λ v. length v.items ≡ length (parameter_names definition.now.kind)) }
     ensures pre_expanded { IfOk result (λ v. (i : ℕ) → i < length (parameter_names definition.now.kind) → get_or v.items i false ≡ pre_expands i (pattern_chains pattern.now)) }
 {
@@ -83,7 +84,7 @@ fn parameters_in_chains(
     alloc: Global,
     parameters: usize,
     chains: &[Chain],
-) -> Result<Vec<bool>, AllocError>
+) -> Result<Vec<bool>, Memory>
     ensures len { IfOk result (λ v. length v.items ≡ parameters) }
     ensures pre_expanded { IfOk result (λ v. (i : ℕ) → i < parameters → get_or v.items i false ≡ pre_expands i chains.now) }
 {

@@ -8,8 +8,8 @@ use crate::env::Env;
 use crate::lists::put;
 use itoa::Buffer;
 use ppmacro::{Hidden, PredefinedMacro, Set};
-use pptext::{Kind, Place, Spelling, Token};
-use std::alloc::{AllocError, Global};
+use pptext::{Kind, Memory, Place, Spelling, Token};
+use std::alloc::Global;
 
 /// Returns the token kind of a predefined macro's replacement.
 fn predefined_kind(predefined: PredefinedMacro) -> Kind
@@ -25,7 +25,7 @@ fn predefined_kind(predefined: PredefinedMacro) -> Kind
 }
 
 /// Returns a text between double quotes.
-fn string_literal(alloc: Global, text: &[u8]) -> Result<Vec<u8>, AllocError>
+fn string_literal(alloc: Global, text: &[u8]) -> Result<Vec<u8>, Memory>
     ensures { IfOk result (λ v. v.items ≡ string_literal text.now) }
 {
     let mut literal = Vec::from_slice(alloc, b"\"")?;
@@ -35,7 +35,7 @@ fn string_literal(alloc: Global, text: &[u8]) -> Result<Vec<u8>, AllocError>
 }
 
 /// Returns the presumed line of a location, in decimal.
-fn presumed_line(alloc: Global, env: &Env, used: Place) -> Result<Vec<u8>, AllocError>
+fn presumed_line(alloc: Global, env: &Env, used: Place) -> Result<Vec<u8>, Memory>
     ensures { IfOk result (λ v. v.items ≡ decimal (nat_abs (presumed_line env.now used))) }
 {
     let line = i128::from(used.line) + i128::from(env.shift);
@@ -49,7 +49,7 @@ fn predefined_text(
     predefined: PredefinedMacro,
     env: &Env,
     used: Place,
-) -> Result<Vec<u8>, AllocError>
+) -> Result<Vec<u8>, Memory>
     ensures { IfOk result (λ v. v.items ≡ predefined_text predefined env.now used) }
 {
     match predefined {
@@ -69,7 +69,7 @@ pub(crate) fn predefined_value<'a>(
     env: &Env,
     name_token: &Hidden,
     names_to_hide: Set,
-) -> Result<Hidden<'a>, AllocError>
+) -> Result<Hidden<'a>, Memory>
     ensures is { IfOk result (λ h. (sets : HideSetPool) → hiding sets h ≡ predefined_value predefined env.now (hiding sets name_token.now) (set_at sets names_to_hide)) }
     ensures names_to_hide { IfOk result (λ h. (h.hide ≡ names_to_hide) × (h.extra ≡ None)) }
 {

@@ -1,4 +1,10 @@
 //! Iterates over an expanded list: over slices of its tokens, or over its tokens one by one.
+//!
+//! Nothing is copied. Tokens are stored in two forms, as tokens of a file and as tokens with hide sets, so there are two kinds of borrowed
+//! tokens and slices (`TokenRef`, `TokenSlice`). `RopeSlices` yields the prefix, then the pieces, then the tokens after them, each if it is
+//! not empty: then the reader of a slice needs no case for an empty one. `RopeIter` yields the tokens of these slices.
+//! The model of each iterator is the list of tokens that it has still to yield. So the contract of `next` only says that it removes the
+//! first token or a nonempty prefix of that list.
 ghost use Rattle.std.specs.Prelude.{◌≡◌, ◌<◌, ◌≤◌, [], true, false, length, take, drop, IfOk};
 ghost use Rattle.std.specs.Iterator.{YieldsFirstBy, item_count};
 ghost use Rattle.ppmacro.specs.Substituting.{tokens_of};
@@ -8,8 +14,8 @@ ghost use Rattle.ppexpand.specs.code.Pieces.{piece_list};
 use crate::emitted::{Piece, TokenRope};
 use crate::lists::put;
 use ppmacro::Hidden;
-use pptext::{Kind, Place, Token};
-use std::alloc::{AllocError, Global};
+use pptext::{Kind, Memory, Place, Token};
+use std::alloc::Global;
 use std::marker::Model;
 
 /// A borrowed token of an expanded list: a token of a file, or a token with a hide set.
@@ -73,7 +79,7 @@ impl<'r, 'a> TokenRef<'r, 'a> {
     }
 
     /// Returns a copy of the token. Fails only if an allocation fails.
-    pub fn to_token(&self) -> Result<Token, AllocError>
+    pub fn to_token(&self) -> Result<Token, Memory>
         ensures { IfOk result (λ t. t ≡ ref_token self.now) }
     {
         match self {
@@ -327,7 +333,7 @@ impl<'a> TokenRope<'a> {
     }
 
     /// Returns a copy of the tokens as one vector.
-    pub fn to_vec(&self, alloc: Global) -> Result<Vec<Token>, AllocError>
+    pub fn to_vec(&self, alloc: Global) -> Result<Vec<Token>, Memory>
         ensures { IfOk result (λ v. v.items ≡ self.now) }
     {
         let (prefix, _, _) = self.split();

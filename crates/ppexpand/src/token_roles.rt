@@ -1,11 +1,13 @@
 //! The roles of tokens in an invocation, and the faults at them.
-ghost use Rattle.std.specs.Prelude.{◌≡◌, IfOk, []};
+ghost use Rattle.std.specs.Prelude.{◌≡◌, []};
+ghost use Rattle.pptext.specs.Errors.{Raises};
 ghost use Rattle.pptext.specs.Tokens.{is_unmatched_quote, fault};
+ghost use Rattle.ppexpand.specs.ExpansionStep.{quote_fault};
 ghost use Rattle.ppexpand.specs.Arguments.{is_open, argument_role, Quote, Open, Close, Comma, Inner};
 
 use ppmacro::Hidden;
-use pptext::{Fault, Kind};
-use std::alloc::AllocError;
+use pptext::{Error, Kind};
+use std::alloc::Global;
 
 /// Returns whether a token is `(`.
 pub(crate) fn is_open(hidden: &Hidden) -> bool
@@ -56,23 +58,26 @@ pub(crate) fn is_quote(hidden: &Hidden) -> bool
     hidden.token().is_unmatched_quote()
 }
 
-/// Returns a fault at the expansion location of a token.
-pub(crate) fn fault_at_expansion(number: u8, hidden: &Hidden) -> Result<Fault, AllocError>
-    ensures { IfOk result (λ f. f ≡ fault number hidden.now.token.used hidden.now.token.text) }
+/// Returns the error of a fault at the expansion location of a token.
+#[inline(never)]
+pub(crate) fn fault_at_expansion(alloc: Global, number: u8, hidden: &Hidden) -> Error
+    ensures { Raises result (fault number hidden.now.token.used hidden.now.token.text) }
 {
-    Fault::of_token(number, hidden.used(), hidden.token())
+    Error::of_token(alloc, number, hidden.used(), hidden.token())
 }
 
-/// Returns fault 7 of an unmatched quote.
-pub(crate) fn quote_fault(hidden: &Hidden) -> Result<Fault, AllocError>
-    ensures { IfOk result (λ f. f ≡ fault 7 hidden.now.token.at hidden.now.token.text) }
+/// Returns the error of fault 7, for an unmatched quote.
+#[inline(never)]
+pub(crate) fn quote_fault(alloc: Global, hidden: &Hidden) -> Error
+    ensures { Raises result (quote_fault hidden.now.token) }
 {
-    Fault::of_token(7, hidden.at(), hidden.token())
+    Error::of_token(alloc, 7, hidden.at(), hidden.token())
 }
 
-/// Returns fault 35 of a macro's name that exceeds the budget.
-pub(crate) fn budget_fault(hidden: &Hidden) -> Fault
-    ensures { result ≡ fault 35 hidden.now.token.used [] }
+/// Returns the error of fault 35, for a macro's name that exceeds the budget.
+#[inline(never)]
+pub(crate) fn budget_fault(alloc: Global, hidden: &Hidden) -> Error
+    ensures { Raises result (fault 35 hidden.now.token.used []) }
 {
-    Fault::bare(35, hidden.used())
+    Error::bare(alloc, 35, hidden.used())
 }

@@ -8,8 +8,8 @@ use crate::expand_step::macro_at;
 use crate::lists::put;
 use crate::token_span::TokenSpan;
 use ppmacro::{Hidden, Macro, Set, Table};
-use pptext::Token;
-use std::alloc::{AllocError, Global};
+use pptext::{Memory, Token};
+use std::alloc::Global;
 use std::marker::Model;
 
 /// The tokens that are still to be expanded. Contracts see them as a list that begins with the next token.
@@ -63,7 +63,7 @@ impl<'a> TokenStack<'a> {
         alloc: Global,
         tokens: &[Hidden<'a>],
         hide: Set,
-    ) -> Result<TokenStack<'a>, AllocError>
+    ) -> Result<TokenStack<'a>, Memory>
         ensures { IfOk result (λ list. list ≡ tokens.now) }
     {
         let mut pushed = Vec::from_clones(alloc, tokens)?;
@@ -93,14 +93,14 @@ impl<'a> TokenStack<'a> {
     }
 
     /// Pushes a token.
-    pub(crate) fn push(&mut self, hidden: Hidden<'a>) -> Result<(), AllocError>
+    pub(crate) fn push(&mut self, hidden: Hidden<'a>) -> Result<(), Memory>
         ensures { OnOk result (self.new ≡ hidden.entry ∷ self.old) }
     {
         put(&mut self.pushed, hidden)
     }
 
     /// Pushes tokens, the last one first.
-    pub(crate) fn push_all(&mut self, tokens: Vec<Hidden<'a>>) -> Result<(), AllocError>
+    pub(crate) fn push_all(&mut self, tokens: Vec<Hidden<'a>>) -> Result<(), Memory>
         ensures { OnOk result (self.new ≡ tokens.entry.items ++ self.old) }
     {
         let mut tokens = tokens;

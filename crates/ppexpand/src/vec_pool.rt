@@ -3,7 +3,8 @@ ghost use Rattle.std.specs.Prelude.{◌≡◌, [], IfOk};
 
 use crate::lists::put;
 use ppmacro::Hidden;
-use std::alloc::{AllocError, Global};
+use pptext::Memory;
+use std::alloc::Global;
 
 /// The most vectors in the pool. Few nested invocations have more arguments together.
 const MOST: usize = 64;
@@ -33,7 +34,7 @@ impl<'x> VecPool<'x> {
     }
 
     /// Returns an empty vector: one of the pool, or a new one with capacity for `capacity` tokens.
-    pub(crate) fn list(&mut self, capacity: usize) -> Result<Vec<Hidden<'x>>, AllocError>
+    pub(crate) fn list(&mut self, capacity: usize) -> Result<Vec<Hidden<'x>>, Memory>
         ensures { IfOk result (λ list. list.items ≡ []) }
     {
         // Saves an allocation for most arguments.
@@ -45,7 +46,7 @@ impl<'x> VecPool<'x> {
     }
 
     /// Puts vectors that are no longer used in the pool.
-    pub(crate) fn keep(&mut self, lists: Vec<Vec<Hidden<'x>>>) -> Result<(), AllocError> {
+    pub(crate) fn keep(&mut self, lists: Vec<Vec<Hidden<'x>>>) -> Result<(), Memory> {
         let mut lists = lists;
         while let Some(list) = lists.pop() {
             if self.lists.len() < MOST && list.len() <= LONG {

@@ -19,8 +19,10 @@ use Rattle.ppmacro.specs.declared.hidden_token.ArgumentExpansion.{ArgumentExpans
 use Rattle.ppmacro.specs.declared.hidden_token.ArgumentExpansion.TheVariants.{Unused, AsGiven, Owned}
 use Rattle.ppexpand.specs.declared.env.Env.{Env}
 use Rattle.ppexpand.specs.ExpansionStep.{Invocation, ExpansionStep, Done, TokenFault, Emits, ReplacementFault, Replaced, Invoked, arguments_to_expand, finish_invocation, ExpandedArguments}
+use Rattle.ppexpand.specs.declared.meter.Meter.{Meter}
 use Rattle.ppexpand.specs.Budget.{spend_one}
-use Rattle.ppexpand.specs.code.Action as next
+use Rattle.ppexpand.specs.declared.expand_step.Action.{Action}
+use Rattle.ppexpand.specs.declared.expand_step.Action.TheVariants as action
 use Rattle.ppexpand.specs.Expansion.{Outcome, step_in_budget, Expands, ExpandsArguments}
 
 -- ---- arguments
@@ -74,19 +76,49 @@ pub record InvocationKnown (sets : HideSetPool) (name : Hidden) (given : List (V
   pub base_known : IsKnown sets base
 
 -- the expansion step of an action after which this list remains
-abbrev pub step_in : HideSetPool → List Hidden → next.Action → ExpansionStep
-step_in sets following next.Done = Done
-step_in sets following (next.TokenFault f) = TokenFault f
-step_in sets following (next.Emits token) = Emits (hiding sets token) (hidings sets following)
-step_in sets following (next.ReplacementFault f) = ReplacementFault f
-step_in sets following next.Replaced = Replaced (hidings sets following)
-step_in sets following (next.Invoked name_token macro given base) = Invoked (invocation_in sets name_token macro given base following)
+abbrev pub step_in : HideSetPool → List Hidden → Action → ExpansionStep
+step_in sets following action.Done = Done
+step_in sets following (action.Emits token) = Emits (hiding sets token) (hidings sets following)
+step_in sets following action.Replaced = Replaced (hidings sets following)
+step_in sets following (action.Invoked c) = Invoked (invocation_in sets c.name_token c.definition.now c.arguments.items c.base following)
 
-abbrev pub ActionKnown : HideSetPool → List Hidden → next.Action → Type 0
-ActionKnown sets following (next.Emits token) = HasSets sets token × AllKnown sets following
-ActionKnown sets following next.Replaced = AllKnown sets following
-ActionKnown sets following (next.Invoked name_token macro given base) = InvocationKnown sets name_token given base × AllKnown sets following
-ActionKnown sets following _ = Unit {0}
+abbrev pub ActionKnown : HideSetPool → List Hidden → Action → Type 0
+ActionKnown sets following action.Done = Unit {0}
+ActionKnown sets following (action.Emits token) = HasSets sets token × AllKnown sets following
+ActionKnown sets following action.Replaced = AllKnown sets following
+ActionKnown sets following (action.Invoked c) = InvocationKnown sets c.name_token c.arguments.items c.base × AllKnown sets following
+
+-- the expansion step of a macro's name: of its action, after which this list remains, or of the fault of its replacement
+abbrev pub named_in : HideSetPool → List Hidden → Result Action Fault → ExpansionStep
+named_in sets following (Ok a) = step_in sets following a
+named_in sets following (Err f) = ReplacementFault f
+
+-- the expansion step of a macro's name if the budget is exhausted
+abbrev pub refused_in : HideSetPool → List Hidden → Result Action Fault → ExpansionStep
+refused_in sets following (Ok a) = step_in sets following a
+refused_in sets following (Err f) = TokenFault f
+
+-- the meter after an action: a replacement takes one from the budget
+abbrev pub charged : Action → Meter → Meter
+charged action.Done meter = meter
+charged (action.Emits token) meter = meter
+charged action.Replaced meter = spend_one meter
+charged (action.Invoked c) meter = spend_one meter
+
+-- the meter after the step of a macro's name, if something remained of the budget; a fault costs as much as a replacement
+abbrev pub charged_in : Result Action Fault → Meter → Meter
+charged_in (Ok a) meter = charged a meter
+charged_in (Err f) meter = spend_one meter
+
+-- this step raises this fault, and the meter before it becomes the meter after it
+pub data HasFailed (step : ExpansionStep) (meter : Meter) (f : Fault) : Meter → Type 0 where
+  at_token : step ≡ TokenFault f → HasFailed step meter f meter
+  in_replacement : step ≡ ReplacementFault f → HasFailed step meter f (spend_one meter)
+
+-- this step was made: by this action, after which this list remains, or it raised this fault; and the meter before it became the meter after it
+abbrev pub HasActed : HideSetPool → List Hidden → ExpansionStep → Meter → Result Action Fault → Meter → Type 0
+HasActed sets following step meter (Ok a) meter_after = (step_in sets following a ≡ step) × (meter_after ≡ charged a meter)
+HasActed sets following step meter (Err f) meter_after = HasFailed step meter f meter_after
 
 -- the expansion step of a replacement after which this list remains
 abbrev pub replaced_in : HideSetPool → List Hidden → Result (Unit {0}) Fault → ExpansionStep
@@ -95,69 +127,69 @@ replaced_in sets following (Err f) = ReplacementFault f
 
 -- ---- expansion
 
--- an argument of an invocation at this level has this expansion or this fault, and this is the remaining budget
-pub data ExpandsArgument (macros : Macros) (env : Env) (level : ℕ) (name_token : Token) (remaining : Option ℕ) (list : List Hiding)
-    : Option ℕ → Result (List Hiding) Fault → Type 0 where
-  expands : {steps : ℕ} {remaining_after : Option ℕ} {tokens : List Hiding}
+-- an argument of an invocation at this level has this expansion or this fault, and this is the meter after it
+pub data ExpandsArgument (macros : Macros) (env : Env) (level : ℕ) (name_token : Token) (meter : Meter) (list : List Hiding)
+    : Meter → Result (List Hiding) Fault → Type 0 where
+  expands : {steps : ℕ} {meter_after : Meter} {tokens : List Hiding}
       → level < 256
-      → Expands macros env (suc level) remaining steps list (record { tokens = tokens; fault = None; remaining = remaining_after })
-      → ExpandsArgument macros env level name_token remaining list remaining_after (Ok tokens)
-  raises : {steps : ℕ} {remaining_after : Option ℕ} {tokens : List Hiding} {f : Fault}
+      → Expands macros env (suc level) meter steps list (record { tokens = tokens; fault = None; meter = meter_after })
+      → ExpandsArgument macros env level name_token meter list meter_after (Ok tokens)
+  raises : {steps : ℕ} {meter_after : Meter} {tokens : List Hiding} {f : Fault}
       → level < 256
-      → Expands macros env (suc level) remaining steps list (record { tokens = tokens; fault = Some f; remaining = remaining_after })
-      → ExpandsArgument macros env level name_token remaining list remaining_after (Err f)
-  deep : 256 ≤ level → ExpandsArgument macros env level name_token remaining list remaining (Err (fault 21 name_token.used name_token.text))
+      → Expands macros env (suc level) meter steps list (record { tokens = tokens; fault = Some f; meter = meter_after })
+      → ExpandsArgument macros env level name_token meter list meter_after (Err f)
+  deep : 256 ≤ level → ExpandsArgument macros env level name_token meter list meter (Err (fault 21 name_token.used name_token.text))
 
 -- an argument of an invocation at this level has an expansion, which this value of the program represents, or it has this
 -- fault
-abbrev pub HasExpanded : Macros → Env → ℕ → Token → Option ℕ → Option ℕ → HideSetPool → HideSetPool → List Hidden → Result ArgumentExpansion Fault → Type 0
-HasExpanded macros env level name_token remaining remaining_after before sets given (Ok e) = (tokens : List Hiding)
+abbrev pub HasExpanded : Macros → Env → ℕ → Token → Meter → Meter → HideSetPool → HideSetPool → List Hidden → Result ArgumentExpansion Fault → Type 0
+HasExpanded macros env level name_token meter meter_after before sets given (Ok e) = (tokens : List Hiding)
     × (option_map (hidings sets) (expansion_if_computed given e) ≡ Some tokens)
-    × ExpandsArgument macros env level name_token remaining (hidings before given) remaining_after (Ok tokens)
-HasExpanded macros env level name_token remaining remaining_after before sets given (Err f) = ExpandsArgument macros env level name_token remaining (hidings before given) remaining_after (Err f)
+    × ExpandsArgument macros env level name_token meter (hidings before given) meter_after (Ok tokens)
+HasExpanded macros env level name_token meter meter_after before sets given (Err f) = ExpandsArgument macros env level name_token meter (hidings before given) meter_after (Err f)
 
 -- the arguments of an invocation at this level that are to be expanded have these expansions or this fault, and this is the
--- remaining budget
-abbrev pub ExpandsInvocationArguments : Macros → Env → ℕ → Invocation → Option ℕ → Option ℕ → ExpandedArguments → Type 0
-ExpandsInvocationArguments macros env level invocation remaining remaining_after r = ExpandsArguments macros env level invocation remaining (arguments_to_expand invocation) remaining_after r
+-- meter after them
+abbrev pub ExpandsInvocationArguments : Macros → Env → ℕ → Invocation → Meter → Meter → ExpandedArguments → Type 0
+ExpandsInvocationArguments macros env level invocation meter meter_after r = ExpandsArguments macros env level invocation meter (arguments_to_expand invocation) meter_after r
 
 -- an invocation at this level has this expansion step: its arguments are expanded, and then it is replaced
-pub data ClosedStepsTo (macros : Macros) (env : Env) (level : ℕ) (invocation : Invocation) (remaining : Option ℕ) : Option ℕ → ExpansionStep → Type 0 where
-  fault_in_arguments : {remaining_after : Option ℕ} {f : Fault}
-      → ExpandsInvocationArguments macros env level invocation remaining remaining_after (Err f)
-      → ClosedStepsTo macros env level invocation remaining remaining_after (ReplacementFault f)
-  finishes : {remaining_after : Option ℕ} {expanded : List (Option (List Hiding))}
-      → ExpandsInvocationArguments macros env level invocation remaining remaining_after (Ok expanded)
-      → ClosedStepsTo macros env level invocation remaining remaining_after (finish_invocation invocation expanded)
+pub data ClosedStepsTo (macros : Macros) (env : Env) (level : ℕ) (invocation : Invocation) (meter : Meter) : Meter → ExpansionStep → Type 0 where
+  fault_in_arguments : {meter_after : Meter} {f : Fault}
+      → ExpandsInvocationArguments macros env level invocation meter meter_after (Err f)
+      → ClosedStepsTo macros env level invocation meter meter_after (ReplacementFault f)
+  finishes : {meter_after : Meter} {expanded : List (Option (List Hiding))}
+      → ExpandsInvocationArguments macros env level invocation meter meter_after (Ok expanded)
+      → ClosedStepsTo macros env level invocation meter meter_after (finish_invocation invocation expanded)
 
 -- one expansion step leads from the first list to the second, and emits these tokens
-pub record Advances (macros : Macros) (env : Env) (level : ℕ) (remaining : Option ℕ) (list : List Hiding) (remaining_after : Option ℕ)
+pub record Advances (macros : Macros) (env : Env) (level : ℕ) (meter : Meter) (list : List Hiding) (meter_after : Meter)
     (next : List Hiding) (tokens : List Hiding) : Type 0 where
   pub prepends_step : (n : ℕ) (out : Outcome)
-      → Expands macros env level remaining_after n next out
-      → Expands macros env level remaining (suc n) list (record { tokens = tokens ++ out.tokens; fault = out.fault; remaining = out.remaining })
+      → Expands macros env level meter_after n next out
+      → Expands macros env level meter (suc n) list (record { tokens = tokens ++ out.tokens; fault = out.fault; meter = out.meter })
 
--- the list ends here, with this fault or without one, and this is the remaining budget
-abbrev pub EndsWith : Macros → Env → ℕ → Option ℕ → List Hiding → Option Fault → Option ℕ → Type 0
-EndsWith macros env level remaining list f remaining_after = Expands macros env level remaining 0 list (record { tokens = []; fault = f; remaining = remaining_after })
+-- the list ends here, with this fault or without one, and this is the meter after it
+abbrev pub EndsWith : Macros → Env → ℕ → Meter → List Hiding → Option Fault → Meter → Type 0
+EndsWith macros env level meter list f meter_after = Expands macros env level meter 0 list (record { tokens = []; fault = f; meter = meter_after })
 
 -- one expansion step leads from a list to another, and appends the tokens that it emits
-abbrev pub HasAdvanced : Macros → Env → ℕ → Option ℕ → List Hiding → List Hiding → Option ℕ → List Hiding → List Hiding → Type 0
-HasAdvanced macros env level remaining list emitted remaining_after next emitted_after = (tokens : List Hiding)
+abbrev pub HasAdvanced : Macros → Env → ℕ → Meter → List Hiding → List Hiding → Meter → List Hiding → List Hiding → Type 0
+HasAdvanced macros env level meter list emitted meter_after next emitted_after = (tokens : List Hiding)
     × (emitted_after ≡ emitted ++ tokens)
-    × Advances macros env level remaining list remaining_after next tokens
+    × Advances macros env level meter list meter_after next tokens
 
 -- a list ended, with this fault or without one, and the emitted tokens did not change
-abbrev pub HasEnded : Macros → Env → ℕ → Option ℕ → List Hiding → List Hiding → Option Fault → Option ℕ → List Hiding → Type 0
-HasEnded macros env level remaining list emitted f remaining_after emitted_after = EndsWith macros env level remaining list f remaining_after × (emitted_after ≡ emitted)
+abbrev pub HasEnded : Macros → Env → ℕ → Meter → List Hiding → List Hiding → Option Fault → Meter → List Hiding → Type 0
+HasEnded macros env level meter list emitted f meter_after emitted_after = EndsWith macros env level meter list f meter_after × (emitted_after ≡ emitted)
 
 -- one expansion step was made: the list continues, or it ended, or it ended with this fault
-abbrev pub HasStepped : Macros → Env → ℕ → Option ℕ → List Hiding → List Hiding → Result Bool Fault → Option ℕ → List Hiding → List Hiding → Type 0
-HasStepped macros env level remaining list emitted (Ok true) remaining_after next emitted_after = HasAdvanced macros env level remaining list emitted remaining_after next emitted_after
-HasStepped macros env level remaining list emitted (Ok false) remaining_after next emitted_after = HasEnded macros env level remaining list emitted None remaining_after emitted_after
-HasStepped macros env level remaining list emitted (Err f) remaining_after next emitted_after = HasEnded macros env level remaining list emitted (Some f) remaining_after emitted_after
+abbrev pub HasStepped : Macros → Env → ℕ → Meter → List Hiding → List Hiding → Result Bool Fault → Meter → List Hiding → List Hiding → Type 0
+HasStepped macros env level meter list emitted (Ok true) meter_after next emitted_after = HasAdvanced macros env level meter list emitted meter_after next emitted_after
+HasStepped macros env level meter list emitted (Ok false) meter_after next emitted_after = HasEnded macros env level meter list emitted None meter_after emitted_after
+HasStepped macros env level meter list emitted (Err f) meter_after next emitted_after = HasEnded macros env level meter list emitted (Some f) meter_after emitted_after
 
 -- a list begins with this invocation, which is counted; nothing was emitted, and the list continues
-abbrev pub HasInvoked : Macros → Env → Option ℕ → List Hiding → List Hiding → Invocation → Result Bool Fault → Option ℕ → List Hiding → Type 0
-HasInvoked macros env remaining list emitted invocation r remaining_after emitted_after =
-    (step_in_budget macros env remaining list ≡ Invoked invocation) × (r ≡ Ok true) × (remaining_after ≡ spend_one remaining) × (emitted_after ≡ emitted)
+abbrev pub HasInvoked : Macros → Env → Meter → List Hiding → List Hiding → Invocation → Result Bool Fault → Meter → List Hiding → Type 0
+HasInvoked macros env meter list emitted invocation r meter_after emitted_after =
+    (step_in_budget macros env meter list ≡ Invoked invocation) × (r ≡ Ok true) × (meter_after ≡ spend_one meter) × (emitted_after ≡ emitted)

@@ -8,11 +8,11 @@ use Rattle.ppexpand.proofs.expansion.expand_rest.Goals as goal
 
 pub returns : goal.returns
 returns c =
-    let t = c.in_ok-remaining.ensures.0 in
+    let t = c.in_ok-fault.ensures.0 in
     let emitted = c.expand_tokens.new.emitted in
-    let whole : Outcome = record { tokens = hidings t emitted; fault = c.in_ok-remaining.fault; remaining = c.in_ok-remaining.remaining } in
-    expansion-following c.args.table.now.macros c.args.env.now c.args.remaining (c.args.prefix.now ++ c.args.rest.now) c.args.prefix.now c.args.rest.now _ whole refl c.requires.unexpanded
-    c.in_ok-remaining.ensures.1
+    let whole : Outcome = record { tokens = hidings t emitted; fault = c.in_ok-fault.fault; meter = c.expand_tokens.new.meter } in
+    expansion-following c.args.table.now.macros c.args.env.now c.args.meter.now (c.args.prefix.now ++ c.args.rest.now) c.args.prefix.now c.args.rest.now _ whole refl c.requires.unexpanded
+    c.in_ok-fault.ensures.1
     (c.new.ensures ∙ (λ i. c.args.prefix.now ++ tokens_of (c.in_ok-free_unused.ensures i)) ∙ (λ i. c.args.prefix.now ++ tokens-in t emitted i))
     refl
     refl

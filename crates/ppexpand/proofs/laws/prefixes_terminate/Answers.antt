@@ -3,7 +3,7 @@ use Rattle.ppexpand.proofs.Termination as fronts
 use Rattle.ppexpand.proofs.laws.prefixes_terminate.Goals as goal
 
 pub returns-clause-steps : goal.returns-clause-steps
-returns-clause-steps c = λ macros env level remaining remaining_after list next step. leads_step macros env level step
+returns-clause-steps c = λ macros env level meter meter_after list next step. leads_step macros env level step
 
 pub returns-clause-names : goal.returns-clause-names
 returns-clause-names c = one_more_name

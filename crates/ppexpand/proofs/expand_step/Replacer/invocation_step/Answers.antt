@@ -1,9 +1,9 @@
-use Rattle.std.proofs.Common.{◌≡◌, ◌∙◌, sym, ap, subst}
+use Rattle.std.proofs.Common.{◌≡◌, ◌∙◌, ap}
 use Rattle.std.proofs.lemmas.Result.{IfOk-weaker}
+use Rattle.pptext.proofs.ErrorReturns.{if_settled-weaker, raised}
 use Rattle.ppmacro.specs.HideSets.{hiding, hidings}
 use Rattle.ppexpand.specs.Arguments.{UnmatchedQuote, Unclosed, gather, separators}
 use Rattle.ppexpand.specs.ExpansionStep.{closed_invocation_step, invocation_step}
-use Rattle.ppexpand.specs.code.ProgramValues.{step_in, ActionKnown}
 use Rattle.ppexpand.proofs.expand_step.Replacer.invocation_step.Goals as goal
 
 pub closed_invocation_step-requires-clause-arguments : goal.closed_invocation_step-requires-clause-arguments
@@ -20,7 +20,7 @@ returns-in-Closed-clause-is c =
     let known = rw c.in-Closed.is at (c.in_ok-arguments.ensures.known s c.requires.list) in
     let found = rw c.in-Closed.is at (c.in_ok-arguments.ensures.is s) ∙ ap (λ n. gather 0 n (hidings s c.args.list.now)) c.separators.ensures in
     let whole = ap (invocation_step (hiding s c.args.name_token) c.args.definition.now c.args.names.now c.args.variadic) found in
-    IfOk-weaker c.closed_invocation_step.result _ _ (λ n is. is c.gather.new.list known.2
+    if_settled-weaker c.closed_invocation_step.result _ _ (λ r is. is c.gather.new.list known.2
     ∙ ap (λ f. closed_invocation_step (hiding s c.args.name_token) c.args.definition.now f (hiding s c.in-Closed.close) (hidings s c.gather.new.list)) (c.fit_arguments-fitting.ensures.is s)
     ∙ whole)
     c.closed_invocation_step.ensures.is
@@ -36,10 +36,7 @@ returns-in-UnmatchedQuote-clause-is c =
     let found : UnmatchedQuote (hiding s c.in-UnmatchedQuote.quote) ≡ gather 0 (separators c.args.names.now c.args.variadic) (hidings s c.args.list.now) =
     rw c.in-UnmatchedQuote.is at (c.in_ok-arguments.ensures.is s) ∙ ap (λ n. gather 0 n (hidings s c.args.list.now)) c.separators.ensures in
     let whole = ap (invocation_step (hiding s c.args.name_token) c.args.definition.now c.args.names.now c.args.variadic) found in
-    IfOk-weaker c.failed_quote.result _ _ (λ n is. ap (step_in s c.gather.new.list) is ∙ whole) c.failed_quote.ensures
-
-pub returns-in-UnmatchedQuote-clause-known : goal.returns-in-UnmatchedQuote-clause-known
-returns-in-UnmatchedQuote-clause-known c = IfOk-weaker c.failed_quote.result _ _ (λ n is. subst (ActionKnown c.args.self.now.sets c.gather.new.list) (sym is) tt) c.failed_quote.ensures
+    raised _ _ _ c.quote_fault.ensures whole
 
 pub returns-clause-is : goal.returns-clause-is
 returns-clause-is c =
@@ -47,7 +44,4 @@ returns-clause-is c =
     let found : Unclosed ≡ gather 0 (separators c.args.names.now c.args.variadic) (hidings s c.args.list.now) =
     rw c.in-Unclosed.is at (c.in_ok-arguments.ensures.is s) ∙ ap (λ n. gather 0 n (hidings s c.args.list.now)) c.separators.ensures in
     let whole = ap (invocation_step (hiding s c.args.name_token) c.args.definition.now c.args.names.now c.args.variadic) found in
-    IfOk-weaker c.failed_at.result _ _ (λ n is. ap (step_in s c.gather.new.list) is ∙ whole) c.failed_at.ensures
-
-pub returns-clause-known : goal.returns-clause-known
-returns-clause-known c = IfOk-weaker c.failed_at.result _ _ (λ n is. subst (ActionKnown c.args.self.now.sets c.gather.new.list) (sym is) tt) c.failed_at.ensures
+    raised _ _ _ c.fault_at_expansion.ensures whole

@@ -1,7 +1,7 @@
 use Rattle.std.proofs.Common.{◌≡◌, ◌∙◌, ◌∷◌, [], ◌+◌, ◌<◌, ◌≤◌, length, Ok, Err, Some, None, true, false, refl, sym, ap, subst, arith}
 use Rattle.std.specs.Option.{option_map}
 use Rattle.std.proofs.lemmas.List.{length-append}
-use Rattle.ppexpand.proofs.StopLemmas.{stopped, unless_failed-weaker, no_value}
+use Rattle.pptext.proofs.ErrorReturns.{stopped, if_settled-weaker, raised}
 use Rattle.ppmacro.specs.HideSets.{hidings, AllKnown}
 use Rattle.ppmacro.specs.Chains.{parameter_names, chains_of}
 use Rattle.ppmacro.specs.Patterns.{pattern_chains}
@@ -25,37 +25,46 @@ advance-returns-in_default-clause-progress m c = (rw c.in_default.is at c.in_ok-
 
 pub advance-returns-in_err-continues-clause-progress : goal.advance-returns-in_err-continues-clause-progress
 advance-returns-in_err-continues-clause-progress m c =
+    let macros = c.args.context.now.table.now.macros in
+    let env = c.args.context.now.env.now in
+    let level = c.args.context.now.level in
     let s = c.begin_step.new.self.replacer.sets in
-    stopped _ _ _ _ _ c.from_residual.ensures.1 c.in_err-continues.ensures.progress (λ f begun.
-    begun_raises c.args.context.now.table.now.macros c.args.context.now.env.now c.args.context.now.level c.args.self.now.remaining (hidings c.args.self.now.replacer.sets c.args.list.now) (hidings c.args.self.now.replacer.sets c.args.emitted.now)
-    c.begin_step.new.invocation (λ found. invocation_of s found c.begin_step.new.list) f c.begin_step.new.self.remaining (hidings s c.begin_step.new.list) (hidings s c.begin_step.new.emitted) begun)
+    stopped _ _ _ _ c.from_residual.ensures.1 c.in_err-continues.ensures.progress (λ f begun.
+    begun_raises macros env level c.args.self.now.meter (hidings c.args.self.now.replacer.sets c.args.list.now) (hidings c.args.self.now.replacer.sets c.args.emitted.now)
+    c.begin_step.new.invocation (λ found. invocation_of s found c.begin_step.new.list) f c.begin_step.new.self.meter (hidings s c.begin_step.new.list) (hidings s c.begin_step.new.emitted) begun)
 
 pub advance-replace_invocation-requires : goal.advance-replace_invocation-requires
 advance-replace_invocation-requires m c =
     let known = rw c.in-Some.is at c.in_ok-continues.ensures.invocation_known in (
       omega arith,
-      (c.requires.level, known),
+      (c.requires.level, (c.in_ok-continues.ensures.keeps.hashing ∙ c.requires.hashing, known)),
     )
 
 pub advance-returns-in_err-replace_invocation-clause-progress : goal.advance-returns-in_err-replace_invocation-clause-progress
 advance-returns-in_err-replace_invocation-clause-progress m c =
+    let macros = c.args.context.now.table.now.macros in
+    let env = c.args.context.now.env.now in
+    let level = c.args.context.now.level in
     let s = c.begin_step.new.self.replacer.sets in
     let closed_invocation_step = rw c.in-Some.is at c.in_ok-continues.ensures.progress in
     let invocation = invocation_of s c.in-Some.found c.begin_step.new.list in
-    stopped _ _ _ _ _ c.from_residual-in_err-replace_invocation.ensures.1 c.in_err-replace_invocation.ensures.is (λ f steps.
-    invocation_raises c.args.context.now.table.now.macros c.args.context.now.env.now c.args.context.now.level c.args.self.now.remaining (hidings c.args.self.now.replacer.sets c.args.list.now) invocation closed_invocation_step.0 _ _ f c.replace_invocation.new.self.remaining
+    stopped _ _ _ _ c.from_residual-in_err-replace_invocation.ensures.1 c.in_err-replace_invocation.ensures.is (λ f steps.
+    invocation_raises macros env level c.args.self.now.meter (hidings c.args.self.now.replacer.sets c.args.list.now) invocation closed_invocation_step.0 _ _ f c.replace_invocation.new.self.meter
     (hidings-keeps _ c.in_err-replace_invocation.ensures.keeps c.in_ok-continues.ensures.emitted_known ∙ closed_invocation_step.3)
-    (subst (λ l. ClosedStepsTo c.args.context.now.table.now.macros c.args.context.now.env.now c.args.context.now.level invocation l c.replace_invocation.new.self.remaining (ReplacementFault f)) closed_invocation_step.2 steps))
+    (subst (λ l. ClosedStepsTo macros env level invocation l c.replace_invocation.new.self.meter (ReplacementFault f)) closed_invocation_step.2 steps))
 
 pub advance-returns-clause-progress : goal.advance-returns-clause-progress
 advance-returns-clause-progress m c =
+    let macros = c.args.context.now.table.now.macros in
+    let env = c.args.context.now.env.now in
+    let level = c.args.context.now.level in
     let s = c.begin_step.new.self.replacer.sets in
     let t = c.replace_invocation.new.self.replacer.sets in
     let closed_invocation_step = rw c.in-Some.is at c.in_ok-continues.ensures.progress in
     let invocation = invocation_of s c.in-Some.found c.begin_step.new.list in
-    invocation_taken c.args.context.now.table.now.macros c.args.context.now.env.now c.args.context.now.level c.args.self.now.remaining (hidings c.args.self.now.replacer.sets c.args.list.now) invocation closed_invocation_step.0 t c.replace_invocation.new.list _ _ c.replace_invocation.new.self.remaining
+    invocation_taken macros env level c.args.self.now.meter (hidings c.args.self.now.replacer.sets c.args.list.now) invocation closed_invocation_step.0 t c.replace_invocation.new.list _ _ c.replace_invocation.new.self.meter
     (hidings-keeps _ c.in_ok-replace_invocation.ensures.keeps c.in_ok-continues.ensures.emitted_known ∙ closed_invocation_step.3)
-    (subst (λ l. ClosedStepsTo c.args.context.now.table.now.macros c.args.context.now.env.now c.args.context.now.level invocation l c.replace_invocation.new.self.remaining (Replaced (hidings t c.replace_invocation.new.list))) closed_invocation_step.2 c.in_ok-replace_invocation.ensures.is)
+    (subst (λ l. ClosedStepsTo macros env level invocation l c.replace_invocation.new.self.meter (Replaced (hidings t c.replace_invocation.new.list))) closed_invocation_step.2 c.in_ok-replace_invocation.ensures.is)
 
 pub advance-returns-clause-emitted_known : goal.advance-returns-clause-emitted_known
 advance-returns-clause-emitted_known m c = known-keeps _ c.in_ok-replace_invocation.ensures.keeps c.in_ok-continues.ensures.emitted_known
@@ -67,7 +76,7 @@ advance-returns-clause-list_known m c = λ continues. c.in_ok-replace_invocation
 
 pub replace_invocation-returns-in_err-expand_arguments-clause-is : goal.replace_invocation-returns-in_err-expand_arguments-clause-is
 replace_invocation-returns-in_err-expand_arguments-clause-is m c =
-    stopped _ _ _ _ _ c.from_residual-in_err-expand_arguments.ensures.1 c.in_err-expand_arguments.ensures.is (λ f raised. fault_in_arguments (raised c.args.list.now))
+    stopped _ _ _ _ c.from_residual-in_err-expand_arguments.ensures.1 c.in_err-expand_arguments.ensures.is (λ f raised. fault_in_arguments (raised c.args.list.now))
 
 pub replace_invocation-finish_invocation-requires-clause-invocation : goal.replace_invocation-finish_invocation-requires-clause-invocation
 replace_invocation-finish_invocation-requires-clause-invocation m c = invocation_known-keeps c.args.invocation.now c.in_ok-expand_arguments.ensures.keeps c.requires.invocation_known
@@ -81,15 +90,18 @@ replace_invocation-finish_invocation-requires-clause-list m c = known-keeps c.ar
 
 pub replace_invocation-returns-clause-is : goal.replace_invocation-returns-clause-is
 replace_invocation-returns-clause-is m c =
+    let macros = c.args.context.now.table.now.macros in
+    let env = c.args.context.now.env.now in
+    let level = c.args.context.now.level in
     let list = c.args.list.now in
     let u = c.expand_arguments.new.self.replacer.sets in
     let expanded = c.expand_arguments.new.expanded.items in
     let invocation = invocation_of c.args.self.now.replacer.sets c.args.invocation.now list in
-    let args : ExpandsArguments c.args.context.now.table.now.macros c.args.context.now.env.now c.args.context.now.level invocation c.args.self.now.remaining (arguments_to_expand invocation) c.expand_arguments.new.self.remaining (Ok (expanded_in u c.args.invocation.now.arguments.items expanded)) =
+    let args : ExpandsArguments macros env level invocation c.args.self.now.meter (arguments_to_expand invocation) c.expand_arguments.new.self.meter (Ok (expanded_in u c.args.invocation.now.arguments.items expanded)) =
     c.in_ok-expand_arguments.ensures.is list in
     let same = invocation_of-keeps c.args.invocation.now list c.in_ok-expand_arguments.ensures.keeps c.requires.invocation_known c.requires.list_known in
-    unless_failed-weaker c.finish_invocation.result _ _ _
-    (λ r e. subst (ClosedStepsTo c.args.context.now.table.now.macros c.args.context.now.env.now c.args.context.now.level invocation c.args.self.now.remaining c.expand_arguments.new.self.remaining)
+    if_settled-weaker c.finish_invocation.result _ _
+    (λ r e. subst (ClosedStepsTo macros env level invocation c.args.self.now.meter c.expand_arguments.new.self.meter)
     (sym (e ∙ (λ i. finish_invocation (same i) (expanded_in u c.args.invocation.now.arguments.items (c.as_slice.ensures.value i)))))
     (finishes args))
     c.finish_invocation.ensures.is
@@ -100,65 +112,80 @@ replace_invocation-returns-clause-keeps m c = keeps-after c.in_ok-expand_argumen
 -- ---- an argument
 
 pub expand_argument-returns-then-context-ge-DEEPEST-clause-is : goal.expand_argument-returns-then-context-ge-DEEPEST-clause-is
-expand_argument-returns-then-context-ge-DEEPEST-clause-is m c =
-    unless_failed-weaker c.depth_fault.result _ _ _ (λ r raised. rw raised (deep (omega (arith, c.if-context-ge-DEEPEST.true)))) c.depth_fault.ensures
-
-pub expand_argument-returns-then-context-ge-DEEPEST-clause-known : goal.expand_argument-returns-then-context-ge-DEEPEST-clause-known
-expand_argument-returns-then-context-ge-DEEPEST-clause-known m c = no_value c.depth_fault.result _ _ _ c.depth_fault.ensures
+expand_argument-returns-then-context-ge-DEEPEST-clause-is m c = raised _ _ _ c.fault_at_expansion.ensures (deep (omega (arith, c.if-context-ge-DEEPEST.true)))
 
 pub expand_argument-returns-then-none_expands-clause-is : goal.expand_argument-returns-then-none_expands-clause-is
 expand_argument-returns-then-none_expands-clause-is m c =
+    let macros = c.args.context.now.table.now.macros in
+    let env = c.args.context.now.env.now in
+    let level = c.args.context.now.level in
     let s = c.args.self.now.replacer.sets in
     let list = c.args.argument.now in (
       hidings s list,
       refl,
-      argument_expands c.args.context.now.table.now.macros c.args.context.now.env.now c.args.context.now.level c.args.name_token.now.token c.args.self.now.remaining c.args.self.now.remaining (hidings s list) (hidings s list)
-          (omega (arith, c.if-context-ge-DEEPEST.false)) (unhidden-expands c.args.context.now.table.now.macros c.args.context.now.env.now (c.args.context.now.level + 1) c.args.self.now.remaining s list (c.none_expands.ensures c.if-none_expands.true)),
+      argument_expands macros env level c.args.name_token.now.token c.args.self.now.meter c.args.self.now.meter (hidings s list) (hidings s list)
+          (omega (arith, c.if-context-ge-DEEPEST.false)) (unhidden-expands macros env (level + 1) c.args.self.now.meter s list (c.none_expands.ensures c.if-none_expands.true)),
     )
 
 pub expand_argument-expand_list-requires : goal.expand_argument-expand_list-requires
 expand_argument-expand_list-requires m c = (
   omega (arith, c.if-context-ge-DEEPEST.false),
-  (omega (arith, c.if-context-ge-DEEPEST.false), (subst (AllKnown c.args.self.now.replacer.sets) (sym c.in_ok-list.ensures) c.requires.known, c.in_ok-emitted.ensures)),
+  (
+    omega (arith, c.if-context-ge-DEEPEST.false),
+    (c.requires.hashing, (subst (AllKnown c.args.self.now.replacer.sets) (sym c.in_ok-list.ensures) c.requires.known, c.in_ok-emitted.ensures)),
+  ),
 )
 
 pub expand_argument-returns-in_err-expand_list-clause-is : goal.expand_argument-returns-in_err-expand_list-clause-is
 expand_argument-returns-in_err-expand_list-clause-is m c =
+    let macros = c.args.context.now.table.now.macros in
+    let env = c.args.context.now.env.now in
+    let level = c.args.context.now.level in
     let s = c.args.self.now.replacer.sets in
     let t = c.expand_list.new.self.replacer.sets in
-    let remaining = c.args.self.now.remaining in
-    let remaining_after = c.expand_list.new.self.remaining in
-    stopped _ _ _ _ _ c.from_residual-in_err-expand_list.ensures.1 c.in_err-expand_list.ensures.outcome (λ f one.
-    subst (λ list. ExpandsArgument c.args.context.now.table.now.macros c.args.context.now.env.now c.args.context.now.level c.args.name_token.now.token remaining (hidings s list) remaining_after (Err f)) c.in_ok-list.ensures
-    (argument_raises c.args.context.now.table.now.macros c.args.context.now.env.now c.args.context.now.level c.args.name_token.now.token remaining remaining_after (hidings s c.in_ok-list.list) (hidings t c.expand_list.new.emitted) f (omega (arith, c.if-context-ge-DEEPEST.false)) one))
+    let meter = c.args.self.now.meter in
+    let meter_after = c.expand_list.new.self.meter in
+    stopped _ _ _ _ c.from_residual-in_err-expand_list.ensures.1 c.in_err-expand_list.ensures.outcome (λ f one.
+    subst (λ list. ExpandsArgument macros env level c.args.name_token.now.token meter (hidings s list) meter_after (Err f)) c.in_ok-list.ensures
+    (argument_raises macros env level c.args.name_token.now.token meter meter_after (hidings s c.in_ok-list.list) (hidings t c.expand_list.new.emitted) f (omega (arith, c.if-context-ge-DEEPEST.false)) one))
 
 pub expand_argument-returns-clause-is : goal.expand_argument-returns-clause-is
 expand_argument-returns-clause-is m c =
+    let macros = c.args.context.now.table.now.macros in
+    let env = c.args.context.now.env.now in
+    let level = c.args.context.now.level in
     let s = c.args.self.now.replacer.sets in
     let t = c.expand_list.new.self.replacer.sets in
-    let remaining = c.args.self.now.remaining in
-    let remaining_after = c.expand_list.new.self.remaining in
+    let meter = c.args.self.now.meter in
+    let meter_after = c.expand_list.new.self.meter in
     let emitted = hidings t c.expand_list.new.emitted in (
       emitted,
       ap (λ tokens. Some (hidings t tokens)) c.in_ok-tokens.ensures,
-      subst (λ list. ExpandsArgument c.args.context.now.table.now.macros c.args.context.now.env.now c.args.context.now.level c.args.name_token.now.token remaining (hidings s list) remaining_after (Ok emitted)) c.in_ok-list.ensures
-          (argument_expands c.args.context.now.table.now.macros c.args.context.now.env.now c.args.context.now.level c.args.name_token.now.token remaining remaining_after (hidings s c.in_ok-list.list) emitted (omega (arith, c.if-context-ge-DEEPEST.false)) c.in_ok-expand_list.ensures.outcome),
+      subst (λ list. ExpandsArgument macros env level c.args.name_token.now.token meter (hidings s list) meter_after (Ok emitted)) c.in_ok-list.ensures
+          (argument_expands macros env level c.args.name_token.now.token meter meter_after (hidings s c.in_ok-list.list) emitted (omega (arith, c.if-context-ge-DEEPEST.false)) c.in_ok-expand_list.ensures.outcome),
     )
 
 pub expand_argument-returns-clause-known : goal.expand_argument-returns-clause-known
 expand_argument-returns-clause-known m c = subst (AllKnown c.expand_list.new.self.replacer.sets) (sym c.in_ok-tokens.ensures) c.in_ok-expand_list.ensures.known
 
 pub expand_arguments-loop-parameter-init : goal.expand_arguments-loop-parameter-init
-expand_arguments-loop-parameter-init m c = record {
-  low = c.requires.level;
-  count = ap length c.requires.none;
-  known = rw c.requires.none (record { each = tt });
-  keeps = keeps-all c.args.self.now.replacer.sets;
-  follows = λ following. rw c.requires.none (arguments_first c.args.context.now.table.now.macros c.args.context.now.env.now c.args.context.now.level (invocation_of c.args.self.now.replacer.sets c.args.invocation.now following) c.args.self.now.remaining);
-}
+expand_arguments-loop-parameter-init m c =
+    let macros = c.args.context.now.table.now.macros in
+    let env = c.args.context.now.env.now in
+    let level = c.args.context.now.level in
+    record {
+      low = c.requires.level;
+      count = ap length c.requires.none;
+      known = rw c.requires.none (record { each = tt });
+      keeps = keeps-all c.args.self.now.replacer.sets;
+      follows = λ following. rw c.requires.none (arguments_first macros env level (invocation_of c.args.self.now.replacer.sets c.args.invocation.now following) c.args.self.now.meter);
+    }
 
 pub expand_arguments-loop-parameter-preserved-then-not-is_pre_expanded : goal.expand_arguments-loop-parameter-preserved-then-not-is_pre_expanded
 expand_arguments-loop-parameter-preserved-then-not-is_pre_expanded m c =
+    let macros = c.args.context.now.table.now.macros in
+    let env = c.args.context.now.env.now in
+    let level = c.args.context.now.level in
     let s = c.args.self.now.replacer.sets in
     let u = c.loop-parameter.self.replacer.sets in
     let i = c.loop-parameter.parameter in
@@ -177,7 +204,7 @@ expand_arguments-loop-parameter-preserved-then-not-is_pre_expanded m c =
       keeps = c.loop-parameter.invariant.keeps;
       follows = λ following.
           (let invocation = invocation_of s c.args.invocation.now following in
-          follows_unused c.args.context.now.table.now.macros c.args.context.now.env.now c.args.context.now.level c.args.self.now.remaining c.loop-parameter.self.remaining c.loop-parameter.self.remaining s u u vs cs names i done c.put.new.items.items invocation (arguments_to_expand invocation)
+          follows_unused macros env level c.args.self.now.meter c.loop-parameter.self.meter c.loop-parameter.self.meter s u u vs cs names i done c.put.new.items.items invocation (arguments_to_expand invocation)
           less c.loop-parameter.invariant.count unused appended (c.loop-parameter.invariant.follows following));
     }
 
@@ -189,11 +216,17 @@ expand_arguments-expand_argument-requires m c =
     let tokens_are : c.argument_of-tokens.result.now ≡ argument_at (lists_of vs) i = c.argument_of-tokens.ensures ∙ ap (λ gs. argument_at (lists_of gs) i) c.as_slice.ensures.value in
     let known = given_known-keeps vs c.loop-parameter.invariant.keeps c.requires.known.arguments in (
       omega arith,
-      (c.loop-parameter.invariant.low, subst (AllKnown u) (sym tokens_are) (argument-known u vs i known)),
+      (
+        c.loop-parameter.invariant.low,
+        (c.loop-parameter.invariant.keeps.hashing ∙ c.requires.hashing, subst (AllKnown u) (sym tokens_are) (argument-known u vs i known)),
+      ),
     )
 
 pub expand_arguments-returns-in_err-expansion-clause-is : goal.expand_arguments-returns-in_err-expansion-clause-is
 expand_arguments-returns-in_err-expansion-clause-is m c =
+    let macros = c.args.context.now.table.now.macros in
+    let env = c.args.context.now.env.now in
+    let level = c.args.context.now.level in
     let s = c.args.self.now.replacer.sets in
     let u = c.loop-parameter.self.replacer.sets in
     let i = c.loop-parameter.parameter in
@@ -207,15 +240,18 @@ expand_arguments-returns-in_err-expansion-clause-is m c =
     let tokens_are : c.argument_of-tokens.result.now ≡ argument_at (lists_of vs) i = c.argument_of-tokens.ensures ∙ ap (λ gs. argument_at (lists_of gs) i) c.as_slice.ensures.value in
     let argument : hidings u c.argument_of-tokens.result.now ≡ hidings s (argument_at (lists_of vs) i) =
     ap (hidings u) tokens_are ∙ hidings-keeps (argument_at (lists_of vs) i) c.loop-parameter.invariant.keeps (argument-known s vs i c.requires.known.arguments) in
-    stopped _ _ _ _ _ c.from_residual-in_err-expansion.ensures.1 c.in_err-expansion.ensures.is (λ f raised following.
+    stopped _ _ _ _ c.from_residual-in_err-expansion.ensures.1 c.in_err-expansion.ensures.is (λ f raised following.
     let invocation = invocation_of s c.args.invocation.now following in
-    let one : ExpandsArgument c.args.context.now.table.now.macros c.args.context.now.env.now c.args.context.now.level c.args.invocation.now.name_token.token c.loop-parameter.self.remaining (hidings s (argument_at (lists_of vs) i)) c.expand_argument.new.self.remaining (Err f) =
-    subst (λ l. ExpandsArgument c.args.context.now.table.now.macros c.args.context.now.env.now c.args.context.now.level c.args.invocation.now.name_token.token c.loop-parameter.self.remaining l c.expand_argument.new.self.remaining (Err f)) argument raised in
-    follows_refused c.args.context.now.table.now.macros c.args.context.now.env.now c.args.context.now.level c.args.self.now.remaining c.loop-parameter.self.remaining c.expand_argument.new.self.remaining s u u vs cs names i done done invocation (arguments_to_expand invocation)
+    let one : ExpandsArgument macros env level c.args.invocation.now.name_token.token c.loop-parameter.self.meter (hidings s (argument_at (lists_of vs) i)) c.expand_argument.new.self.meter (Err f) =
+    subst (λ l. ExpandsArgument macros env level c.args.invocation.now.name_token.token c.loop-parameter.self.meter l c.expand_argument.new.self.meter (Err f)) argument raised in
+    follows_refused macros env level c.args.self.now.meter c.loop-parameter.self.meter c.expand_argument.new.self.meter s u u vs cs names i done done invocation (arguments_to_expand invocation)
     f less is_used one (c.loop-parameter.invariant.follows following))
 
 pub expand_arguments-loop-parameter-preserved : goal.expand_arguments-loop-parameter-preserved
 expand_arguments-loop-parameter-preserved m c =
+    let macros = c.args.context.now.table.now.macros in
+    let env = c.args.context.now.env.now in
+    let level = c.args.context.now.level in
     let s = c.args.self.now.replacer.sets in
     let u = c.loop-parameter.self.replacer.sets in
     let i = c.loop-parameter.parameter in
@@ -234,8 +270,8 @@ expand_arguments-loop-parameter-preserved m c =
     let made_is = c.in_ok-expansion.ensures.is in
     let e = c.in_ok-expansion.expansion in
     let tokens = made_is.0 in
-    let one : ExpandsArgument c.args.context.now.table.now.macros c.args.context.now.env.now c.args.context.now.level c.args.invocation.now.name_token.token c.loop-parameter.self.remaining (hidings s (argument_at (lists_of vs) i)) c.expand_argument.new.self.remaining (Ok tokens) =
-    subst (λ l. ExpandsArgument c.args.context.now.table.now.macros c.args.context.now.env.now c.args.context.now.level c.args.invocation.now.name_token.token c.loop-parameter.self.remaining l c.expand_argument.new.self.remaining (Ok tokens)) argument made_is.2 in
+    let one : ExpandsArgument macros env level c.args.invocation.now.name_token.token c.loop-parameter.self.meter (hidings s (argument_at (lists_of vs) i)) c.expand_argument.new.self.meter (Ok tokens) =
+    subst (λ l. ExpandsArgument macros env level c.args.invocation.now.name_token.token c.loop-parameter.self.meter l c.expand_argument.new.self.meter (Ok tokens)) argument made_is.2 in
     let here_is : option_map (hidings w) (expansion_if_computed (argument_at (lists_of vs) i) e) ≡ Some tokens =
     subst (λ g. option_map (hidings w) (expansion_if_computed g e) ≡ Some tokens) tokens_are made_is.1 in
     let tokens_known : AllKnown w (owned_tokens e) = c.in_ok-expansion.ensures.known in
@@ -248,12 +284,15 @@ expand_arguments-loop-parameter-preserved m c =
       keeps = keeps-after c.loop-parameter.invariant.keeps keeps;
       follows = λ following.
           (let invocation = invocation_of s c.args.invocation.now following in
-          follows_used c.args.context.now.table.now.macros c.args.context.now.env.now c.args.context.now.level c.args.self.now.remaining c.loop-parameter.self.remaining c.expand_argument.new.self.remaining s u w vs cs names i done c.put-in-loop-parameter.new.items.items invocation (arguments_to_expand invocation)
+          follows_used macros env level c.args.self.now.meter c.loop-parameter.self.meter c.expand_argument.new.self.meter s u w vs cs names i done c.put-in-loop-parameter.new.items.items invocation (arguments_to_expand invocation)
           e tokens less c.loop-parameter.invariant.count is_used appended keeps given_known c.loop-parameter.invariant.known here_is one (c.loop-parameter.invariant.follows following));
     }
 
 pub expand_arguments-returns-clause-is : goal.expand_arguments-returns-clause-is
 expand_arguments-returns-clause-is m c =
+    let macros = c.args.context.now.table.now.macros in
+    let env = c.args.context.now.env.now in
+    let level = c.args.context.now.level in
     let s = c.args.self.now.replacer.sets in
     let u = c.loop-parameter.self.replacer.sets in
     let i = c.loop-parameter.parameter in
@@ -264,7 +303,7 @@ expand_arguments-returns-clause-is m c =
     subst (λ n. n ≤ i) (ap length c.deref-is_pre_expanded-items.ensures.value ∙ c.in_ok-pre_expanded.ensures.len) (omega (arith, c.loop-parameter-test.false)) in
     (λ following.
     let invocation = invocation_of s c.args.invocation.now following in
-    follows_all c.args.context.now.table.now.macros c.args.context.now.env.now c.args.context.now.level c.args.self.now.remaining c.loop-parameter.self.remaining s u vs (chains_of c.args.invocation.now.definition.now) names
+    follows_all macros env level c.args.self.now.meter c.loop-parameter.self.meter s u vs (chains_of c.args.invocation.now.definition.now) names
     i done invocation (arguments_to_expand invocation) end (c.loop-parameter.invariant.follows following))
 
 -- ---- a list
@@ -285,52 +324,67 @@ expand_list-advance-continues-requires m c =
     let list_known = next-known sets _ _ _ _ skipped c.loop-named.invariant.list_known in
     let emitted_known = more-known sets _ _ _ _ skipped c.loop-named.invariant.list_known c.loop-named.invariant.emitted_known in (
       omega arith,
-      (c.loop-named.invariant.low, (c.in_ok-named.ensures.named, (list_known, emitted_known))),
+      (
+        c.loop-named.invariant.low,
+        (c.loop-named.invariant.keeps.hashing ∙ c.requires.hashing, (c.in_ok-named.ensures.named, (list_known, emitted_known))),
+      ),
     )
 
 pub expand_list-returns-then-not-branch-clause-outcome : goal.expand_list-returns-then-not-branch-clause-outcome
 expand_list-returns-then-not-branch-clause-outcome m c =
+    let macros = c.args.context.now.table.now.macros in
+    let env = c.args.context.now.env.now in
+    let level = c.args.context.now.level in
     let sets = c.loop-named.self.replacer.sets in
     let start = hidings c.args.self.now.replacer.sets c.args.list.now in
     let list = c.emit_unexpanded.new.list in
     let emitted = c.emit_unexpanded.new.emitted in
-    let here = follows_skip c.args.context.now.table.now.macros c.args.context.now.env.now c.args.context.now.level c.loop-named.self.remaining sets c.args.self.now.remaining start c.loop-named.list c.loop-named.emitted list emitted c.in_ok-named.ensures.skipped c.loop-named.invariant.follows in
-    end_follows c.args.context.now.table.now.macros c.args.context.now.env.now c.args.context.now.level c.args.self.now.remaining start (hidings sets emitted) c.loop-named.self.remaining (hidings sets list) None c.advance-continues.new.self.remaining
+    let here = follows_skip macros env level c.loop-named.self.meter sets c.args.self.now.meter start c.loop-named.list c.loop-named.emitted list emitted c.in_ok-named.ensures.skipped c.loop-named.invariant.follows in
+    end_follows macros env level c.args.self.now.meter start (hidings sets emitted) c.loop-named.self.meter (hidings sets list) None c.advance-continues.new.self.meter
     (hidings c.advance-continues.new.self.replacer.sets c.advance-continues.new.emitted) here (rw c.if-not-branch.true at c.in_ok-continues.ensures.progress)
 
 pub expand_list-returns-in_err-continues-clause-outcome : goal.expand_list-returns-in_err-continues-clause-outcome
 expand_list-returns-in_err-continues-clause-outcome m c =
+    let macros = c.args.context.now.table.now.macros in
+    let env = c.args.context.now.env.now in
+    let level = c.args.context.now.level in
     let sets = c.loop-named.self.replacer.sets in
     let start = hidings c.args.self.now.replacer.sets c.args.list.now in
     let list = c.emit_unexpanded.new.list in
     let emitted = c.emit_unexpanded.new.emitted in
-    let here = follows_skip c.args.context.now.table.now.macros c.args.context.now.env.now c.args.context.now.level c.loop-named.self.remaining sets c.args.self.now.remaining start c.loop-named.list c.loop-named.emitted list emitted c.in_ok-named.ensures.skipped c.loop-named.invariant.follows in
-    stopped _ _ _ _ _ c.from_residual-in_err-continues.ensures.1 c.in_err-continues.ensures.progress (λ f ended.
-    end_follows c.args.context.now.table.now.macros c.args.context.now.env.now c.args.context.now.level c.args.self.now.remaining start (hidings sets emitted) c.loop-named.self.remaining (hidings sets list) (Some f) c.advance-continues.new.self.remaining
+    let here = follows_skip macros env level c.loop-named.self.meter sets c.args.self.now.meter start c.loop-named.list c.loop-named.emitted list emitted c.in_ok-named.ensures.skipped c.loop-named.invariant.follows in
+    stopped _ _ _ _ c.from_residual-in_err-continues.ensures.1 c.in_err-continues.ensures.progress (λ f ended.
+    end_follows macros env level c.args.self.now.meter start (hidings sets emitted) c.loop-named.self.meter (hidings sets list) (Some f) c.advance-continues.new.self.meter
     (hidings c.advance-continues.new.self.replacer.sets c.advance-continues.new.emitted) here ended)
 
 pub expand_list-loop-named-preserved : goal.expand_list-loop-named-preserved
 expand_list-loop-named-preserved m c =
+    let macros = c.args.context.now.table.now.macros in
+    let env = c.args.context.now.env.now in
+    let level = c.args.context.now.level in
     let sets = c.loop-named.self.replacer.sets in
     let start = hidings c.args.self.now.replacer.sets c.args.list.now in
     let list = c.emit_unexpanded.new.list in
     let emitted = c.emit_unexpanded.new.emitted in
-    let here = follows_skip c.args.context.now.table.now.macros c.args.context.now.env.now c.args.context.now.level c.loop-named.self.remaining sets c.args.self.now.remaining start c.loop-named.list c.loop-named.emitted list emitted c.in_ok-named.ensures.skipped c.loop-named.invariant.follows in
+    let here = follows_skip macros env level c.loop-named.self.meter sets c.args.self.now.meter start c.loop-named.list c.loop-named.emitted list emitted c.in_ok-named.ensures.skipped c.loop-named.invariant.follows in
     record {
       low = c.loop-named.invariant.low;
       list_known = c.in_ok-continues.ensures.list_known c.if-not-branch.false;
       emitted_known = c.in_ok-continues.ensures.emitted_known;
       keeps = keeps-after c.loop-named.invariant.keeps c.in_ok-continues.ensures.keeps;
-      follows = more_follows c.args.context.now.table.now.macros c.args.context.now.env.now c.args.context.now.level c.args.self.now.remaining start (hidings sets emitted) c.loop-named.self.remaining (hidings sets list) c.advance-continues.new.self.remaining
+      follows = more_follows macros env level c.args.self.now.meter start (hidings sets emitted) c.loop-named.self.meter (hidings sets list) c.advance-continues.new.self.meter
           (hidings c.advance-continues.new.self.replacer.sets c.advance-continues.new.list) (hidings c.advance-continues.new.self.replacer.sets c.advance-continues.new.emitted) here (rw c.if-not-branch.false at c.in_ok-continues.ensures.progress);
     }
 
 pub expand_list-loop-named-smaller : goal.expand_list-loop-named-smaller
 expand_list-loop-named-smaller m c =
+    let macros = c.args.context.now.table.now.macros in
+    let env = c.args.context.now.env.now in
+    let level = c.args.context.now.level in
     let sets = c.loop-named.self.replacer.sets in
     let list = c.emit_unexpanded.new.list in
     let emitted = c.emit_unexpanded.new.emitted in
-    let remaining_after = more_falls c.args.context.now.table.now.macros c.args.context.now.env.now c.args.context.now.level c.loop-named.self.remaining (hidings sets list) (hidings sets emitted) c.advance-continues.new.self.remaining
+    let meter_after = more_falls macros env level c.loop-named.self.meter (hidings sets list) (hidings sets emitted) c.advance-continues.new.self.meter
     (hidings c.advance-continues.new.self.replacer.sets c.advance-continues.new.list) (hidings c.advance-continues.new.self.replacer.sets c.advance-continues.new.emitted) (rw c.if-not-branch.false at c.in_ok-continues.ensures.progress) in
-    let skipped = skip_falls c.args.context.now.table.now.macros c.args.context.now.env.now c.args.context.now.level c.loop-named.self.remaining sets c.loop-named.list c.loop-named.emitted list emitted c.in_ok-named.ensures.skipped in
-    omega (arith, remaining_after, skipped)
+    let skipped = skip_falls macros env level c.loop-named.self.meter sets c.loop-named.list c.loop-named.emitted list emitted c.in_ok-named.ensures.skipped in
+    omega (arith, meter_after, skipped)

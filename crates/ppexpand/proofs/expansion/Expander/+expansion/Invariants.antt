@@ -30,11 +30,11 @@ invariant-expand_list-loop-named l = record {
   list_known : AllKnown l.self.replacer.sets l.list;
   emitted_known : AllKnown l.self.replacer.sets l.emitted;
   keeps : KeepsSets l.fn.self.replacer.sets l.self.replacer.sets;
-  follows : Follows l.context.table.now.macros l.context.env.now l.context.level l.fn.self.remaining (hidings l.fn.self.replacer.sets l.fn.list) (hidings l.self.replacer.sets l.emitted) l.self.remaining (hidings l.self.replacer.sets l.list);
+  follows : Follows l.context.table.now.macros l.context.env.now l.context.level l.fn.self.meter (hidings l.fn.self.replacer.sets l.fn.list) (hidings l.self.replacer.sets l.emitted) l.self.meter (hidings l.self.replacer.sets l.list);
 }
 
 abbrev pub decreases-expand_list-loop-named : goal.decreases-expand_list-loop-named
-decreases-expand_list-loop-named l = turns_left l.context.table.now.macros l.context.env.now l.context.level l.self.remaining (hidings l.self.replacer.sets l.list)
+decreases-expand_list-loop-named l = turns_left l.context.table.now.macros l.context.env.now l.context.level l.self.meter (hidings l.self.replacer.sets l.list)
 
 abbrev pub invariant-expand_arguments-loop-parameter : goal.invariant-expand_arguments-loop-parameter
 invariant-expand_arguments-loop-parameter l = record {
@@ -43,7 +43,7 @@ invariant-expand_arguments-loop-parameter l = record {
   count : length l.expanded.items ≡ l.parameter;
   keeps : KeepsSets l.fn.self.replacer.sets l.self.replacer.sets;
   follows : (following : List Hidden)
-      → ArgumentsFollow l.context.table.now.macros l.context.env.now l.context.level (invocation_of l.fn.self.replacer.sets l.invocation following) l.fn.self.remaining (arguments_to_expand (invocation_of l.fn.self.replacer.sets l.invocation following))
-      (expanded_in l.self.replacer.sets l.invocation.arguments.items l.expanded.items) l.self.remaining
+      → ArgumentsFollow l.context.table.now.macros l.context.env.now l.context.level (invocation_of l.fn.self.replacer.sets l.invocation following) l.fn.self.meter (arguments_to_expand (invocation_of l.fn.self.replacer.sets l.invocation following))
+      (expanded_in l.self.replacer.sets l.invocation.arguments.items l.expanded.items) l.self.meter
       (to_expand l.parameter (chains_of l.invocation.definition.now) (drop l.parameter (parameter_names l.invocation.definition.now.kind)) (given_in l.fn.self.replacer.sets l.invocation.arguments.items));
 }

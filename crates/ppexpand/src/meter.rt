@@ -1,0 +1,40 @@
+//! The meter of an expansion: what is counted through all expansions of a unit.
+ghost use Rattle.std.specs.Prelude.{◌≡◌};
+ghost use Rattle.ppexpand.specs.Budget.{new_meter, is_exhausted, spend_one};
+
+/// What is counted through all expansions of a unit.
+#[derive(Clone, Copy, PartialEq, Eq, Debug)]
+pub struct Meter {
+    /// The budget: how many replacements and file openings may still be made. `None` means no limit, and nothing is counted.
+    pub remaining: Option<u64>,
+}
+
+impl Meter {
+    /// Creates the meter of a unit with this budget.
+    pub fn new(budget: Option<u64>) -> Meter
+        ensures { result ≡ new_meter budget }
+    {
+        Meter { remaining: budget }
+    }
+
+    /// Returns whether there is a budget and nothing remains of it. Does not allocate.
+    pub fn is_exhausted(self) -> bool
+        ensures { result ≡ is_exhausted self }
+    {
+        matches!(self.remaining, Some(0))
+    }
+
+    /// Returns the meter after one more replacement or file opening: of the budget 0 remains if 0 was left, and `None` if there is no
+    /// budget.
+    ///
+    /// Does not allocate.
+    pub fn spend_one(self) -> Meter
+        ensures { result ≡ spend_one self }
+    {
+        let mut after = self;
+        if let Some(more) = self.remaining {
+            after.remaining = Some(more.saturating_sub(1));
+        }
+        after
+    }
+}
