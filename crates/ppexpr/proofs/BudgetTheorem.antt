@@ -1,26 +1,30 @@
 -- A condition within a budget is the condition without a budget, or fault 35.
-use Rattle.std.proofs.Common.{◌≡◌, ℕ, ◌+◌, ◌-◌, List, Option, Some, None, Err, arith}
+use Rattle.std.proofs.Common.{◌≡◌, ℕ, ◌+◌, ◌-◌, List, Some, Err, ap, ◌∙◌, arith}
 use Rattle.pptext.specs.declared.tokens.Place.{Place}
 use Rattle.pptext.specs.declared.tokens.Token.{Token}
 use Rattle.ppmacro.specs.Names.{Macros}
 use Rattle.ppexpand.specs.declared.env.Env.{Env}
+use Rattle.ppexpand.specs.declared.meter.Meter.{Meter}
+use Rattle.ppexpand.specs.Budget.{with_budget, without_budget}
 use Rattle.ppexpand.proofs.BudgetLemmas.{without}
 use Rattle.ppexpr.specs.Conditions.{Condition, IsCondition, count_condition}
-use Rattle.ppexpr.specs.Laws.{IsCapped}
-use Rattle.ppexpr.proofs.ConditionBudgets.{condition_enough, condition_short}
+use Rattle.ppexpr.specs.Laws.{CapsCondition}
+use Rattle.ppexpr.proofs.ConditionBudgets.{condition_enough, IsRefused, condition_short}
 use Rattle.ppexpr.proofs.ConditionUniqueness.{same_condition}
 
-pub capped : {macros : Macros} {env : Env} {at : Place} {tokens : List Token} {whole : Condition} {rest : Option ℕ}
-    → (d : IsCondition macros env at tokens None whole rest) (b : ℕ) (c : Condition) (remaining_after : Option ℕ)
-    → IsCondition macros env at tokens (Some b) c remaining_after
-    → IsCapped b (count_condition d) whole c remaining_after
-capped {macros} {env} {at} {tokens} {whole} d b c remaining_after other = record {
+pub capped : {macros : Macros} {env : Env} {at : Place} {tokens : List Token} (meter : Meter) {whole_after : Meter} {whole : Condition}
+    → (d : IsCondition macros env at tokens (without_budget meter) whole whole_after) (b : ℕ) (limited_after : Meter) (limited : Condition)
+    → IsCondition macros env at tokens (with_budget (Some b) meter) limited limited_after
+    → CapsCondition b (count_condition d) whole limited whole_after limited_after
+capped {macros} {env} {at} {tokens} meter {whole_after} {whole} d b limited_after limited other = record {
   enough = λ fits.
-      let sum : b ≡ count_condition d + (b - count_condition d) = omega (arith, fits) in
-      let one = same_condition macros env at tokens (Some b) remaining_after (Some (b - count_condition d)) c whole other (condition_enough b without d (b - count_condition d) sum) in
+      let n = b - count_condition d in
+      let sum : b ≡ count_condition d + n = omega (arith, fits) in
+      let is : IsCondition macros env at tokens (with_budget (Some b) meter) whole (with_budget (Some n) whole_after) = condition_enough b without d n sum in
+      let one = same_condition macros env at tokens (with_budget (Some b) meter) limited_after (with_budget (Some n) whole_after) limited whole other is in
       (one.0, one.1);
   short = λ less.
-      let s = condition_short b without d less in
-      let one = same_condition macros env at tokens (Some b) remaining_after (Some 0) c (Err s.0) other s.2 in
-      ((s.0, one.0, s.1), one.1);
+      let s : IsRefused macros env at tokens (with_budget (Some b) meter) = condition_short b without d less in
+      let one = same_condition macros env at tokens (with_budget (Some b) meter) limited_after s.meter_after limited (Err s.fault) other s.is in
+      ((s.fault, one.0, s.number), ap (λ (m : Meter). m.remaining) one.1 ∙ s.nothing);
 }

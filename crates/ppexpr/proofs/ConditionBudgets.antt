@@ -1,5 +1,5 @@
 -- Conditions within a budget compared with conditions within a larger one or without one.
-use Rattle.std.proofs.Common.{◌≡◌, ◌≢◌, ℕ, ◌+◌, ◌<◌, List, [], ◌∷◌, Option, Some, None, Result, Ok, Err, refl, ap, ◌∙◌, subst, arith}
+use Rattle.std.proofs.Common.{◌≡◌, ◌≢◌, ℕ, ◌+◌, ◌<◌, List, [], ◌∷◌, Option, Some, None, Result, Ok, Err, sym, ◌∙◌, subst, arith}
 use Rattle.pptext.specs.declared.tokens.Place.{Place}
 use Rattle.pptext.specs.declared.tokens.Token.{Token}
 use Rattle.pptext.specs.declared.tokens.Kind.{Kind}
@@ -8,51 +8,71 @@ use Rattle.pptext.specs.declared.tokens.Fault.{Fault}
 use Rattle.pptext.specs.Tokens.{fault}
 use Rattle.ppmacro.specs.Names.{Macros}
 use Rattle.ppexpand.specs.declared.env.Env.{Env}
-use Rattle.ppexpand.specs.Expansion.{IsExpansion, count_expansion}
+use Rattle.ppexpand.specs.declared.meter.Meter.{Meter}
+use Rattle.ppexpand.specs.Budget.{with_budget}
 use Rattle.ppexpand.specs.Laws.{plus}
-use Rattle.ppexpand.proofs.BudgetLemmas.{plus-nothing, Covers, StopsEarly, expansion_spends, expansion_enough, expansion_short}
+use Rattle.ppexpand.proofs.BudgetLemmas.{plus-nothing, plus-none, Covers, expansion_spends, expansion_enough, expansion_short}
 use Rattle.ppexpand.proofs.BudgetFaults.{expansion_never_refused}
-use Rattle.ppexpr.specs.Outcomes.{Value, Failure, ZeroDivisor, Overflow, Shift}
-use Rattle.ppexpr.specs.Symbols.{Symbol}
-use Rattle.ppexpr.specs.Tokens.{symbol_by, symbol_of, before, symbols_of, constant_or}
-use Rattle.ppexpr.specs.Conditions.{Condition, taken, EvaluatesShallow, no_expression, has_value, EvaluatesSymbols, too_nested, not_nested, EvaluatesTokens, defined_after_replacement, bad_constant, constants, IsCondition, ill_formed, expansion_fault, replaced, count_condition}
+use Rattle.ppexpr.specs.declared.symbols.Value.{Value}
+use Rattle.ppexpr.specs.declared.symbols.Failure.{Failure}
+use Rattle.ppexpr.specs.declared.symbols.Failure.TheVariants.{ZeroDivisor, Overflow, Shift}
+use Rattle.ppexpr.specs.declared.symbols.Symbol.{Symbol}
+use Rattle.ppexpr.specs.Tokens.{symbol_by, symbol_of, symbol_then, symbols_of, constant_or}
+use Rattle.ppexpr.specs.Conditions.{Condition, taken, EvaluatesShallow, no_expression, has_value, EvaluatesSymbols, too_nested, not_nested}
+use Rattle.ppexpr.specs.Conditions.{EvaluatesTokens, defined_after_replacement, bad_constant, constants, IsCondition, ill_formed, expansion_fault}
+use Rattle.ppexpr.specs.Conditions.{replaced, count_condition}
 
 -- ---- the budget
 
 -- the cost of a condition and the rest of the budget add up to the budget
-pub condition_spends : {macros : Macros} {env : Env} {at : Place} {tokens : List Token} {remaining remaining_after : Option ℕ} {c : Condition} (d : IsCondition macros env at tokens remaining c remaining_after) → remaining ≡ plus (count_condition d) remaining_after
-condition_spends {remaining = remaining} (ill_formed none) = plus-nothing remaining
-condition_spends {macros} {env} (expansion_fault asks x leaves faulty) = expansion_spends macros env x ∙ ap (plus (count_expansion x)) leaves
-condition_spends {macros} {env} (replaced asks x leaves whole decides) = expansion_spends macros env x ∙ ap (plus (count_expansion x)) leaves
+pub condition_spends : {macros : Macros} {env : Env} {at : Place} {tokens : List Token} {meter meter_after : Meter} {c : Condition}
+    → (d : IsCondition macros env at tokens meter c meter_after)
+    → meter.remaining ≡ plus (count_condition d) meter_after.remaining
+condition_spends {meter = meter} (ill_formed none) = plus-nothing meter.remaining
+condition_spends {macros} {env} (expansion_fault replaces x faulty) = expansion_spends macros env x
+condition_spends {macros} {env} (replaced replaces x whole decides) = expansion_spends macros env x
 
 -- A budget of the cost plus n does not change the condition, except that n is left.
-pub condition_enough : {macros : Macros} {env : Env} {at : Place} {tokens : List Token} {remaining remaining_after : Option ℕ} {c : Condition} (b : ℕ) → Covers remaining b
-    → (d : IsCondition macros env at tokens remaining c remaining_after) (n : ℕ)
+pub condition_enough : {macros : Macros} {env : Env} {at : Place} {tokens : List Token} {meter meter_after : Meter} {c : Condition} (b : ℕ)
+    → Covers meter.remaining b
+    → (d : IsCondition macros env at tokens meter c meter_after) (n : ℕ)
     → b ≡ count_condition d + n
-    → IsCondition macros env at tokens (Some b) c (Some n)
-condition_enough {macros} {env} {at} {tokens} b is (ill_formed bad) n sum =
+    → IsCondition macros env at tokens (with_budget (Some b) meter) c (with_budget (Some n) meter_after)
+condition_enough {macros} {env} {at} {tokens} {meter} b is (ill_formed bad) n sum =
     let same : b ≡ n = omega arith in
-    subst (λ x. IsCondition macros env at tokens (Some b) (Err (fault 22 at [])) (Some x)) same (ill_formed bad)
-condition_enough {macros} {env} b is (expansion_fault asks x leaves faulty) n sum = expansion_fault asks (expansion_enough macros env b is x n sum) refl faulty
-condition_enough {macros} {env} b is (replaced asks x leaves whole decides) n sum = replaced asks (expansion_enough macros env b is x n sum) refl whole decides
+    let left : ℕ → Type 0 = λ x. IsCondition macros env at tokens (with_budget (Some b) meter) (Err (fault 22 at [])) (with_budget (Some x) meter) in
+    subst left same (ill_formed bad)
+condition_enough {macros} {env} b is (expansion_fault replaces x faulty) n sum = expansion_fault replaces (expansion_enough macros env b is x n sum) faulty
+condition_enough {macros} {env} b is (replaced replaces x whole decides) n sum = replaced replaces (expansion_enough macros env b is x n sum) whole decides
+
+-- the condition is fault 35, and nothing is left of the budget
+pub record IsRefused (macros : Macros) (env : Env) (at : Place) (tokens : List Token) (meter : Meter) : Type 0 where
+  pub fault : Fault
+  pub number : fault.number ≡ 35
+  pub meter_after : Meter
+  pub nothing : meter_after.remaining ≡ Some 0
+  pub is : IsCondition macros env at tokens meter (Err fault) meter_after
 
 -- A budget below the cost is used up, and the condition is fault 35.
-pub condition_short : {macros : Macros} {env : Env} {at : Place} {tokens : List Token} {remaining remaining_after : Option ℕ} {c : Condition} (b : ℕ) → Covers remaining b
-    → (d : IsCondition macros env at tokens remaining c remaining_after)
+pub condition_short : {macros : Macros} {env : Env} {at : Place} {tokens : List Token} {meter meter_after : Meter} {c : Condition} (b : ℕ)
+    → Covers meter.remaining b
+    → (d : IsCondition macros env at tokens meter c meter_after)
     → b < count_condition d
-    → (f : Fault) × (f.number ≡ 35) × IsCondition macros env at tokens (Some b) (Err f) (Some 0)
+    → IsRefused macros env at tokens (with_budget (Some b) meter)
 condition_short b is (ill_formed bad) less = absurd (omega arith)
-condition_short {macros} {env} b is (expansion_fault {without_defined = without_defined} {e = e} asks x leaves faulty) less =
-    let s : StopsEarly macros env b without_defined e = expansion_short macros env b is x less in
-    (s.fault, s.number, expansion_fault asks s.is s.nothing s.stopped)
-condition_short {macros} {env} b is (replaced {without_defined = without_defined} {e = e} asks x leaves whole decides) less =
-    let s : StopsEarly macros env b without_defined e = expansion_short macros env b is x less in
-    (s.fault, s.number, expansion_fault asks s.is s.nothing s.stopped)
+condition_short {macros} {env} {meter = meter} b is (expansion_fault {without_defined = us} {e = e} replaces x faulty) less =
+    let s = expansion_short macros env b is x less in
+    record { fault = s.fault; number = s.number; meter_after = s.expansion.meter; nothing = s.nothing; is = expansion_fault replaces s.is s.stopped }
+condition_short {macros} {env} {meter = meter} b is (replaced {without_defined = us} {e = e} replaces x whole decides) less =
+    let s = expansion_short macros env b is x less in
+    record { fault = s.fault; number = s.number; meter_after = s.expansion.meter; nothing = s.nothing; is = expansion_fault replaces s.is s.stopped }
 
 -- If there is no budget before a condition, there is none after it.
-pub condition_leaves_none : {macros : Macros} {env : Env} {at : Place} {tokens : List Token} {remaining_after : Option ℕ} {c : Condition} → IsCondition macros env at tokens None c remaining_after → remaining_after ≡ None
-condition_leaves_none {remaining_after = None} d = refl
-condition_leaves_none {remaining_after = Some n} d = let e = condition_spends d in absurd (cc)
+pub condition_leaves_none : {macros : Macros} {env : Env} {at : Place} {tokens : List Token} {meter meter_after : Meter} {c : Condition}
+    → meter.remaining ≡ None
+    → IsCondition macros env at tokens meter c meter_after
+    → meter_after.remaining ≡ None
+condition_leaves_none {meter_after = meter_after} is d = plus-none (count_condition d) meter_after.remaining (sym is ∙ condition_spends d)
 
 -- ---- without a budget, no condition is fault 35
 
@@ -74,14 +94,14 @@ symbol_other at Punct s = tt
 symbol_other at Header s = tt
 symbol_other at Other s = tt
 
-before_other : (s : Result Symbol Fault) (ss : Result (List Symbol) Fault) → IsOther s → IsOther ss → IsOther (before s ss)
-before_other (Ok s) (Ok ss) h k = tt
-before_other (Ok s) (Err f) h k = k
-before_other (Err f) ss h k = h
+then_other : (s : Result Symbol Fault) (ss : Result (List Symbol) Fault) → IsOther s → IsOther ss → IsOther (symbol_then s ss)
+then_other (Ok s) (Ok ss) h k = tt
+then_other (Ok s) (Err f) h k = k
+then_other (Err f) ss h k = h
 
 symbols_other : (at : Place) (ts : List Token) → IsOther (symbols_of at ts)
 symbols_other at [] = tt
-symbols_other at (t ∷ ts) = before_other (symbol_of at t) (symbols_of at ts) (symbol_other at t.kind t.text) (symbols_other at ts)
+symbols_other at (t ∷ ts) = then_other (symbol_of at t) (symbols_of at ts) (symbol_other at t.kind t.text) (symbols_other at ts)
 
 taken_other : (at : Place) (v : Result Value Failure) → IsOther (taken at v)
 taken_other at (Ok v) = tt
@@ -102,16 +122,16 @@ decides_other at ts c (defined_after_replacement e) = λ e. absurd (omega arith)
 decides_other at ts c (bad_constant e g) = subst IsOther g (symbols_other at ts)
 decides_other at ts c (constants {symbols = s} e g h) = judges_other at s c h
 
-condition_other : {macros : Macros} {env : Env} {at : Place} {tokens : List Token} {remaining remaining_after : Option ℕ} {c : Condition}
-    → remaining ≡ None
-    → IsCondition macros env at tokens remaining c remaining_after
+condition_other : {macros : Macros} {env : Env} {at : Place} {tokens : List Token} {meter meter_after : Meter} {c : Condition}
+    → meter.remaining ≡ None
+    → IsCondition macros env at tokens meter c meter_after
     → IsOther c
 condition_other is (ill_formed none) = λ e. absurd (omega arith)
-condition_other {macros} {env} is (expansion_fault {without_defined = without_defined} {e = e} asks x leaves faulty) = expansion_never_refused macros env (subst (λ l. IsExpansion macros env l without_defined e) is x) faulty
-condition_other {at = at} {c = c} is (replaced {e = e} asks x leaves whole decides) = decides_other at e.tokens c decides
+condition_other {macros} {env} is (expansion_fault replaces x faulty) = expansion_never_refused macros env is x faulty
+condition_other {at = at} {c = c} is (replaced {e = e} replaces x whole decides) = decides_other at e.tokens c decides
 
-pub condition_never_refused : {macros : Macros} {env : Env} {at : Place} {tokens : List Token} {remaining remaining_after : Option ℕ} {f : Fault}
-    → remaining ≡ None
-    → IsCondition macros env at tokens remaining (Err f) remaining_after
+pub condition_never_refused : {macros : Macros} {env : Env} {at : Place} {tokens : List Token} {meter meter_after : Meter} {f : Fault}
+    → meter.remaining ≡ None
+    → IsCondition macros env at tokens meter (Err f) meter_after
     → f.number ≢ 35
 condition_never_refused is d = condition_other is d

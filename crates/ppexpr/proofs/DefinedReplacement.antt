@@ -13,7 +13,7 @@ same_token u t e = λ i. record { text = e.0 i; at = e.1.0 i; used = e.1.1.0 i; 
 pub record Ahead (macros : Macros) (without_defined rest vs : List Token) : Type 0 where
   pub us : List Token
   pub is : vs ≡ without_defined ++ us
-  pub asks : ReplacesDefined macros rest us
+  pub replaces : ReplacesDefined macros rest us
 
 -- Replacing `defined` in `tokens` yields `without_defined`, followed by the result for `rest`.
 pub record Follows (macros : Macros) (tokens without_defined rest : List Token) : Type 0 where
@@ -21,27 +21,31 @@ pub record Follows (macros : Macros) (tokens without_defined rest : List Token) 
   pub back : (vs : List Token) → ReplacesDefined macros tokens vs → Ahead macros without_defined rest vs
 
 pub follows_start : (macros : Macros) (tokens : List Token) → Follows macros tokens [] tokens
-follows_start macros tokens = record { onward = λ us h. h; back = λ vs h. record { us = vs; is = refl; asks = h } }
+follows_start macros tokens = record { onward = λ us h. h; back = λ vs h. record { us = vs; is = refl; replaces = h } }
 
 -- `vs` is the token `u`, followed by `rest` with its uses of `defined` replaced
 pub record Begins (macros : Macros) (u : Token) (rest vs : List Token) : Type 0 where
   pub us : List Token
   pub is : vs ≡ u ∷ us
-  pub asks : ReplacesDefined macros rest us
+  pub replaces : ReplacesDefined macros rest us
 
 pub begins_other : (macros : Macros) (t : Token) (ts vs : List Token) → is_defined t ≡ false → ReplacesDefined macros (t ∷ ts) vs → Begins macros t ts vs
-begins_other macros t ts vs e (other {us = us} f h) = record { us = us; is = refl; asks = h }
+begins_other macros t ts vs e (other {us = us} f h) = record { us = us; is = refl; replaces = h }
 begins_other macros t ts vs e (defined_use f g h) = cc
 
-pub begins_question : (macros : Macros) (d : Token) (ts vs : List Token) (o : Operand) → is_defined d ≡ true → operand ts ≡ Some o → ReplacesDefined macros (d ∷ ts) vs → Begins macros (defined_value macros d o.name) o.rest vs
-begins_question macros d ts vs o e g (other f h) = cc
-begins_question macros d ts vs o e g (defined_use {us = us} {o = p} f k h) =
+pub begins_defined : (macros : Macros) (d : Token) (ts vs : List Token) (o : Operand)
+    → is_defined d ≡ true
+    → operand ts ≡ Some o
+    → ReplacesDefined macros (d ∷ ts) vs
+    → Begins macros (defined_value macros d o.name) o.rest vs
+begins_defined macros d ts vs o e g (other f h) = cc
+begins_defined macros d ts vs o e g (defined_use {us = us} {o = p} f k h) =
     let same : o ≡ p = cc in
-    subst (λ (q : Operand). ReplacesDefined macros q.rest us → Begins macros (defined_value macros d o.name) o.rest (defined_value macros d q.name ∷ us)) same (λ a. record { us = us; is = refl; asks = a }) h
+    subst (λ (q : Operand). ReplacesDefined macros q.rest us → Begins macros (defined_value macros d o.name) o.rest (defined_value macros d q.name ∷ us)) same (λ a. record { us = us; is = refl; replaces = a }) h
 
-pub asks_none : (macros : Macros) (d : Token) (ts vs : List Token) → is_defined d ≡ true → operand ts ≡ None → ReplacesDefined macros (d ∷ ts) vs → ⊥
-asks_none macros d ts vs e g (other f h) = cc
-asks_none macros d ts vs e g (defined_use f k h) = cc
+pub defined_without_operand : (macros : Macros) (d : Token) (ts vs : List Token) → is_defined d ≡ true → operand ts ≡ None → ReplacesDefined macros (d ∷ ts) vs → ⊥
+defined_without_operand macros d ts vs e g (other f h) = cc
+defined_without_operand macros d ts vs e g (defined_use f k h) = cc
 
 -- `Follows` after one more replacement step, which yields the token `u`
 follows_more : (macros : Macros) (tokens without_defined rest more : List Token) (u : Token) →
@@ -51,8 +55,8 @@ follows_more macros tokens without_defined rest more u on from f = record {
   onward = λ us h. rw append_assoc (f.onward (u ∷ us) (on us h));
   back = λ vs h.
       let a : Ahead macros without_defined rest vs = f.back vs h in
-      let b : Begins macros u more a.us = from a.us a.asks in
-      record { us = b.us; is = a.is ∙ (ap (λ x. without_defined ++ x) b.is ∙ sym (append_assoc without_defined (u ∷ []) b.us)); asks = b.asks };
+      let b : Begins macros u more a.us = from a.us a.replaces in
+      record { us = b.us; is = a.is ∙ (ap (λ x. without_defined ++ x) b.is ∙ sym (append_assoc without_defined (u ∷ []) b.us)); replaces = b.replaces };
 }
 
 pub follows_other : (macros : Macros) (tokens without_defined next rest ts : List Token) (t u : Token) →
@@ -60,10 +64,11 @@ pub follows_other : (macros : Macros) (tokens without_defined next rest ts : Lis
 follows_other macros tokens without_defined next rest ts t u e split is more f =
     rw more (rw is (follows_more macros tokens without_defined (t ∷ ts) ts t (λ us h. other e h) (λ vs h. begins_other macros t ts vs e h) (rw split at f)))
 
-pub follows_question : (macros : Macros) (tokens without_defined next rest ts : List Token) (d u : Token) (o : Operand) →
-    is_defined d ≡ true → rest ≡ d ∷ ts → operand ts ≡ Some o → u ≡ defined_value macros d o.name → next ≡ without_defined ++ u ∷ [] → Follows macros tokens without_defined rest → Follows macros tokens next o.rest
-follows_question macros tokens without_defined next rest ts d u o e split g is more f =
-    rw more (rw is (follows_more macros tokens without_defined (d ∷ ts) o.rest (defined_value macros d o.name) (λ us h. defined_use e g h) (λ vs h. begins_question macros d ts vs o e g h) (rw split at f)))
+pub follows_defined : (macros : Macros) (tokens without_defined next rest ts : List Token) (d u : Token) (o : Operand) →
+    is_defined d ≡ true → rest ≡ d ∷ ts → operand ts ≡ Some o → u ≡ defined_value macros d o.name → next ≡ without_defined ++ u ∷ [] →
+    Follows macros tokens without_defined rest → Follows macros tokens next o.rest
+follows_defined macros tokens without_defined next rest ts d u o e split g is more f =
+    rw more (rw is (follows_more macros tokens without_defined (d ∷ ts) o.rest (defined_value macros d o.name) (λ us h. defined_use e g h) (λ vs h. begins_defined macros d ts vs o e g h) (rw split at f)))
 
 pub follows_end : (macros : Macros) (tokens without_defined rest : List Token) → length rest ≡ 0 → Follows macros tokens without_defined rest → ReplacesDefined macros tokens without_defined
 follows_end macros tokens without_defined [] e f = rw (← append-nil without_defined) (f.onward [] nothing)
@@ -73,4 +78,4 @@ pub follows_none : (macros : Macros) (tokens without_defined rest ts : List Toke
     is_defined d ≡ true → rest ≡ d ∷ ts → operand ts ≡ None → Follows macros tokens without_defined rest → (us : List Token) → ¬ ReplacesDefined macros tokens us
 follows_none macros tokens without_defined rest ts d e split g f us h =
     let a : Ahead macros without_defined rest us = f.back us h in
-    asks_none macros d ts a.us e g (rw split at a.asks)
+    defined_without_operand macros d ts a.us e g (rw split at a.replaces)

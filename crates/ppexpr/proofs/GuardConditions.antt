@@ -1,20 +1,21 @@
 -- The condition of an include guard (6.10.1) is false if the guard's name is a macro's.
-use Rattle.std.proofs.Common.{◌≡◌, ℕ, zero, suc, pos, Bool, true, false, List, [], ◌∷◌, Option, None, Ok, refl, ap, subst, codes, if◌then◌else◌, is_some, arith}
+use Rattle.std.proofs.Common.{◌≡◌, ℕ, zero, suc, pos, Bool, true, false, List, [], ◌∷◌, None, Ok, refl, ap, subst, codes, if◌then◌else◌, is_some, arith}
 use Rattle.std.specs.FinMap as table
 use Rattle.pptext.specs.declared.tokens.Place.{Place}
 use Rattle.pptext.specs.declared.tokens.Token.{Token}
 use Rattle.pptext.specs.declared.tokens.Kind.TheVariants.{Ident, Number, Punct}
 use Rattle.ppmacro.specs.Names.{Macros}
 use Rattle.ppexpand.specs.declared.env.Env.{Env}
+use Rattle.ppexpand.specs.declared.meter.Meter.{Meter}
 use Rattle.ppexpand.specs.Expansion.{IsExpansion, stops_with}
 use Rattle.ppexpand.proofs.SkippedTokens.{expansion-following, expands-nothing}
-use Rattle.ppexpr.specs.Outcomes.{Signed}
-use Rattle.ppexpr.specs.Operators.{Bang}
-use Rattle.ppexpr.specs.Symbols.{Symbol, Constant, Operator}
-use Rattle.ppexpr.specs.Operations.{Not}
-use Rattle.ppexpr.specs.Trees.{Tree, Leaf, Applied}
-use Rattle.ppexpr.specs.Values.{unary_outcome, constant_outcome}
-use Rattle.ppexpr.specs.Grammar.{Derives, constant, unary, tighter}
+use Rattle.ppexpr.specs.declared.symbols.Value.TheVariants.{Signed}
+use Rattle.ppexpr.specs.declared.operators.Operator.TheVariants.{Bang}
+use Rattle.ppexpr.specs.declared.symbols.Symbol.{Symbol}
+use Rattle.ppexpr.specs.declared.symbols.Symbol.TheVariants.{Constant, Operator}
+use Rattle.ppexpr.specs.declared.operators.Unary.TheVariants.{Not}
+use Rattle.ppexpr.specs.Grammar.{Tree, Leaf, Applied, Derives, constant, unary, tighter}
+use Rattle.ppexpr.specs.Values.{unary_evaluation, constant_evaluation}
 use Rattle.ppexpr.specs.DefinedOperator.{ReplacesDefined, nothing, other, defined_use, defined_value}
 use Rattle.ppexpr.specs.Nesting.{IsTooNested}
 use Rattle.ppexpr.specs.Conditions.{EvaluatesShallow, has_value, not_nested, constants, IsCondition, replaced}
@@ -37,7 +38,7 @@ shallow : ¬ IsTooNested symbols
 shallow = few_shallow symbols (omega arith)
 
 is_false : (at : Place) → EvaluatesShallow at symbols (Ok false)
-unfolding tree unary_outcome constant_outcome
+unfolding tree unary_evaluation constant_evaluation
 is_false at = has_value (tree, loosest 12 (unary Bang Not refl (tighter {k = 12} (constant (Signed (pos 1))))), refl)
 
 -- ---- the tokens
@@ -58,26 +59,28 @@ as_one t = record t { kind = Number; text = codes "1" }
 abbrev not_one : Token → Token → List Token
 not_one n f = punctuator (codes "!") n ∷ as_one f ∷ []
 
-not_one_expands : (macros : Macros) (env : Env) (remaining : Option ℕ) (n f : Token) → IsExpansion macros env remaining (not_one n f) (record { tokens = not_one n f; fault = None; remaining = remaining })
-not_one_expands macros env remaining n f =
-    expansion-following macros env remaining (not_one n f) (not_one n f) [] (record { tokens = not_one n f; fault = None; remaining = remaining }) (stops_with remaining None) refl (refl, (refl, tt)) (expands-nothing macros env 0 remaining) refl refl refl
+not_one_expands : (macros : Macros) (env : Env) (meter : Meter) (n f : Token)
+    → IsExpansion macros env meter (not_one n f) (record { tokens = not_one n f; fault = None; meter = meter })
+not_one_expands macros env meter n f =
+    expansion-following macros env meter (not_one n f) (not_one n f) [] (record { tokens = not_one n f; fault = None; meter = meter })
+    (stops_with meter None) refl (refl, (refl, tt)) (expands-nothing macros env 0 meter) refl refl refl
 
-asked_false : (macros : Macros) (env : Env) (at : Place) (tokens : List Token) (remaining : Option ℕ) (n f x : Token)
+defined_false : (macros : Macros) (env : Env) (at : Place) (tokens : List Token) (meter : Meter) (n f x : Token)
     → is_some (table.get macros x.text) ≡ true
     → ReplacesDefined macros tokens (punctuator (codes "!") n ∷ defined_value macros (as_defined f) (as_name x) ∷ [])
-    → IsCondition macros env at tokens remaining (Ok false) remaining
-asked_false macros env at tokens remaining n f x known asks =
+    → IsCondition macros env at tokens meter (Ok false) meter
+defined_false macros env at tokens meter n f x known replaces =
     let one = ap (λ (b : Bool). punctuator (codes "!") n ∷ record f { kind = Number; text = if b then codes "1" else codes "0" } ∷ []) known in
-    replaced (subst (ReplacesDefined macros tokens) one asks) (not_one_expands macros env remaining n f) refl refl (constants refl refl (not_nested shallow (is_false at)))
+    replaced (subst (ReplacesDefined macros tokens) one replaces) (not_one_expands macros env meter n f) refl (constants refl refl (not_nested shallow (is_false at)))
 
 -- ---- `! defined X` and `! defined ( X )`
 
-pub bare_false : (macros : Macros) (env : Env) (at : Place) (remaining : Option ℕ) (n f x : Token)
+pub bare_false : (macros : Macros) (env : Env) (at : Place) (meter : Meter) (n f x : Token)
     → is_some (table.get macros x.text) ≡ true
-    → IsCondition macros env at (punctuator (codes "!") n ∷ as_defined f ∷ as_name x ∷ []) remaining (Ok false) remaining
-bare_false macros env at remaining n f x known = asked_false macros env at _ remaining n f x known (other refl (defined_use refl refl nothing))
+    → IsCondition macros env at (punctuator (codes "!") n ∷ as_defined f ∷ as_name x ∷ []) meter (Ok false) meter
+bare_false macros env at meter n f x known = defined_false macros env at _ meter n f x known (other refl (defined_use refl refl nothing))
 
-pub parenthesized_false : (macros : Macros) (env : Env) (at : Place) (remaining : Option ℕ) (n f l x r : Token)
+pub parenthesized_false : (macros : Macros) (env : Env) (at : Place) (meter : Meter) (n f l x r : Token)
     → is_some (table.get macros x.text) ≡ true
-    → IsCondition macros env at (punctuator (codes "!") n ∷ as_defined f ∷ punctuator (codes "(") l ∷ as_name x ∷ punctuator (codes ")") r ∷ []) remaining (Ok false) remaining
-parenthesized_false macros env at remaining n f l x r known = asked_false macros env at _ remaining n f x known (other refl (defined_use refl refl nothing))
+    → IsCondition macros env at (punctuator (codes "!") n ∷ as_defined f ∷ punctuator (codes "(") l ∷ as_name x ∷ punctuator (codes ")") r ∷ []) meter (Ok false) meter
+parenthesized_false macros env at meter n f l x r known = defined_false macros env at _ meter n f x known (other refl (defined_use refl refl nothing))

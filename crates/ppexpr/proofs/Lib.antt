@@ -24,7 +24,7 @@ pub mod SymbolSteps
 pub mod ConditionSteps
 -- Bounds on counts of symbols rule out nesting that is too deep.
 pub mod NestingCounts
--- A list of at most 256 symbols is not nested too deep.
+-- A list of at most `most_levels` symbols is not nested too deep.
 pub mod ShortExpressions
 -- A condition without macro replacement has the result of its tokens' symbols.
 pub mod UnreplacedConditions

@@ -1,13 +1,19 @@
 -- The stack machine evaluates each expression to the meaning of its tree.
-use Rattle.std.proofs.Common.{◌≡◌, ℕ, suc, ◌≤◌, ◌<◌, List, [], ◌∷◌, ◌++◌, if◌then◌else◌, refl, sym, ap, ◌∙◌, arith, append_assoc, append-nil}
-use Rattle.std.specs.Prelude.{Some, None, option_and_then}
+use Rattle.std.proofs.Common.{◌≡◌, ℕ, suc, ◌≤◌, ◌<◌, List, [], ◌∷◌, ◌++◌, if◌then◌else◌, refl, sym, ap, subst, ◌∙◌, arith, append_assoc, append-nil}
+use Rattle.std.specs.Prelude.{Some, None, IfSome, option_and_then}
 use Rattle.std.proofs.lemmas.Bool.{le-leb, lt-leb}
-use Rattle.ppexpr.specs.Operators.{Operator as OperatorSign}
-use Rattle.ppexpr.specs.Symbols.{Symbol, Operator, Open, Close, Question, Colon, unary_of, binary_of}
-use Rattle.ppexpr.specs.Operations.{Unary, Binary, Multiply, Divide, Remainder, Add, Subtract, ShiftLeft, ShiftRight, Less, Greater, LessOrEqual, GreaterOrEqual, Equal, NotEqual, BitAnd, BitXor, BitOr, And, Or}
-use Rattle.ppexpr.specs.Trees.{Tree, Leaf, Applied, Joined, Chosen}
-use Rattle.ppexpr.specs.Grammar.{level_of, Derives, constant, parentheses, unary, binary, conditional, tighter}
-use Rattle.ppexpr.specs.code.Pending.{Meaning, Frame, Group, Sign, Left, Test, Arms, frame_level, completed, unreduced, reduced, after_sign, after_operator, after_colon, after_close, after_last}
+use Rattle.ppexpr.specs.declared.operators.Operator.{Operator as OperatorSign}
+use Rattle.ppexpr.specs.declared.symbols.Symbol.{Symbol}
+use Rattle.ppexpr.specs.declared.symbols.Symbol.TheVariants.{Operator, Open, Close, Question, Colon}
+use Rattle.ppexpr.specs.Operators.{unary_of, binary_of}
+use Rattle.ppexpr.specs.declared.operators.Operator.TheVariants as sign
+use Rattle.ppexpr.specs.declared.operators.Infix.{Infix}
+use Rattle.ppexpr.specs.declared.operators.Unary.{Unary}
+use Rattle.ppexpr.specs.Grammar.{Tree, Leaf, Applied, Joined, Chosen, Derives, constant, parentheses, unary, binary, conditional, tighter}
+use Rattle.ppexpr.specs.code.Pending.{Meaning, frame_level, completed, unreduced, reduced, after_sign, after_operator, after_colon, after_close}
+use Rattle.ppexpr.specs.code.Pending.{after_last}
+use Rattle.ppexpr.specs.declared.parsing.Frame.{Frame}
+use Rattle.ppexpr.specs.declared.parsing.Frame.TheVariants.{Group, Sign, Left, Test, Arms}
 use Rattle.ppexpr.proofs.MachineRuns.{run}
 
 -- the value of a tree, by the operations of a `Meaning`
@@ -17,25 +23,18 @@ meaning m (Applied o t) = m.applied o (meaning m t)
 meaning m (Joined o t u) = m.joined o (meaning m t) (meaning m u)
 meaning m (Chosen t u w) = m.chosen (meaning m t) (meaning m u) (meaning m w)
 
-pub level_bounds : (o : Binary) → (2 ≤ level_of o) × (level_of o ≤ 11)
-level_bounds Or = (omega arith, omega arith)
-level_bounds And = (omega arith, omega arith)
-level_bounds BitOr = (omega arith, omega arith)
-level_bounds BitXor = (omega arith, omega arith)
-level_bounds BitAnd = (omega arith, omega arith)
-level_bounds Equal = (omega arith, omega arith)
-level_bounds NotEqual = (omega arith, omega arith)
-level_bounds Less = (omega arith, omega arith)
-level_bounds Greater = (omega arith, omega arith)
-level_bounds LessOrEqual = (omega arith, omega arith)
-level_bounds GreaterOrEqual = (omega arith, omega arith)
-level_bounds ShiftLeft = (omega arith, omega arith)
-level_bounds ShiftRight = (omega arith, omega arith)
-level_bounds Add = (omega arith, omega arith)
-level_bounds Subtract = (omega arith, omega arith)
-level_bounds Multiply = (omega arith, omega arith)
-level_bounds Divide = (omega arith, omega arith)
-level_bounds Remainder = (omega arith, omega arith)
+-- the level of a binary operator
+pub record IsBounded (o : Infix) : Type 0 where
+  pub low : 2 ≤ o.level
+  pub high : o.level ≤ 11
+
+bounded : (sign : OperatorSign) → IfSome (binary_of sign) IsBounded
+bounded sign.Tilde = tt
+bounded sign.Bang = tt
+bounded _ = record { low = omega arith; high = omega arith }
+
+pub level_bounds : (sign : OperatorSign) (o : Infix) → binary_of sign ≡ Some o → IsBounded o
+level_bounds sign o e = subst (λ q. IfSome q IsBounded) e (bounded sign)
 
 -- ---- frames that are reduced, and frames that stay
 
@@ -132,15 +131,15 @@ reach_unary m fs s t sign o e r = record {
       ∙ ap (λ gs. run m (gs, Some r.last) rest) (sym (append_assoc r.above (Sign o ∷ []) fs));
 }
 
-reach_binary : {A : Type 0} (m : Meaning A) (fs : List (Frame A)) (s q : List Symbol) (t u : Tree) (sign : OperatorSign) (o : Binary) →
-    binary_of sign ≡ Some o → Awaits (level_of o) fs → Reaches m (level_of o) fs s t → Reaches m (suc (level_of o)) (Left o (meaning m t) ∷ fs) q u →
-    Reaches m (level_of o) fs (s ++ (Operator sign ∷ q)) (Joined o t u)
+reach_binary : {A : Type 0} (m : Meaning A) (fs : List (Frame A)) (s q : List Symbol) (t u : Tree) (sign : OperatorSign) (o : Infix) →
+    binary_of sign ≡ Some o → Awaits o.level fs → Reaches m o.level fs s t → Reaches m (suc o.level) (Left o (meaning m t) ∷ fs) q u →
+    Reaches m o.level fs (s ++ (Operator sign ∷ q)) (Joined o.operation t u)
 reach_binary m fs s q t u sign o e w a b = record {
   above = b.above ++ Left o (meaning m t) ∷ [];
   last = b.last;
-  tight = Tight-push (level_of o) b.above (Left o (meaning m t)) (Tight-looser (level_of o) (suc (level_of o)) b.above (omega arith) b.tight) (omega arith);
-  open_none = Tight-push 1 b.above (Left o (meaning m t)) b.open_none (omega (arith, level_bounds o));
-  value = all_completed-push m b.above (Left o (meaning m t)) b.last ∙ ap (λ z. m.joined o (meaning m t) z) b.value;
+  tight = Tight-push o.level b.above (Left o (meaning m t)) (Tight-looser o.level (suc o.level) b.above (omega arith) b.tight) (omega arith);
+  open_none = Tight-push 1 b.above (Left o (meaning m t)) b.open_none (omega (arith, (level_bounds sign o e).low));
+  value = all_completed-push m b.above (Left o (meaning m t)) b.last ∙ ap (λ z. m.joined o.operation (meaning m t) z) b.value;
   runs = λ rest.
       ap (λ xs. run m (fs, None) xs) (append_assoc s (Operator sign ∷ q) rest)
       ∙ a.runs (Operator sign ∷ (q ++ rest))
@@ -150,11 +149,11 @@ reach_binary m fs s q t u sign o e w a b = record {
       ∙ ap (λ gs. run m (gs, Some b.last) rest) (sym (append_assoc b.above (Left o (meaning m t) ∷ []) fs));
 }
   where
-    below : unreduced (level_of o) (a.above ++ fs) ≡ fs
-    below = unreduced-tight (level_of o) a.above fs a.tight ∙ unreduced-awaits (level_of o) fs ((level_bounds o).0) ((level_bounds o).1) w
+    below : unreduced o.level (a.above ++ fs) ≡ fs
+    below = unreduced-tight o.level a.above fs a.tight ∙ unreduced-awaits o.level fs (level_bounds sign o e).low (level_bounds sign o e).high w
 
-    left : reduced m (level_of o) (a.above ++ fs) a.last ≡ meaning m t
-    left = reduced-tight m (level_of o) a.above fs a.last a.tight ∙ reduced-awaits m (level_of o) fs (all_completed m a.above a.last) ((level_bounds o).0) ((level_bounds o).1) w ∙ a.value
+    left : reduced m o.level (a.above ++ fs) a.last ≡ meaning m t
+    left = reduced-tight m o.level a.above fs a.last a.tight ∙ reduced-awaits m o.level fs (all_completed m a.above a.last) (level_bounds sign o e).low (level_bounds sign o e).high w ∙ a.value
 
 reach_conditional : {A : Type 0} (m : Meaning A) (fs : List (Frame A)) (s q n : List Symbol) (t u v : Tree) →
     Awaits 2 fs → Reaches m 2 fs s t → Reaches m 0 (Test (meaning m t) ∷ fs) q u → Reaches m 1 (Arms (meaning m t) (meaning m u) ∷ fs) n v →
@@ -171,13 +170,19 @@ reach_conditional m fs s q n t u v w a b c = record {
       ∙ (λ i. run m (Test (test i) ∷ below i, None) ((q ++ (Colon ∷ n)) ++ rest))
       ∙ ap (λ xs. run m (Test (meaning m t) ∷ fs, None) xs) (append_assoc q (Colon ∷ n) rest)
       ∙ b.runs (Colon ∷ (n ++ rest))
-      ∙ (λ i. option_and_then (λ r. run m r (n ++ rest)) (after_colon (unreduced-tight 1 b.above (Test (meaning m t) ∷ fs) b.open_none i) ((reduced-tight m 1 b.above (Test (meaning m t) ∷ fs) b.last b.open_none ∙ b.value) i)))
+      ∙ (λ i. option_and_then (λ r. run m r (n ++ rest)) (after_colon (around i) (middle i)))
       ∙ c.runs rest
       ∙ ap (λ gs. run m (gs, Some c.last) rest) (sym (append_assoc c.above (Arms (meaning m t) (meaning m u) ∷ []) fs));
 }
   where
     below : unreduced 2 (a.above ++ fs) ≡ fs
     below = unreduced-tight 2 a.above fs a.tight ∙ unreduced-awaits 2 fs (omega arith) (omega arith) w
+
+    around : unreduced 1 (b.above ++ Test (meaning m t) ∷ fs) ≡ Test (meaning m t) ∷ fs
+    around = unreduced-tight 1 b.above (Test (meaning m t) ∷ fs) b.open_none
+
+    middle : reduced m 1 (b.above ++ Test (meaning m t) ∷ fs) b.last ≡ meaning m u
+    middle = reduced-tight m 1 b.above (Test (meaning m t) ∷ fs) b.last b.open_none ∙ b.value
 
     test : reduced m 2 (a.above ++ fs) a.last ≡ meaning m t
     test = reduced-tight m 2 a.above fs a.last a.tight ∙ reduced-awaits m 2 fs (all_completed m a.above a.last) (omega arith) (omega arith) w ∙ a.value

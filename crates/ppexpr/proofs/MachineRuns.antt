@@ -1,6 +1,6 @@
 -- A run of the parser's stack machine over a list of symbols.
 use Rattle.std.specs.Prelude.{List, [], ◌∷◌, Option, option_and_then}
-use Rattle.ppexpr.specs.Symbols.{Symbol}
+use Rattle.ppexpr.specs.declared.symbols.Symbol.{Symbol}
 use Rattle.ppexpr.specs.code.Pending.{Meaning, State, step, finish}
 
 abbrev pub run : {A : Type 0} → Meaning A → State A → List Symbol → Option A

@@ -2,12 +2,17 @@
 use Rattle.std.proofs.Common.{◌≡◌, ℕ, zero, suc, ◌≤◌, ◌<◌, List, [], ◌∷◌, ◌++◌, if◌then◌else◌, refl, sym, ap, subst, ◌∙◌, arith, append_assoc, append-nil, inl, inr}
 use Rattle.std.specs.Prelude.{Option, Some, None, IfSome, option_and_then}
 use Rattle.std.proofs.lemmas.Bool.Decides.{leb_tells}
-use Rattle.ppexpr.specs.Operators.{Operator as OperatorSign}
-use Rattle.ppexpr.specs.Symbols.{Symbol, Constant, Operator, Open, Close, Question, Colon, Other, unary_of, binary_of}
-use Rattle.ppexpr.specs.Operations.{Unary, Binary}
-use Rattle.ppexpr.specs.Trees.{Tree, Leaf, Applied, Joined, Chosen}
-use Rattle.ppexpr.specs.Grammar.{level_of, Derives, constant, parentheses, unary, binary, conditional, tighter}
-use Rattle.ppexpr.specs.code.Pending.{Meaning, Frame, Group, Sign, Left, Test, Arms, frame_level, completed, unreduced, reduced, State, after_sign, after_operator, after_colon, after_close, after_last, step}
+use Rattle.ppexpr.specs.declared.operators.Operator.{Operator as OperatorSign}
+use Rattle.ppexpr.specs.declared.symbols.Symbol.{Symbol}
+use Rattle.ppexpr.specs.declared.symbols.Symbol.TheVariants.{Constant, Operator, Open, Close, Question, Colon, Other}
+use Rattle.ppexpr.specs.Operators.{unary_of, binary_of}
+use Rattle.ppexpr.specs.declared.operators.Infix.{Infix}
+use Rattle.ppexpr.specs.declared.operators.Unary.{Unary}
+use Rattle.ppexpr.specs.Grammar.{Tree, Leaf, Applied, Joined, Chosen, Derives, constant, parentheses, unary, binary, conditional, tighter}
+use Rattle.ppexpr.specs.code.Pending.{Meaning, frame_level, completed, unreduced, reduced, State, after_sign, after_operator, after_colon}
+use Rattle.ppexpr.specs.code.Pending.{after_close, after_last, step}
+use Rattle.ppexpr.specs.declared.parsing.Frame.{Frame}
+use Rattle.ppexpr.specs.declared.parsing.Frame.TheVariants.{Group, Sign, Left, Test, Arms}
 use Rattle.ppexpr.proofs.MachineCompleteness.{meaning, level_bounds}
 use Rattle.ppexpr.proofs.MachineRuns.{run}
 
@@ -21,17 +26,9 @@ abbrev wanted : {A : Type 0} → List (Frame A) → ℕ
 wanted [] = 0
 wanted (Group ∷ fs) = 0
 wanted (Sign o ∷ fs) = 12
-wanted (Left o x ∷ fs) = suc (level_of o)
+wanted (Left o x ∷ fs) = suc o.level
 wanted (Test x ∷ fs) = 0
 wanted (Arms x y ∷ fs) = 1
-
-wanted_small : {A : Type 0} (fs : List (Frame A)) → wanted fs ≤ 12
-wanted_small [] = omega arith
-wanted_small (Group ∷ fs) = omega arith
-wanted_small (Sign o ∷ fs) = omega arith
-wanted_small (Left o x ∷ fs) = omega (arith, level_bounds o)
-wanted_small (Test x ∷ fs) = omega arith
-wanted_small (Arms x y ∷ fs) = omega arith
 
 -- the frames represent these symbols, after which an operand must follow
 data Opens {A : Type 0} (m : Meaning A) : List (Frame A) → List Symbol → Type 0 where
@@ -39,8 +36,8 @@ data Opens {A : Type 0} (m : Meaning A) : List (Frame A) → List Symbol → Typ
   group : {fs : List (Frame A)} {xs zs : List Symbol} → Opens m fs xs → zs ≡ xs ++ Open ∷ [] → Opens m (Group ∷ fs) zs
   sign : {fs : List (Frame A)} {xs zs : List Symbol} (c : OperatorSign) (o : Unary) → unary_of c ≡ Some o →
       Opens m fs xs → zs ≡ xs ++ Operator c ∷ [] → Opens m (Sign o ∷ fs) zs
-  left : {fs : List (Frame A)} {xs ys zs : List Symbol} {t : Tree} {x : A} (c : OperatorSign) (o : Binary) → binary_of c ≡ Some o →
-      Opens m fs xs → wanted fs ≤ level_of o → Derives (level_of o) ys t → x ≡ meaning m t →
+  left : {fs : List (Frame A)} {xs ys zs : List Symbol} {t : Tree} {x : A} (c : OperatorSign) (o : Infix) → binary_of c ≡ Some o →
+      Opens m fs xs → wanted fs ≤ o.level → Derives o.level ys t → x ≡ meaning m t →
       zs ≡ xs ++ (ys ++ Operator c ∷ []) → Opens m (Left o x ∷ fs) zs
   test : {fs : List (Frame A)} {xs ys zs : List Symbol} {t : Tree} {x : A} →
       Opens m fs xs → wanted fs ≤ 1 → Derives 2 ys t → x ≡ meaning m t →
@@ -48,6 +45,14 @@ data Opens {A : Type 0} (m : Meaning A) : List (Frame A) → List Symbol → Typ
   arms : {fs : List (Frame A)} {xs ys ns zs : List Symbol} {t u : Tree} {x y : A} →
       Opens m fs xs → wanted fs ≤ 1 → Derives 2 ys t → x ≡ meaning m t → Derives 0 ns u → y ≡ meaning m u →
       zs ≡ xs ++ (ys ++ (Question ∷ (ns ++ Colon ∷ []))) → Opens m (Arms x y ∷ fs) zs
+
+wanted_small : {A : Type 0} {m : Meaning A} {fs : List (Frame A)} {xs : List Symbol} → Opens m fs xs → wanted fs ≤ 12
+wanted_small nothing = omega arith
+wanted_small (group outer read) = omega arith
+wanted_small (sign c o is outer read) = omega arith
+wanted_small (left c o is outer fits first same read) = omega (arith, (level_bounds c o is).high)
+wanted_small (test outer fits first same read) = omega arith
+wanted_small (arms outer fits first same second like read) = omega arith
 
 -- the frames represent the first symbols, and the others are an operand of this level that fits the frames
 record Reads {A : Type 0} (m : Meaning A) (k : ℕ) (fs : List (Frame A)) (z : A) (all : List Symbol) : Type 0 where
@@ -115,13 +120,13 @@ settles m p low (group {fs = fs} {zs = zs} outer read) k ns all t z operand fit 
 settles m p low (sign {fs = fs} {xs = xs} {zs = zs} c o is outer read) k ns all t z operand fit deep means whole =
     taken_or_kept m p (Sign o) fs z all
     (λ tight. settles m p low outer 12 (Operator c ∷ ns) all (Applied o t) (m.applied o z)
-    (unary c o is (loosened k 12 fit operand)) (wanted_small fs) tight (ap (λ y. m.applied o y) means)
+    (unary c o is (loosened k 12 fit operand)) (wanted_small outer) tight (ap (λ y. m.applied o y) means)
     (front xs zs ns all (Operator c) read whole))
     (λ loose. stays m k p (Sign o ∷ fs) zs ns all t z (sign c o is outer read) operand deep (omega arith) means whole)
 settles m p low (left {fs = fs} {xs = xs} {ys = ys} {zs = zs} {t = a} {x = x} c o is outer fits first same read) k ns all t z operand fit deep means whole =
     taken_or_kept m p (Left o x) fs z all
-    (λ tight. settles m p low outer (level_of o) (ys ++ (Operator c ∷ ns)) all (Joined o a t) (m.joined o x z)
-    (binary c o is first (loosened k (suc (level_of o)) fit operand)) fits tight (λ i. m.joined o (same i) (means i))
+    (λ tight. settles m p low outer o.level (ys ++ (Operator c ∷ ns)) all (Joined o.operation a t) (m.joined o.operation x z)
+    (binary c o is first (loosened k (suc o.level) fit operand)) fits tight (λ i. m.joined o.operation (same i) (means i))
     (middle xs ys zs ns all (Operator c) read whole))
     (λ loose. stays m k p (Left o x ∷ fs) zs ns all t z (left c o is outer fits first same read) operand deep (omega arith) means whole)
 settles m p low (test {fs = fs} {zs = zs} {x = x} outer fits first same read) k ns all t z operand fit deep means whole =
@@ -152,13 +157,13 @@ after_sign-stands : {A : Type 0} (m : Meaning A) (fs : List (Frame A)) (xs : Lis
 after_sign-stands m fs xs s None e h = tt
 after_sign-stands m fs xs s (Some o) e h = sign s o e h refl
 
-after_operator-stands : {A : Type 0} (m : Meaning A) (fs : List (Frame A)) (z : A) (xs : List Symbol) (s : OperatorSign) (q : Option Binary) → binary_of s ≡ q →
+after_operator-stands : {A : Type 0} (m : Meaning A) (fs : List (Frame A)) (z : A) (xs : List Symbol) (s : OperatorSign) (q : Option Infix) → binary_of s ≡ q →
     Reads m 13 fs z xs → IfSome (after_operator m fs z q) (λ r. Stands m r (xs ++ Operator s ∷ []))
 after_operator-stands m fs z xs s None e h = tt
-after_operator-stands m fs z xs s (Some o) e h = opened (reduce m (level_of o) 13 fs z xs (omega (arith, level_bounds o)) (omega (arith, level_bounds o)) h)
+after_operator-stands m fs z xs s (Some o) e h = opened (reduce m o.level 13 fs z xs (omega (arith, (level_bounds s o e).low)) (omega (arith, (level_bounds s o e).high)) h)
   where
-    opened : Reads m (level_of o) (unreduced (level_of o) fs) (reduced m (level_of o) fs z) xs →
-        Opens m (Left o (reduced m (level_of o) fs z) ∷ unreduced (level_of o) fs) (xs ++ Operator s ∷ [])
+    opened : Reads m o.level (unreduced o.level fs) (reduced m o.level fs z) xs →
+        Opens m (Left o (reduced m o.level fs z) ∷ unreduced o.level fs) (xs ++ Operator s ∷ [])
     opened r = left s o e r.opens r.fits r.derives r.value (pushed r.before r.inside xs (Operator s) r.whole)
 
 tested-stands : {A : Type 0} (m : Meaning A) (fs : List (Frame A)) (z : A) (xs : List Symbol) → wanted fs ≤ 1 → Reads m 2 fs z xs →
@@ -166,13 +171,13 @@ tested-stands : {A : Type 0} (m : Meaning A) (fs : List (Frame A)) (z : A) (xs :
 tested-stands m fs z xs w r = test r.opens w r.derives r.value (pushed r.before r.inside xs Question r.whole)
 
 -- no frame waits for an operand of level 2
-wanted_low : {A : Type 0} (fs : List (Frame A)) → wanted fs ≤ 2 → wanted fs ≤ 1
-wanted_low [] h = omega arith
-wanted_low (Group ∷ fs) h = omega arith
-wanted_low (Sign o ∷ fs) h = absurd (omega arith)
-wanted_low (Left o x ∷ fs) h = absurd (omega (arith, level_bounds o))
-wanted_low (Test x ∷ fs) h = omega arith
-wanted_low (Arms x y ∷ fs) h = omega arith
+wanted_low : {A : Type 0} {m : Meaning A} {fs : List (Frame A)} {xs : List Symbol} → Opens m fs xs → wanted fs ≤ 2 → wanted fs ≤ 1
+wanted_low nothing h = omega arith
+wanted_low (group outer read) h = omega arith
+wanted_low (sign c o is outer read) h = absurd (omega arith)
+wanted_low (left c o is outer fits first same read) h = absurd (omega (arith, (level_bounds c o is).low))
+wanted_low (test outer fits first same read) h = omega arith
+wanted_low (arms outer fits first same second like read) h = omega arith
 
 after_colon-stands : {A : Type 0} (m : Meaning A) {fs : List (Frame A)} {xs : List Symbol} → Opens m fs xs → (z : A) (ns all : List Symbol) (t : Tree) →
     Derives 1 ns t → z ≡ meaning m t → xs ++ ns ≡ all → IfSome (after_colon fs z) (λ r. Stands m r (all ++ Colon ∷ []))
@@ -194,7 +199,7 @@ after_close-stands m (group {fs = fs} {xs = xs} {zs = zs} outer read) z ns all t
   tree = t;
   opens = outer;
   derives = parentheses (tighter operand);
-  fits = omega (arith, wanted_small fs);
+  fits = omega (arith, wanted_small outer);
   value = means;
   whole = front xs zs (ns ++ Close ∷ []) (all ++ Close ∷ []) Open read (sym (pushed zs ns all Close whole));
 }
@@ -223,7 +228,7 @@ step-stands m (fs, None) xs (Constant v) h = record {
   tree = Leaf v;
   opens = h;
   derives = constant v;
-  fits = omega (arith, wanted_small fs);
+  fits = omega (arith, wanted_small h);
   value = refl;
   whole = refl;
 }
@@ -241,7 +246,7 @@ step-stands m (fs, Some z) xs Close h =
     after_close-stands m r.opens (reduced m 1 fs z) r.inside xs r.tree r.derives r.value r.whole
 step-stands m (fs, Some z) xs Question h =
     let r : Reads m 2 (unreduced 2 fs) (reduced m 2 fs z) xs = reduce m 2 13 fs z xs (omega arith) (omega arith) h in
-    tested-stands m (unreduced 2 fs) (reduced m 2 fs z) xs (wanted_low (unreduced 2 fs) r.fits) r
+    tested-stands m (unreduced 2 fs) (reduced m 2 fs z) xs (wanted_low r.opens r.fits) r
 step-stands m (fs, Some z) xs Colon h =
     let r : Reads m 1 (unreduced 1 fs) (reduced m 1 fs z) xs = reduce m 1 13 fs z xs (omega arith) (omega arith) h in
     after_colon-stands m r.opens (reduced m 1 fs z) r.inside xs r.tree r.derives r.value r.whole

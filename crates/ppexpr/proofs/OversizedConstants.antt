@@ -2,7 +2,7 @@
 use Rattle.std.proofs.Common.{◌≡◌, ℕ, ◌^◌, ◌<◌, ◌≤◌, Bool, true, false, List, Option, Some, None, arith, refl, ap, ◌∙◌, drop, take, nat_lt, nat_le}
 use Rattle.std.specs.Prelude.{IfSome, option_and_then, if◌then◌else◌}
 use Rattle.std.proofs.lemmas.Bool.Decides.{nat_tests}
-use Rattle.ppexpr.specs.Outcomes.{Value}
+use Rattle.ppexpr.specs.declared.symbols.Value.{Value}
 use Rattle.ppexpr.specs.Integers.{digits_len, number, is_one_of, plain_suffixes, unsigned_suffixes, as_uintmax, typed, in_base}
 use Rattle.ppexpr.specs.Characters.{unquoted, character, up_to, of_type}
 

@@ -9,16 +9,19 @@ use Rattle.pptext.specs.declared.tokens.Token.{Token}
 use Rattle.pptext.specs.declared.tokens.Kind.{Kind}
 use Rattle.pptext.specs.declared.tokens.Kind.TheVariants.{Ident, Number, CharConst, Str, Punct, Header, Other as OtherKind}
 use Rattle.pptext.specs.declared.tokens.Fault.{Fault}
-use Rattle.ppexpr.specs.Outcomes.{Value, Signed, Unsigned}
-use Rattle.ppexpr.specs.Operators.{Operator as OperatorSign}
-use Rattle.ppexpr.specs.Symbols.{Symbol, Constant, Operator, Open, Close, Question, Colon, Other}
-use Rattle.ppexpr.specs.Trees.{Tree}
-use Rattle.ppexpr.specs.Grammar.{Derives, constant, parentheses, unary, binary, conditional, tighter, Parses}
-use Rattle.ppexpr.specs.Integers.{as_uintmax, typed, in_base, integer_of, is_one_of, plain_suffixes, unsigned_suffixes, is_hexadecimal, digits_len, number}
+use Rattle.ppexpr.specs.declared.symbols.Value.{Value}
+use Rattle.ppexpr.specs.declared.symbols.Value.TheVariants.{Signed, Unsigned}
+use Rattle.ppexpr.specs.declared.operators.Operator.{Operator as OperatorSign}
+use Rattle.ppexpr.specs.declared.symbols.Symbol.{Symbol}
+use Rattle.ppexpr.specs.declared.symbols.Symbol.TheVariants.{Constant, Operator, Open, Close, Question, Colon, Other}
+use Rattle.ppexpr.specs.Grammar.{Tree, Derives, constant, parentheses, unary, binary, conditional, tighter, Parses}
+use Rattle.ppexpr.specs.Integers.{as_uintmax, typed, in_base, integer_of, is_one_of, plain_suffixes, unsigned_suffixes, is_hexadecimal, digits_len}
+use Rattle.ppexpr.specs.Integers.{number}
 use Rattle.ppexpr.specs.Characters.{up_to, of_type, character_of, character, unquoted}
-use Rattle.ppexpr.specs.Tokens.{spelling_of, operators, other_punctuator, punctuator_among, constant_or, symbol_by, symbol_of, before, symbols_of}
+use Rattle.ppexpr.specs.Operators.{operator_of}
+use Rattle.ppexpr.specs.Tokens.{other_punctuator, operator_or, constant_or, symbol_by, symbol_of, symbol_then, symbols_of}
 use Rattle.ppexpr.specs.Laws.{IsInRange}
-use Rattle.ppexpr.specs.Values.{outcome_of}
+use Rattle.ppexpr.specs.Values.{evaluation_of}
 use Rattle.ppexpr.proofs.Ranges.{AreLeavesInRange, tree_in_range}
 
 -- a value, if there is one, is in range
@@ -126,9 +129,9 @@ range-other s =
     (either (bytes_eq (codes ")") s) Close defined_use tt
     (either (bytes_eq (codes "?") s) Question colon tt (either (bytes_eq (codes ":") s) Colon Other tt tt)))
 
-range-punctuator : (os : List OperatorSign) (s : List ℕ) → IsRanged (punctuator_among os s)
-range-punctuator [] s = range-other s
-range-punctuator (o ∷ os) s = either (bytes_eq (spelling_of o) s) (Operator o) (punctuator_among os s) tt (range-punctuator os s)
+range-operator : (s : Symbol) (o : Option OperatorSign) → IsRanged s → IsRanged (operator_or s o)
+range-operator s (Some o) h = tt
+range-operator s None h = h
 
 range-constant : (f : Fault) (o : Option Value) → IfInRange o → IfRanged (constant_or f o)
 range-constant f None h = tt
@@ -139,18 +142,18 @@ range-symbol at Ident s = refl
 range-symbol at Number s = range-constant _ (integer_of s) (range-integer s)
 range-symbol at CharConst s = range-constant _ (character_of s) (range-character s)
 range-symbol at Str s = tt
-range-symbol at Punct s = range-punctuator operators s
+range-symbol at Punct s = range-operator (other_punctuator s) (operator_of s) (range-other s)
 range-symbol at Header s = tt
 range-symbol at OtherKind s = tt
 
-range-before : (s : Result Symbol Fault) (ss : Result (List Symbol) Fault) → IfRanged s → IfAreRanged ss → IfAreRanged (before s ss)
-range-before (Ok s) (Ok ss) h k = (h, k)
-range-before (Ok s) (Err f) h k = tt
-range-before (Err f) ss h k = tt
+range-then : (s : Result Symbol Fault) (ss : Result (List Symbol) Fault) → IfRanged s → IfAreRanged ss → IfAreRanged (symbol_then s ss)
+range-then (Ok s) (Ok ss) h k = (h, k)
+range-then (Ok s) (Err f) h k = tt
+range-then (Err f) ss h k = tt
 
 range-symbols : (at : Place) (ts : List Token) → IfAreRanged (symbols_of at ts)
 range-symbols at [] = tt
-range-symbols at (t ∷ ts) = range-before (symbol_of at t) (symbols_of at ts) (range-symbol at t.kind t.text) (range-symbols at ts)
+range-symbols at (t ∷ ts) = range-then (symbol_of at t) (symbols_of at ts) (range-symbol at t.kind t.text) (range-symbols at ts)
 
 -- ---- trees of symbols
 
@@ -169,5 +172,5 @@ leaves (conditional {s = s} {r = r} {q = q} d e g) h =
     (leaves d p.0, leaves e m.0, leaves g m.1.1)
 leaves (tighter d) h = leaves d h
 
-pub tokens_in_range : (at : Place) (ts : List Token) (s : List Symbol) (t : Tree) (v : Value) → symbols_of at ts ≡ Ok s → Parses s t → (outcome_of t).value ≡ Ok v → IsInRange v
+pub tokens_in_range : (at : Place) (ts : List Token) (s : List Symbol) (t : Tree) (v : Value) → symbols_of at ts ≡ Ok s → Parses s t → (evaluation_of t).value ≡ Ok v → IsInRange v
 tokens_in_range at ts s t v e d is = tree_in_range t v (leaves d (subst IfAreRanged e (range-symbols at ts))) is

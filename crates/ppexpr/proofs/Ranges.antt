@@ -1,6 +1,6 @@
 -- A value lies in the range of its type.
 use Rattle.std.proofs.Common.{◌≡◌, ℕ, zero, suc, ℤ, pos, negsuc, ◌==◌, ◌-◌, ◌/◌, ◌^◌, ◌<◌, ◌≤◌, ◌*ℤ◌, ◌+ℤ◌, ◌-ℤ◌, neg_ℤ, int_rem, unsigned_abs, Bool, true, false, nat_lt}
-use Rattle.std.proofs.Common.{not, ◌||◌, ◌&&◌, Ok, Err, refl, subst, arith, int_div, int_le}
+use Rattle.std.proofs.Common.{not, ◌||◌, ◌&&◌, Result, Ok, Err, refl, subst, arith, int_div, int_le}
 use Rattle.std.specs.Prelude.{if◌then◌else◌, bit_and, bit_or, bit_xor}
 use Rattle.std.specs.Ordering.{int_eq}
 use Rattle.std.specs.Int.{w64, int_div_euclid, cast_signed, cast_unsigned}
@@ -9,19 +9,28 @@ use Rattle.std.proofs.lemmas.Bool.Decides.{nat_tests}
 use Rattle.std.proofs.lemmas.Int.{ints, rem_below}
 use Rattle.std.proofs.lemmas.Nat.{and_le_l, or_lt, xor_lt}
 use Rattle.std.proofs.Math.Nat.{div-le_self, mod-lt}
-use Rattle.ppexpr.specs.Outcomes.{Value, Signed, Unsigned, ZeroDivisor, Overflow, Shift}
-use Rattle.ppexpr.specs.Operators.{Operator}
-use Rattle.ppexpr.specs.Operators as operator
-use Rattle.ppexpr.specs.Operations.{Unary, Binary, Multiply, Divide, Remainder, Add, Subtract, ShiftLeft, ShiftRight, Less, Greater, LessOrEqual, GreaterOrEqual, Equal, NotEqual, BitAnd, BitXor, BitOr, And, Or}
-use Rattle.ppexpr.specs.Operations as unary
+use Rattle.ppexpr.specs.declared.symbols.Value.{Value}
+use Rattle.ppexpr.specs.declared.symbols.Value.TheVariants.{Signed, Unsigned}
+use Rattle.ppexpr.specs.declared.symbols.Failure.{Failure}
+use Rattle.ppexpr.specs.declared.symbols.Failure.TheVariants.{ZeroDivisor, Overflow, Shift}
+use Rattle.ppexpr.specs.declared.operators.Operator.{Operator}
+use Rattle.ppexpr.specs.declared.operators.Operator.TheVariants as operator
+use Rattle.ppexpr.specs.declared.operators.Unary.{Unary}
+use Rattle.ppexpr.specs.declared.operators.Binary.{Binary}
+use Rattle.ppexpr.specs.declared.operators.Binary.TheVariants.{Multiply, Divide, Remainder, Add, Subtract, ShiftLeft, ShiftRight, Less, Greater}
+use Rattle.ppexpr.specs.declared.operators.Binary.TheVariants.{LessOrEqual, GreaterOrEqual, Equal, NotEqual, BitAnd, BitXor, BitOr, And, Or}
+use Rattle.ppexpr.specs.declared.operators.Unary.TheVariants as unary
 use Rattle.ppexpr.specs.Laws.{IsInRange}
-use Rattle.ppexpr.specs.Trees.{Tree, Leaf, Applied, Joined, Chosen}
-use Rattle.ppexpr.specs.Values.{Evaluation, Operands, BothSigned, BothUnsigned, is_intmax, modulo, whole, is_zero, truth, signed, unsigned, unary_value, converted, arithmetic, division, comparison, bitwise, is_amount, left_shift}
-use Rattle.ppexpr.specs.Values.{right_shift, shift, binary_value, unary_evaluation, with_right, decides, binary_evaluation, with_type, choice_evaluation, constant_outcome, unary_outcome, binary_outcome, choice_outcome}
-use Rattle.ppexpr.specs.Values.{outcome_of}
+use Rattle.ppexpr.specs.Grammar.{Tree, Leaf, Applied, Joined, Chosen}
+use Rattle.ppexpr.specs.declared.values.Operands.{Operands}
+use Rattle.ppexpr.specs.declared.values.Operands.TheVariants.{BothSigned, BothUnsigned}
+use Rattle.ppexpr.specs.Values.{is_intmax, modulo, whole, is_zero, truth, signed, unsigned}
+use Rattle.ppexpr.specs.Values.{unary_value, converted, arithmetic, division, comparison, bitwise, is_amount, left_shift, right_shift, shift}
+use Rattle.ppexpr.specs.Values.{binary_value, unary_result, with_right, decides, binary_result, with_type, choice_result, constant_evaluation}
+use Rattle.ppexpr.specs.Values.{unary_evaluation, binary_evaluation, choice_evaluation, evaluation_of}
 
 -- a value, if there is one, is in range
-abbrev pub InRange : Evaluation → Type 0
+abbrev pub InRange : Result Value Failure → Type 0
 InRange (Ok v) = IsInRange v
 InRange (Err f) = Unit {0}
 
@@ -74,7 +83,13 @@ range-arithmetic o f (BothUnsigned a b) = modulo_small (f (pos a) (pos b))
 abbrev Divides : (ℤ → ℤ → ℤ) → Type 0
 Divides f = (a b : ℤ) → is_intmax b ≡ true → int_eq b (pos 0) ≡ false → is_intmax (int_div a b) ≡ true → is_intmax (f a b) ≡ true
 
-divided : (o : Operator) (f : ℤ → ℤ → ℤ) (a b : ℤ) → Divides f → is_intmax b ≡ true → int_eq b (pos 0) ≡ false → (t : Bool) → is_intmax (int_div a b) ≡ t → InRange (if t then Ok (Signed (f a b)) else Err (Overflow o))
+divided : (o : Operator) (f : ℤ → ℤ → ℤ) (a b : ℤ)
+    → Divides f
+    → is_intmax b ≡ true
+    → int_eq b (pos 0) ≡ false
+    → (t : Bool)
+    → is_intmax (int_div a b) ≡ t
+    → InRange (if t then Ok (Signed (f a b)) else Err (Overflow o))
 divided o f a b d h e true g = d a b h e g
 divided o f a b d h e false g = tt
 
@@ -147,7 +162,7 @@ range-right_shift (Signed (pos a)) n h = let l = pos_small a h in let m = div-le
 range-right_shift (Signed (negsuc a)) n h = let l = neg_small a h in let m = div-le_self a (2 ^ n) in small_neg (a / 2 ^ n) (omega arith)
 range-right_shift (Unsigned m) n h = modulo_small (int_div_euclid (pos m) (pos (2 ^ n)))
 
-range-shift : (o : Operator) (f : Value → ℕ → Evaluation) (v w : Value) → ((n : ℕ) → InRange (f v n)) → InRange (shift o f v w)
+range-shift : (o : Operator) (f : Value → ℕ → Result Value Failure) (v w : Value) → ((n : ℕ) → InRange (f v n)) → InRange (shift o f v w)
 range-shift o f v w h =
     elim (is_amount (whole w)) as (λ b. InRange (if b then f v (unsigned_abs (whole w)) else Err (Shift o))) [ true ↦ h (unsigned_abs (whole w)) | false ↦ tt ]
 
@@ -187,30 +202,30 @@ range-unary_value unary.Not v h = range-truth (is_zero v)
 
 -- ---- operands that may have no value
 
-range-unary_evaluation : (o : Unary) (a : Evaluation) → InRange a → InRange (unary_evaluation o a)
-range-unary_evaluation o (Ok v) h = range-unary_value o v h
-range-unary_evaluation o (Err f) h = tt
+range-unary_result : (o : Unary) (a : Result Value Failure) → InRange a → InRange (unary_result o a)
+range-unary_result o (Ok v) h = range-unary_value o v h
+range-unary_result o (Err f) h = tt
 
-range-with_right : (o : Binary) (v : Value) (b : Evaluation) → IsInRange v → InRange b → InRange (with_right o v b)
+range-with_right : (o : Binary) (v : Value) (b : Result Value Failure) → IsInRange v → InRange b → InRange (with_right o v b)
 range-with_right o v (Ok w) h k = range-binary_value o v w h k
 range-with_right o v (Err f) h k = tt
 
-either : (z : Bool) (a b : Evaluation) → InRange a → InRange b → InRange (if z then b else a)
+either : (z : Bool) (a b : Result Value Failure) → InRange a → InRange b → InRange (if z then b else a)
 either true a b h k = k
 either false a b h k = h
 
-range-binary_evaluation : (o : Binary) (a b : Evaluation) → InRange a → InRange b → InRange (binary_evaluation o a b)
-range-binary_evaluation o (Ok v) b h k = either (decides o v) (with_right o v b) (Ok (truth (not (is_zero v)))) (range-with_right o v b h k) (range-truth (not (is_zero v)))
-range-binary_evaluation o (Err f) b h k = tt
+range-binary_result : (o : Binary) (a b : Result Value Failure) → InRange a → InRange b → InRange (binary_result o a b)
+range-binary_result o (Ok v) b h k = either (decides o v) (with_right o v b) (Ok (truth (not (is_zero v)))) (range-with_right o v b h k) (range-truth (not (is_zero v)))
+range-binary_result o (Err f) b h k = tt
 
-range-with_type : (u : Bool) (a : Evaluation) → InRange a → InRange (with_type u a)
+range-with_type : (u : Bool) (a : Result Value Failure) → InRange a → InRange (with_type u a)
 range-with_type true (Ok v) h = modulo_small (whole v)
 range-with_type true (Err f) h = tt
 range-with_type false a h = h
 
-range-choice_evaluation : (u : Bool) (c a b : Evaluation) → InRange a → InRange b → InRange (choice_evaluation u c a b)
-range-choice_evaluation u (Ok v) a b h k = range-with_type u (if is_zero v then b else a) (either (is_zero v) a b h k)
-range-choice_evaluation u (Err f) a b h k = tt
+range-choice_result : (u : Bool) (c a b : Result Value Failure) → InRange a → InRange b → InRange (choice_result u c a b)
+range-choice_result u (Ok v) a b h k = range-with_type u (if is_zero v then b else a) (either (is_zero v) a b h k)
+range-choice_result u (Err f) a b h k = tt
 
 -- ---- trees
 
@@ -221,12 +236,12 @@ AreLeavesInRange (Applied o t) = AreLeavesInRange t
 AreLeavesInRange (Joined o t u) = AreLeavesInRange t × AreLeavesInRange u
 AreLeavesInRange (Chosen c t u) = AreLeavesInRange c × AreLeavesInRange t × AreLeavesInRange u
 
-range-tree : (t : Tree) → AreLeavesInRange t → InRange (outcome_of t).value
-unfolding constant_outcome unary_outcome binary_outcome choice_outcome
+range-tree : (t : Tree) → AreLeavesInRange t → InRange (evaluation_of t).value
+unfolding constant_evaluation unary_evaluation binary_evaluation choice_evaluation
 range-tree (Leaf v) h = h
-range-tree (Applied o t) h = range-unary_evaluation o (outcome_of t).value (range-tree t h)
-range-tree (Joined o t u) h = range-binary_evaluation o (outcome_of t).value (outcome_of u).value (range-tree t h.0) (range-tree u h.1)
-range-tree (Chosen c t u) h = range-choice_evaluation ((outcome_of t).unsigned || (outcome_of u).unsigned) (outcome_of c).value (outcome_of t).value (outcome_of u).value (range-tree t h.1) (range-tree u h.2)
+range-tree (Applied o t) h = range-unary_result o (evaluation_of t).value (range-tree t h)
+range-tree (Joined o t u) h = range-binary_result o (evaluation_of t).value (evaluation_of u).value (range-tree t h.0) (range-tree u h.1)
+range-tree (Chosen c t u) h = range-choice_result ((evaluation_of t).unsigned || (evaluation_of u).unsigned) (evaluation_of c).value (evaluation_of t).value (evaluation_of u).value (range-tree t h.1) (range-tree u h.2)
 
-pub tree_in_range : (t : Tree) (v : Value) → AreLeavesInRange t → (outcome_of t).value ≡ Ok v → IsInRange v
+pub tree_in_range : (t : Tree) (v : Value) → AreLeavesInRange t → (evaluation_of t).value ≡ Ok v → IsInRange v
 tree_in_range t v h e = subst InRange e (range-tree t h)

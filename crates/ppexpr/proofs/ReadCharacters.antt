@@ -1,5 +1,6 @@
 -- A text is read as a character constant if and only if it has the syntax of one.
-use Rattle.std.proofs.Common.{◌≡◌, ◌≢◌, ℕ, zero, suc, pos, ◌+◌, ◌*◌, ◌-◌, ◌<◌, ◌≤◌, ◌==◌, Bool, true, false, not, ◌||◌, ◌&&◌, nat_lt, nat_le, nat_eq, List, [], ◌∷◌, ◌++◌, length, take, drop, get_or, Option, Some, None}
+use Rattle.std.proofs.Common.{◌≡◌, ◌≢◌, ℕ, zero, suc, pos, ◌+◌, ◌*◌, ◌-◌, ◌<◌, ◌≤◌, ◌==◌, Bool, true, false, not, ◌||◌, ◌&&◌, nat_lt, nat_le, nat_eq}
+use Rattle.std.proofs.Common.{List, [], ◌∷◌, ◌++◌, length, take, drop, get_or, Option, Some, None}
 use Rattle.std.proofs.Common.{refl, sym, ap, ◌∙◌, subst, arith, inl, inr}
 use Rattle.std.specs.Prelude.{if◌then◌else◌, codes, option_and_then, Contains, slice_range}
 use Rattle.std.specs.List.{list_all, starts_with}
@@ -9,11 +10,14 @@ use Rattle.std.proofs.lemmas.Bool.Decides.{nat_tests}
 use Rattle.std.proofs.lemmas.Grind.{common_steps}
 use Rattle.std.proofs.lemmas.Option.{none-some, same_Some}
 use Rattle.pptext.specs.Spellings.{char_prefixes, IsElement, IsCharConst}
-use Rattle.ppexpr.specs.Outcomes.{Value, Signed, Unsigned}
+use Rattle.ppexpr.specs.declared.symbols.Value.{Value}
+use Rattle.ppexpr.specs.declared.symbols.Value.TheVariants.{Signed, Unsigned}
 use Rattle.ppexpr.specs.Integers.{number}
-use Rattle.ppexpr.specs.Characters.{unquoted, simple_escape, are_digits, is_octal_escape, is_hexadecimal_escape, other_escape, escape, character, up_to, of_type, character_of}
-use Rattle.ppexpr.specs.Constants.{Continues, done, digit, Writes, IsSimpleEscape, single_quote, double_quote, question_mark, backslash, alert, backspace, form_feed, new_line, carriage_return, horizontal_tab, vertical_tab}
-use Rattle.ppexpr.specs.Constants.{IsCharacter, byte, simple, octal_escape, hexadecimal_escape, IsPrefix, no_prefix, wide, char16, char32, IsCharacterConstant}
+use Rattle.ppexpr.specs.Characters.{unquoted, simple_escape, are_digits, is_octal_escape, is_hexadecimal_escape, other_escape, escape, character}
+use Rattle.ppexpr.specs.Characters.{up_to, of_type, character_of}
+use Rattle.ppexpr.specs.Constants.{Continues, done, digit, Writes, IsSimpleEscape, single_quote, double_quote, question_mark, backslash, alert}
+use Rattle.ppexpr.specs.Constants.{backspace, form_feed, new_line, carriage_return, horizontal_tab, vertical_tab, IsCharacter, byte, simple}
+use Rattle.ppexpr.specs.Constants.{octal_escape, hexadecimal_escape, IsPrefix, no_prefix, wide, char16, char32, IsCharacterConstant}
 use Rattle.ppexpr.proofs.ReadIntegers.{number_is, starts}
 
 -- ---- digits
@@ -51,7 +55,12 @@ abbrev AllSimple : List (ℕ × ℕ) → Type 0
 AllSimple [] = Unit {0}
 AllSimple (p ∷ ps) = IsSimpleEscape p.0 p.1 × AllSimple ps
 
-look_by : (p : ℕ × ℕ) (ps : List (ℕ × ℕ)) (c n : ℕ) (b : Bool) → IsSimpleEscape p.0 p.1 → (c == p.0) ≡ b → (look ps c ≡ Some n → IsSimpleEscape c n) → (if b then Some p.1 else look ps c) ≡ Some n → IsSimpleEscape c n
+look_by : (p : ℕ × ℕ) (ps : List (ℕ × ℕ)) (c n : ℕ) (b : Bool)
+    → IsSimpleEscape p.0 p.1
+    → (c == p.0) ≡ b
+    → (look ps c ≡ Some n → IsSimpleEscape c n)
+    → (if b then Some p.1 else look ps c) ≡ Some n
+    → IsSimpleEscape c n
 look_by p ps c n true s e later f =
     let is : c ≡ p.0 = grind (arith, nat_tests) in
     subst (λ (x : ℕ). IsSimpleEscape x n) (sym is) (subst (λ (x : ℕ). IsSimpleEscape p.0 x) (same_Some p.1 n f) s)
@@ -102,7 +111,11 @@ hexadecimal_is (c ∷ s) n e f =
     let d = some_digits 16 s p.1 in
     subst (λ (x : ℕ). IsCharacter (92 ∷ x ∷ s) n) (sym is) (hexadecimal_some s n (d.0, subst (λ (x : ℕ). Writes 16 s x) f d.1))
 
-escape_by : (s : List ℕ) (n : ℕ) (o h : Bool) → is_octal_escape s ≡ o → is_hexadecimal_escape s ≡ h → (if o then Some (number 8 s) else (if h then Some (number 16 (drop 1 s)) else other_escape s)) ≡ Some n → IsCharacter (92 ∷ s) n
+escape_by : (s : List ℕ) (n : ℕ) (o h : Bool)
+    → is_octal_escape s ≡ o
+    → is_hexadecimal_escape s ≡ h
+    → (if o then Some (number 8 s) else (if h then Some (number 16 (drop 1 s)) else other_escape s)) ≡ Some n
+    → IsCharacter (92 ∷ s) n
 escape_by s n true h e f g = octal_is s n e (same_Some (number 8 s) n g)
 escape_by s n false true e f g = hexadecimal_is s n f (same_Some (number 16 (drop 1 s)) n g)
 escape_by s n false false e f g = other_is s n g
@@ -150,7 +163,10 @@ body_read s n (hexadecimal_escape {c = c} {digits = digits} w) =
 last_of : (c : ℕ) (s : List ℕ) → c ∷ s ≡ take (length s) (c ∷ s) ++ get_or (c ∷ s) (length s) 0 ∷ []
 last_of c s = grind (arith, common_steps)
 
-quoted_by : (s body : List ℕ) (b : Bool) → (nat_le 2 (length s) && (get_or s 0 0 == 39 && get_or s (length s - 1) 0 == 39)) ≡ b → (if b then Some (slice_range s 1 (length s - 1)) else None) ≡ Some body → s ≡ 39 ∷ (body ++ 39 ∷ [])
+quoted_by : (s body : List ℕ) (b : Bool)
+    → (nat_le 2 (length s) && (get_or s 0 0 == 39 && get_or s (length s - 1) 0 == 39)) ≡ b
+    → (if b then Some (slice_range s 1 (length s - 1)) else None) ≡ Some body
+    → s ≡ 39 ∷ (body ++ 39 ∷ [])
 quoted_by s body false e f = absurd (none-some body f)
 quoted_by [] body true e f = absurd (false≢true e)
 quoted_by (a ∷ []) body true e f = absurd (false≢true e)
@@ -192,26 +208,52 @@ typed_number : (greatest : ℕ) (unsigned : Bool) (s body : List ℕ) (n : ℕ) 
 typed_number greatest unsigned s body n v true e f g h = record { body = body; number = n; laid_out = quoted_is s body e; reads = f; fits = grind (arith, nat_tests); value = sym (same_Some _ v h) }
 typed_number greatest unsigned s body n v false e f g h = absurd (none-some v h)
 
-typed_body : (greatest : ℕ) (unsigned : Bool) (s body : List ℕ) (v : Value) (o : Option ℕ) → unquoted s ≡ Some body → character body ≡ o → option_and_then (up_to greatest unsigned) o ≡ Some v → Typed greatest unsigned s v
+typed_body : (greatest : ℕ) (unsigned : Bool) (s body : List ℕ) (v : Value) (o : Option ℕ)
+    → unquoted s ≡ Some body
+    → character body ≡ o
+    → option_and_then (up_to greatest unsigned) o ≡ Some v
+    → Typed greatest unsigned s v
 typed_body greatest unsigned s body v None e f g = absurd (none-some v g)
 typed_body greatest unsigned s body v (Some n) e f g = typed_number greatest unsigned s body n v (nat_le n greatest) e f refl g
 
-typed_by : (greatest : ℕ) (unsigned : Bool) (s : List ℕ) (v : Value) (o : Option (List ℕ)) → unquoted s ≡ o → option_and_then (up_to greatest unsigned) (option_and_then character o) ≡ Some v → Typed greatest unsigned s v
+typed_by : (greatest : ℕ) (unsigned : Bool) (s : List ℕ) (v : Value) (o : Option (List ℕ))
+    → unquoted s ≡ o
+    → option_and_then (up_to greatest unsigned) (option_and_then character o) ≡ Some v
+    → Typed greatest unsigned s v
 typed_by greatest unsigned s v None e f = absurd (none-some v f)
 typed_by greatest unsigned s v (Some body) e f = typed_body greatest unsigned s body v (character body) e refl f
 
 typed_is : (greatest : ℕ) (unsigned : Bool) (s : List ℕ) (v : Value) → of_type greatest unsigned s ≡ Some v → Typed greatest unsigned s v
 typed_is greatest unsigned s v e = typed_by greatest unsigned s v (unquoted s) refl e
 
-type_read : (greatest : ℕ) (unsigned : Bool) (body : List ℕ) (n : ℕ) → IsCharacter body n → n ≤ greatest → of_type greatest unsigned (39 ∷ (body ++ 39 ∷ [])) ≡ Some (if unsigned then Unsigned n else Signed (pos n))
+type_read : (greatest : ℕ) (unsigned : Bool) (body : List ℕ) (n : ℕ)
+    → IsCharacter body n
+    → n ≤ greatest
+    → of_type greatest unsigned (39 ∷ (body ++ 39 ∷ [])) ≡ Some (if unsigned then Unsigned n else Signed (pos n))
 type_read greatest unsigned body n h fits = let e : nat_le n greatest ≡ true = grind (arith, nat_tests) in rw (quoted_read body, body_read body n h, e) refl
 
 -- ---- a prefix
 
-constant_of : (prefix s : List ℕ) (greatest : ℕ) (unsigned : Bool) (v : Value) → s ≡ prefix ++ drop (length prefix) s → IsPrefix prefix greatest unsigned → ((body : List ℕ) → s ≡ prefix ++ 39 ∷ (body ++ 39 ∷ []) → IsSound body) → Typed greatest unsigned (drop (length prefix) s) v → IsCharacterConstant s v
+constant_of : (prefix s : List ℕ) (greatest : ℕ) (unsigned : Bool) (v : Value)
+    → s ≡ prefix ++ drop (length prefix) s
+    → IsPrefix prefix greatest unsigned
+    → ((body : List ℕ) → s ≡ prefix ++ 39 ∷ (body ++ 39 ∷ []) → IsSound body)
+    → Typed greatest unsigned (drop (length prefix) s) v
+    → IsCharacterConstant s v
 constant_of prefix s greatest unsigned v e p sound t =
     let out : s ≡ prefix ++ 39 ∷ (t.body ++ 39 ∷ []) = e ∙ ap (λ (x : List ℕ). prefix ++ x) t.laid_out in
-    record { prefix = prefix; body = t.body; greatest = greatest; type_unsigned = unsigned; number = t.number; laid_out = out; type_is = p; character = body_is t.body t.number (sound t.body out) t.reads; fits = t.fits; value = t.value }
+    record {
+      prefix = prefix;
+      body = t.body;
+      greatest = greatest;
+      type_unsigned = unsigned;
+      number = t.number;
+      laid_out = out;
+      type_is = p;
+      character = body_is t.body t.number (sound t.body out) t.reads;
+      fits = t.fits;
+      value = t.value;
+    }
 
 -- with any prefix, the text between the quotes is sound
 abbrev IsSoundText : List ℕ → Type 0
@@ -237,7 +279,9 @@ prefix_read prefix greatest unsigned s char32 = refl
 
 pub character_read : (s : List ℕ) (v : Value) → IsCharacterConstant s v → character_of s ≡ Some v
 character_read s v i =
-    ap character_of i.laid_out ∙ (prefix_read i.prefix i.greatest i.type_unsigned (i.body ++ 39 ∷ []) i.type_is ∙ (type_read i.greatest i.type_unsigned i.body i.number i.character i.fits ∙ ap (λ (x : Value). Some x) (sym i.value)))
+    ap character_of i.laid_out
+    ∙ (prefix_read i.prefix i.greatest i.type_unsigned (i.body ++ 39 ∷ []) i.type_is
+    ∙ (type_read i.greatest i.type_unsigned i.body i.number i.character i.fits ∙ ap (λ (x : Value). Some x) (sym i.value)))
 
 -- ---- the spelling of a token
 

@@ -1,5 +1,6 @@
 -- A text is read as an integer constant if and only if it has the syntax of one.
-use Rattle.std.proofs.Common.{◌≡◌, ◌≢◌, ℕ, zero, suc, pos, ◌+◌, ◌*◌, ◌^◌, ◌<◌, ◌≤◌, Bool, true, false, cond, ◌||◌, ◌&&◌, nat_lt, nat_eq, List, [], ◌∷◌, ◌++◌, length, take, drop, Option, Some, None}
+use Rattle.std.proofs.Common.{◌≡◌, ◌≢◌, ℕ, zero, suc, pos, ◌+◌, ◌*◌, ◌^◌, ◌<◌, ◌≤◌, Bool, true, false, cond, ◌||◌, ◌&&◌, nat_lt, nat_eq}
+use Rattle.std.proofs.Common.{List, [], ◌∷◌, ◌++◌, length, take, drop, Option, Some, None}
 use Rattle.std.proofs.Common.{refl, sym, ap, ◌∙◌, subst, arith}
 use Rattle.std.specs.Prelude.{if◌then◌else◌, codes}
 use Rattle.std.specs.List.{fold, starts_with}
@@ -10,11 +11,14 @@ use Rattle.std.proofs.lemmas.Bool.Decides.{nat_tests}
 use Rattle.std.proofs.lemmas.List.{take-append-drop}
 use Rattle.std.proofs.lemmas.Option.{none-some, same_Some}
 use Rattle.std.proofs.lemmas.Slice.Eq.{bytes_eq-Decides}
-use Rattle.ppexpr.specs.Outcomes.{Value, Signed, Unsigned}
-use Rattle.ppexpr.specs.Integers.{digits_len, number, is_one_of, plain_suffixes, unsigned_suffixes, as_uintmax, typed, in_base, is_hexadecimal, integer_of}
-use Rattle.ppexpr.specs.Constants.{Continues, done, digit, Writes, Base, Decimal, Octal, Hexadecimal, is_decimal, IsX, small_x, large_x, IsNumeral, decimal, octal, hexadecimal}
-use Rattle.ppexpr.specs.Constants.{IsUnsignedSuffix, small_u, large_u, IsLongSuffix, small_l, large_l, small_ll, large_ll, IsSuffix, no_suffix, long, unsigned, unsigned_long, long_unsigned}
-use Rattle.ppexpr.specs.Constants.{HasValue, is_unsigned, is_signed, too_large, IsInteger}
+use Rattle.ppexpr.specs.declared.symbols.Value.{Value}
+use Rattle.ppexpr.specs.declared.symbols.Value.TheVariants.{Signed, Unsigned}
+use Rattle.ppexpr.specs.Integers.{digits_len, number, is_one_of, plain_suffixes, unsigned_suffixes, as_uintmax, typed, in_base, is_hexadecimal}
+use Rattle.ppexpr.specs.Integers.{integer_of}
+use Rattle.ppexpr.specs.Constants.{Continues, done, digit, Writes, Base, Decimal, Octal, Hexadecimal, is_decimal, IsX, small_x, large_x, IsNumeral}
+use Rattle.ppexpr.specs.Constants.{decimal, octal, hexadecimal, IsUnsignedSuffix, small_u, large_u, IsLongSuffix, small_l, large_l, small_ll}
+use Rattle.ppexpr.specs.Constants.{large_ll, IsSuffix, no_suffix, long, unsigned, unsigned_long, long_unsigned, HasValue, is_unsigned, is_signed}
+use Rattle.ppexpr.specs.Constants.{too_large, IsInteger}
 
 -- ---- digits
 
@@ -74,8 +78,50 @@ plain_suffix s e = among (IsSuffix false) plain_suffixes s (no_suffix, (long sma
 
 unsigned_suffix : (s : List ℕ) → is_one_of unsigned_suffixes s ≡ true → IsSuffix true s
 unsigned_suffix s e =
-    let large : Each (IsSuffix true) (drop 9 unsigned_suffixes) = (unsigned large_u, (unsigned_long large_u small_l, (unsigned_long large_u large_l, (unsigned_long large_u small_ll, (unsigned_long large_u large_ll, (long_unsigned small_l large_u, (long_unsigned large_l large_u, (long_unsigned small_ll large_u, (long_unsigned large_ll large_u, tt))))))))) in
-    among (IsSuffix true) unsigned_suffixes s (unsigned small_u, (unsigned_long small_u small_l, (unsigned_long small_u large_l, (unsigned_long small_u small_ll, (unsigned_long small_u large_ll, (long_unsigned small_l small_u, (long_unsigned large_l small_u, (long_unsigned small_ll small_u, (long_unsigned large_ll small_u, large))))))))) e
+    among (IsSuffix true) unsigned_suffixes s (
+      unsigned small_u,
+      (
+        unsigned_long small_u small_l,
+        (
+          unsigned_long small_u large_l,
+          (
+            unsigned_long small_u small_ll,
+            (
+              unsigned_long small_u large_ll,
+              (
+                long_unsigned small_l small_u,
+                (
+                  long_unsigned large_l small_u,
+                  (
+                    long_unsigned small_ll small_u,
+                    (
+                      long_unsigned large_ll small_u,
+                      (
+                        unsigned large_u,
+                        (
+                          unsigned_long large_u small_l,
+                          (
+                            unsigned_long large_u large_l,
+                            (
+                              unsigned_long large_u small_ll,
+                              (
+                                unsigned_long large_u large_ll,
+                                (long_unsigned small_l large_u, (long_unsigned large_l large_u, (long_unsigned small_ll large_u, (long_unsigned large_ll large_u, tt)))),
+                              ),
+                            ),
+                          ),
+                        ),
+                      ),
+                    ),
+                  ),
+                ),
+              ),
+            ),
+          ),
+        ),
+      ),
+    )
+    e
 
 -- the suffix is in the list of unsigned suffixes, or only in the list of plain ones
 abbrev Tested : Bool → List ℕ → Type 0
@@ -207,7 +253,12 @@ record Parts (base : Base) (radix : ℕ) (text : List ℕ) (v : Value) : Type 0 
   pub writes : Writes radix (first ∷ digits) number
   pub valued : Valued base suffix number v
 
-parts_by : (base : Base) (radix : ℕ) (text front suffix : List ℕ) (n : ℕ) (v : Value) → 0 < length front → text ≡ front ++ suffix → Writes radix front n → Valued base suffix n v → Parts base radix text v
+parts_by : (base : Base) (radix : ℕ) (text front suffix : List ℕ) (n : ℕ) (v : Value)
+    → 0 < length front
+    → text ≡ front ++ suffix
+    → Writes radix front n
+    → Valued base suffix n v
+    → Parts base radix text v
 parts_by base radix text [] suffix n v some e w h = absurd (omega arith)
 parts_by base radix text (c ∷ digits) suffix n v some e w h = record { first = c; digits = digits; suffix = suffix; number = n; laid_out = e; writes = w; valued = h }
 

@@ -6,8 +6,9 @@ use Rattle.std.proofs.lemmas.Nat.{pow_pos}
 use Rattle.std.proofs.lemmas.Bool.Decides.{nat_tests}
 use Rattle.std.proofs.Math.Nat.{div-lt_iff_lt-mul, div-le_self}
 use Rattle.std.specs.Int.{w64}
-use Rattle.ppexpr.specs.Outcomes.{Signed, Shift}
-use Rattle.ppexpr.specs.Operators.{ShiftLeft}
+use Rattle.ppexpr.specs.declared.symbols.Value.TheVariants.{Signed}
+use Rattle.ppexpr.specs.declared.symbols.Failure.TheVariants.{Shift}
+use Rattle.ppexpr.specs.declared.operators.Operator.TheVariants.{ShiftLeft}
 use Rattle.ppexpr.specs.Values.{left_shift}
 
 -- A number above bound / 2^k exceeds the bound when it is shifted left by k.

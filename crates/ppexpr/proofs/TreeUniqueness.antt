@@ -1,9 +1,8 @@
 -- A list of symbols has at most one tree.
 use Rattle.std.proofs.Common.{◌≡◌, List, refl, sym, ◌∙◌, ap}
 use Rattle.std.specs.Prelude.{Some}
-use Rattle.ppexpr.specs.Symbols.{Symbol}
-use Rattle.ppexpr.specs.Trees.{Tree, Leaf, Applied, Joined, Chosen}
-use Rattle.ppexpr.specs.Grammar.{Parses}
+use Rattle.ppexpr.specs.declared.symbols.Symbol.{Symbol}
+use Rattle.ppexpr.specs.Grammar.{Tree, Leaf, Applied, Joined, Chosen, Parses}
 use Rattle.ppexpr.specs.code.Pending.{Meaning}
 use Rattle.ppexpr.proofs.MachineCompleteness.{meaning, complete}
 

@@ -10,16 +10,17 @@ use Rattle.pptext.specs.declared.tokens.Kind.TheVariants.{Ident, Number, CharCon
 use Rattle.pptext.specs.Tokens.{is_punctuator_kind}
 use Rattle.ppmacro.specs.Names.{Macros}
 use Rattle.ppexpand.specs.code.Lists.{never_expands}
-use Rattle.ppexpr.specs.Symbols.{Symbol, Constant, Operator}
-use Rattle.ppexpr.specs.Operators as sign
-use Rattle.ppexpr.specs.Operations as operation
-use Rattle.ppexpr.specs.Trees.{Tree, Leaf, Applied, Joined}
-use Rattle.ppexpr.specs.Values.{truth, constant_outcome, unary_outcome, binary_outcome}
-use Rattle.ppexpr.specs.Grammar.{Derives, constant, unary, binary, tighter}
+use Rattle.ppexpr.specs.declared.symbols.Symbol.{Symbol}
+use Rattle.ppexpr.specs.declared.symbols.Symbol.TheVariants.{Constant, Operator}
+use Rattle.ppexpr.specs.declared.operators.Operator.TheVariants as sign
+use Rattle.ppexpr.specs.declared.operators.Unary.TheVariants as prefix
+use Rattle.ppexpr.specs.declared.operators.Binary.TheVariants as operation
+use Rattle.ppexpr.specs.Grammar.{Tree, Leaf, Applied, Joined, Derives, constant, unary, binary, tighter}
+use Rattle.ppexpr.specs.Values.{truth, constant_evaluation, unary_evaluation, binary_evaluation}
 use Rattle.ppexpr.specs.DefinedOperator.{is_defined}
-use Rattle.ppexpr.specs.Tokens.{operators, punctuator_among, symbol_by}
-use Rattle.ppexpr.specs.code.Unexpanded.{BeginsWith, token, AllRepresent, nothing, more}
-use Rattle.ppexpr.specs.code.DefinedOnly.{BeginsPunct, BeginsTruth, HasTruth}
+use Rattle.ppexpr.specs.Tokens.{punctuator, symbol_by}
+use Rattle.ppexpr.specs.code.DefinedOnly.{BeginsWith, token, AllRepresent, nothing, more, BeginsPunct, BeginsTruth, HasTruth}
+use Rattle.ppexpr.specs.Nesting.{most_levels}
 use Rattle.ppexpr.specs.Conditions.{taken, EvaluatesShallow, has_value, not_nested}
 use Rattle.ppexpr.proofs.ShortExpressions.{few_shallow}
 use Rattle.ppexpr.proofs.UnreplacedConditions.{rest_shorter}
@@ -42,44 +43,44 @@ mark_plain : (macros : Macros) (t : Token) → t.kind ≡ Punct → never_expand
 mark_plain macros t e = rw e refl
 
 -- a punctuator has the symbol of its spelling
-begins_mark : (macros : Macros) (ts rest : List Token) (text : List ℕ) (s : Symbol) → punctuator_among operators text ≡ s → BeginsPunct text ts rest → BeginsWith macros ts s rest
+begins_mark : (macros : Macros) (ts rest : List Token) (text : List ℕ) (s : Symbol) → punctuator text ≡ s → BeginsPunct text ts rest → BeginsWith macros ts s rest
 begins_mark macros ts rest text s e m =
     let parts = and_parts _ _ m.spelled in
     let kind : m.punctuator.kind ≡ Punct = mark_kind m.punctuator.kind parts.0 in
     let spelt : m.punctuator.text ≡ text = (bytes_eq-Decides m.punctuator.text text).0 parts.1 in
-    let is_symbol = λ (at : Place). ap (λ k. symbol_by at k m.punctuator.text) kind ∙ ap (λ x. Ok (punctuator_among operators x)) spelt ∙ ap (λ x. Ok x) e in
+    let is_symbol = λ (at : Place). ap (λ k. symbol_by at k m.punctuator.text) kind ∙ ap (λ x. Ok (punctuator x)) spelt ∙ ap (λ x. Ok x) e in
     rw m.is (token (mark_undefined m.punctuator kind) (record { unexpanded = mark_plain macros m.punctuator kind; symbol = is_symbol }))
 
 -- ---- values
 
-negated : (b : Bool) → unary_outcome operation.Not (constant_outcome (truth b)) ≡ constant_outcome (truth (not b))
-unfolding unary_outcome constant_outcome
+negated : (b : Bool) → unary_evaluation prefix.Not (constant_evaluation (truth b)) ≡ constant_evaluation (truth (not b))
+unfolding unary_evaluation constant_evaluation
 negated true = refl
 negated false = refl
 
-both : (a b : Bool) → binary_outcome operation.And (constant_outcome (truth a)) (constant_outcome (truth b)) ≡ constant_outcome (truth (a && b))
-unfolding binary_outcome constant_outcome
+both : (a b : Bool) → binary_evaluation operation.And (constant_evaluation (truth a)) (constant_evaluation (truth b)) ≡ constant_evaluation (truth (a && b))
+unfolding binary_evaluation constant_evaluation
 both true true = refl
 both true false = refl
 both false true = refl
 both false false = refl
 
-either : (a b : Bool) → binary_outcome operation.Or (constant_outcome (truth a)) (constant_outcome (truth b)) ≡ constant_outcome (truth (a || b))
-unfolding binary_outcome constant_outcome
+either : (a b : Bool) → binary_evaluation operation.Or (constant_evaluation (truth a)) (constant_evaluation (truth b)) ≡ constant_evaluation (truth (a || b))
+unfolding binary_evaluation constant_evaluation
 either true true = refl
 either true false = refl
 either false true = refl
 either false false = refl
 
-taken_truth : (at : Place) (b : Bool) → taken at (constant_outcome (truth b)).value ≡ Ok b
-unfolding constant_outcome
+taken_truth : (at : Place) (b : Bool) → taken at (constant_evaluation (truth b)).value ≡ Ok b
+unfolding constant_evaluation
 taken_truth at true = refl
 taken_truth at false = refl
 
 -- ---- one use of `defined`, and uses joined by `&&` or `||`
 
-pub asked_truth : (macros : Macros) (ts rest : List Token) (b : Bool) → BeginsWith macros ts (Constant (truth b)) rest → BeginsTruth macros 12 ts b rest
-asked_truth macros ts rest b w = record {
+pub defined_truth : (macros : Macros) (ts rest : List Token) (b : Bool) → BeginsWith macros ts (Constant (truth b)) rest → BeginsTruth macros 12 ts b rest
+defined_truth macros ts rest b w = record {
   symbols = Constant (truth b) ∷ [];
   tree = Leaf (truth b);
   onward = λ ss h. more w h;
@@ -88,14 +89,17 @@ asked_truth macros ts rest b w = record {
   shorter = rest_shorter macros ts rest (Constant (truth b)) w;
 }
 
-pub negated_truth : (macros : Macros) (ts next rest : List Token) (b : Bool) → BeginsPunct (codes "!") ts next → BeginsWith macros next (Constant (truth b)) rest → BeginsTruth macros 12 ts (not b) rest
+pub negated_truth : (macros : Macros) (ts next rest : List Token) (b : Bool)
+    → BeginsPunct (codes "!") ts next
+    → BeginsWith macros next (Constant (truth b)) rest
+    → BeginsTruth macros 12 ts (not b) rest
 negated_truth macros ts next rest b m w =
     let v : BeginsWith macros ts (Operator sign.Bang) next = begins_mark macros ts next (codes "!") (Operator sign.Bang) refl m in
     record {
       symbols = Operator sign.Bang ∷ Constant (truth b) ∷ [];
-      tree = Applied operation.Not (Leaf (truth b));
+      tree = Applied prefix.Not (Leaf (truth b));
       onward = λ ss h. more v (more w h);
-      derives = unary sign.Bang operation.Not refl (tighter {k = 12} (constant (truth b)));
+      derives = unary sign.Bang prefix.Not refl (tighter {k = 12} (constant (truth b)));
       value = negated b;
       shorter = omega (arith, rest_shorter macros ts next (Operator sign.Bang) v, rest_shorter macros next rest (Constant (truth b)) w);
     }
@@ -136,8 +140,8 @@ and_truth macros ts rest next far a b h e x m y =
       symbols = x.symbols ++ Operator sign.And ∷ y.symbols;
       tree = Joined operation.And x.tree y.tree;
       onward = λ ss h. rw append_assoc (x.onward (Operator sign.And ∷ (y.symbols ++ ss)) (more w (y.onward ss h)));
-      derives = binary sign.And operation.And refl x.derives (as_operand y.derives);
-      value = (λ i. binary_outcome operation.And (x.value i) (y.value i)) ∙ (both a b ∙ ap (λ c. constant_outcome (truth c)) (sym e));
+      derives = binary sign.And (record { operation = operation.And; level = 3 }) refl x.derives (as_operand y.derives);
+      value = (λ i. binary_evaluation operation.And (x.value i) (y.value i)) ∙ (both a b ∙ ap (λ c. constant_evaluation (truth c)) (sym e));
       shorter = omega (arith, x.shorter, rest_shorter macros rest next (Operator sign.And) w, y.shorter);
     }
 
@@ -153,8 +157,8 @@ or_truth macros ts rest next far a b h e x m y =
       symbols = x.symbols ++ Operator sign.Or ∷ y.symbols;
       tree = Joined operation.Or x.tree y.tree;
       onward = λ ss h. rw append_assoc (x.onward (Operator sign.Or ∷ (y.symbols ++ ss)) (more w (y.onward ss h)));
-      derives = binary sign.Or operation.Or refl x.derives y.derives;
-      value = (λ i. binary_outcome operation.Or (x.value i) (y.value i)) ∙ (either a b ∙ ap (λ c. constant_outcome (truth c)) (sym e));
+      derives = binary sign.Or (record { operation = operation.Or; level = 2 }) refl x.derives y.derives;
+      value = (λ i. binary_evaluation operation.Or (x.value i) (y.value i)) ∙ (either a b ∙ ap (λ c. constant_evaluation (truth c)) (sym e));
       shorter = omega (arith, x.shorter, rest_shorter macros rest next (Operator sign.Or) w, y.shorter);
     }
 
@@ -168,7 +172,7 @@ none_left : (rest : List Token) → length rest ≡ 0 → rest ≡ []
 none_left [] e = refl
 none_left (t ∷ ts) e = absurd (omega arith)
 
-pub has_truth : (macros : Macros) (ts rest : List Token) (b : Bool) → length ts ≤ 256 → length rest ≡ 0 → BeginsTruth macros 2 ts b rest → HasTruth macros ts b
+pub has_truth : (macros : Macros) (ts rest : List Token) (b : Bool) → length ts ≤ most_levels → length rest ≡ 0 → BeginsTruth macros 2 ts b rest → HasTruth macros ts b
 has_truth macros ts rest b short e x =
     let represents : AllRepresent macros ts x.symbols = rw (← append-nil x.symbols) (x.onward [] (rw (none_left rest e) nothing)) in
     record {

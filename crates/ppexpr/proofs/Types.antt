@@ -1,20 +1,29 @@
 -- A value has the type of its expression.
 use Rattle.std.proofs.Common.{◌≡◌, ℕ, ℤ, pos, ◌==◌, ◌^◌, ◌*ℤ◌, ◌+ℤ◌, ◌-ℤ◌, neg_ℤ, int_rem, unsigned_abs, Bool, true, false}
-use Rattle.std.proofs.Common.{not, ◌||◌, ◌&&◌, Ok, Err, refl, ◌∙◌, subst, sym, int_div, int_le}
+use Rattle.std.proofs.Common.{not, ◌||◌, ◌&&◌, Result, Ok, Err, refl, ◌∙◌, subst, sym, int_div, int_le}
 use Rattle.std.specs.Prelude.{if◌then◌else◌}
 use Rattle.std.specs.Ordering.{int_eq}
-use Rattle.ppexpr.specs.Outcomes.{Value, Signed, Unsigned, ZeroDivisor, Overflow, Shift}
-use Rattle.ppexpr.specs.Operators.{Operator}
-use Rattle.ppexpr.specs.Operators as operator
-use Rattle.ppexpr.specs.Operations.{Unary, Binary, Multiply, Divide, Remainder, Add, Subtract, ShiftLeft, ShiftRight, Less, Greater, LessOrEqual, GreaterOrEqual, Equal, NotEqual, BitAnd, BitXor, BitOr, And, Or}
-use Rattle.ppexpr.specs.Operations as unary
-use Rattle.ppexpr.specs.Trees.{Tree, Leaf, Applied, Joined, Chosen}
-use Rattle.ppexpr.specs.Values.{Evaluation, Operands, BothSigned, BothUnsigned, is_intmax, whole, has_unsigned_type, is_zero, truth, signed, unsigned, unary_value, converted, arithmetic, division, comparison, bitwise, is_amount, left_shift}
-use Rattle.ppexpr.specs.Values.{right_shift, shift, binary_value, unary_evaluation, with_right, decides, binary_evaluation, with_type, choice_evaluation, unary_unsigned, binary_unsigned, constant_outcome, unary_outcome, binary_outcome, choice_outcome}
-use Rattle.ppexpr.specs.Values.{outcome_of}
+use Rattle.ppexpr.specs.declared.symbols.Value.{Value}
+use Rattle.ppexpr.specs.declared.symbols.Value.TheVariants.{Signed, Unsigned}
+use Rattle.ppexpr.specs.declared.symbols.Failure.{Failure}
+use Rattle.ppexpr.specs.declared.symbols.Failure.TheVariants.{ZeroDivisor, Overflow, Shift}
+use Rattle.ppexpr.specs.declared.operators.Operator.{Operator}
+use Rattle.ppexpr.specs.declared.operators.Operator.TheVariants as operator
+use Rattle.ppexpr.specs.declared.operators.Unary.{Unary}
+use Rattle.ppexpr.specs.declared.operators.Binary.{Binary}
+use Rattle.ppexpr.specs.declared.operators.Binary.TheVariants.{Multiply, Divide, Remainder, Add, Subtract, ShiftLeft, ShiftRight, Less, Greater}
+use Rattle.ppexpr.specs.declared.operators.Binary.TheVariants.{LessOrEqual, GreaterOrEqual, Equal, NotEqual, BitAnd, BitXor, BitOr, And, Or}
+use Rattle.ppexpr.specs.declared.operators.Unary.TheVariants as unary
+use Rattle.ppexpr.specs.Grammar.{Tree, Leaf, Applied, Joined, Chosen}
+use Rattle.ppexpr.specs.declared.values.Operands.{Operands}
+use Rattle.ppexpr.specs.declared.values.Operands.TheVariants.{BothSigned, BothUnsigned}
+use Rattle.ppexpr.specs.Values.{is_intmax, whole, has_unsigned_type, is_zero, truth, signed}
+use Rattle.ppexpr.specs.Values.{unsigned, unary_value, converted, arithmetic, division, comparison, bitwise, is_amount, left_shift, right_shift}
+use Rattle.ppexpr.specs.Values.{shift, binary_value, unary_result, with_right, decides, binary_result, with_type, choice_result, unary_unsigned}
+use Rattle.ppexpr.specs.Values.{binary_unsigned, constant_evaluation, unary_evaluation, binary_evaluation, choice_evaluation, evaluation_of}
 
 -- a value, if there is one, is of this type
-abbrev pub HasType : Bool → Evaluation → Type 0
+abbrev pub HasType : Bool → Result Value Failure → Type 0
 HasType u (Ok v) = has_unsigned_type v ≡ u
 HasType u (Err f) = Unit {0}
 
@@ -61,12 +70,12 @@ type-right_shift : (v : Value) (n : ℕ) → HasType (has_unsigned_type v) (righ
 type-right_shift (Signed z) n = refl
 type-right_shift (Unsigned m) n = refl
 
-type-shift : (o : Operator) (f : Value → ℕ → Evaluation) (v w : Value) → ((n : ℕ) → HasType (has_unsigned_type v) (f v n)) → HasType (has_unsigned_type v) (shift o f v w)
+type-shift : (o : Operator) (f : Value → ℕ → Result Value Failure) (v w : Value) → ((n : ℕ) → HasType (has_unsigned_type v) (f v n)) → HasType (has_unsigned_type v) (shift o f v w)
 type-shift o f v w h =
     elim (is_amount (whole w)) as (λ b. HasType (has_unsigned_type v) (if b then f v (unsigned_abs (whole w)) else Err (Shift o))) [ true ↦ h (unsigned_abs (whole w)) | false ↦ tt ]
 
 -- If an operation's result has the type of its converted operands, it has the common type.
-common : (v w : Value) (a : Operands → Evaluation) → ((x : Operands) → HasType (type_of x) (a x)) → HasType (has_unsigned_type v || has_unsigned_type w) (a (converted v w))
+common : (v w : Value) (a : Operands → Result Value Failure) → ((x : Operands) → HasType (type_of x) (a x)) → HasType (has_unsigned_type v || has_unsigned_type w) (a (converted v w))
 common v w a h = subst (λ (u : Bool). HasType u (a (converted v w))) (type-converted v w) (h (converted v w))
 
 type-binary_value : (o : Binary) (v w : Value) → HasType (binary_unsigned o (has_unsigned_type v) (has_unsigned_type w)) (binary_value o v w)
@@ -97,9 +106,9 @@ type-unary_value unary.Complement (Signed z) = refl
 type-unary_value unary.Complement (Unsigned n) = refl
 type-unary_value unary.Not v = refl
 
-type-unary_evaluation : (o : Unary) (u : Bool) (a : Evaluation) → HasType u a → HasType (unary_unsigned o u) (unary_evaluation o a)
-type-unary_evaluation o u (Ok v) e = subst (λ (x : Bool). HasType (unary_unsigned o x) (unary_value o v)) e (type-unary_value o v)
-type-unary_evaluation o u (Err f) e = tt
+type-unary_result : (o : Unary) (u : Bool) (a : Result Value Failure) → HasType u a → HasType (unary_unsigned o u) (unary_result o a)
+type-unary_result o u (Ok v) e = subst (λ (x : Bool). HasType (unary_unsigned o x) (unary_value o v)) e (type-unary_value o v)
+type-unary_result o u (Err f) e = tt
 
 -- an operator whose left operand may decide has a signed result
 decided : (o : Binary) (v : Value) (u w : Bool) → decides o v ≡ true → binary_unsigned o u w ≡ false
@@ -107,39 +116,39 @@ decided And v u w e = refl
 decided Or v u w e = refl
 decided _ v u w e = cc
 
-type-with_right : (o : Binary) (v : Value) (u w : Bool) (b : Evaluation) → has_unsigned_type v ≡ u → HasType w b → HasType (binary_unsigned o u w) (with_right o v b)
+type-with_right : (o : Binary) (v : Value) (u w : Bool) (b : Result Value Failure) → has_unsigned_type v ≡ u → HasType w b → HasType (binary_unsigned o u w) (with_right o v b)
 type-with_right o v u w (Ok x) e f =
     subst (λ (p : Bool). HasType (binary_unsigned o p w) (binary_value o v x)) e (subst (λ (q : Bool). HasType (binary_unsigned o (has_unsigned_type v) q) (binary_value o v x)) f (type-binary_value o v x))
 type-with_right o v u w (Err f) e g = tt
 
-by_decision : (u : Bool) (d : Bool) (v : Value) (a : Evaluation) → has_unsigned_type v ≡ false → (d ≡ true → u ≡ false) → HasType u a → HasType u (if d then Ok v else a)
+by_decision : (u : Bool) (d : Bool) (v : Value) (a : Result Value Failure) → has_unsigned_type v ≡ false → (d ≡ true → u ≡ false) → HasType u a → HasType u (if d then Ok v else a)
 by_decision u true v a e h g = e ∙ sym (h refl)
 by_decision u false v a e h g = g
 
-type-binary_evaluation : (o : Binary) (u w : Bool) (a b : Evaluation) → HasType u a → HasType w b → HasType (binary_unsigned o u w) (binary_evaluation o a b)
-type-binary_evaluation o u w (Ok v) b e f = by_decision (binary_unsigned o u w) (decides o v) (truth (not (is_zero v))) (with_right o v b) refl (decided o v u w) (type-with_right o v u w b e f)
-type-binary_evaluation o u w (Err g) b e f = tt
+type-binary_result : (o : Binary) (u w : Bool) (a b : Result Value Failure) → HasType u a → HasType w b → HasType (binary_unsigned o u w) (binary_result o a b)
+type-binary_result o u w (Ok v) b e f = by_decision (binary_unsigned o u w) (decides o v) (truth (not (is_zero v))) (with_right o v b) refl (decided o v u w) (type-with_right o v u w b e f)
+type-binary_result o u w (Err g) b e f = tt
 
-type-with_type : (a : Evaluation) → HasType true (with_type true a)
+type-with_type : (a : Result Value Failure) → HasType true (with_type true a)
 type-with_type (Ok v) = refl
 type-with_type (Err f) = tt
 
-either : (u : Bool) (z : Bool) (a b : Evaluation) → HasType u a → HasType u b → HasType u (if z then b else a)
+either : (u : Bool) (z : Bool) (a b : Result Value Failure) → HasType u a → HasType u b → HasType u (if z then b else a)
 either u true a b e f = f
 either u false a b e f = e
 
-type-choice_evaluation : (u w : Bool) (c a b : Evaluation) → HasType u a → HasType w b → HasType (u || w) (choice_evaluation (u || w) c a b)
-type-choice_evaluation u w (Err f) a b e g = tt
-type-choice_evaluation true w (Ok v) a b e g = type-with_type (if is_zero v then b else a)
-type-choice_evaluation false true (Ok v) a b e g = type-with_type (if is_zero v then b else a)
-type-choice_evaluation false false (Ok v) a b e g = either false (is_zero v) a b e g
+type-choice_result : (u w : Bool) (c a b : Result Value Failure) → HasType u a → HasType w b → HasType (u || w) (choice_result (u || w) c a b)
+type-choice_result u w (Err f) a b e g = tt
+type-choice_result true w (Ok v) a b e g = type-with_type (if is_zero v then b else a)
+type-choice_result false true (Ok v) a b e g = type-with_type (if is_zero v then b else a)
+type-choice_result false false (Ok v) a b e g = either false (is_zero v) a b e g
 
-type-tree : (t : Tree) → HasType (outcome_of t).unsigned (outcome_of t).value
-unfolding constant_outcome unary_outcome binary_outcome choice_outcome
+type-tree : (t : Tree) → HasType (evaluation_of t).unsigned (evaluation_of t).value
+unfolding constant_evaluation unary_evaluation binary_evaluation choice_evaluation
 type-tree (Leaf v) = refl
-type-tree (Applied o t) = type-unary_evaluation o (outcome_of t).unsigned (outcome_of t).value (type-tree t)
-type-tree (Joined o t u) = type-binary_evaluation o (outcome_of t).unsigned (outcome_of u).unsigned (outcome_of t).value (outcome_of u).value (type-tree t) (type-tree u)
-type-tree (Chosen c t u) = type-choice_evaluation (outcome_of t).unsigned (outcome_of u).unsigned (outcome_of c).value (outcome_of t).value (outcome_of u).value (type-tree t) (type-tree u)
+type-tree (Applied o t) = type-unary_result o (evaluation_of t).unsigned (evaluation_of t).value (type-tree t)
+type-tree (Joined o t u) = type-binary_result o (evaluation_of t).unsigned (evaluation_of u).unsigned (evaluation_of t).value (evaluation_of u).value (type-tree t) (type-tree u)
+type-tree (Chosen c t u) = type-choice_result (evaluation_of t).unsigned (evaluation_of u).unsigned (evaluation_of c).value (evaluation_of t).value (evaluation_of u).value (type-tree t) (type-tree u)
 
-pub has_its_type : (t : Tree) (v : Value) → (outcome_of t).value ≡ Ok v → has_unsigned_type v ≡ (outcome_of t).unsigned
-has_its_type t v e = subst (λ (a : Evaluation). HasType (outcome_of t).unsigned a) e (type-tree t)
+pub has_its_type : (t : Tree) (v : Value) → (evaluation_of t).value ≡ Ok v → has_unsigned_type v ≡ (evaluation_of t).unsigned
+has_its_type t v e = subst (λ (a : Result Value Failure). HasType (evaluation_of t).unsigned a) e (type-tree t)

@@ -1,5 +1,5 @@
 -- A condition without macro replacement has the result of its tokens' symbols.
-use Rattle.std.proofs.Common.{◌≡◌, ℕ, suc, ◌<◌, ◌⊎◌, inl, inr, ◌&&◌, Bool, true, false, List, [], ◌∷◌, length, Option, Some, None}
+use Rattle.std.proofs.Common.{◌≡◌, suc, ◌<◌, ◌⊎◌, inl, inr, ◌&&◌, Bool, true, false, List, [], ◌∷◌, length, Option, Some, None}
 use Rattle.std.proofs.Common.{Ok, refl, sym, subst, append-nil, arith, is_some, codes, if◌then◌else◌}
 use Rattle.std.specs.FinMap as table
 use Rattle.std.specs.List.{list_any, AllByRecursion}
@@ -9,56 +9,66 @@ use Rattle.pptext.specs.declared.tokens.Kind.TheVariants.{Number}
 use Rattle.pptext.specs.Tokens.{is_identifier, is_punct}
 use Rattle.ppmacro.specs.Names.{Macros}
 use Rattle.ppexpand.specs.declared.env.Env.{Env}
+use Rattle.ppexpand.specs.declared.meter.Meter.{Meter}
 use Rattle.ppexpand.specs.code.Lists.{never_expands}
 use Rattle.ppexpand.specs.Expansion.{IsExpansion, stops_with}
 use Rattle.ppexpand.proofs.SkippedTokens.{expansion-following, expands-nothing}
-use Rattle.ppexpr.specs.Symbols.{Symbol, Constant}
+use Rattle.ppexpr.specs.declared.symbols.Symbol.{Symbol}
+use Rattle.ppexpr.specs.declared.symbols.Symbol.TheVariants.{Constant}
 use Rattle.ppexpr.specs.Values.{truth}
-use Rattle.ppexpr.specs.DefinedOperator.{is_defined, Operand, parenthesized, operand, defined_value, ReplacesDefined, nothing as asks_nothing, other, defined_use as asks_question}
-use Rattle.ppexpr.specs.Tokens.{symbol_of, symbols_of, before}
-use Rattle.ppexpr.specs.code.Unexpanded.{BeginsWith, token, defined_use, AllRepresent, nothing, more}
+use Rattle.ppexpr.specs.DefinedOperator.{is_defined, Operand, parenthesized, operand, defined_value, ReplacesDefined, nothing as replaces_nothing, other}
+use Rattle.ppexpr.specs.DefinedOperator.{defined_use as replaces_defined}
+use Rattle.ppexpr.specs.Tokens.{symbol_of, symbols_of, symbol_then}
+use Rattle.ppexpr.specs.code.DefinedOnly.{BeginsWith, token, defined_use, AllRepresent, nothing, more}
 use Rattle.ppexpr.specs.Conditions.{Condition, EvaluatesSymbols, IsCondition, replaced, constants}
 
 -- The tokens with `defined` replaced. Macro replacement leaves them unchanged, and their symbols are `ss`.
 record Unreplaced (macros : Macros) (ts : List Token) (ss : List Symbol) : Type 0 where
   without_defined : List Token
-  asks : ReplacesDefined macros ts without_defined
+  replaces : ReplacesDefined macros ts without_defined
   unexpanded : AllByRecursion (λ t. never_expands macros t ≡ true) without_defined
   undefined : list_any is_defined without_defined ≡ false
   symbols : (at : Place) → symbols_of at without_defined ≡ Ok ss
 
-answer_symbol : (b : Bool) (at : Place) (d : Token) → symbol_of at (record d { kind = Number; text = if b then codes "1" else codes "0" }) ≡ Ok (Constant (truth b))
-answer_symbol true at d = refl
-answer_symbol false at d = refl
+defined_symbol : (b : Bool) (at : Place) (d : Token) → symbol_of at (record d { kind = Number; text = if b then codes "1" else codes "0" }) ≡ Ok (Constant (truth b))
+defined_symbol true at d = refl
+defined_symbol false at d = refl
 
 unreplaced_more : (macros : Macros) (ts rest : List Token) (s : Symbol) (ss : List Symbol) → BeginsWith macros ts s rest → Unreplaced macros rest ss → Unreplaced macros ts (s ∷ ss)
 unreplaced_more macros ts rest s ss (token {t = t} e h) u = record {
   without_defined = t ∷ u.without_defined;
-  asks = other e u.asks;
+  replaces = other e u.replaces;
   unexpanded = (h.unexpanded, u.unexpanded);
   undefined = rw e u.undefined;
-  symbols = λ at. λ i. before (h.symbol at i) (u.symbols at i);
+  symbols = λ at. λ i. symbol_then (h.symbol at i) (u.symbols at i);
 }
 unreplaced_more macros ts rest s ss (defined_use {d = d} {o = o} e k) u = record {
   without_defined = defined_value macros d o.name ∷ u.without_defined;
-  asks = asks_question e k u.asks;
+  replaces = replaces_defined e k u.replaces;
   unexpanded = (refl, u.unexpanded);
   undefined = u.undefined;
-  symbols = λ at. λ i. before (answer_symbol (is_some (table.get macros o.name.text)) at d i) (u.symbols at i);
+  symbols = λ at. λ i. symbol_then (defined_symbol (is_some (table.get macros o.name.text)) at d i) (u.symbols at i);
 }
 
 unreplaced : (macros : Macros) (ts : List Token) (ss : List Symbol) → AllRepresent macros ts ss → Unreplaced macros ts ss
-unreplaced macros ts ss nothing = record { without_defined = []; asks = asks_nothing; unexpanded = tt; undefined = refl; symbols = λ at. refl }
+unreplaced macros ts ss nothing = record { without_defined = []; replaces = replaces_nothing; unexpanded = tt; undefined = refl; symbols = λ at. refl }
 unreplaced macros ts ss (more {rest = rest} {s = s} {ss = qs} b h) = unreplaced_more macros ts rest s qs b (unreplaced macros rest qs h)
 
-expands_as_is : (macros : Macros) (env : Env) (remaining : Option ℕ) (ts : List Token) → AllByRecursion (λ t. never_expands macros t ≡ true) ts → IsExpansion macros env remaining ts (record { tokens = ts; fault = None; remaining = remaining })
-expands_as_is macros env remaining ts h = expansion-following macros env remaining ts ts [] (record { tokens = ts; fault = None; remaining = remaining }) (stops_with remaining None) (sym (append-nil ts)) h (expands-nothing macros env 0 remaining) (sym (append-nil ts)) refl refl
+expands_as_is : (macros : Macros) (env : Env) (meter : Meter) (ts : List Token)
+    → AllByRecursion (λ t. never_expands macros t ≡ true) ts
+    → IsExpansion macros env meter ts (record { tokens = ts; fault = None; meter = meter })
+expands_as_is macros env meter ts h =
+    expansion-following macros env meter ts ts [] (record { tokens = ts; fault = None; meter = meter }) (stops_with meter None)
+    (sym (append-nil ts)) h (expands-nothing macros env 0 meter) (sym (append-nil ts)) refl refl
 
 -- The condition of the tokens is the condition of their symbols, and no budget is spent.
-pub direct_condition : (macros : Macros) (env : Env) (at : Place) (ts : List Token) (remaining : Option ℕ) (ss : List Symbol) (c : Condition) → AllRepresent macros ts ss → EvaluatesSymbols at ss c → IsCondition macros env at ts remaining c remaining
-direct_condition macros env at ts remaining ss c h j =
+pub direct_condition : (macros : Macros) (env : Env) (at : Place) (ts : List Token) (meter : Meter) (ss : List Symbol) (c : Condition)
+    → AllRepresent macros ts ss
+    → EvaluatesSymbols at ss c
+    → IsCondition macros env at ts meter c meter
+direct_condition macros env at ts meter ss c h j =
     let u : Unreplaced macros ts ss = unreplaced macros ts ss h in
-    replaced u.asks (expands_as_is macros env remaining u.without_defined u.unexpanded) refl refl (constants u.undefined (u.symbols at) j)
+    replaced u.replaces (expands_as_is macros env meter u.without_defined u.unexpanded) refl (constants u.undefined (u.symbols at) j)
 
 -- ---- the tokens after an operand and a symbol
 

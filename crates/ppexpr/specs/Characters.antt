@@ -4,7 +4,8 @@ use Rattle.std.specs.Prelude.{nat_le, slice_index, slice_range, option_and_then,
 use Rattle.std.specs.List.{list_all, starts_with}
 use Rattle.std.specs.Char.{is_digit}
 use Rattle.ppexpr.specs.Integers.{number}
-use Rattle.ppexpr.specs.Outcomes.{Value, Signed, Unsigned}
+use Rattle.ppexpr.specs.declared.symbols.Value.{Value}
+use Rattle.ppexpr.specs.declared.symbols.Value.TheVariants.{Signed, Unsigned}
 
 -- the bytes between the quotes
 abbrev pub unquoted : List ℕ → Option (List ℕ)

@@ -1,5 +1,5 @@
 -- Whether the group after `#if` or `#elif` is taken (6.10.1), or the first fault. `at` is the location of the directive's `#`.
-use Rattle.std.specs.Prelude.{◌≡◌, ℕ, Bool, not, List, [], Option, Some, None, Result, Ok, Err, true, false}
+use Rattle.std.specs.Prelude.{◌≡◌, ℕ, Bool, not, List, [], Some, None, Result, Ok, Err, true, false}
 use Rattle.std.specs.List.{list_any}
 use Rattle.pptext.specs.declared.tokens.Place.{Place}
 use Rattle.pptext.specs.declared.tokens.Token.{Token}
@@ -7,15 +7,18 @@ use Rattle.pptext.specs.declared.tokens.Fault.{Fault}
 use Rattle.pptext.specs.Tokens.{fault}
 use Rattle.ppmacro.specs.Names.{Macros}
 use Rattle.ppexpand.specs.declared.env.Env.{Env}
-use Rattle.ppexpand.specs.declared.expansion.Expanded.{Expanded}
-use Rattle.ppexpand.specs.Expansion.{IsExpansion, count_expansion}
-use Rattle.ppexpr.specs.Outcomes.{Value, Failure, ZeroDivisor, Overflow, Shift, Outcome}
-use Rattle.ppexpr.specs.Symbols.{Symbol}
+use Rattle.ppexpand.specs.declared.meter.Meter.{Meter}
+use Rattle.ppexpand.specs.Expansion.{Expansion, IsExpansion, count_expansion}
+use Rattle.ppexpr.specs.declared.symbols.Value.{Value}
+use Rattle.ppexpr.specs.declared.symbols.Failure.{Failure}
+use Rattle.ppexpr.specs.declared.symbols.Failure.TheVariants.{ZeroDivisor, Overflow, Shift}
+use Rattle.ppexpr.specs.declared.symbols.Evaluation.{Evaluation}
+use Rattle.ppexpr.specs.declared.symbols.Symbol.{Symbol}
 use Rattle.ppexpr.specs.Grammar.{IsExpression}
-use Rattle.ppexpr.specs.Reading.{Denotes}
-use Rattle.ppexpr.specs.Values.{is_zero}
+use Rattle.ppexpr.specs.Values.{is_zero, Denotes}
 use Rattle.ppexpr.specs.DefinedOperator.{is_defined, ReplacesDefined}
-use Rattle.ppexpr.specs.Tokens.{spelling_of, symbols_of}
+use Rattle.ppexpr.specs.Operators.{spelling_of}
+use Rattle.ppexpr.specs.Tokens.{symbols_of}
 use Rattle.ppexpr.specs.Nesting.{IsTooNested}
 
 abbrev pub Condition : Type 0
@@ -38,7 +41,7 @@ taken at (Err f) = Err (failure_fault at f)
 -- a list that is no expression, such as the empty list, is fault 23
 pub data EvaluatesShallow (at : Place) (symbols : List Symbol) : Condition → Type 0 where
   no_expression : ¬ IsExpression symbols → EvaluatesShallow at symbols (Err (fault 23 at []))
-  has_value : {o : Outcome} → Denotes symbols o → EvaluatesShallow at symbols (taken at o.value)
+  has_value : {o : Evaluation} → Denotes symbols o → EvaluatesShallow at symbols (taken at o.value)
 
 -- an expression that is nested too deep is fault 29
 pub data EvaluatesSymbols (at : Place) (symbols : List Symbol) : Condition → Type 0 where
@@ -55,30 +58,27 @@ pub data EvaluatesTokens (at : Place) (tokens : List Token) : Condition → Type
       → EvaluatesSymbols at symbols c
       → EvaluatesTokens at tokens c
 
--- The budget before the condition, the result, and the rest of the budget. A use of `defined` without a name is fault 22. A fault of macro
+-- The meter before the condition, the result, and the meter after it. A use of `defined` without a name is fault 22. A fault of macro
 -- replacement is the result.
-pub data IsCondition (macros : Macros) (env : Env) (at : Place) (tokens : List Token) : Option ℕ → Condition → Option ℕ → Type 0 where
-  ill_formed : {remaining : Option ℕ}
-      → ((without_defined : List Token) → ¬ ReplacesDefined macros tokens without_defined)
-      → IsCondition macros env at tokens remaining (Err (fault 22 at [])) remaining
-  expansion_fault : {remaining remaining_after : Option ℕ} {without_defined : List Token} {e : Expanded} {f : Fault}
+pub data IsCondition (macros : Macros) (env : Env) (at : Place) (tokens : List Token) (meter : Meter) : Condition → Meter → Type 0 where
+  ill_formed : ((without_defined : List Token) → ¬ ReplacesDefined macros tokens without_defined)
+      → IsCondition macros env at tokens meter (Err (fault 22 at [])) meter
+  expansion_fault : {without_defined : List Token} {e : Expansion} {f : Fault}
       → ReplacesDefined macros tokens without_defined
-      → IsExpansion macros env remaining without_defined e
-      → e.remaining ≡ remaining_after
+      → IsExpansion macros env meter without_defined e
       → e.fault ≡ Some f
-      → IsCondition macros env at tokens remaining (Err f) remaining_after
-  replaced : {remaining remaining_after : Option ℕ} {without_defined : List Token} {e : Expanded} {c : Condition}
+      → IsCondition macros env at tokens meter (Err f) e.meter
+  replaced : {without_defined : List Token} {e : Expansion} {c : Condition}
       → ReplacesDefined macros tokens without_defined
-      → IsExpansion macros env remaining without_defined e
-      → e.remaining ≡ remaining_after
+      → IsExpansion macros env meter without_defined e
       → e.fault ≡ None
       → EvaluatesTokens at e.tokens c
-      → IsCondition macros env at tokens remaining c remaining_after
+      → IsCondition macros env at tokens meter c e.meter
 
 -- the number of replacements in a condition
-abbrev pub count_condition : {macros : Macros} {env : Env} {at : Place} {tokens : List Token} {remaining remaining_after : Option ℕ} {c : Condition}
-    → IsCondition macros env at tokens remaining c remaining_after
+abbrev pub count_condition : {macros : Macros} {env : Env} {at : Place} {tokens : List Token} {meter meter_after : Meter} {c : Condition}
+    → IsCondition macros env at tokens meter c meter_after
     → ℕ
 count_condition (ill_formed none) = 0
-count_condition (expansion_fault replaces expands remaining_is fault_is) = count_expansion expands
-count_condition (replaced replaces expands remaining_is fault_is evaluates) = count_expansion expands
+count_condition (expansion_fault replaces expands fault_is) = count_expansion expands
+count_condition (replaced replaces expands fault_is evaluates) = count_expansion expands

@@ -1,7 +1,8 @@
 -- The syntax of constants (6.4.4.1, 6.4.4.4) as relations, independent of the functions that read constants.
 use Rattle.std.specs.Prelude.{◌≡◌, ◌≢◌, ℕ, ◌+◌, ◌*◌, ◌^◌, ◌<◌, ◌≤◌, Bool, true, false, if◌then◌else◌, List, [], ◌∷◌, ◌++◌, length, pos, codes}
 use Rattle.std.specs.Char.{is_digit, digit_value}
-use Rattle.ppexpr.specs.Outcomes.{Value, Signed, Unsigned}
+use Rattle.ppexpr.specs.declared.symbols.Value.{Value}
+use Rattle.ppexpr.specs.declared.symbols.Value.TheVariants.{Signed, Unsigned}
 
 -- ---- digits
 

@@ -5,7 +5,8 @@ use Rattle.std.specs.List.{list_any, prefix_len, starts_with}
 use Rattle.std.specs.Str.{bytes_eq}
 use Rattle.std.specs.Char.{is_digit, digit_value}
 use Rattle.std.specs.Prelude.{nat_eq}
-use Rattle.ppexpr.specs.Outcomes.{Value, Signed, Unsigned}
+use Rattle.ppexpr.specs.declared.symbols.Value.{Value}
+use Rattle.ppexpr.specs.declared.symbols.Value.TheVariants.{Signed, Unsigned}
 
 -- ---- digits
 

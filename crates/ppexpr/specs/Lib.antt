@@ -1,11 +1,6 @@
 pub mod Operators
-pub mod Operations
-pub mod Outcomes
-pub mod Symbols
-pub mod Trees
 pub mod Values
 pub mod Grammar
-pub mod Reading
 pub mod Integers
 pub mod Characters
 pub mod Constants

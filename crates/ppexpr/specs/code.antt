@@ -1,4 +1,3 @@
 -- Vocabulary of the code: only contracts inside this crate and views cite these files. No theorem rests on them.
 pub mod Pending
-pub mod Unexpanded
 pub mod DefinedOnly

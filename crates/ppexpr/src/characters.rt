@@ -1,7 +1,7 @@
 //! Reads character constants (6.4.4.4).
 ghost use Rattle.std.specs.Prelude.{◌≡◌, ◌<◌, ◌≤◌, ◌^◌, MatchOption, IfSome, None, Some};
-ghost use Rattle.ppexpr.specs.Characters.{unquoted, simple_escape, are_digits, is_octal_escape, is_hexadecimal_escape, other_escape, escape, character};
-ghost use Rattle.ppexpr.specs.Characters.{of_type, character_of};
+ghost use Rattle.ppexpr.specs.Characters.{unquoted, simple_escape, are_digits, is_octal_escape, is_hexadecimal_escape, other_escape, escape};
+ghost use Rattle.ppexpr.specs.Characters.{character, of_type, character_of};
 ghost use Rattle.std.specs.List.{list_all};
 ghost use Rattle.std.specs.Char.{is_digit};
 
@@ -109,9 +109,9 @@ fn of_type(greatest: u64, unsigned: bool, text: &[u8]) -> Option<Value>
         return None;
     }
     Some(if unsigned {
-        Value::unsigned(number)
+        Value::Unsigned(number)
     } else {
-        Value::signed(number as i64)
+        Value::Signed(number as i64)
     })
 }
 

@@ -1,17 +1,14 @@
 //! The fast path for conditions with `defined` alone: `defined X` and `!defined X`, joined by `&&` and `||`.
 ghost use Rattle.std.specs.Prelude.{IfSome, is_some};
 ghost use Rattle.std.specs.FinMap as table;
-ghost use Rattle.ppexpr.specs.Symbols.{Constant};
+ghost use Rattle.ppexpr.specs.declared.symbols.Symbol.TheVariants.{Constant};
 ghost use Rattle.ppexpr.specs.Values.{truth};
-ghost use Rattle.ppexpr.specs.code.Unexpanded.{BeginsWith};
-ghost use Rattle.ppexpr.specs.code.DefinedOnly.{BeginsPunct, BeginsTruth, HasTruth};
+ghost use Rattle.ppexpr.specs.code.DefinedOnly.{BeginsWith, BeginsPunct, BeginsTruth, HasTruth};
 
 use crate::defined_operator::{is_defined, is_macro_name, operand};
+use crate::nesting::MOST_LEVELS;
 use ppmacro::Table;
 use pptext::Token;
-
-/// The most tokens that cannot be nested too deep.
-const MOST: usize = 256;
 
 /// Returns the tokens after a punctuator of this spelling, if they begin with one.
 fn following<'x>(tokens: &'x [Token], text: &[u8]) -> Option<&'x [Token]>
@@ -68,7 +65,8 @@ fn conjunction<'x>(table: &Table, tokens: &'x [Token]) -> Option<(bool, &'x [Tok
 pub(crate) fn evaluate_defined_only(table: &Table, tokens: &[Token]) -> Option<bool>
     ensures { IfSome result (λ holds. HasTruth table.now.macros tokens.now holds) }
 {
-    if tokens.len() > MOST {
+    // A list of at most `MOST_LEVELS` tokens cannot be nested too deep.
+    if tokens.len() > MOST_LEVELS {
         return None;
     }
     let (mut holds, mut rest) = conjunction(table, tokens)?;

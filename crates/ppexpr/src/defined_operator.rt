@@ -1,11 +1,13 @@
 //! Replaces the operator `defined` in a controlling expression (6.10.1p1).
-ghost use Rattle.std.specs.Prelude.{◌≡◌, IfOk, MatchOption, None, Some, List, is_some};
+ghost use Rattle.std.specs.Prelude.{◌≡◌, IfOk, MatchOption, MatchResult, None, Some, List, [], is_some};
 ghost use Rattle.std.specs.FinMap as map;
 ghost use Rattle.pptext.specs.declared.tokens.Token.{Token};
+ghost use Rattle.pptext.specs.Errors.{UnlessOutOfMemory};
+ghost use Rattle.pptext.specs.Tokens.{fault};
 ghost use Rattle.ppexpr.specs.DefinedOperator.{is_defined, parenthesized, operand, defined_value, ReplacesDefined};
 
 use ppmacro::Table;
-use pptext::{Kind, Spelling, Token};
+use pptext::{Error, Kind, Place, Spelling, Token};
 use std::alloc::{AllocError, Global};
 
 /// Returns whether a token is the identifier `defined`.
@@ -74,13 +76,15 @@ fn defined_value(
     })
 }
 
-/// Replaces each use of `defined` by a number. Returns `None` if a use has no operand.
+/// Replaces each use of `defined` by a number. If a use has no operand, the error is fault 22 at `at`.
 pub(crate) fn without_defined(
     alloc: Global,
     table: &Table,
+    at: Place,
     tokens: &[Token],
-) -> Result<Option<Vec<Token>>, AllocError>
-    ensures { IfOk result (λ r. MatchOption r ((us : List Token) → ¬ ReplacesDefined table.now.macros tokens.now us) (λ v. ReplacesDefined table.now.macros tokens.now v.items)) }
+) -> Result<Vec<Token>, Error>
+    ensures { UnlessOutOfMemory result (λ r. MatchResult r (λ v. ReplacesDefined table.now.macros tokens.now v.items)
+        (λ f. (f ≡ fault 22 at []) × ((us : List Token) → ¬ ReplacesDefined table.now.macros tokens.now us))) }
 {
     let mut without_defined = Vec::new(alloc);
     let mut rest = tokens;
@@ -91,10 +95,10 @@ pub(crate) fn without_defined(
             continue;
         }
         let Some((name, following)) = operand(following) else {
-            return Ok(None);
+            return Err(Error::bare(alloc, 22, at));
         };
         without_defined.push(defined_value(alloc, table, first, name)?)?;
         rest = following;
     }
-    Ok(Some(without_defined))
+    Ok(without_defined)
 }

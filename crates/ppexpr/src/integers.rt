@@ -1,7 +1,6 @@
 //! Reads integer constants (6.4.4.1).
 ghost use Rattle.std.specs.Prelude.{◌≡◌, length, ◌≤◌, ◌^◌, ◌<◌, MatchOption};
-ghost use Rattle.ppexpr.specs.Integers.{digits_len, number, is_one_of, plain_suffixes, unsigned_suffixes, typed, in_base};
-ghost use Rattle.ppexpr.specs.Integers.{integer_of};
+ghost use Rattle.ppexpr.specs.Integers.{digits_len, number, is_one_of, plain_suffixes, unsigned_suffixes, typed, in_base, integer_of};
 ghost use Rattle.std.specs.Char.{is_digit, digit_value};
 
 use crate::symbols::Value;
@@ -70,18 +69,18 @@ fn typed(decimal: bool, suffix: &[u8], number: u64) -> Option<Value>
     ensures { result ≡ typed decimal suffix.now number }
 {
     if is_unsigned_suffix(suffix) {
-        return Some(Value::unsigned(number));
+        return Some(Value::Unsigned(number));
     }
     if !is_plain_suffix(suffix) {
         return None;
     }
     if number < 1 << 63 {
-        return Some(Value::signed(number as i64));
+        return Some(Value::Signed(number as i64));
     }
     if decimal {
         return None;
     }
-    Some(Value::unsigned(number))
+    Some(Value::Unsigned(number))
 }
 
 /// Returns the constant with this spelling after its prefix.

@@ -2,25 +2,24 @@
 ghost use Rattle.std.specs.Prelude.{◌≡◌, ◌↔◌, IsTrue, count_by};
 ghost use Rattle.ppexpr.specs.Nesting.{is_question, is_sign, NestsParentheses, NestsSigns, IsTooNested};
 
-use crate::operators::OperatorKind;
-use crate::symbols::{Symbol, SymbolKind};
+use crate::symbols::Symbol;
 
-/// The most levels of each kind.
-const MOST: usize = 256;
+/// The greatest depth of parentheses, and the greatest number of conditional operators and of consecutive signs.
+pub(crate) const MOST_LEVELS: usize = 256;
 
-/// Returns whether some prefix has more than 256 more `(` than `)`.
+/// Returns whether some prefix has more than `MOST_LEVELS` more `(` than `)`.
 fn nests_parentheses(symbols: &[Symbol]) -> bool
     ensures { IsTrue result ↔ NestsParentheses symbols.now }
 {
     let mut open: usize = 0;
     let mut close: usize = 0;
     for symbol in symbols {
-        match symbol.kind {
-            SymbolKind::Open => open += 1,
-            SymbolKind::Close => close += 1,
+        match symbol {
+            Symbol::Open => open += 1,
+            Symbol::Close => close += 1,
             _ => {}
         }
-        if open.saturating_sub(close) > MOST {
+        if open.saturating_sub(close) > MOST_LEVELS {
             return true;
         }
     }
@@ -33,7 +32,7 @@ fn questions(symbols: &[Symbol]) -> usize
 {
     symbols
         .iter()
-        .filter(|symbol| matches!(symbol.kind, SymbolKind::Question))
+        .filter(|symbol| matches!(symbol, Symbol::Question))
         .count()
 }
 
@@ -41,13 +40,10 @@ fn questions(symbols: &[Symbol]) -> usize
 fn is_sign(symbol: &Symbol) -> bool
     ensures { result ≡ is_sign symbol.now }
 {
-    let SymbolKind::Operator(operator) = symbol.kind else {
-        return false;
-    };
-    matches!(
-        operator.kind,
-        OperatorKind::Plus | OperatorKind::Minus | OperatorKind::Tilde | OperatorKind::Bang
-    )
+    match *symbol {
+        Symbol::Operator(operator) => operator.unary().is_some(),
+        _ => false,
+    }
 }
 
 /// Returns whether there are more than 256 consecutive signs.
@@ -61,7 +57,7 @@ fn nests_signs(symbols: &[Symbol]) -> bool
             continue;
         }
         signs += 1;
-        if signs > MOST {
+        if signs > MOST_LEVELS {
             return true;
         }
     }
@@ -74,13 +70,13 @@ pub(crate) fn is_too_nested(symbols: &[Symbol]) -> bool
     ensures { IsTrue result ↔ IsTooNested symbols.now }
 {
     // A list of at most 256 symbols cannot be nested too deep.
-    if symbols.len() <= MOST {
+    if symbols.len() <= MOST_LEVELS {
         return false;
     }
     if nests_parentheses(symbols) {
         return true;
     }
-    if questions(symbols) > MOST {
+    if questions(symbols) > MOST_LEVELS {
         return true;
     }
     nests_signs(symbols)

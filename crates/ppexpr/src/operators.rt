@@ -1,21 +1,16 @@
-//! Operators by spelling and by operation.
+//! The operators of controlling expressions, in one table: the spelling, the unary operator, and the binary operator with its level.
 //!
-//! Each type is an enum in a struct, and the model of the struct is the value of the specification: an enum can have no model.
-ghost use Rattle.std.specs.Prelude.{◌≡◌};
-ghost use Rattle.ppexpr.specs.Tokens.{spelling_of};
-ghost use Rattle.ppexpr.specs.Symbols.{unary_of, binary_of};
-
-use std::marker::Model;
+//! A token's operator is known by its spelling alone, so `+` is one `Operator` whether it has one operand or two. The parser knows which of the
+//! two it reads, and asks for the `Unary` or the `Infix` there. `Operator` is the key of the table, and a fault prints its spelling.
+//!
+//! The table is a function of the operator and no array, because a match needs no bound on an index. The search by spelling goes through all
+//! operators. Few tokens get there: most conditions take the fast path of `defined_only`.
+ghost use Rattle.std.specs.Prelude.{◌≡◌, Some, None};
+ghost use Rattle.ppexpr.specs.Operators as specification;
 
 /// An operator by its spelling (6.4.6). `+` and `-` are unary or binary.
 #[derive(Clone, Copy)]
-pub(crate) struct Operator {
-    pub(crate) kind: OperatorKind,
-}
-
-/// The spelling of an operator.
-#[derive(Clone, Copy)]
-pub(crate) enum OperatorKind {
+pub(crate) enum Operator {
     Plus,
     Minus,
     Tilde,
@@ -38,108 +33,18 @@ pub(crate) enum OperatorKind {
     Or,
 }
 
-impl Model for Operator {
-    ghost use Rattle.ppexpr.specs.Operators as specification;
-    ghost use Rattle.ppexpr.specs.declared.operators.OperatorKind.TheVariants as code;
-
-    ghost Value = { specification.Operator };
-
-    ghost view = { λ o. elim o.kind [
-      | code.Plus ↦ specification.Plus
-      | code.Minus ↦ specification.Minus
-      | code.Tilde ↦ specification.Tilde
-      | code.Bang ↦ specification.Bang
-      | code.Star ↦ specification.Star
-      | code.Slash ↦ specification.Slash
-      | code.Percent ↦ specification.Percent
-      | code.ShiftLeft ↦ specification.ShiftLeft
-      | code.ShiftRight ↦ specification.ShiftRight
-      | code.Less ↦ specification.Less
-      | code.Greater ↦ specification.Greater
-      | code.LessOrEqual ↦ specification.LessOrEqual
-      | code.GreaterOrEqual ↦ specification.GreaterOrEqual
-      | code.Equal ↦ specification.Equal
-      | code.NotEqual ↦ specification.NotEqual
-      | code.Ampersand ↦ specification.Ampersand
-      | code.Caret ↦ specification.Caret
-      | code.Bar ↦ specification.Bar
-      | code.And ↦ specification.And
-      | code.Or ↦ specification.Or
-    ] };
-
-    ghost inverse = { λ o. record {
-      kind = elim o [
-        | specification.Plus ↦ code.Plus
-        | specification.Minus ↦ code.Minus
-        | specification.Tilde ↦ code.Tilde
-        | specification.Bang ↦ code.Bang
-        | specification.Star ↦ code.Star
-        | specification.Slash ↦ code.Slash
-        | specification.Percent ↦ code.Percent
-        | specification.ShiftLeft ↦ code.ShiftLeft
-        | specification.ShiftRight ↦ code.ShiftRight
-        | specification.Less ↦ code.Less
-        | specification.Greater ↦ code.Greater
-        | specification.LessOrEqual ↦ code.LessOrEqual
-        | specification.GreaterOrEqual ↦ code.GreaterOrEqual
-        | specification.Equal ↦ code.Equal
-        | specification.NotEqual ↦ code.NotEqual
-        | specification.Ampersand ↦ code.Ampersand
-        | specification.Caret ↦ code.Caret
-        | specification.Bar ↦ code.Bar
-        | specification.And ↦ code.And
-        | specification.Or ↦ code.Or
-      ];
-    } };
-}
-
 /// A unary operator (6.5.3.3).
 #[derive(Clone, Copy)]
-pub(crate) struct Unary {
-    pub(crate) kind: UnaryKind,
-}
-
-/// The operation of a unary operator.
-#[derive(Clone, Copy)]
-pub(crate) enum UnaryKind {
+pub(crate) enum Unary {
     Plus,
     Minus,
     Complement,
     Not,
 }
 
-impl Model for Unary {
-    ghost use Rattle.ppexpr.specs.Operations as specification;
-    ghost use Rattle.ppexpr.specs.declared.operators.UnaryKind.TheVariants as code;
-
-    ghost Value = { specification.Unary };
-
-    ghost view = { λ o. elim o.kind [
-      | code.Plus ↦ specification.Plus
-      | code.Minus ↦ specification.Minus
-      | code.Complement ↦ specification.Complement
-      | code.Not ↦ specification.Not
-    ] };
-
-    ghost inverse = { λ o. record {
-      kind = elim o [
-        | specification.Plus ↦ code.Plus
-        | specification.Minus ↦ code.Minus
-        | specification.Complement ↦ code.Complement
-        | specification.Not ↦ code.Not
-      ];
-    } };
-}
-
 /// A binary operator (6.5.5 to 6.5.14).
 #[derive(Clone, Copy)]
-pub(crate) struct Binary {
-    pub(crate) kind: BinaryKind,
-}
-
-/// The operation of a binary operator.
-#[derive(Clone, Copy)]
-pub(crate) enum BinaryKind {
+pub(crate) enum Binary {
     Multiply,
     Divide,
     Remainder,
@@ -160,162 +65,143 @@ pub(crate) enum BinaryKind {
     Or,
 }
 
-impl Model for Binary {
-    ghost use Rattle.ppexpr.specs.Operations as specification;
-    ghost use Rattle.ppexpr.specs.declared.operators.BinaryKind.TheVariants as code;
+/// A binary operator with the level of an expression with it: from 2 for `||` to 11 for `*`.
+#[derive(Clone, Copy)]
+pub(crate) struct Infix {
+    pub(crate) operation: Binary,
+    pub(crate) level: u8,
+}
 
-    ghost Value = { specification.Binary };
+/// A row of the table: what an operator is before an operand, and between operands.
+#[derive(Clone, Copy)]
+struct Row {
+    spelling: &'static [u8],
+    unary: Option<Unary>,
+    binary: Option<Infix>,
+}
 
-    ghost view = { λ o. elim o.kind [
-      | code.Multiply ↦ specification.Multiply
-      | code.Divide ↦ specification.Divide
-      | code.Remainder ↦ specification.Remainder
-      | code.Add ↦ specification.Add
-      | code.Subtract ↦ specification.Subtract
-      | code.ShiftLeft ↦ specification.ShiftLeft
-      | code.ShiftRight ↦ specification.ShiftRight
-      | code.Less ↦ specification.Less
-      | code.Greater ↦ specification.Greater
-      | code.LessOrEqual ↦ specification.LessOrEqual
-      | code.GreaterOrEqual ↦ specification.GreaterOrEqual
-      | code.Equal ↦ specification.Equal
-      | code.NotEqual ↦ specification.NotEqual
-      | code.BitAnd ↦ specification.BitAnd
-      | code.BitXor ↦ specification.BitXor
-      | code.BitOr ↦ specification.BitOr
-      | code.And ↦ specification.And
-      | code.Or ↦ specification.Or
-    ] };
+/// Creates the row of an operator that is only unary.
+fn unary_row(spelling: &'static [u8], unary: Unary) -> Row
+    ensures spelling { result.spelling.now ≡ spelling.now }
+    ensures unary { result.unary ≡ Some unary }
+    ensures binary { result.binary ≡ None }
+{
+    Row {
+        spelling,
+        unary: Some(unary),
+        binary: None,
+    }
+}
 
-    ghost inverse = { λ o. record {
-      kind = elim o [
-        | specification.Multiply ↦ code.Multiply
-        | specification.Divide ↦ code.Divide
-        | specification.Remainder ↦ code.Remainder
-        | specification.Add ↦ code.Add
-        | specification.Subtract ↦ code.Subtract
-        | specification.ShiftLeft ↦ code.ShiftLeft
-        | specification.ShiftRight ↦ code.ShiftRight
-        | specification.Less ↦ code.Less
-        | specification.Greater ↦ code.Greater
-        | specification.LessOrEqual ↦ code.LessOrEqual
-        | specification.GreaterOrEqual ↦ code.GreaterOrEqual
-        | specification.Equal ↦ code.Equal
-        | specification.NotEqual ↦ code.NotEqual
-        | specification.BitAnd ↦ code.BitAnd
-        | specification.BitXor ↦ code.BitXor
-        | specification.BitOr ↦ code.BitOr
-        | specification.And ↦ code.And
-        | specification.Or ↦ code.Or
-      ];
-    } };
+/// Creates the row of an operator that is only binary.
+fn binary_row(spelling: &'static [u8], operation: Binary, level: u8) -> Row
+    ensures spelling { result.spelling.now ≡ spelling.now }
+    ensures unary { result.unary ≡ None }
+    ensures binary { result.binary ≡ Some (record { operation = operation; level = level }) }
+{
+    Row {
+        spelling,
+        unary: None,
+        binary: Some(Infix { operation, level }),
+    }
+}
+
+/// Creates the row of an operator that is unary or binary.
+fn either_row(spelling: &'static [u8], unary: Unary, operation: Binary, level: u8) -> Row
+    ensures spelling { result.spelling.now ≡ spelling.now }
+    ensures unary { result.unary ≡ Some unary }
+    ensures binary { result.binary ≡ Some (record { operation = operation; level = level }) }
+{
+    Row {
+        spelling,
+        unary: Some(unary),
+        binary: Some(Infix { operation, level }),
+    }
 }
 
 impl Operator {
-    /// The operator `+`.
-    pub(crate) const PLUS: Operator = Operator {
-        kind: OperatorKind::Plus,
-    };
+    /// All operators.
+    const ALL: [Operator; 20] = [
+        Operator::Plus,
+        Operator::Minus,
+        Operator::Tilde,
+        Operator::Bang,
+        Operator::Star,
+        Operator::Slash,
+        Operator::Percent,
+        Operator::ShiftLeft,
+        Operator::ShiftRight,
+        Operator::Less,
+        Operator::Greater,
+        Operator::LessOrEqual,
+        Operator::GreaterOrEqual,
+        Operator::Equal,
+        Operator::NotEqual,
+        Operator::Ampersand,
+        Operator::Caret,
+        Operator::Bar,
+        Operator::And,
+        Operator::Or,
+    ];
 
-    /// The operator `-`.
-    pub(crate) const MINUS: Operator = Operator {
-        kind: OperatorKind::Minus,
-    };
+    /// Returns the row of the table (6.4.6, 6.5.3.3, 6.5.5 to 6.5.14).
+    fn row(self) -> Row
+        ensures spelling { result.spelling.now ≡ specification.spelling_of self }
+        ensures unary { result.unary ≡ specification.unary_of self }
+        ensures binary { result.binary ≡ specification.binary_of self }
+    {
+        match self {
+            Operator::Plus => either_row(b"+", Unary::Plus, Binary::Add, 10),
+            Operator::Minus => either_row(b"-", Unary::Minus, Binary::Subtract, 10),
+            Operator::Tilde => unary_row(b"~", Unary::Complement),
+            Operator::Bang => unary_row(b"!", Unary::Not),
+            Operator::Star => binary_row(b"*", Binary::Multiply, 11),
+            Operator::Slash => binary_row(b"/", Binary::Divide, 11),
+            Operator::Percent => binary_row(b"%", Binary::Remainder, 11),
+            Operator::ShiftLeft => binary_row(b"<<", Binary::ShiftLeft, 9),
+            Operator::ShiftRight => binary_row(b">>", Binary::ShiftRight, 9),
+            Operator::Less => binary_row(b"<", Binary::Less, 8),
+            Operator::Greater => binary_row(b">", Binary::Greater, 8),
+            Operator::LessOrEqual => binary_row(b"<=", Binary::LessOrEqual, 8),
+            Operator::GreaterOrEqual => binary_row(b">=", Binary::GreaterOrEqual, 8),
+            Operator::Equal => binary_row(b"==", Binary::Equal, 7),
+            Operator::NotEqual => binary_row(b"!=", Binary::NotEqual, 7),
+            Operator::Ampersand => binary_row(b"&", Binary::BitAnd, 6),
+            Operator::Caret => binary_row(b"^", Binary::BitXor, 5),
+            Operator::Bar => binary_row(b"|", Binary::BitOr, 4),
+            Operator::And => binary_row(b"&&", Binary::And, 3),
+            Operator::Or => binary_row(b"||", Binary::Or, 2),
+        }
+    }
 
-    /// The operator `*`.
-    pub(crate) const STAR: Operator = Operator {
-        kind: OperatorKind::Star,
-    };
+    /// Returns the operator with this spelling, if there is one.
+    pub(crate) fn of_spelling(text: &[u8]) -> Option<Operator>
+        ensures { result ≡ specification.operator_of text.now }
+    {
+        Operator::ALL
+            .iter()
+            .copied()
+            .find(|operator| operator.spelling() == text)
+    }
 
-    /// The operator `/`.
-    pub(crate) const SLASH: Operator = Operator {
-        kind: OperatorKind::Slash,
-    };
-
-    /// The operator `%`.
-    pub(crate) const PERCENT: Operator = Operator {
-        kind: OperatorKind::Percent,
-    };
-
-    /// The operator `<<`.
-    pub(crate) const SHIFT_LEFT: Operator = Operator {
-        kind: OperatorKind::ShiftLeft,
-    };
-
-    /// The operator `>>`.
-    pub(crate) const SHIFT_RIGHT: Operator = Operator {
-        kind: OperatorKind::ShiftRight,
-    };
-}
-
-impl Operator {
     /// Returns the spelling (6.4.6).
     pub(crate) fn spelling(self) -> &'static [u8]
-        ensures { result.now ≡ spelling_of self }
+        ensures { result.now ≡ specification.spelling_of self }
     {
-        match self.kind {
-            OperatorKind::Plus => b"+",
-            OperatorKind::Minus => b"-",
-            OperatorKind::Tilde => b"~",
-            OperatorKind::Bang => b"!",
-            OperatorKind::Star => b"*",
-            OperatorKind::Slash => b"/",
-            OperatorKind::Percent => b"%",
-            OperatorKind::ShiftLeft => b"<<",
-            OperatorKind::ShiftRight => b">>",
-            OperatorKind::Less => b"<",
-            OperatorKind::Greater => b">",
-            OperatorKind::LessOrEqual => b"<=",
-            OperatorKind::GreaterOrEqual => b">=",
-            OperatorKind::Equal => b"==",
-            OperatorKind::NotEqual => b"!=",
-            OperatorKind::Ampersand => b"&",
-            OperatorKind::Caret => b"^",
-            OperatorKind::Bar => b"|",
-            OperatorKind::And => b"&&",
-            OperatorKind::Or => b"||",
-        }
+        self.row().spelling
     }
 
     /// Returns the unary operator with this spelling (6.5.3.3), if there is one.
     pub(crate) fn unary(self) -> Option<Unary>
-        ensures { result ≡ unary_of self }
+        ensures { result ≡ specification.unary_of self }
     {
-        let kind = match self.kind {
-            OperatorKind::Plus => UnaryKind::Plus,
-            OperatorKind::Minus => UnaryKind::Minus,
-            OperatorKind::Tilde => UnaryKind::Complement,
-            OperatorKind::Bang => UnaryKind::Not,
-            _ => return None,
-        };
-        Some(Unary { kind })
+        self.row().unary
     }
 
     /// Returns the binary operator with this spelling (6.5.5 to 6.5.14), if there is one.
-    pub(crate) fn binary(self) -> Option<Binary>
-        ensures { result ≡ binary_of self }
+    pub(crate) fn binary(self) -> Option<Infix>
+        ensures { result ≡ specification.binary_of self }
     {
-        let kind = match self.kind {
-            OperatorKind::Plus => BinaryKind::Add,
-            OperatorKind::Minus => BinaryKind::Subtract,
-            OperatorKind::Star => BinaryKind::Multiply,
-            OperatorKind::Slash => BinaryKind::Divide,
-            OperatorKind::Percent => BinaryKind::Remainder,
-            OperatorKind::ShiftLeft => BinaryKind::ShiftLeft,
-            OperatorKind::ShiftRight => BinaryKind::ShiftRight,
-            OperatorKind::Less => BinaryKind::Less,
-            OperatorKind::Greater => BinaryKind::Greater,
-            OperatorKind::LessOrEqual => BinaryKind::LessOrEqual,
-            OperatorKind::GreaterOrEqual => BinaryKind::GreaterOrEqual,
-            OperatorKind::Equal => BinaryKind::Equal,
-            OperatorKind::NotEqual => BinaryKind::NotEqual,
-            OperatorKind::Ampersand => BinaryKind::BitAnd,
-            OperatorKind::Caret => BinaryKind::BitXor,
-            OperatorKind::Bar => BinaryKind::BitOr,
-            OperatorKind::And => BinaryKind::And,
-            OperatorKind::Or => BinaryKind::Or,
-            OperatorKind::Tilde | OperatorKind::Bang => return None,
-        };
-        Some(Binary { kind })
+        self.row().binary
     }
 }

@@ -1,12 +1,21 @@
 //! Parses and evaluates an expression by operator precedence (6.5), with a stack of what waits for its last operand.
+//!
+//! The parser builds no tree and does not call itself. A stack on the heap bounds the memory by the number of symbols, whatever the nesting, and
+//! each entry holds evaluations in place of subtrees. It reads each symbol once.
+//!
+//! Before it reads an operator, it completes the entries of that level or a tighter one, so operators of one level group from the left. `?` and `:`
+//! group from the right: `:` completes the middle operand and leaves the condition on the stack. A `(`, or a `?` without its `:`, has level 0, and
+//! only its closing symbol removes it. `finish` completes the rest, and any entry that stays shows a missing symbol.
+//!
+//! An entry is generic in what it holds: proofs run the same machine over trees, which shows that an expression has one tree.
 ghost use Rattle.std.specs.Prelude.{◌≡◌, Some, None, IfOk, MatchOption, ◌∷◌, MatchBool, reverse};
-ghost use Rattle.ppexpr.specs.Grammar.{IsExpression, level_of};
-ghost use Rattle.ppexpr.specs.Outcomes.{Outcome};
-ghost use Rattle.ppexpr.specs.code.Pending.{Group, Test, frame_level, outcomes, completed, unreduced, reduced, after_colon, after_close, ParserTakes, finish};
-ghost use Rattle.ppexpr.specs.Reading.{Denotes};
+ghost use Rattle.ppexpr.specs.Grammar.{IsExpression};
+ghost use Rattle.ppexpr.specs.declared.symbols.Evaluation.{Evaluation};
+ghost use Rattle.ppexpr.specs.code.Pending.{frame_level, evaluations, completed, unreduced, reduced, after_colon, after_close, ParserTakes, finish};
+ghost use Rattle.ppexpr.specs.Values.{Denotes};
 
-use crate::operators::{Binary, BinaryKind, Unary};
-use crate::symbols::{Outcome, Symbol, SymbolKind};
+use crate::operators::{Infix, Unary};
+use crate::symbols::{Evaluation, Symbol};
 use std::alloc::{AllocError, Global};
 use std::marker::Model;
 
@@ -18,148 +27,90 @@ const LOGICAL_OR: u8 = 2;
 
 /// An entry of the stack: it waits for its last operand, or for the symbol that closes it.
 #[derive(Clone, Copy)]
-struct Pending {
-    kind: PendingKind,
-}
-
-/// The kind of an entry.
-#[derive(Clone, Copy)]
-enum PendingKind {
+enum Frame<A> {
     /// A `(` that waits for its `)`.
     Group,
     /// A unary operator.
     Sign(Unary),
     /// A binary operator with its left operand.
-    Left(Binary, Outcome),
+    Left(Infix, A),
     /// The condition before a `?` that waits for its `:`.
-    Test(Outcome),
+    Test(A),
     /// The condition before a `?` and the operand before its `:`.
-    Arms(Outcome, Outcome),
-}
-
-impl Model for Pending {
-    ghost use Rattle.ppexpr.specs.Outcomes.{Outcome};
-    ghost use Rattle.ppexpr.specs.code.Pending as specification;
-    ghost use Rattle.ppexpr.specs.declared.parsing.PendingKind.TheVariants as code;
-
-    ghost Value = { specification.Frame Outcome };
-
-    ghost view = { λ p. elim p.kind [
-      | code.Group ↦ specification.Group
-      | code.Sign o ↦ specification.Sign o
-      | code.Left o x ↦ specification.Left o x
-      | code.Test x ↦ specification.Test x
-      | code.Arms x y ↦ specification.Arms x y
-    ] };
-
-    ghost inverse = { λ p. record {
-      kind = elim p [
-        | specification.Group ↦ code.Group
-        | specification.Sign o ↦ code.Sign o
-        | specification.Left o x ↦ code.Left o x
-        | specification.Test x ↦ code.Test x
-        | specification.Arms x y ↦ code.Arms x y
-      ];
-    } };
+    Arms(A, A),
 }
 
 /// The state of the parser: the stack, the innermost entry last, and the operand that was just read, if any.
 #[derive(Drop)]
 struct Parser {
-    pending: Vec<Pending>,
-    operand: Option<Outcome>,
+    frames: Vec<Frame<Evaluation>>,
+    operand: Option<Evaluation>,
 }
 
 impl Model for Parser {
     ghost use Rattle.std.specs.Prelude.{reverse};
-    ghost use Rattle.ppexpr.specs.Outcomes.{Outcome};
+    ghost use Rattle.ppexpr.specs.declared.symbols.Evaluation.{Evaluation};
     ghost use Rattle.ppexpr.specs.code.Pending.{State};
 
-    ghost Value = { State Outcome };
+    ghost Value = { State Evaluation };
 
-    ghost view = { λ p. (reverse p.pending.items, p.operand) };
+    ghost view = { λ p. (reverse p.frames.items, p.operand) };
 }
 
-impl Binary {
-    /// Returns the level of an expression with this operator: from 2 for `||` to 11 for `*`.
-    fn level(self) -> u8
-        ensures { result ≡ level_of self }
-    {
-        match self.kind {
-            BinaryKind::Or => 2,
-            BinaryKind::And => 3,
-            BinaryKind::BitOr => 4,
-            BinaryKind::BitXor => 5,
-            BinaryKind::BitAnd => 6,
-            BinaryKind::Equal | BinaryKind::NotEqual => 7,
-            BinaryKind::Less
-            | BinaryKind::Greater
-            | BinaryKind::LessOrEqual
-            | BinaryKind::GreaterOrEqual => 8,
-            BinaryKind::ShiftLeft | BinaryKind::ShiftRight => 9,
-            BinaryKind::Add | BinaryKind::Subtract => 10,
-            BinaryKind::Multiply | BinaryKind::Divide | BinaryKind::Remainder => 11,
-        }
-    }
-}
-
-impl Pending {
+impl Frame<Evaluation> {
     /// Returns the level of the expression that the entry becomes; 0 if the entry needs a closing symbol first.
     fn level(self) -> u8
         ensures { result ≡ frame_level self }
     {
-        let kind = self.kind;
-        match kind {
-            PendingKind::Group | PendingKind::Test(_) => 0,
-            PendingKind::Arms(_, _) => CONDITIONAL,
-            PendingKind::Left(operator, _) => operator.level(),
-            PendingKind::Sign(_) => 12,
+        match self {
+            Frame::Group | Frame::Test(_) => 0,
+            Frame::Arms(_, _) => CONDITIONAL,
+            Frame::Left(operator, _) => operator.level,
+            Frame::Sign(_) => 12,
         }
     }
 
-    /// Returns the outcome that the entry becomes with its last operand.
-    fn complete(self, operand: Outcome) -> Outcome
-        ensures { result ≡ completed outcomes self operand }
+    /// Returns the evaluation that the entry becomes with its last operand.
+    fn complete(self, operand: Evaluation) -> Evaluation
+        ensures { result ≡ completed evaluations self operand }
     {
-        let kind = self.kind;
-        match kind {
-            PendingKind::Group | PendingKind::Test(_) => operand,
-            PendingKind::Sign(operator) => Outcome::unary(operator, operand),
-            PendingKind::Left(operator, left) => Outcome::binary(operator, left, operand),
-            PendingKind::Arms(test, yes) => Outcome::choice(test, yes, operand),
+        match self {
+            Frame::Group | Frame::Test(_) => operand,
+            Frame::Sign(operator) => Evaluation::unary(operator, operand),
+            Frame::Left(operator, left) => Evaluation::binary(operator.operation, left, operand),
+            Frame::Arms(test, yes) => Evaluation::choice(test, yes, operand),
         }
     }
 }
 
 /// Applies the entries at this level or a tighter one to the operand, and removes them.
-fn reduce(pending: &mut Vec<Pending>, level: u8, mut operand: Outcome) -> Outcome
-    ensures stay { reverse pending.new.items ≡ unreduced level (reverse pending.old.items) }
-    ensures value { result ≡ reduced outcomes level (reverse pending.old.items) operand }
+fn reduce(frames: &mut Vec<Frame<Evaluation>>, level: u8, mut operand: Evaluation) -> Evaluation
+    ensures stay { reverse frames.new.items ≡ unreduced level (reverse frames.old.items) }
+    ensures value { result ≡ reduced evaluations level (reverse frames.old.items) operand }
 {
-    while let Some(last) = pending.pop_if(|last| last.level() >= level) {
+    while let Some(last) = frames.pop_if(|last| last.level() >= level) {
         operand = last.complete(operand);
     }
     operand
 }
 
 /// Removes the innermost entry. Returns whether it was a `(`.
-fn pop_group(pending: &mut Vec<Pending>) -> bool
-    ensures { MatchBool result (reverse pending.old.items ≡ Group ∷ reverse pending.new.items) ((z : Outcome) → after_close (reverse pending.old.items) z ≡ None) }
+fn pop_group(frames: &mut Vec<Frame<Evaluation>>) -> bool
+    ensures { MatchBool result (reverse frames.old.items ≡ Frame.Group ∷ reverse frames.new.items) ((z : Evaluation) → after_close (reverse frames.old.items) z ≡ None) }
 {
-    let Some(last) = pending.pop() else {
+    let Some(last) = frames.pop() else {
         return false;
     };
-    matches!(last.kind, PendingKind::Group)
+    matches!(last, Frame::Group)
 }
 
 /// Removes the innermost entry. Returns its condition if it was a `?`.
-fn pop_test(pending: &mut Vec<Pending>) -> Option<Outcome>
-    ensures { MatchOption result ((z : Outcome) → after_colon (reverse pending.old.items) z ≡ None) (λ x. reverse pending.old.items ≡ Test x ∷ reverse pending.new.items) }
+fn pop_test(frames: &mut Vec<Frame<Evaluation>>) -> Option<Evaluation>
+    ensures { MatchOption result ((z : Evaluation) → after_colon (reverse frames.old.items) z ≡ None) (λ x. reverse frames.old.items ≡ Frame.Test x ∷ reverse frames.new.items) }
 {
-    let last = pending.pop()?;
-    let kind = last.kind;
-    match kind {
-        PendingKind::Test(test) => Some(test),
+    let last = frames.pop()?;
+    match last {
+        Frame::Test(test) => Some(test),
         _ => None,
     }
 }
@@ -170,19 +121,16 @@ impl Parser {
         requires { self.old.1 ≡ None }
         ensures { IfOk result (λ accepted. ParserTakes self.old symbol accepted self.new) }
     {
-        let kind = symbol.kind;
-        match kind {
-            SymbolKind::Constant(value) => self.operand = Some(Outcome::constant(value)),
-            SymbolKind::Open => {
-                let kind = PendingKind::Group;
-                self.pending.push(Pending { kind })?;
+        match symbol {
+            Symbol::Constant(value) => self.operand = Some(Evaluation::constant(value)),
+            Symbol::Open => {
+                self.frames.push(Frame::Group)?;
             }
-            SymbolKind::Operator(operator) => {
+            Symbol::Operator(operator) => {
                 let Some(sign) = operator.unary() else {
                     return Ok(false);
                 };
-                let kind = PendingKind::Sign(sign);
-                self.pending.push(Pending { kind })?;
+                self.frames.push(Frame::Sign(sign))?;
             }
             _ => return Ok(false),
         }
@@ -190,37 +138,37 @@ impl Parser {
     }
 
     /// Reads a symbol after an operand. Returns false if no expression continues with it.
-    fn read_after_operand(&mut self, operand: Outcome, symbol: Symbol) -> Result<bool, AllocError>
+    fn read_after_operand(
+        &mut self,
+        operand: Evaluation,
+        symbol: Symbol,
+    ) -> Result<bool, AllocError>
         requires { self.old.1 ≡ Some operand }
         ensures { IfOk result (λ accepted. ParserTakes self.old symbol accepted self.new) }
     {
-        let kind = symbol.kind;
-        match kind {
-            SymbolKind::Operator(sign) => {
+        match symbol {
+            Symbol::Operator(sign) => {
                 let Some(operator) = sign.binary() else {
                     return Ok(false);
                 };
-                let left = reduce(&mut self.pending, operator.level(), operand);
-                let kind = PendingKind::Left(operator, left);
-                self.pending.push(Pending { kind })?;
+                let left = reduce(&mut self.frames, operator.level, operand);
+                self.frames.push(Frame::Left(operator, left))?;
             }
-            SymbolKind::Question => {
-                let test = reduce(&mut self.pending, LOGICAL_OR, operand);
-                let kind = PendingKind::Test(test);
-                self.pending.push(Pending { kind })?;
+            Symbol::Question => {
+                let test = reduce(&mut self.frames, LOGICAL_OR, operand);
+                self.frames.push(Frame::Test(test))?;
             }
-            SymbolKind::Colon => {
-                let yes = reduce(&mut self.pending, CONDITIONAL, operand);
-                let Some(test) = pop_test(&mut self.pending) else {
+            Symbol::Colon => {
+                let yes = reduce(&mut self.frames, CONDITIONAL, operand);
+                let Some(test) = pop_test(&mut self.frames) else {
                     return Ok(false);
                 };
-                let kind = PendingKind::Arms(test, yes);
-                self.pending.push(Pending { kind })?;
+                self.frames.push(Frame::Arms(test, yes))?;
             }
-            SymbolKind::Close => {
-                let inside = reduce(&mut self.pending, CONDITIONAL, operand);
+            Symbol::Close => {
+                let inside = reduce(&mut self.frames, CONDITIONAL, operand);
                 self.operand = Some(inside);
-                return Ok(pop_group(&mut self.pending));
+                return Ok(pop_group(&mut self.frames));
             }
             _ => return Ok(false),
         }
@@ -238,27 +186,27 @@ impl Parser {
         }
     }
 
-    /// Returns the outcome after the last symbol, or `None` if an operand or a closing symbol is missing.
-    fn finish(self) -> Option<Outcome>
-        ensures { result ≡ finish outcomes self }
+    /// Returns the evaluation after the last symbol, or `None` if an operand or a closing symbol is missing.
+    fn finish(self) -> Option<Evaluation>
+        ensures { result ≡ finish evaluations self }
     {
         let Parser {
-            mut pending,
+            mut frames,
             operand,
         } = self;
-        let whole = reduce(&mut pending, CONDITIONAL, operand?);
-        pending.is_empty().then_some(whole)
+        let whole = reduce(&mut frames, CONDITIONAL, operand?);
+        frames.is_empty().then_some(whole)
     }
 }
 
 /// Evaluates an expression. Returns `None` if the symbols are no expression (6.5, 6.6).
 ///
 /// Each symbol is on the stack at most once, so the time is linear in the number of symbols.
-pub(crate) fn parse(alloc: Global, symbols: &[Symbol]) -> Result<Option<Outcome>, AllocError>
+pub(crate) fn parse(alloc: Global, symbols: &[Symbol]) -> Result<Option<Evaluation>, AllocError>
     ensures { IfOk result (λ r. MatchOption r (¬ IsExpression symbols.now) (Denotes symbols.now)) }
 {
     let mut parser = Parser {
-        pending: Vec::new(alloc),
+        frames: Vec::new(alloc),
         operand: None,
     };
     for symbol in symbols {

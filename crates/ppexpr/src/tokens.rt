@@ -1,74 +1,54 @@
 //! Converts the tokens of a controlling expression to symbols.
-ghost use Rattle.std.specs.Prelude.{◌≡◌, ◌++◌, ◌∷◌, OnOk, []};
+ghost use Rattle.std.specs.Prelude.{◌≡◌};
 ghost use Rattle.pptext.specs.Errors.{Returns, UnlessOutOfMemory};
-ghost use Rattle.ppexpr.specs.Tokens.{operators, punctuator_among, symbol_of, symbols_of};
+ghost use Rattle.ppexpr.specs.Tokens.{other_punctuator, punctuator, symbol_of, symbols_of};
 
 use crate::characters::character_of;
 use crate::integers::integer_of;
-use crate::operators::{Operator, OperatorKind};
-use crate::symbols::{Symbol, SymbolKind, Value};
-use pptext::{Error, Fault, Kind, Place, Token};
-use std::alloc::{AllocError, Global};
+use crate::operators::Operator;
+use crate::symbols::{Symbol, Value};
+use pptext::{Error, Kind, Place, Token};
+use std::alloc::Global;
+
+/// Returns the symbol of a punctuator that is no operator.
+fn other_punctuator(text: &[u8]) -> Symbol
+    ensures { result ≡ other_punctuator text.now }
+{
+    match text {
+        b"(" => Symbol::Open,
+        b")" => Symbol::Close,
+        b"?" => Symbol::Question,
+        b":" => Symbol::Colon,
+        _ => Symbol::Other,
+    }
+}
 
 /// Returns the symbol of a punctuator.
-pub(crate) fn punctuator(text: &[u8]) -> Symbol
-    ensures { result ≡ punctuator_among operators text.now }
+fn punctuator(text: &[u8]) -> Symbol
+    ensures { result ≡ punctuator text.now }
 {
-    let kind = match text {
-        b"+" => OperatorKind::Plus,
-        b"-" => OperatorKind::Minus,
-        b"~" => OperatorKind::Tilde,
-        b"!" => OperatorKind::Bang,
-        b"*" => OperatorKind::Star,
-        b"/" => OperatorKind::Slash,
-        b"%" => OperatorKind::Percent,
-        b"<<" => OperatorKind::ShiftLeft,
-        b">>" => OperatorKind::ShiftRight,
-        b"<" => OperatorKind::Less,
-        b">" => OperatorKind::Greater,
-        b"<=" => OperatorKind::LessOrEqual,
-        b">=" => OperatorKind::GreaterOrEqual,
-        b"==" => OperatorKind::Equal,
-        b"!=" => OperatorKind::NotEqual,
-        b"&" => OperatorKind::Ampersand,
-        b"^" => OperatorKind::Caret,
-        b"|" => OperatorKind::Bar,
-        b"&&" => OperatorKind::And,
-        b"||" => OperatorKind::Or,
-        b"(" => return Symbol::OPEN,
-        b")" => return Symbol::CLOSE,
-        b"?" => return Symbol::QUESTION,
-        b":" => return Symbol::COLON,
-        _ => return Symbol::OTHER,
-    };
-    let kind = SymbolKind::Operator(Operator { kind });
-    Symbol { kind }
+    match Operator::of_spelling(text) {
+        Some(operator) => Symbol::Operator(operator),
+        None => other_punctuator(text),
+    }
 }
 
 /// Returns the symbol of a token, or the fault of a constant without a value (24 or 25).
-pub(crate) fn symbol_of(alloc: Global, at: Place, token: &Token) -> Result<Symbol, Error>
+fn symbol_of(alloc: Global, at: Place, token: &Token) -> Result<Symbol, Error>
     ensures { UnlessOutOfMemory result (λ s. s ≡ symbol_of at token.now) }
 {
     let text = token.text.as_bytes();
     let (number, constant) = match token.kind {
-        Kind::Ident => return Ok(Symbol::constant(Value::signed(0))),
+        Kind::Ident => return Ok(Symbol::Constant(Value::Signed(0))),
         Kind::Punct => return Ok(punctuator(text)),
         Kind::Number => (24, integer_of(text)),
         Kind::CharConst => (25, character_of(text)),
-        _ => return Ok(Symbol::OTHER),
+        _ => return Ok(Symbol::Other),
     };
     match constant {
-        Some(value) => Ok(Symbol::constant(value)),
-        None => Err(Error::Fault(Fault::new(alloc, number, at, text)?)),
+        Some(value) => Ok(Symbol::Constant(value)),
+        None => Err(Error::new(alloc, number, at, text)),
     }
-}
-
-/// Appends a symbol.
-fn push_symbol(symbols: &mut Vec<Symbol>, symbol: Symbol) -> Result<(), AllocError>
-    ensures { OnOk result (symbols.new.items ≡ symbols.old.items ++ symbol ∷ []) }
-{
-    symbols.push(symbol)?;
-    Ok(())
 }
 
 /// Returns the symbols of tokens, or the first fault from the left.
@@ -77,8 +57,7 @@ pub(crate) fn symbols_of(alloc: Global, at: Place, tokens: &[Token]) -> Result<V
 {
     let mut symbols = Vec::new(alloc);
     for token in tokens {
-        let symbol = symbol_of(alloc, at, token)?;
-        push_symbol(&mut symbols, symbol)?;
+        symbols.push(symbol_of(alloc, at, token)?)?;
     }
     Ok(symbols)
 }

@@ -1,15 +1,20 @@
 //! Applies operators to values (6.5.3.3, 6.5.5 to 6.5.14).
+//!
+//! Each operator is a function with one clause: the operation on whole numbers, and the range of the result. A signed result out of range is a
+//! failure, and an unsigned one is taken modulo 2^64, so the code uses `checked_` methods for the one and `wrapping_` methods for the other.
+//!
+//! `converted` applies the usual arithmetic conversions once, for every operator but shifts, whose type is the left operand's. `/` and `%` test
+//! the divisor first and then the quotient: `checked_rem` fails exactly if the quotient is out of range, as the standard has it (6.5.5p6).
 ghost use Rattle.std.specs.Prelude.{◌≡◌, ℤ, pos, FitsSigned, ◌+ℤ◌, ◌-ℤ◌, ◌*ℤ◌, ◌<◌, int_lt, int_le, int_div, int_rem, bit_and, bit_or};
 ghost use Rattle.std.specs.Prelude.{bit_xor, not, MatchOption, Ok, false};
 ghost use Rattle.std.specs.Int.{w64, int_bit_and, int_bit_or, int_bit_xor};
 ghost use Rattle.std.specs.Ordering.{int_eq};
 ghost use Rattle.std.specs.Option.{SomeIff};
-ghost use Rattle.ppexpr.specs.Operators.{Star, Slash, Percent, Plus, Minus, ShiftLeft, ShiftRight};
-ghost use Rattle.ppexpr.specs.Values.{is_zero, as_unsigned, truth, is_amount, whole, signed, negative, complement, unary_value, converted, BothSigned, BothUnsigned};
+ghost use Rattle.ppexpr.specs.Values.{is_zero, as_unsigned, truth, is_amount, whole, signed, negative, complement, unary_value, converted};
 ghost use Rattle.ppexpr.specs.Values.{arithmetic, division, comparison, bitwise, shift, left_shift, right_shift, binary_value};
 
-use crate::operators::{Binary, BinaryKind, Operator, Unary, UnaryKind};
-use crate::symbols::{Failure, Number, Value};
+use crate::operators::{Binary, Operator, Unary};
+use crate::symbols::{Failure, Value};
 
 /// Two operands after the usual arithmetic conversions.
 #[derive(Clone, Copy)]
@@ -23,9 +28,9 @@ impl Value {
     pub(crate) fn is_zero(self) -> bool
         ensures { result ≡ is_zero self }
     {
-        match self.number {
-            Number::Signed(n) => n == 0,
-            Number::Unsigned(n) => n == 0,
+        match self {
+            Value::Signed(n) => n == 0,
+            Value::Unsigned(n) => n == 0,
         }
     }
 
@@ -33,9 +38,9 @@ impl Value {
     pub(crate) fn as_unsigned(self) -> u64
         ensures { result ≡ as_unsigned self }
     {
-        match self.number {
-            Number::Signed(n) => n.cast_unsigned(),
-            Number::Unsigned(n) => n,
+        match self {
+            Value::Signed(n) => n.cast_unsigned(),
+            Value::Unsigned(n) => n,
         }
     }
 
@@ -43,7 +48,7 @@ impl Value {
     pub(crate) fn truth(holds: bool) -> Value
         ensures { result ≡ truth holds }
     {
-        Value::signed(if holds { 1 } else { 0 })
+        Value::Signed(if holds { 1 } else { 0 })
     }
 }
 
@@ -52,8 +57,8 @@ fn signed(operator: Operator, value: Option<i64>) -> Result<Value, Failure>
     ensures { (z : ℤ) → SomeIff value (FitsSigned w64 z) z → result ≡ signed operator z }
 {
     match value {
-        Some(value) => Ok(Value::signed(value)),
-        None => Err(Failure::overflow(operator)),
+        Some(value) => Ok(Value::Signed(value)),
+        None => Err(Failure::Overflow(operator)),
     }
 }
 
@@ -61,9 +66,9 @@ fn signed(operator: Operator, value: Option<i64>) -> Result<Value, Failure>
 fn negative(value: Value) -> Result<Value, Failure>
     ensures { result ≡ negative value }
 {
-    match value.number {
-        Number::Signed(n) => signed(Operator::MINUS, n.checked_neg()),
-        Number::Unsigned(n) => Ok(Value::unsigned(n.wrapping_neg())),
+    match value {
+        Value::Signed(n) => signed(Operator::Minus, n.checked_neg()),
+        Value::Unsigned(n) => Ok(Value::Unsigned(n.wrapping_neg())),
     }
 }
 
@@ -71,9 +76,9 @@ fn negative(value: Value) -> Result<Value, Failure>
 fn complement(value: Value) -> Result<Value, Failure>
     ensures { result ≡ complement value }
 {
-    Ok(match value.number {
-        Number::Signed(n) => Value::signed(!n),
-        Number::Unsigned(n) => Value::unsigned(!n),
+    Ok(match value {
+        Value::Signed(n) => Value::Signed(!n),
+        Value::Unsigned(n) => Value::Unsigned(!n),
     })
 }
 
@@ -81,20 +86,20 @@ fn complement(value: Value) -> Result<Value, Failure>
 pub(crate) fn unary_value(operator: Unary, value: Value) -> Result<Value, Failure>
     ensures { result ≡ unary_value operator value }
 {
-    match operator.kind {
-        UnaryKind::Plus => Ok(value),
-        UnaryKind::Minus => negative(value),
-        UnaryKind::Complement => complement(value),
-        UnaryKind::Not => Ok(Value::truth(value.is_zero())),
+    match operator {
+        Unary::Plus => Ok(value),
+        Unary::Minus => negative(value),
+        Unary::Complement => complement(value),
+        Unary::Not => Ok(Value::truth(value.is_zero())),
     }
 }
 
 /// Applies the usual arithmetic conversions (6.3.1.8).
 fn converted(left: Value, right: Value) -> Operands
-    ensures { (elim result [ Operands.BothSigned a b ↦ BothSigned a b | Operands.BothUnsigned a b ↦ BothUnsigned a b ]) ≡ converted left right }
+    ensures { result ≡ converted left right }
 {
-    if let Number::Signed(a) = left.number {
-        if let Number::Signed(b) = right.number {
+    if let Value::Signed(a) = left {
+        if let Value::Signed(b) = right {
             return Operands::BothSigned(a, b);
         }
     }
@@ -103,63 +108,63 @@ fn converted(left: Value, right: Value) -> Operands
 
 /// Computes `*` (6.5.5p4).
 fn product(left: Value, right: Value) -> Result<Value, Failure>
-    ensures { result ≡ arithmetic Star (λ a b. a *ℤ b) (converted left right) }
+    ensures { result ≡ arithmetic Operator.Star (λ a b. a *ℤ b) (converted left right) }
 {
     match converted(left, right) {
-        Operands::BothSigned(a, b) => signed(Operator::STAR, a.checked_mul(b)),
-        Operands::BothUnsigned(a, b) => Ok(Value::unsigned(a.wrapping_mul(b))),
+        Operands::BothSigned(a, b) => signed(Operator::Star, a.checked_mul(b)),
+        Operands::BothUnsigned(a, b) => Ok(Value::Unsigned(a.wrapping_mul(b))),
     }
 }
 
 /// Computes binary `+` (6.5.6p5).
 fn sum(left: Value, right: Value) -> Result<Value, Failure>
-    ensures { result ≡ arithmetic Plus (λ a b. a +ℤ b) (converted left right) }
+    ensures { result ≡ arithmetic Operator.Plus (λ a b. a +ℤ b) (converted left right) }
 {
     match converted(left, right) {
-        Operands::BothSigned(a, b) => signed(Operator::PLUS, a.checked_add(b)),
-        Operands::BothUnsigned(a, b) => Ok(Value::unsigned(a.wrapping_add(b))),
+        Operands::BothSigned(a, b) => signed(Operator::Plus, a.checked_add(b)),
+        Operands::BothUnsigned(a, b) => Ok(Value::Unsigned(a.wrapping_add(b))),
     }
 }
 
 /// Computes binary `-` (6.5.6p6).
 fn difference(left: Value, right: Value) -> Result<Value, Failure>
-    ensures { result ≡ arithmetic Minus (λ a b. a -ℤ b) (converted left right) }
+    ensures { result ≡ arithmetic Operator.Minus (λ a b. a -ℤ b) (converted left right) }
 {
     match converted(left, right) {
-        Operands::BothSigned(a, b) => signed(Operator::MINUS, a.checked_sub(b)),
-        Operands::BothUnsigned(a, b) => Ok(Value::unsigned(a.wrapping_sub(b))),
+        Operands::BothSigned(a, b) => signed(Operator::Minus, a.checked_sub(b)),
+        Operands::BothUnsigned(a, b) => Ok(Value::Unsigned(a.wrapping_sub(b))),
     }
 }
 
 /// Computes `/` (6.5.5p5).
 fn quotient(left: Value, right: Value) -> Result<Value, Failure>
-    ensures { result ≡ division Slash int_div (converted left right) }
+    ensures { result ≡ division Operator.Slash int_div (converted left right) }
 {
     match converted(left, right) {
         Operands::BothSigned(_, 0) | Operands::BothUnsigned(_, 0) => {
-            Err(Failure::zero_divisor(Operator::SLASH))
+            Err(Failure::ZeroDivisor(Operator::Slash))
         }
         Operands::BothSigned(a, b) => match a.checked_div(b) {
-            Some(value) => Ok(Value::signed(value)),
-            None => Err(Failure::overflow(Operator::SLASH)),
+            Some(value) => Ok(Value::Signed(value)),
+            None => Err(Failure::Overflow(Operator::Slash)),
         },
-        Operands::BothUnsigned(a, b) => Ok(Value::unsigned(a / b)),
+        Operands::BothUnsigned(a, b) => Ok(Value::Unsigned(a / b)),
     }
 }
 
 /// Computes `%` (6.5.5p5, p6).
 fn remainder(left: Value, right: Value) -> Result<Value, Failure>
-    ensures { result ≡ division Percent int_rem (converted left right) }
+    ensures { result ≡ division Operator.Percent int_rem (converted left right) }
 {
     match converted(left, right) {
         Operands::BothSigned(_, 0) | Operands::BothUnsigned(_, 0) => {
-            Err(Failure::zero_divisor(Operator::PERCENT))
+            Err(Failure::ZeroDivisor(Operator::Percent))
         }
         Operands::BothSigned(a, b) => match a.checked_rem(b) {
-            Some(value) => Ok(Value::signed(value)),
-            None => Err(Failure::overflow(Operator::PERCENT)),
+            Some(value) => Ok(Value::Signed(value)),
+            None => Err(Failure::Overflow(Operator::Percent)),
         },
-        Operands::BothUnsigned(a, b) => Ok(Value::unsigned(a % b)),
+        Operands::BothUnsigned(a, b) => Ok(Value::Unsigned(a % b)),
     }
 }
 
@@ -228,8 +233,8 @@ fn bit_and(left: Value, right: Value) -> Value
     ensures { Ok result ≡ bitwise (int_bit_and w64) bit_and (converted left right) }
 {
     match converted(left, right) {
-        Operands::BothSigned(a, b) => Value::signed(a & b),
-        Operands::BothUnsigned(a, b) => Value::unsigned(a & b),
+        Operands::BothSigned(a, b) => Value::Signed(a & b),
+        Operands::BothUnsigned(a, b) => Value::Unsigned(a & b),
     }
 }
 
@@ -238,8 +243,8 @@ fn bit_xor(left: Value, right: Value) -> Value
     ensures { Ok result ≡ bitwise (int_bit_xor w64) bit_xor (converted left right) }
 {
     match converted(left, right) {
-        Operands::BothSigned(a, b) => Value::signed(a ^ b),
-        Operands::BothUnsigned(a, b) => Value::unsigned(a ^ b),
+        Operands::BothSigned(a, b) => Value::Signed(a ^ b),
+        Operands::BothUnsigned(a, b) => Value::Unsigned(a ^ b),
     }
 }
 
@@ -248,8 +253,8 @@ fn bit_or(left: Value, right: Value) -> Value
     ensures { Ok result ≡ bitwise (int_bit_or w64) bit_or (converted left right) }
 {
     match converted(left, right) {
-        Operands::BothSigned(a, b) => Value::signed(a | b),
-        Operands::BothUnsigned(a, b) => Value::unsigned(a | b),
+        Operands::BothSigned(a, b) => Value::Signed(a | b),
+        Operands::BothUnsigned(a, b) => Value::Unsigned(a | b),
     }
 }
 
@@ -257,9 +262,9 @@ fn bit_or(left: Value, right: Value) -> Value
 fn amount(value: Value) -> Option<u32>
     ensures { MatchOption result (is_amount (whole value) ≡ false) (λ n. (whole value ≡ pos n) × (n < 64)) }
 {
-    match value.number {
-        Number::Signed(n) if 0 <= n && n < 64 => Some(n as u32),
-        Number::Unsigned(n) if n < 64 => Some(n as u32),
+    match value {
+        Value::Signed(n) if 0 <= n && n < 64 => Some(n as u32),
+        Value::Unsigned(n) if n < 64 => Some(n as u32),
         _ => None,
     }
 }
@@ -269,17 +274,17 @@ fn left_shift(value: Value, amount: u32) -> Result<Value, Failure>
     requires { amount < 64 }
     ensures { result ≡ left_shift value amount }
 {
-    let number = match value.number {
-        Number::Signed(number) => number,
-        Number::Unsigned(number) => return Ok(Value::unsigned(number << amount)),
+    let number = match value {
+        Value::Signed(number) => number,
+        Value::Unsigned(number) => return Ok(Value::Unsigned(number << amount)),
     };
     if number < 0 {
-        return Err(Failure::shift(Operator::SHIFT_LEFT));
+        return Err(Failure::Shift(Operator::ShiftLeft));
     }
     if number > i64::MAX >> amount {
-        return Err(Failure::shift(Operator::SHIFT_LEFT));
+        return Err(Failure::Shift(Operator::ShiftLeft));
     }
-    Ok(Value::signed(number << amount))
+    Ok(Value::Signed(number << amount))
 }
 
 /// Computes `>>` by an amount in range (6.5.7p5).
@@ -287,29 +292,29 @@ fn right_shift(value: Value, amount: u32) -> Value
     requires { amount < 64 }
     ensures { Ok result ≡ right_shift value amount }
 {
-    match value.number {
-        Number::Signed(number) => Value::signed(number >> amount),
-        Number::Unsigned(number) => Value::unsigned(number >> amount),
+    match value {
+        Value::Signed(number) => Value::Signed(number >> amount),
+        Value::Unsigned(number) => Value::Unsigned(number >> amount),
     }
 }
 
 /// Computes `<<` by any amount (6.5.7p3).
 fn shifted_left(left: Value, right: Value) -> Result<Value, Failure>
-    ensures { result ≡ shift ShiftLeft left_shift left right }
+    ensures { result ≡ shift Operator.ShiftLeft left_shift left right }
 {
     match amount(right) {
         Some(amount) => left_shift(left, amount),
-        None => Err(Failure::shift(Operator::SHIFT_LEFT)),
+        None => Err(Failure::Shift(Operator::ShiftLeft)),
     }
 }
 
 /// Computes `>>` by any amount (6.5.7p3).
 fn shifted_right(left: Value, right: Value) -> Result<Value, Failure>
-    ensures { result ≡ shift ShiftRight right_shift left right }
+    ensures { result ≡ shift Operator.ShiftRight right_shift left right }
 {
     match amount(right) {
         Some(amount) => Ok(right_shift(left, amount)),
-        None => Err(Failure::shift(Operator::SHIFT_RIGHT)),
+        None => Err(Failure::Shift(Operator::ShiftRight)),
     }
 }
 
@@ -317,24 +322,24 @@ fn shifted_right(left: Value, right: Value) -> Result<Value, Failure>
 pub(crate) fn binary_value(operator: Binary, left: Value, right: Value) -> Result<Value, Failure>
     ensures { result ≡ binary_value operator left right }
 {
-    match operator.kind {
-        BinaryKind::Multiply => product(left, right),
-        BinaryKind::Divide => quotient(left, right),
-        BinaryKind::Remainder => remainder(left, right),
-        BinaryKind::Add => sum(left, right),
-        BinaryKind::Subtract => difference(left, right),
-        BinaryKind::ShiftLeft => shifted_left(left, right),
-        BinaryKind::ShiftRight => shifted_right(left, right),
-        BinaryKind::Less => Ok(less(left, right)),
-        BinaryKind::Greater => Ok(greater(left, right)),
-        BinaryKind::LessOrEqual => Ok(less_or_equal(left, right)),
-        BinaryKind::GreaterOrEqual => Ok(greater_or_equal(left, right)),
-        BinaryKind::Equal => Ok(equal(left, right)),
-        BinaryKind::NotEqual => Ok(not_equal(left, right)),
-        BinaryKind::BitAnd => Ok(bit_and(left, right)),
-        BinaryKind::BitXor => Ok(bit_xor(left, right)),
-        BinaryKind::BitOr => Ok(bit_or(left, right)),
-        BinaryKind::And => Ok(Value::truth(!left.is_zero() && !right.is_zero())),
-        BinaryKind::Or => Ok(Value::truth(!left.is_zero() || !right.is_zero())),
+    match operator {
+        Binary::Multiply => product(left, right),
+        Binary::Divide => quotient(left, right),
+        Binary::Remainder => remainder(left, right),
+        Binary::Add => sum(left, right),
+        Binary::Subtract => difference(left, right),
+        Binary::ShiftLeft => shifted_left(left, right),
+        Binary::ShiftRight => shifted_right(left, right),
+        Binary::Less => Ok(less(left, right)),
+        Binary::Greater => Ok(greater(left, right)),
+        Binary::LessOrEqual => Ok(less_or_equal(left, right)),
+        Binary::GreaterOrEqual => Ok(greater_or_equal(left, right)),
+        Binary::Equal => Ok(equal(left, right)),
+        Binary::NotEqual => Ok(not_equal(left, right)),
+        Binary::BitAnd => Ok(bit_and(left, right)),
+        Binary::BitXor => Ok(bit_xor(left, right)),
+        Binary::BitOr => Ok(bit_or(left, right)),
+        Binary::And => Ok(Value::truth(!left.is_zero() && !right.is_zero())),
+        Binary::Or => Ok(Value::truth(!left.is_zero() || !right.is_zero())),
     }
 }

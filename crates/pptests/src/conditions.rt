@@ -1,9 +1,10 @@
 //! Tests of `evaluate`: conditions, and the rest of a budget, also after a fault. More conditions and faults are in
 //! tests/row_tests.py, which compares the program's output.
 use crate::defining::{directed, env, source_of};
+use ppexpand::Meter;
 use ppexpr::evaluate;
 use ppmacro::Table;
-use pptext::{Fault, Memory, Place, Source};
+use pptext::{Error, Place, Source};
 use std::alloc::Global;
 use std::process::Abort;
 use std::test::Fail;
@@ -15,23 +16,23 @@ const HASH: Place = Place {
     col: 1,
 };
 
-/// Returns the condition in the tokens after a file's definitions, or its fault, and the rest of the budget.
+/// Returns the condition in the tokens after a file's definitions, or its fault.
 fn condition_of(
     rt: &impl Abort,
     alloc: Global,
-    remaining: Option<u64>,
+    meter: &mut Meter,
     source: &Source,
-) -> Result<(Result<bool, Fault>, Option<u64>), Memory> {
+) -> Result<bool, Error> {
     let mut table = Table::new(alloc)?;
     let tokens = directed(rt, alloc, &mut table, source)?;
-    evaluate(alloc, &table, &env(0), remaining, HASH, tokens)
+    evaluate(alloc, &table, &env(0), meter, HASH, tokens)
 }
 
 /// Returns whether a result is this condition, or a fault with this number.
-fn is_wanted(found: &Result<bool, Fault>, wanted: Result<bool, u8>) -> bool {
+fn is_wanted(found: Result<bool, Error>, wanted: Result<bool, u8>) -> bool {
     match (found, wanted) {
-        (Ok(found), Ok(wanted)) => *found == wanted,
-        (Err(fault), Err(number)) => fault.number == number,
+        (Ok(found), Ok(wanted)) => found == wanted,
+        (Err(Error::Fault(fault)), Err(number)) => fault.into_fault().number == number,
         _ => false,
     }
 }
@@ -64,9 +65,10 @@ fn leaves_what_a_condition_does_not_spend(rt: HostRuntime) -> Result<(), Fail> {
     for &(expression, budget, wanted, remaining) in LEFT {
         let text = format!(in rt.alloc(); "{}{expression}", MACROS)?;
         let source = source_of(&rt, rt.alloc(), text.as_bytes())?;
-        let (found, rest) = condition_of(&rt, rt.alloc(), budget, &source)?;
+        let mut meter = Meter::new(budget);
+        let found = condition_of(&rt, rt.alloc(), &mut meter, &source);
         assert!(rt;
-            is_wanted(&found, wanted) && rest == remaining,
+            is_wanted(found, wanted) && meter.remaining == remaining,
             "{expression}"
         );
     }

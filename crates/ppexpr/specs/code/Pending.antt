@@ -1,42 +1,40 @@
 -- The parser's stack of what waits for its last operand, and its steps: vocabulary of the code. No definition rests on this file: the grammar alone
 -- says what an expression is.
 use Rattle.std.specs.Prelude.{◌≡◌, ℕ, Bool, List, [], ◌∷◌, Option, Some, None, nat_le, if◌then◌else◌}
-use Rattle.ppexpr.specs.Outcomes.{Value, Outcome}
-use Rattle.ppexpr.specs.Symbols.{Symbol, Constant, Operator, Open, Close, Question, Colon, unary_of, binary_of}
-use Rattle.ppexpr.specs.Operations.{Unary, Binary}
-use Rattle.ppexpr.specs.Grammar.{level_of}
-use Rattle.ppexpr.specs.Values.{constant_outcome, unary_outcome, binary_outcome, choice_outcome}
+use Rattle.ppexpr.specs.declared.symbols.Value.{Value}
+use Rattle.ppexpr.specs.declared.symbols.Evaluation.{Evaluation}
+use Rattle.ppexpr.specs.declared.symbols.Symbol.{Symbol}
+use Rattle.ppexpr.specs.declared.symbols.Symbol.TheVariants.{Constant, Operator, Open, Close, Question, Colon}
+use Rattle.ppexpr.specs.Operators.{unary_of, binary_of}
+use Rattle.ppexpr.specs.declared.operators.Unary.{Unary}
+use Rattle.ppexpr.specs.declared.operators.Binary.{Binary}
+use Rattle.ppexpr.specs.declared.operators.Infix.{Infix}
+use Rattle.ppexpr.specs.declared.parsing.Frame.{Frame}
+use Rattle.ppexpr.specs.declared.parsing.Frame.TheVariants.{Group, Sign, Left, Test, Arms}
+use Rattle.ppexpr.specs.Values.{constant_evaluation, unary_evaluation, binary_evaluation, choice_evaluation}
 
--- What trees are evaluated to: outcomes, or the trees themselves.
+-- What trees are evaluated to: evaluations, or the trees themselves.
 pub record Meaning (A : Type 0) : Type 0 where
   pub leaf : Value → A
   pub applied : Unary → A → A
   pub joined : Binary → A → A → A
   pub chosen : A → A → A → A
 
-abbrev pub outcomes : Meaning Outcome
-outcomes = record { leaf = constant_outcome; applied = unary_outcome; joined = binary_outcome; chosen = choice_outcome }
-
--- An entry of the stack: a `(`; an operator that waits for its last operand, with the operands that it has; or a condition that waits for its `:`.
-pub data Frame (A : Type 0) : Type 0 where
-  Group : Frame A
-  Sign : Unary → Frame A
-  Left : Binary → A → Frame A
-  Test : A → Frame A
-  Arms : A → A → Frame A
+abbrev pub evaluations : Meaning Evaluation
+evaluations = record { leaf = constant_evaluation; applied = unary_evaluation; joined = binary_evaluation; chosen = choice_evaluation }
 
 -- the level of the expression that the frame becomes with its last operand; 0 if a closing symbol must come first
 abbrev pub frame_level : {A : Type 0} → Frame A → ℕ
 frame_level Group = 0
 frame_level (Sign o) = 12
-frame_level (Left o x) = level_of o
+frame_level (Left o x) = o.level
 frame_level (Test x) = 0
 frame_level (Arms x y) = 1
 
 abbrev pub completed : {A : Type 0} → Meaning A → Frame A → A → A
 completed m Group z = z
 completed m (Sign o) z = m.applied o z
-completed m (Left o x) z = m.joined o x z
+completed m (Left o x) z = m.joined o.operation x z
 completed m (Test x) z = z
 completed m (Arms x y) z = m.chosen x y z
 
@@ -57,9 +55,9 @@ abbrev pub after_sign : {A : Type 0} → List (Frame A) → Option Unary → Opt
 after_sign fs None = None
 after_sign fs (Some o) = Some (Sign o ∷ fs, None)
 
-abbrev pub after_operator : {A : Type 0} → Meaning A → List (Frame A) → A → Option Binary → Option (State A)
+abbrev pub after_operator : {A : Type 0} → Meaning A → List (Frame A) → A → Option Infix → Option (State A)
 after_operator m fs z None = None
-after_operator m fs z (Some o) = Some (Left o (reduced m (level_of o) fs z) ∷ unreduced (level_of o) fs, None)
+after_operator m fs z (Some o) = Some (Left o (reduced m o.level fs z) ∷ unreduced o.level fs, None)
 
 abbrev pub after_colon : {A : Type 0} → List (Frame A) → A → Option (State A)
 after_colon (Test x ∷ fs) z = Some (Arms x z ∷ fs, None)
@@ -86,8 +84,8 @@ step m (fs, Some z) Close = after_close (unreduced 1 fs) (reduced m 1 fs z)
 step m (fs, Some z) s = None
 
 -- the parser reads the symbol, or there is no step
-abbrev pub ParserTakes : State Outcome → Symbol → Bool → State Outcome → Type 0
-ParserTakes old s accepted new = step outcomes old s ≡ (if accepted then Some new else None)
+abbrev pub ParserTakes : State Evaluation → Symbol → Bool → State Evaluation → Type 0
+ParserTakes old s accepted new = step evaluations old s ≡ (if accepted then Some new else None)
 
 abbrev pub finish : {A : Type 0} → Meaning A → State A → Option A
 finish m (fs, None) = None

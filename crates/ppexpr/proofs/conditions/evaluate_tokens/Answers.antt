@@ -1,10 +1,10 @@
 use Rattle.std.proofs.Common.{sym}
 use Rattle.ppexpr.specs.Conditions.{defined_after_replacement, bad_constant, constants}
-use Rattle.pptext.proofs.ErrorReturns.{if_settled-weaker, raises}
+use Rattle.pptext.proofs.ErrorReturns.{raised, if_settled-weaker, raises}
 use Rattle.ppexpr.proofs.conditions.evaluate_tokens.Goals as goal
 
 pub returns-then-has_defined : goal.returns-then-has_defined
-returns-then-has_defined c = rw c.bare.ensures (defined_after_replacement (sym c.if-has_defined.ensures))
+returns-then-has_defined c = raised _ _ _ c.bare.ensures (defined_after_replacement (sym c.if-has_defined.ensures))
 
 pub returns : goal.returns
 returns c =

@@ -1,5 +1,5 @@
 use Rattle.std.proofs.Common.{sym}
-use Rattle.ppexpr.specs.code.Unexpanded.{defined_use}
+use Rattle.ppexpr.specs.code.DefinedOnly.{defined_use}
 use Rattle.ppexpr.proofs.defined_only.defined_use.Goals as goal
 
 pub returns : goal.returns

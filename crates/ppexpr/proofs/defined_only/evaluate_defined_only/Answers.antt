@@ -18,5 +18,5 @@ loop-next-preserved c =
 
 pub returns-then-is_empty : goal.returns-then-is_empty
 returns-then-is_empty c =
-    has_truth c.args.table.now.macros c.args.tokens.now c.loop-next.rest.now c.loop-next.holds (omega (arith, c.if-tokens-gt-MOST.false))
+    has_truth c.args.table.now.macros c.args.tokens.now c.loop-next.rest.now c.loop-next.holds (omega (arith, c.if-tokens-gt-MOST_LEVELS.false))
     (eqb-true _ _ (sym c.is_empty.ensures ∙ c.if-is_empty.true)) c.loop-next.invariant

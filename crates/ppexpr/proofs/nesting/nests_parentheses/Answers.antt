@@ -3,8 +3,8 @@ use Rattle.std.proofs.lemmas.Grind.{common_steps}
 use Rattle.ppexpr.proofs.NestingCounts.{nests_not}
 use Rattle.ppexpr.proofs.nesting.nests_parentheses.Goals as goal
 
-pub returns-then-saturating_sub-gt-MOST : goal.returns-then-saturating_sub-gt-MOST
-returns-then-saturating_sub-gt-MOST c =
+pub returns-then-saturating_sub-gt-MOST_LEVELS : goal.returns-then-saturating_sub-gt-MOST_LEVELS
+returns-then-saturating_sub-gt-MOST_LEVELS c =
     (λ _. (c.loop-symbol.symbol-index + 1, grind (arith, common_steps)), λ _. refl)
 
 pub returns : goal.returns

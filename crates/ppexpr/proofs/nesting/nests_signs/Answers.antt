@@ -3,8 +3,8 @@ use Rattle.std.proofs.lemmas.Grind.{common_steps}
 use Rattle.ppexpr.proofs.NestingCounts.{nests_signs_not}
 use Rattle.ppexpr.proofs.nesting.nests_signs.Goals as goal
 
-pub returns-then-signs-gt-MOST : goal.returns-then-signs-gt-MOST
-returns-then-signs-gt-MOST c =
+pub returns-then-signs-gt-MOST_LEVELS : goal.returns-then-signs-gt-MOST_LEVELS
+returns-then-signs-gt-MOST_LEVELS c =
     (λ _. (c.loop-symbol.symbol-index + 1, grind (arith, common_steps)), λ _. refl)
 
 pub returns : goal.returns

@@ -1,13 +1,12 @@
-use Rattle.std.proofs.Common.{sym, ap, ◌∙◌}
+use Rattle.std.proofs.Common.{ap, ◌∙◌}
 use Rattle.std.specs.Prelude.{None, Some, if◌then◌else◌}
-use Rattle.ppexpr.specs.code.Pending.{outcomes, step}
 use Rattle.ppexpr.proofs.MachineCorrectness.{stopped, ended}
 use Rattle.ppexpr.proofs.parsing.parse.Goals as goal
 
 pub returns-then-not-branch : goal.returns-then-not-branch
 returns-then-not-branch c =
     stopped c.args.symbols.now c.loop-symbol.parser c.loop-symbol.symbol-index _ c.loop-symbol-test.true c.loop-symbol.invariant
-    (ap (step outcomes c.loop-symbol.parser) (sym c.symbol-item.is) ∙ c.in_ok-take.ensures ∙ ap (λ b. if b then Some c.take.new.self else None) c.if-not-branch.true)
+    (c.in_ok-take.ensures ∙ ap (λ b. if b then Some c.take.new.self else None) c.if-not-branch.true)
 
 pub returns : goal.returns
 returns c =

@@ -8,4 +8,4 @@ pub returns-then-number-amount : goal.returns-then-number-amount
 returns-then-number-amount c =
     let fits : FitsSigned w64 c.in-Signed.number = search rules in
     let far = simp to_z-of_z at c.if-number-amount.true in
-    rw (c.shift-then-number-amount.ensures, ← c.value.view_is, c.in-Signed.is) (sym (left_shift_fails c.in-Signed.number c.args.amount far))
+    rw c.in-Signed.is (sym (left_shift_fails c.in-Signed.number c.args.amount far))

@@ -1,5 +1,0 @@
-use Rattle.std.proofs.Common.{rules}
-use Rattle.ppexpr.proofs.operators.Binary.decides.Goals as goal
-
-pub returns-in-Or : goal.returns-in-Or
-returns-in-Or c = search rules
