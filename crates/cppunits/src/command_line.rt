@@ -1,10 +1,12 @@
 //! Parses the command line, before any input is read.
-ghost use Rattle.std.specs.Prelude.{◌≤◌, IfOk};
-ghost use Rattle.cppunits.specs.code.Requests.{InRange, IfRun};
+ghost use Rattle.std.specs.Prelude.{◌≤◌};
+
+#[cfg(test)]
+mod tests;
 
 use clap::error::ErrorKind;
 use clap::{Arg, ArgMatches, Command, Error};
-use ppserve::{Mode, RunFault};
+use ppserve::{Block, Mode, RunFault, Workers};
 use std::alloc::{AllocError, Global};
 use std::rt::Env;
 use std::{env, io};
@@ -14,10 +16,10 @@ use std::{env, io};
 pub struct Options {
     /// What is printed of each unit.
     pub mode: Mode,
-    /// The number of workers, which preprocess units in parallel, 1 to 64.
-    pub workers: usize,
-    /// The largest number of units that a worker claims at a time, 1 to 1024.
-    pub block: usize,
+    /// The number of workers, which preprocess units in parallel.
+    pub workers: Workers,
+    /// The largest number of units that a worker claims at a time.
+    pub block: Block,
     /// The directory that files are read from. Without one the list holds their contents.
     pub root: Option<String>,
 }
@@ -58,9 +60,7 @@ Status: 0 no unit has a fault, 1 some unit has one, 2 usage, 3 the list is refus
 
 /// Parses the command line, and prints the help, the version or a usage error if there is one. Fails if an allocation
 /// fails, or if the help or the version can't be written.
-pub fn parse_request<R: Env + AllocGlobal + Print + Eprint>(rt: &R) -> Result<Request, RunFault>
-    ensures { IfOk result (λ request. IfRun request InRange) }
-{
+pub fn parse_request<R: Env + AllocGlobal + Print + Eprint>(rt: &R) -> Result<Request, RunFault> {
     match parse(rt) {
         Ok(options) => Ok(Request::Run(options)),
         Err(error) => Ok(Request::Exit(stop_status(rt, &error)?)),
@@ -83,9 +83,7 @@ fn stop_status<R: Print + Eprint>(rt: &R, error: &Error) -> Result<u8, RunFault>
 }
 
 /// Parses the command line.
-fn parse<R: Env + AllocGlobal>(rt: &R) -> Result<Options, Error>
-    ensures { IfOk result InRange }
-{
+fn parse<R: Env + AllocGlobal>(rt: &R) -> Result<Options, Error> {
     let mut command = command(rt.alloc())?;
     let words = arguments(rt, &mut command)?;
     let matches = command.try_get_matches_from(words.as_slice())?;
@@ -105,9 +103,7 @@ fn arguments<R: Env + AllocGlobal>(
 }
 
 /// Returns the options that were parsed.
-fn read_options(alloc: Global, matches: &ArgMatches<'_>) -> Result<Options, AllocError>
-    ensures { IfOk result InRange }
-{
+fn read_options(alloc: Global, matches: &ArgMatches<'_>) -> Result<Options, AllocError> {
     let root = match matches.get_str("root") {
         Some(directory) => Some(String::from_str(alloc, directory)?),
         None => None,
@@ -117,10 +113,16 @@ fn read_options(alloc: Global, matches: &ArgMatches<'_>) -> Result<Options, Allo
     } else {
         Mode::Dump
     };
+    let Some(workers) = Workers::new(number(matches, "workers", MAX_WORKERS)) else {
+        unreachable!()
+    };
+    let Some(block) = Block::new(number(matches, "block", MAX_BLOCK)) else {
+        unreachable!()
+    };
     Ok(Options {
         mode,
-        workers: number(matches, "workers", MAX_WORKERS),
-        block: number(matches, "block", MAX_BLOCK),
+        workers,
+        block,
         root,
     })
 }

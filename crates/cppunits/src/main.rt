@@ -5,9 +5,7 @@ mod command_line;
 mod stack_reserve;
 
 use command_line::Request;
-use ppserve::{
-    AtEnd, ReaderFeed, RunFault, RunOptions, WriterSink, serve, serve_from, status, words,
-};
+use ppserve::{AtEnd, ReaderFeed, RunFault, RunOptions, WriterSink, serve, status, words};
 use ppshelf::DirDisk;
 use pptext::Hashing;
 use stack_reserve::reserve;
@@ -33,7 +31,10 @@ fn exit_with(rt: &impl Eprint, outcome: &Result<bool, RunFault>) -> ExitCode {
 
 /// Runs the program.
 ///
-/// It calls `serve_from` itself. A function with the runtime as a parameter can't: it would need a bound that the runtime
+/// What `serve` promises of bytes says nothing here, since no contract names those of the system's streams: it holds of
+/// the program as far as the system's reads and writes do what `ReaderFeed` and `WriterSink` ask of them.
+///
+/// It calls `serve` itself. A function with the runtime as a parameter can't: it would need a bound that the runtime
 /// may be sent to a thread, and the kit's borrow checker doesn't accept that bound.
 fn main(rt: HostRuntime) -> ExitCode {
     if reserve(rt.alloc()).is_err() {
@@ -58,13 +59,20 @@ fn main(rt: HostRuntime) -> ExitCode {
         // The program exits next.
         at_end: AtEnd::Leave,
     };
-    let outcome = match &options.root {
-        None => serve(&rt, rt.alloc(), &mut reader, &mut writer, run),
-        Some(directory) => {
-            let (files, directory) = (&rt, directory.as_str());
-            let disk = DirDisk { files, directory };
-            serve_from(&rt, rt.alloc(), &mut reader, &mut writer, &disk, run)
-        }
+    let disk = match &options.root {
+        Some(directory) => Some(DirDisk {
+            files: &rt,
+            directory: directory.as_str(),
+        }),
+        None => None,
     };
+    let outcome = serve(
+        &rt,
+        rt.alloc(),
+        &mut reader,
+        &mut writer,
+        disk.as_ref(),
+        run,
+    );
     exit_with(&rt, &outcome)
 }

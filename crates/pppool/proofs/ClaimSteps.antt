@@ -10,7 +10,7 @@ use Rattle.atomic_table.specs.Table.{State, Act, step, keeps, stepped, Valid, Al
 use Rattle.atomic_table.proofs.Lists.{at_set, at_snoc, set_else}
 use Rattle.pppool.specs.declared.seat_state.SeatState.{SeatState}
 use Rattle.pppool.specs.declared.seat_state.Plan.{Plan}
-use Rattle.pppool.specs.Desk.{seat_state, max_blocks, times, total, once_below, FitsSeat, ClaimInvariant, Claims}
+use Rattle.pppool.specs.Desk.{seat_state, max_blocks, times, total, once_below, FitsSeat, ClaimInvariant, TakesBlock, FindsNone, Claims}
 use Rattle.pppool.proofs.SeatTotals.{total_set, total_snoc, total_le, total_at, times-append, times_at, below_once, once_more}
 
 -- The word is at most 65,599, far from an overflow.
@@ -19,7 +19,8 @@ no_wrap p s d =
     let r = d.bound in
     let e = total_le (λ v. v.empty_claims) (λ v. v.seats) s.views (λ id v at. (d.each id v at).empty_claims) in
     let f = d.seats in
-    let g = d.small in
+    let g = d.few_blocks in
+    let k = d.few_seats in
     omega arith
 
 -- The claims of a seat are below the word.
@@ -65,7 +66,8 @@ dealt_block p s id n v d at one is below =
     let word = word_after s.words (n + 1) d.word in
     let f = d.each id v at in
     record {
-      small = d.small;
+      few_blocks = d.few_blocks;
+      few_seats = d.few_seats;
       word = length-set s.words 0 (n + 1) ∙ d.word;
       claims = λ x.
           let a : total (λ u. times x u.claims) (set s.views id w) + times x v.claims ≡ total (λ u. times x u.claims) s.views + times x (v.claims ++ n ∷ []) = total_set (λ u. times x u.claims) s.views id v w at in
@@ -90,7 +92,8 @@ dealt_mark p s id n v d at one unmarked is above =
     let word = word_after s.words (n + 1) d.word in
     let f = d.each id v at in
     record {
-      small = d.small;
+      few_blocks = d.few_blocks;
+      few_seats = d.few_seats;
       word = length-set s.words 0 (n + 1) ∙ d.word;
       claims = λ x.
           let a = total_set (λ u. times x u.claims) s.views id v w at in
@@ -107,7 +110,14 @@ dealt_mark p s id n v d at one unmarked is above =
 abbrev Goes : Plan → State ℕ SeatState → ℕ → SeatState → Type 0
 Goes p s id v = (w : SeatState) × (a : Act ℕ) × Valid s.homes [] a × ClaimInvariant p (stepped s 0 ((get_or s.words 0 0 + 1) % 2 ^ 64) id [] w a) × Claims (step 0 0 1 0 none) (v, []) (get_or s.words 0 0) (w, carried_after [] a)
 
-claim_goes : (p : Plan) (s : State ℕ SeatState) (id : ℕ) (v : SeatState) → ClaimInvariant p s → get_elem? s.views id ≡ some v → v.seats ≡ 1 → v.empty_claims ≡ 0 → (b : Bool) → nat_lt (get_or s.words 0 0) v.plan.blocks ≡ b → Goes p s id v
+claim_goes : (p : Plan) (s : State ℕ SeatState) (id : ℕ) (v : SeatState)
+    → ClaimInvariant p s
+    → get_elem? s.views id ≡ some v
+    → v.seats ≡ 1
+    → v.empty_claims ≡ 0
+    → (b : Bool)
+    → nat_lt (get_or s.words 0 0) v.plan.blocks ≡ b
+    → Goes p s id v
 claim_goes p s id v d at one unmarked true is =
     let n = get_or s.words 0 0 in
     let plan = (d.each id v at).plan (omega arith) in
@@ -116,8 +126,8 @@ claim_goes p s id v d at one unmarked true is =
     let wraps : n + 1 ≡ (n + 1) % 2 ^ 64 = stays_small n k in
     let w = seat_state (v.claims ++ n ∷ []) v.empty_claims v.seats v.plan in
     let P : ℕ → Type 0 = λ m. ClaimInvariant p (after_claim s id w m) in
-    let Q : Bool → Type 0 = λ c. MatchBool c ((w ≡ w) × All (λ c. c < n) v.claims) (w ≡ seat_state v.claims (v.empty_claims + 1) v.seats v.plan) in
-    (w, keeps, tt, subst P wraps (dealt_block p s id n v d at one refl below), (refl, subst Q (sym is) (refl, claims_below p s id v d at)))
+    let Q : Bool → Type 0 = λ c. MatchBool c (TakesBlock v n w) (FindsNone v w) in
+    (w, keeps, tt, subst P wraps (dealt_block p s id n v d at one refl below), record { carried = refl; outcome = subst Q (sym is) (record { taken = refl; above = claims_below p s id v d at }) })
 claim_goes p s id v d at one unmarked false is =
     let n = get_or s.words 0 0 in
     let plan = (d.each id v at).plan (omega arith) in
@@ -126,8 +136,8 @@ claim_goes p s id v d at one unmarked false is =
     let wraps : n + 1 ≡ (n + 1) % 2 ^ 64 = stays_small n k in
     let w = seat_state v.claims (v.empty_claims + 1) v.seats v.plan in
     let P : ℕ → Type 0 = λ m. ClaimInvariant p (after_claim s id w m) in
-    let Q : Bool → Type 0 = λ c. MatchBool c ((w ≡ seat_state (v.claims ++ n ∷ []) v.empty_claims v.seats v.plan) × All (λ c. c < n) v.claims) (w ≡ w) in
-    (w, keeps, tt, subst P wraps (dealt_mark p s id n v d at one unmarked refl above), (refl, subst Q (sym is) refl))
+    let Q : Bool → Type 0 = λ c. MatchBool c (TakesBlock v n w) (FindsNone v w) in
+    (w, keeps, tt, subst P wraps (dealt_mark p s id n v d at one unmarked refl above), record { carried = refl; outcome = subst Q (sym is) refl })
 
 pub claims : (p : Plan) (slots id : ℕ) (v : SeatState) → v.seats ≡ 1 → v.empty_claims ≡ 0 → Allows (ClaimInvariant p) slots id (v, []) 0 (λ n. (n + 1) % 2 ^ 64) (Claims (step slots 0 1 0 none) (v, []))
 claims p slots id v one unmarked s d homes at small = claim_goes p s id v d at one unmarked (nat_lt (get_or s.words 0 0) v.plan.blocks) refl
@@ -150,7 +160,12 @@ all_idle p n x (v ∷ vs) each e =
     let b = all_idle p n x vs (λ j u at. each (suc j) u at) (omega arith) in
     omega arith
 
-rest_idle : (p : Plan) (s : State ℕ SeatState) (id : ℕ) (v : SeatState) → ClaimInvariant p s → get_elem? s.views id ≡ some v → v.seats ≡ p.seats → (x : ℕ) → total (λ k. times x k.claims) (set s.views id (seat_state [] 0 0 v.plan)) ≡ 0
+rest_idle : (p : Plan) (s : State ℕ SeatState) (id : ℕ) (v : SeatState)
+    → ClaimInvariant p s
+    → get_elem? s.views id ≡ some v
+    → v.seats ≡ p.seats
+    → (x : ℕ)
+    → total (λ k. times x k.claims) (set s.views id (seat_state [] 0 0 v.plan)) ≡ 0
 rest_idle p s id v d at all x =
     let n = get_or s.words 0 0 in
     let w = seat_state [] 0 0 v.plan in
@@ -170,7 +185,8 @@ splits p id v left_over unclaimed unmarked s d at =
     let fit_w : FitsSeat p n w = record { empty_claims = omega arith; idle = λ _. unclaimed; plan = λ h. f.plan (omega arith); passed_last = λ h. absurd (omega arith) } in
     let fit_u : FitsSeat p n u = record { empty_claims = omega arith; idle = λ _. refl; plan = λ h. f.plan (omega arith); passed_last = λ h. absurd (omega arith) } in
     record {
-      small = d.small;
+      few_blocks = d.few_blocks;
+      few_seats = d.few_seats;
       word = d.word;
       claims = λ x. let a = sum (λ k. times x k.claims) in let b = d.claims x in omega arith;
       seats = let a = sum (λ k. k.seats) in let b = d.seats in omega arith;
@@ -183,7 +199,10 @@ splits p id v left_over unclaimed unmarked s d at =
     }
 
 -- Joining two seats preserves `ClaimInvariant`.
-pub joins : (p : Plan) (id other : ℕ) (v w : SeatState) → 0 < v.seats → Joins (ClaimInvariant p) id v other w (seat_state (v.claims ++ w.claims) (v.empty_claims + w.empty_claims) (v.seats + w.seats) v.plan) (seat_state [] 0 0 (record { blocks = 0; seats = 0 }))
+pub joins : (p : Plan) (id other : ℕ) (v w : SeatState)
+    → 0 < v.seats
+    → Joins (ClaimInvariant p) id v other w (seat_state (v.claims ++ w.claims) (v.empty_claims + w.empty_claims) (v.seats + w.seats) v.plan)
+    (seat_state [] 0 0 (record { blocks = 0; seats = 0 }))
 joins p id other v w some_left s d at apart there =
     let both = seat_state (v.claims ++ w.claims) (v.empty_claims + w.empty_claims) (v.seats + w.seats) v.plan in
     let spent = seat_state [] 0 0 (record { blocks = 0; seats = 0 }) in
@@ -193,11 +212,17 @@ joins p id other v w some_left s d at apart there =
     let a = total_set f s.views id v both at in let b = total_set f (set s.views id both) other w spent there in omega arith in
     let f = d.each id v at in
     let h = d.each other w at_other in
-    let fit_both : FitsSeat p n both = record { empty_claims = let a = f.empty_claims in let b = h.empty_claims in omega arith; idle = λ e. absurd (omega arith); plan = λ e. f.plan some_left; passed_last = λ e. marked_either p n v w f h e } in
+    let fit_both : FitsSeat p n both = record {
+      empty_claims = let a = f.empty_claims in let b = h.empty_claims in omega arith;
+      idle = λ e. absurd (omega arith);
+      plan = λ e. f.plan some_left;
+      passed_last = λ e. marked_either p n v w f h e;
+    } in
     let fit_spent : FitsSeat p n spent = record { empty_claims = omega arith; idle = λ _. refl; plan = λ e. absurd (omega arith); passed_last = λ e. absurd (omega arith) } in
     let mid : (j : ℕ) (k : SeatState) → get_elem? (set s.views id both) j ≡ some k → FitsSeat p n k = each_set p n n s.views id both (omega arith) d.each fit_both in
     record {
-      small = d.small;
+      few_blocks = d.few_blocks;
+      few_seats = d.few_seats;
       word = d.word;
       claims = λ x. let a = sum (λ k. times x k.claims) in let b = d.claims x in let c = times-append x v.claims w.claims in omega arith;
       seats = let a = sum (λ k. k.seats) in let b = d.seats in omega arith;
@@ -206,7 +231,13 @@ joins p id other v w some_left s d at apart there =
     }
 
 -- If all seats are joined and one found no block left, their claims are all blocks, each once.
-pub whole : (p : Plan) (s : State ℕ SeatState) (id : ℕ) (v : SeatState) → ClaimInvariant p s → get_elem? s.views id ≡ some v → v.seats ≡ p.seats → 0 < v.empty_claims → (x : ℕ) → times x v.claims ≡ once_below x p.blocks
+pub whole : (p : Plan) (s : State ℕ SeatState) (id : ℕ) (v : SeatState)
+    → ClaimInvariant p s
+    → get_elem? s.views id ≡ some v
+    → v.seats ≡ p.seats
+    → 0 < v.empty_claims
+    → (x : ℕ)
+    → times x v.claims ≡ once_below x p.blocks
 whole p s id v d at all passed_last x =
     let e = total_set (λ k. times x k.claims) s.views id v (seat_state [] 0 0 v.plan) at in
     let g = total_set (λ k. k.seats) s.views id v (seat_state [] 0 0 v.plan) at in
@@ -237,13 +268,17 @@ once_zero : (x : ℕ) → once_below x 0 ≡ 0
 once_zero x = grind (arith, nat_tests)
 
 each_first : (p : Plan) (id : ℕ) (v : SeatState) → get_elem? (seat_state [] 0 p.seats p ∷ []) id ≡ some v → FitsSeat p 0 v
-each_first p zero v at = let P : SeatState → Type 0 = FitsSeat p 0 in subst P (some-injective (seat_state [] 0 p.seats p) v at) record { empty_claims = omega arith; idle = λ _. refl; plan = λ _. refl; passed_last = λ e. absurd (omega arith) }
+each_first p zero v at =
+    let P : SeatState → Type 0 = FitsSeat p 0 in
+    let first : FitsSeat p 0 (seat_state [] 0 p.seats p) = record { empty_claims = omega arith; idle = λ _. refl; plan = λ _. refl; passed_last = λ e. absurd (omega arith) } in
+    subst P (some-injective (seat_state [] 0 p.seats p) v at) first
 each_first p (suc id) v at = absurd (some-ne-none v (sym at))
 
 -- The initial state of the table satisfies `ClaimInvariant`.
 pub opens : (p : Plan) → p.blocks ≤ max_blocks → p.seats ≤ 64 → ClaimInvariant p (opening (0 ∷ []) [] (seat_state [] 0 p.seats p))
 opens p blocks seats = record {
-  small = (blocks, seats);
+  few_blocks = blocks;
+  few_seats = seats;
   word = refl;
   claims = λ x. let e : once_below x (min 0 p.blocks) ≡ once_below x 0 = ap (once_below x) (let z : min 0 p.blocks ≡ 0 = omega arith in z) in let z = once_zero x in omega arith;
   seats = omega arith;

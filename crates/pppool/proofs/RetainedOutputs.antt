@@ -2,6 +2,7 @@
 use Rattle.std.proofs.Common.{ℕ, ◌≡◌, List, [], ◌∷◌, map, refl, sym, ap, ◌∙◌, subst}
 use Rattle.ppshelf.specs.Files.{Files, Extends}
 use Rattle.ppunit.specs.declared.units.Unit.{Unit as UnitOfList}
+use Rattle.pppool.specs.code.Workers.{IsRetained}
 use Rattle.ppunit.specs.declared.units.Setting.{Setting}
 use Rattle.ppunit.specs.declared.units.UnitOut.{UnitOut}
 use Rattle.ppunit.specs.Laws.{Grows}
@@ -9,7 +10,7 @@ use Rattle.ppunit.specs.Unit.{IsUnit}
 use Rattle.ppunit.specs.Units.{AreUnits}
 use Rattle.pppool.specs.declared.retention.Retain.{Retain}
 use Rattle.pppool.specs.declared.retention.Retain.TheVariants.{Everything}
-use Rattle.pppool.specs.Retained.{IsRetained, AreRetained, retained}
+use Rattle.pppool.specs.Retained.{AreRetained, retained}
 
 -- The retained output of a unit over some files is also its retained output over any larger set.
 pub kept_grows : Grows

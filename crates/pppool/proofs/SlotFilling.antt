@@ -13,13 +13,13 @@ use Rattle.ppunit.specs.declared.units.UnitOut.{UnitOut}
 use Rattle.ppunit.specs.Laws.{Grows}
 use Rattle.ppunit.specs.Unit.{IsUnit}
 use Rattle.pppool.specs.declared.retention.Retain.{Retain}
-use Rattle.pppool.specs.Retained.{IsRetained, AreRetained, retained}
+use Rattle.pppool.specs.Retained.{AreRetained, retained}
 use Rattle.pppool.proofs.RetainedOutputs.{kept_grows}
 use Rattle.ppunit.specs.Capped.{IsInBudget, IsCappedOver, StaysInBudget, BudgetCaps}
 use Rattle.ppunit.specs.Units.{AreUnits, AreInBudget, AreCapped}
 use Rattle.pppool.specs.Desk.{DeskId, SeatView, times, claims_of, once_below}
 use Rattle.pppool.specs.Laws.{ListGrows}
-use Rattle.pppool.specs.code.Workers.{UnitResult, AreUnitResults, AllFilled, FitSlots, result_units, filled_slots}
+use Rattle.pppool.specs.code.Workers.{IsRetained, UnitResult, AreUnitResults, AllFilled, FitSlots, result_units, filled_slots}
 use Rattle.pppool.proofs.WorkerResults.{times_other}
 use Rattle.pppool.proofs.SeatJoining.{claims-append}
 use Rattle.pppool.proofs.SeatTotals.{times-append, below_once_one}
@@ -74,7 +74,9 @@ none_fit retain shelf files setting [] = tt
 none_fit retain shelf files setting (u ∷ units) = (tt, none_fit retain shelf files setting units)
 
 -- Empty slots satisfy `FitSlots`.
-pub slots_empty : (retain : Retain) (shelf : ShelfView) (files : Files) (setting : Setting) (units : List UnitOfList) (slots : List (Option UnitOut)) → slots ≡ replicate (length units) None → FitSlots retain shelf files setting units slots
+pub slots_empty : (retain : Retain) (shelf : ShelfView) (files : Files) (setting : Setting) (units : List UnitOfList) (slots : List (Option UnitOut))
+    → slots ≡ replicate (length units) None
+    → FitSlots retain shelf files setting units slots
 slots_empty retain shelf files setting units slots is =
     let P : List (Option UnitOut) → Type 0 = FitSlots retain shelf files setting units in
     subst P (sym is) (none_fit retain shelf files setting units)

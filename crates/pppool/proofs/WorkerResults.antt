@@ -10,10 +10,9 @@ use Rattle.ppunit.specs.declared.units.Setting.{Setting}
 use Rattle.ppunit.specs.declared.units.UnitOut.{UnitOut}
 use Rattle.ppunit.specs.Laws.{Grows}
 use Rattle.pppool.specs.declared.retention.Retain.{Retain}
-use Rattle.pppool.specs.Retained.{IsRetained}
 use Rattle.pppool.proofs.RetainedOutputs.{kept_grows}
 use Rattle.pppool.specs.Desk.{times}
-use Rattle.pppool.specs.code.Workers.{UnitResult, IsUnitResult, AreUnitResults, AllHaveResults, result_units}
+use Rattle.pppool.specs.code.Workers.{IsRetained, UnitResult, IsUnitResult, AreUnitResults, AllHaveResults, result_units}
 use Rattle.pppool.proofs.SeatTotals.{times-append, times_at}
 
 -- Unit results over some files are unit results over any larger set.

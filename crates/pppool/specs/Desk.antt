@@ -31,8 +31,9 @@ total f (v ∷ vs) = f v + total f vs
 abbrev pub once_below : ℕ → ℕ → ℕ
 once_below x n = if nat_lt x n then 1 else 0
 
--- A seat has found no block left at most once for each seat that is joined in it; and only if the word has passed the
--- last block.
+-- What holds of each seat's state, at the plan of its desk and the word n: it has found no block left at most once for
+-- each seat that is joined in it, and only if the word has passed the last block; a state without seats has no claims,
+-- and any other has the desk's plan.
 pub record FitsSeat (p : Plan) (n : ℕ) (v : SeatState) : Type 0 where
   pub empty_claims : v.empty_claims ≤ v.seats
   pub idle : v.seats ≡ 0 → v.claims ≡ []
@@ -42,20 +43,38 @@ pub record FitsSeat (p : Plan) (n : ℕ) (v : SeatState) : Type 0 where
 -- The claims of all seats together are the blocks below the word, each once. The word has passed the last block once
 -- for each time that a seat found none left.
 pub record ClaimInvariant (p : Plan) (s : State ℕ SeatState) : Type 0 where
-  pub small : (p.blocks ≤ max_blocks) × (p.seats ≤ 64)
+  pub few_blocks : p.blocks ≤ max_blocks
+  pub few_seats : p.seats ≤ 64
   pub word : length s.words ≡ 1
   pub claims : (x : ℕ) → total (λ v. times x v.claims) s.views ≡ once_below x (min (slice_index s.words 0) p.blocks)
   pub seats : total (λ v. v.seats) s.views ≡ p.seats
   pub each : (id : ℕ) (v : SeatState) → get_elem? s.views id ≡ some v → FitsSeat p (slice_index s.words 0) v
   pub bound : slice_index s.words 0 ≤ p.blocks + total (λ v. v.empty_claims) s.views
 
--- What one claim does: it takes a block above all that the seat has, or finds no block left and counts that
+-- in a step of the table, the state of the seat that takes it
+abbrev pub state_of : Me ℕ SeatState → SeatState
+state_of me = me.0
+
+-- in a step of the table, the words that the seat carries, each with its slot; a desk's steps leave none
+abbrev pub carried_by : Me ℕ SeatState → List (ℕ × ℕ)
+carried_by me = me.1
+
+-- a seat takes a block, which is above all that it has
+pub record TakesBlock (old : SeatState) (block : ℕ) (new : SeatState) : Type 0 where
+  pub taken : new ≡ seat_state (old.claims ++ block ∷ []) old.empty_claims old.seats old.plan
+  pub above : All (λ c. c < block) old.claims
+
+-- a seat finds no block left, and counts that
+abbrev pub FindsNone : SeatState → SeatState → Type 0
+FindsNone old new = new ≡ seat_state old.claims (old.empty_claims + 1) old.seats old.plan
+
+-- What one claim does: the seat takes the block that the word names, or finds none left.
+pub record IsClaim (me : Me ℕ SeatState) (found : ℕ) (after : Me ℕ SeatState) : Type 0 where
+  pub carried : carried_by after ≡ []
+  pub outcome : MatchBool (nat_lt found (state_of me).plan.blocks) (TakesBlock (state_of me) found (state_of after)) (FindsNone (state_of me) (state_of after))
+
 abbrev pub Claims : Step ℕ → Me ℕ SeatState → ℕ → Me ℕ SeatState → Type 0
-Claims s me found after =
-    (after.1 ≡ [])
-    × MatchBool (nat_lt found me.0.plan.blocks)
-    ((after.0 ≡ seat_state (me.0.claims ++ found ∷ []) me.0.empty_claims me.0.seats me.0.plan) × All (λ c. c < found) me.0.claims)
-    (after.0 ≡ seat_state me.0.claims (me.0.empty_claims + 1) me.0.seats me.0.plan)
+Claims s me found after = IsClaim me found after
 
 -- The identity of a desk: the table that has its word, and its plan
 pub record DeskId : Type 0 where

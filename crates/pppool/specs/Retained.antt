@@ -4,7 +4,6 @@ use Rattle.ppshelf.specs.Files.{Files}
 use Rattle.ppunit.specs.declared.units.Unit.{Unit as UnitOfList}
 use Rattle.ppunit.specs.declared.units.Setting.{Setting}
 use Rattle.ppunit.specs.declared.units.UnitOut.{UnitOut}
-use Rattle.ppunit.specs.Unit.{IsUnit}
 use Rattle.ppunit.specs.Units.{AreUnits, AreInBudget, AreCapped}
 use Rattle.pppool.specs.declared.retention.Retain.{Retain}
 use Rattle.pppool.specs.declared.retention.Retain.TheVariants.{Everything, WithoutItems}
@@ -17,12 +16,6 @@ without_items out = record { items = []; deps = out.deps; fault = out.fault }
 abbrev pub retained : Retain → UnitOut → UnitOut
 retained Everything out = out
 retained WithoutItems out = without_items out
-
--- this is what is kept of the unit's value
-pub record IsRetained (retain : Retain) (names : List (List ℕ)) (files : Files) (setting : Setting) (unit : UnitOfList) (out : UnitOut) : Type 0 where
-  pub whole : UnitOut
-  pub value : IsUnit names files setting unit whole
-  pub same : out ≡ retained retain whole
 
 -- these are what is kept of the units' values over these files, in order
 pub record AreRetained (retain : Retain) (names : List (List ℕ)) (files : Files) (setting : Setting)

@@ -1,5 +1,6 @@
 //! The input of a run.
 use crate::gate::Gate;
+use crate::limits::{Block, Workers};
 use ppshelf::{Disk, Shelf};
 use ppunit::{Setting, Unit};
 
@@ -15,10 +16,10 @@ pub struct Batch<'a, 'b, D: Disk, G: Gate> {
     pub setting: &'b Setting,
     /// The units, at most 65,535.
     pub units: &'a [Unit],
-    /// The number of workers, 1 to 64.
-    pub workers: usize,
-    /// The number of units that a worker claims at a time, 1 to 1024.
-    pub block: usize,
+    /// The number of workers.
+    pub workers: Workers,
+    /// The number of units that a worker claims at a time.
+    pub block: Block,
 }
 
 impl<D: Disk, G: Gate> Drop for Batch<'_, '_, D, G> {

@@ -1,4 +1,10 @@
 //! Runs all units of a list.
+//!
+//! The outputs must be those of one set of file contents, though the workers run at the same time and each observes
+//! contents by itself. So each worker has a pass of its own, and at the end all are merged into the caller's: the file
+//! table lets no two passes observe different contents, and a unit keeps its value over more files (`growth`). Outputs
+//! come back in list order by slots, one for each unit. That each slot is full follows from the desk alone: if all seats
+//! come back and one of them found no block left, `Desk::close` says that each block was claimed once.
 ghost use Rattle.std.specs.Prelude.{◌≡◌, ℕ, ◌<◌, ◌≤◌, ◌/◌, [], length, All, IfOk, IsSome, Some, None, true, slice_index_or};
 ghost use Rattle.ppshelf.specs.Files.{max_rows, Extends, Agree, AllPermitted};
 ghost use Rattle.ppunit.specs.Unit.{IsUnitOf};
@@ -10,6 +16,7 @@ ghost use Rattle.pppool.specs.code.Workers.{AllFilled, FitSlots, IsDone};
 use crate::batch::Batch;
 use crate::desk::{Desk, DeskSeat};
 use crate::gate::Gate;
+use crate::limits::Block;
 use crate::retention::Retain;
 use crate::slots::{empty_slots, fill_slots, take_all};
 use crate::workers::{Job, Worker};
@@ -32,7 +39,7 @@ use std::thread::Threads;
 /// are then prefixes of those without a budget, for the file contents in `pass` or in any larger set. The outputs are
 /// equal if and only if the budget suffices.
 ///
-/// Fails only if an allocation fails; the pass then still has all contents that it had.
+/// Fails only if an allocation fails or the disk answers `Memory`; the pass then still has all contents that it had.
 pub fn run<'a, R: Threads + Sync, D: Disk + Send + Sync, G: Gate + Sync>(
     threads: &R,
     alloc: Global,
@@ -40,8 +47,6 @@ pub fn run<'a, R: Threads + Sync, D: Disk + Send + Sync, G: Gate + Sync>(
     batch: &Batch<'a, '_, D, G>,
 ) -> Result<Vec<UnitOut<'a>>, Memory>
     requires shelf { pass.old.shelf ≡ batch.now.shelf.now }
-    requires workers { (1 ≤ batch.now.workers) × (batch.now.workers ≤ 64) }
-    requires block { (1 ≤ batch.now.block) × (batch.now.block ≤ 1024) }
     requires count { length batch.now.units.now ≤ max_rows }
     requires profile { batch.now.shelf.now.profile ≡ batch.now.setting.now.profile }
     requires rows { All (IsUnitOf (length batch.now.shelf.now.names) batch.now.setting.now.profile) batch.now.units.now }
@@ -64,7 +69,7 @@ pub fn run<'a, R: Threads + Sync, D: Disk + Send + Sync, G: Gate + Sync>(
 /// Preprocesses the units of a list as `run` does, and keeps as much of each output as `retain` says. The rest is freed
 /// as soon as the unit is done. The same budget applies as in `run`.
 ///
-/// Fails only if an allocation fails; the pass then still has all contents that it had.
+/// Fails only if an allocation fails or the disk answers `Memory`; the pass then still has all contents that it had.
 pub fn run_retaining<'a, R: Threads + Sync, D: Disk + Send + Sync, G: Gate + Sync>(
     threads: &R,
     alloc: Global,
@@ -73,8 +78,6 @@ pub fn run_retaining<'a, R: Threads + Sync, D: Disk + Send + Sync, G: Gate + Syn
     retain: Retain,
 ) -> Result<Vec<UnitOut<'a>>, Memory>
     requires shelf { pass.old.shelf ≡ batch.now.shelf.now }
-    requires workers { (1 ≤ batch.now.workers) × (batch.now.workers ≤ 64) }
-    requires block { (1 ≤ batch.now.block) × (batch.now.block ≤ 1024) }
     requires count { length batch.now.units.now ≤ max_rows }
     requires profile { batch.now.shelf.now.profile ≡ batch.now.setting.now.profile }
     requires rows { All (IsUnitOf (length batch.now.shelf.now.names) batch.now.setting.now.profile) batch.now.units.now }
@@ -97,7 +100,7 @@ pub fn run_retaining<'a, R: Threads + Sync, D: Disk + Send + Sync, G: Gate + Syn
     } = *batch;
     // For proofs only: cites a promise of the pass.
     pass.contents_permitted();
-    let (desk, seats) = Desk::new(alloc, block_count(units.len(), block), workers)?;
+    let (desk, seats) = Desk::new(alloc, block_count(units.len(), block), workers.get())?;
     let gathered = run_workers(
         threads,
         &Job {
@@ -127,13 +130,12 @@ pub fn run_retaining<'a, R: Threads + Sync, D: Disk + Send + Sync, G: Gate + Syn
 }
 
 /// Returns the number of blocks. The last block may be shorter than the others.
-fn block_count(units: usize, block: usize) -> u64
-    requires units { units ≤ max_rows }
-    requires block { 1 ≤ block }
+fn block_count(units: usize, block: Block) -> u64
+    requires { units ≤ max_rows }
     ensures few { result ≤ max_blocks }
     ensures all { (i : ℕ) → i < units → i / block < result }
 {
-    units.div_ceil(block) as u64
+    units.div_ceil(block.get()) as u64
 }
 
 /// Runs a worker in each seat, and collects their results.
@@ -145,7 +147,6 @@ fn run_workers<'a, R: Threads + Sync, D: Disk + Send + Sync, G: Gate + Sync>(
 ) -> Result<(Vec<DeskSeat>, Vec<Option<UnitOut<'a>>>), Memory>
     requires seats { All (λ s. s ≡ new_seat job.now.desk.now) seats.items }
     requires shelf { pass.old.shelf ≡ job.now.shelf.now }
-    requires block { (1 ≤ job.now.block) × (job.now.block ≤ 1024) }
     requires blocks { job.now.desk.now.plan.blocks ≤ max_blocks }
     requires profile { job.now.shelf.now.profile ≡ job.now.setting.now.profile }
     requires rows { All (IsUnitOf (length job.now.shelf.now.names) job.now.setting.now.profile) job.now.units.now }
@@ -158,8 +159,7 @@ fn run_workers<'a, R: Threads + Sync, D: Disk + Send + Sync, G: Gate + Sync>(
     ensures full { IfOk result (λ r. AllFilled (length job.now.units.now) job.now.block (claims_of r.0.items) r.1.items) }
 {
     let task = |seat: DeskSeat| -> Result<Worker<D>, Memory>
-        requires { (seat ≡ new_seat job.now.desk.now) × (1 ≤ job.now.block) × (job.now.block ≤ 1024)
-            × (job.now.desk.now.plan.blocks ≤ max_blocks)
+        requires { (seat ≡ new_seat job.now.desk.now) × (job.now.desk.now.plan.blocks ≤ max_blocks)
             × (job.now.shelf.now.profile ≡ job.now.setting.now.profile)
             × All (IsUnitOf (length job.now.shelf.now.names) job.now.setting.now.profile) job.now.units.now }
         ensures { IfOk result (λ w. IsDone job.entry.now.retain job.entry.now.desk.now job.entry.now.shelf.now

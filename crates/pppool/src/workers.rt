@@ -6,6 +6,7 @@ ghost use Rattle.pppool.specs.code.Workers.{AreUnitResults, IsDone, result_units
 
 use crate::desk::{Desk, DeskSeat};
 use crate::gate::Gate;
+use crate::limits::Block;
 use crate::retention::{Retain, retained};
 use ppshelf::{Disk, Pass, Shelf};
 use pptext::Memory;
@@ -21,7 +22,7 @@ pub(crate) struct Job<'a, 'j, D: Disk, G: Gate> {
     pub gate: &'j G,
     pub setting: &'j Setting,
     pub units: &'a [Unit],
-    pub block: usize,
+    pub block: Block,
     pub retain: Retain,
     pub desk: &'j Desk,
 }
@@ -107,7 +108,6 @@ impl<'a, D: Disk> Worker<'a, D> {
     /// Preprocesses the units of the block with this number. The last block may be shorter than the others.
     fn work_block<G: Gate>(&mut self, job: &Job<'a, '_, D, G>, number: usize) -> Result<(), Memory>
         requires shelf { self.old.pass.shelf ≡ job.now.shelf.now }
-        requires block { (1 ≤ job.now.block) × (job.now.block ≤ 1024) }
         requires number { number < max_blocks }
         requires profile { job.now.shelf.now.profile ≡ job.now.setting.now.profile }
         requires rows { All (IsUnitOf (length job.now.shelf.now.names) job.now.setting.now.profile) job.now.units.now }
@@ -121,8 +121,9 @@ impl<'a, D: Disk> Worker<'a, D> {
         ensures block_complete { OnOk result ((i : ℕ) → i < length job.now.units.now → i / job.now.block ≡ number
             → 0 < times i (result_units self.new.results.items)) }
     {
-        let first = number * job.block;
-        let end = (first + job.block).min(job.units.len());
+        let size = job.block.get();
+        let first = number * size;
+        let end = (first + size).min(job.units.len());
         for unit in first..end {
             self.work_unit(job, unit)?;
         }
@@ -133,7 +134,6 @@ impl<'a, D: Disk> Worker<'a, D> {
     pub(crate) fn work<G: Gate>(&mut self, job: &Job<'a, '_, D, G>) -> Result<(), Memory>
         requires seat { (self.old.seat.desk ≡ job.now.desk.now) × (self.old.seat.claims ≡ []) }
         requires shelf { self.old.pass.shelf ≡ job.now.shelf.now }
-        requires block { (1 ≤ job.now.block) × (job.now.block ≤ 1024) }
         requires blocks { job.now.desk.now.plan.blocks ≤ max_blocks }
         requires profile { job.now.shelf.now.profile ≡ job.now.setting.now.profile }
         requires rows { All (IsUnitOf (length job.now.shelf.now.names) job.now.setting.now.profile) job.now.units.now }
@@ -150,7 +150,6 @@ impl<'a, D: Disk> Worker<'a, D> {
     /// Runs a worker in this seat, with a pass that knows nothing. Returns the worker after its work.
     pub(crate) fn run<G: Gate>(job: &Job<'a, '_, D, G>, seat: DeskSeat) -> Result<Self, Memory>
         requires seat { seat ≡ new_seat job.now.desk.now }
-        requires block { (1 ≤ job.now.block) × (job.now.block ≤ 1024) }
         requires blocks { job.now.desk.now.plan.blocks ≤ max_blocks }
         requires profile { job.now.shelf.now.profile ≡ job.now.setting.now.profile }
         requires rows { All (IsUnitOf (length job.now.shelf.now.names) job.now.setting.now.profile) job.now.units.now }

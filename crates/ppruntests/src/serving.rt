@@ -6,7 +6,10 @@ mod devices;
 mod streams;
 
 use devices::{Limits, Reader, UNLIMITED, Writer};
-use ppserve::{AtEnd, Feed, Mode, RunFault, RunOptions, Sink, serve, status, words};
+use ppserve::{
+    AtEnd, Block, Feed, Mode, RunFault, RunOptions, Sink, Workers, serve, status, words,
+};
+use ppshelf::MemoryDisk;
 use pptext::{Hashing, Memory};
 use std::process::Abort;
 use std::test::Fail;
@@ -21,17 +24,17 @@ struct RunEnd<'l> {
 }
 
 /// Returns the options of four workers that print everything.
-fn by_four() -> RunOptions
-    ensures workers { result.workers ≡ 4 }
-    ensures block { result.block ≡ 8 }
-{
-    RunOptions {
+fn by_four() -> Result<RunOptions, Fail> {
+    let (Some(workers), Some(block)) = (Workers::new(4), Block::new(8)) else {
+        return Err(Fail::new("too many workers, or too large a block"));
+    };
+    Ok(RunOptions {
         mode: Mode::Dump,
-        workers: 4,
-        block: 8,
+        workers,
+        block,
         hashing: Hashing::fixed(),
         at_end: AtEnd::Free,
-    }
+    })
 }
 
 /// Runs a list that holds its files with four workers, through a reader and a writer with these limits.
@@ -40,15 +43,17 @@ fn run_list<'l, R: Threads + AllocGlobal + Sync>(
     list: &'l str,
     reading: Limits,
     writing: Limits,
-) -> RunEnd<'l> {
+) -> Result<RunEnd<'l>, Fail> {
+    let options = by_four()?;
     let mut reader = Reader::new(list.as_bytes(), reading);
     let mut writer = Writer::new(rt.alloc(), writing);
-    let outcome = serve(rt, rt.alloc(), &mut reader, &mut writer, by_four());
-    RunEnd {
+    let disk: Option<&MemoryDisk> = None;
+    let outcome = serve(rt, rt.alloc(), &mut reader, &mut writer, disk, options);
+    Ok(RunEnd {
         outcome,
         reader,
         writer,
-    }
+    })
 }
 
 /// The status and the message of a run whose writer failed.
@@ -110,6 +115,6 @@ fn assert_sends<R: Threads + AllocGlobal + Abort + Sync>(
         (0, "")
     };
     let len = len.min(want.len());
-    let run = run_list(rt, list.as_str(), UNLIMITED, writing);
+    let run = run_list(rt, list.as_str(), UNLIMITED, writing)?;
     assert_ended(rt, &run, &want[..len], end)
 }

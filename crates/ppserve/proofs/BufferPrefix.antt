@@ -44,12 +44,6 @@ decimal_more n lo hi =
     let b : n / 10 % 10 ≡ n % 100 / 10 = omega arith in
     rw (decimal_step n (omega arith) hi, decimal_step (n / 10) (omega arith) (omega arith), append_assoc, a, b)
 
-pub length_digit : (n : ℕ) → n < 10 → length (decimal n) ≡ 1
-length_digit n h = ap length (decimal_digit n h)
-
-pub length_two : (n : ℕ) → 10 ≤ n → n < 100 → length (decimal n) ≡ 2
-length_two n lo hi = ap length (decimal_two n lo hi)
-
 pub length_more : (n : ℕ) → 100 ≤ n → n < 2 ^ 64 → length (decimal n) ≡ length (decimal (n / 100)) + 2
 length_more n lo hi = ap length (decimal_more n lo hi) ∙ length-append _ _
 

@@ -113,6 +113,14 @@ printed_front {written = written} {w = w} {v = v} {p = p} {q = q} {text = text} 
     let prefix : a.prefix ≡ take (length a.prefix) text = sym (ap (take (length a.prefix)) whole ∙ take-append_seam a.prefix a.rest) in
     (length a.prefix, appends_as _ _ _ _ prefix a.appends)
 
+-- `Puts` from a buffer that is empty to one that is empty.
+pub puts_whole : {V : Type 0} {written : V → Option (List ℕ)} {has_failed : V → Bool} {w v : V} {p q text : List ℕ}
+    → p ≡ [] → q ≡ [] → Puts written has_failed w v p q text → Puts written has_failed w v [] [] text
+puts_whole {written = written} {has_failed = has_failed} {w = w} {v = v} {q = q} {text = text} none empty a =
+    let P : List ℕ → Type 0 = λ p. Puts written has_failed w v p q text in
+    let Q : List ℕ → Type 0 = λ q. Puts written has_failed w v [] q text in
+    subst Q empty (subst P none a)
+
 -- `Puts` from empty buffer to empty buffer, restated for a `p` that is empty
 pub puts_onto : {V : Type 0} {written : V → Option (List ℕ)} {has_failed : V → Bool} {w v : V} {p text : List ℕ}
     → p ≡ [] → Puts written has_failed w v [] [] text → Puts written has_failed w v p p text

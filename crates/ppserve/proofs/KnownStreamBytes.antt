@@ -10,12 +10,6 @@ appends_then (Some a) None c xs ys p q = absurd p
 appends_then (Some a) (Some b) None xs ys p q = absurd q
 appends_then (Some a) (Some b) (Some c) xs ys p q = rw (q, p, append_assoc) refl
 
-pub consumes_then : (a b c : Option (List ℕ)) (xs ys : List ℕ) → Consumes a b xs → Consumes b c ys → Consumes a c (xs ++ ys)
-consumes_then None b c xs ys p q = tt
-consumes_then (Some a) None c xs ys p q = absurd p
-consumes_then (Some a) (Some b) None xs ys p q = absurd q
-consumes_then (Some a) (Some b) (Some c) xs ys p q = rw (p, q, append_assoc) refl
-
 -- Writing `n` more of the bytes from `done` on extends the written prefix to `done + n` bytes.
 pub wrote_more : (bytes : List ℕ) (done n : ℕ) (a b c : Option (List ℕ)) → done ≤ length bytes → n ≤ length (take (length bytes - done) (drop done bytes))
     → Appends a b (take done bytes) → Appends b c (take n (take (length bytes - done) (drop done bytes)))

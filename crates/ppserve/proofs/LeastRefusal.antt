@@ -59,9 +59,6 @@ tests d =
     names_hold d.files ∷ (sizes_hold d ∷ (are_known (names_of d.files) d.units ∷ (times_hold d.setting ∷ (lines_hold d.units
     ∷ (directories_hold d ∷ (profile_holds d.setting ∷ (budget_holds d.setting ∷ [])))))))
 
-judged_first : (inline : Bool) (d : Draft) → validated inline d ≡ first (tests d) 3 (accepted (listed inline d))
-judged_first inline d = refl
-
 applies_of : (inline : Bool) (bytes : List ℕ) (d : Draft) (m : ℕ) → HoldsDraft inline bytes d → Fails (tests d) 3 m → Applies inline bytes m
 applies_of inline bytes d m h (here e) = wrong_names h e
 applies_of inline bytes d m h (there (here e)) = wrong_sizes h e

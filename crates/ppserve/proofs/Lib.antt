@@ -36,3 +36,5 @@ pub mod PageRecords
 pub mod BufferPrefix
 -- Finding bytes that print as they are, from the bit mask of eight lanes.
 pub mod LaneMasks
+-- What a run delivers, from its printing to the streams of `serve`.
+pub mod Delivery

@@ -1,22 +1,31 @@
 -- A run's output depends only on the mode, the input bytes and the file contents.
-use Rattle.std.proofs.Common.{◌≡◌, ℕ, zero, suc, Bool, true, false, List, [], ◌∷◌, ◌++◌, Option, Some, None, refl, sym, ap, ◌∙◌, subst}
+use Rattle.std.proofs.Common.{◌≡◌, ℕ, zero, suc, ◌<◌, ◌≤◌, Bool, true, false, List, [], ◌∷◌, ◌++◌, length, Option, Some, None, IsSome, refl, sym, ap, ◌∙◌, subst, arith, inl, inr}
+use Rattle.std.proofs.lemmas.Bool.{cases_lt}
+use Rattle.std.proofs.lemmas.List.{get_or-map}
+use Rattle.std.proofs.lemmas.List.Elements.{All-weaker}
 use Rattle.std.proofs.lemmas.Option.{none-some, same_Some}
-use Rattle.ppshelf.specs.Content.{Content}
+use Rattle.ppshelf.specs.Content.{Content, readable}
 use Rattle.ppshelf.specs.Files.{Files, file_at, Extends, Agree, or_else}
 use Rattle.ppshelf.specs.Names.{AreNames}
 use Rattle.ppshelf.proofs.NameRows.{names_from_test}
-use Rattle.ppunit.specs.Laws.{HasOneValue}
+use Rattle.ppunit.specs.Laws.{HasOneValue, KnowsAll}
+use Rattle.ppunit.specs.Unit.{IsUnitOf}
 use Rattle.ppunit.specs.Units.{AreUnits}
 use Rattle.ppunit.specs.declared.units.Setting.{Setting}
 use Rattle.ppunit.specs.declared.units.Unit.{Unit as UnitOfList}
 use Rattle.ppunit.specs.declared.units.UnitOut.{UnitOut}
-use Rattle.pppool.specs.Laws.{ListGrows}
+use Rattle.pppool.specs.Laws.{ListGrows, HasSomeValues}
 use Rattle.ppserve.specs.Contents.{AreInList, files_of}
-use Rattle.ppserve.specs.Laws.{wrong_names, OneOutput, OneOutputOfContents}
-use Rattle.ppserve.specs.Listing.{outcome_of, accepted, names_hold, names_of}
+use Rattle.ppserve.specs.Laws.{wrong_names, too_long, from, OneOutput, OneOutputOfContents, SomeOutput}
+use Rattle.ppserve.specs.Drafts.{Draft}
+use Rattle.ppserve.specs.Listing.{outcome_of, accepted, validated, max_input, names_hold, names_of}
 use Rattle.ppserve.specs.Output.{output_text}
-use Rattle.ppserve.specs.Serving.{any_fault, ReadsList}
+use Rattle.ppserve.specs.Serving.{any_fault, ReadsList, IsOutput}
 use Rattle.ppserve.specs.declared.list.List.{List as CompilationList}
+use Rattle.ppserve.specs.declared.output.Mode.{Mode}
+use Rattle.ppserve.proofs.DraftShape.{decides}
+use Rattle.ppserve.proofs.DraftValidation.{outcome_of-draft, validated-runnable, validated-contents}
+use Rattle.ppserve.proofs.ServedOutput.{can_run}
 use Rattle.ppserve.proofs.ReceivedBytes.{decided}
 use Rattle.ppserve.proofs.LeastRefusal.{takes_the_rest}
 
@@ -85,7 +94,7 @@ named inline bytes list is =
     subst P (sym taken.is_list) (names_from_test (names_of taken.draft.files) hold)
 
 -- Two lists that are read from equal known bytes are equal.
-one_list : (inline : Bool) (known : List ℕ) (left right : Option (List ℕ)) (a b : CompilationList) → ReadsList inline (Some known) left a → ReadsList inline (Some known) right b → a ≡ b
+one_list : (inline : Bool) (known : List ℕ) (left right : Option (List ℕ)) (a b : CompilationList) → ReadsList inline (from known left) a → ReadsList inline (from known right) b → a ≡ b
 one_list inline known left right a b p q =
     let one = decided inline known p.bytes left p.received in
     let two = decided inline known q.bytes right q.received in
@@ -94,24 +103,63 @@ one_list inline known left right a b p q =
 
 -- ---- the theorems
 
-pub one_output : HasOneValue → ListGrows → (Allowed : CompilationList → Files → Type 0) → OneOutput Allowed
-one_output once grows Allowed inline mode known written left right one two any other a b agree =
-    let same : a.list ≡ b.list = one_list inline known left right a.list b.list a.produces.reads b.produces.reads in
-    let P : CompilationList → Type 0 = λ l. AreUnits l.names b.produces.files l.setting l.units b.outs in
-    let theirs = subst P (sym same) b.produces.values in
-    let list = a.list in
-    let outs : a.outs ≡ b.outs = same_answers once grows list.names a.produces.files b.produces.files list.setting list.units a.outs b.outs
-    (named inline a.produces.reads.bytes list a.produces.reads.is_list) agree a.produces.values theirs in
-    let text : output_text mode a.list a.outs ≡ output_text mode b.list b.outs = ap (λ (l : CompilationList). output_text mode l a.outs) same ∙ ap (output_text mode b.list) outs in (
-      a.appends ∙ (ap (λ bytes. written ++ bytes) text ∙ sym b.appends),
+-- Outputs of one list over files that agree are equal.
+same_output : HasOneValue → ListGrows → (Allowed : CompilationList → Files → Type 0) (mode : Mode) (left right : CompilationList) (any other : Bool) (one two : List ℕ)
+    → left ≡ right
+    → AreNames left.names
+    → (a : IsOutput Allowed mode left any one)
+    → (b : IsOutput Allowed mode right other two)
+    → Agree a.files b.files
+    → (one ≡ two) × (any ≡ other)
+same_output once grows Allowed mode left right any other one two same named a b agree =
+    let P : CompilationList → Type 0 = λ l. AreUnits l.names b.files l.setting l.units b.outs in
+    let theirs = subst P (sym same) b.values in
+    let outs : a.outs ≡ b.outs = same_answers once grows left.names a.files b.files left.setting left.units a.outs b.outs named agree a.values theirs in
+    let text : output_text mode left a.outs ≡ output_text mode right b.outs = ap (λ (l : CompilationList). output_text mode l a.outs) same ∙ ap (output_text mode right) outs in (
+      a.printed ∙ (text ∙ sym b.printed),
       a.fault ∙ (ap any_fault outs ∙ sym b.fault),
     )
+
+pub one_output : HasOneValue → ListGrows → (Allowed : CompilationList → Files → Type 0) → OneOutput Allowed
+one_output once grows Allowed inline mode known written left right one two any other a b agree =
+    let same : a.list ≡ b.list = one_list inline known left right a.list b.list a.reads b.reads in
+    let equal = same_output once grows Allowed mode a.list b.list any other a.text b.text same (named inline a.reads.bytes a.list a.reads.is_list) a.is_output b.is_output agree in
+    (a.appends ∙ (ap (λ bytes. written ++ bytes) equal.0 ∙ sym b.appends), equal.1)
 
 same_agree : (one two : Files) → one ≡ two → Agree one two
 same_agree one two e row c d p q = same_Some c d (sym p ∙ (ap (λ (f : Files). file_at f row) e ∙ q))
 
 pub one_output_of_contents : HasOneValue → ListGrows → OneOutputOfContents
 one_output_of_contents once grows mode known written left right one two any other a b =
-    let same : a.list ≡ b.list = one_list true known left right a.list b.list a.produces.reads b.produces.reads in
-    let files : a.produces.files ≡ b.produces.files = a.produces.allowed ∙ (ap (λ (l : CompilationList). files_of l.contents) same ∙ sym b.produces.allowed) in
-    one_output once grows AreInList true mode known written left right one two any other a b (same_agree a.produces.files b.produces.files files)
+    let same : a.list ≡ b.list = one_list true known left right a.list b.list a.reads b.reads in
+    let files : a.is_output.files ≡ b.is_output.files = a.is_output.allowed ∙ (ap (λ (l : CompilationList). files_of l.contents) same ∙ sym b.is_output.allowed) in
+    one_output once grows AreInList true mode known written left right one two any other a b (same_agree a.is_output.files b.is_output.files files)
+
+-- ---- that there is an output
+
+-- The contents of a list are known for each of its names.
+knows_contents : (names contents : List (List ℕ)) → length contents ≡ length names → KnowsAll names (files_of contents)
+knows_contents names contents same row within =
+    let P : Option Content → Type 0 = IsSome in
+    subst P (sym (get_or-map (λ bytes. Some (readable bytes)) contents row [] None (omega arith))) refl
+
+-- An accepted list comes from a draft that passes all tests.
+validated_as : (inline : Bool) (bytes : List ℕ) (list : CompilationList) → outcome_of inline bytes ≡ accepted list → (d : Draft) × (validated inline d ≡ accepted list)
+validated_as inline bytes list is =
+    let taken = (takes_the_rest inline bytes list).0 is in
+    let fits : length bytes ≤ max_input = elim (cases_lt max_input (length bytes)) [ inl long ↦ absurd (taken.none 1 (too_long long)) | inr short ↦ short ] in
+    let shape = (decides inline taken.holds.value taken.draft).1 taken.holds.is_shaped in
+    (taken.draft, sym (outcome_of-draft inline bytes taken.holds.value taken.draft fits taken.holds.is_json shape) ∙ is)
+
+pub some_output : HasSomeValues → SomeOutput
+some_output some mode bytes list is =
+    let from_draft = validated_as true bytes list is in
+    let runs = validated-runnable true from_draft.0 list from_draft.1 in
+    let known = knows_contents list.names list.contents (validated-contents from_draft.0 list from_draft.1) in
+    let within = All-weaker (IsUnitOf (length list.names) list.setting.profile) (λ unit. unit.file < length list.names) (λ unit fit. fit.0) list.units (can_run list list.names list.units runs refl refl) in
+    let values = some list.names (files_of list.contents) list.setting list.units known within in
+    record {
+      any = any_fault values.0;
+      text = output_text mode list values.0;
+      is_output = record { files = files_of list.contents; allowed = refl; outs = values.0; values = values.1; printed = refl; fault = refl };
+    }

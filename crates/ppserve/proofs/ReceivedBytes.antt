@@ -22,6 +22,6 @@ decided_by false inline known bytes rest e consumed whole =
     let all : known ≡ bytes = consumed ∙ (ap (λ xs. bytes ++ xs) none ∙ append-nil bytes) in
     ap (outcome_of inline) (sym all)
 
-pub decided : (inline : Bool) (known bytes : List ℕ) (after : Option (List ℕ)) → Received (Some known) after bytes → outcome_of inline bytes ≡ outcome_of inline known
+pub decided : (inline : Bool) (known bytes : List ℕ) (after : Option (List ℕ)) → Received (record { before = Some known; after = after }) bytes → outcome_of inline bytes ≡ outcome_of inline known
 decided inline known bytes None r = absurd r.consumed
 decided inline known bytes (Some rest) r = decided_by (ltb max_input (length bytes)) inline known bytes rest refl r.consumed r.whole

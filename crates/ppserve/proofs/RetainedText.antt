@@ -17,7 +17,8 @@ lines_kept Dump names i unit out = refl
 lines_kept Deps names i unit out = refl
 
 -- The retained outputs of all units print as the whole outputs.
-pub text_kept : (mode : Mode) (names : List (List ℕ)) (i : ℕ) (units : List UnitOfList) (outs : List UnitOut) → numbered (unit_lines mode names) i units (map (retained (needed_retention mode)) outs) ≡ numbered (unit_lines mode names) i units outs
+pub text_kept : (mode : Mode) (names : List (List ℕ)) (i : ℕ) (units : List UnitOfList) (outs : List UnitOut)
+    → numbered (unit_lines mode names) i units (map (retained (needed_retention mode)) outs) ≡ numbered (unit_lines mode names) i units outs
 text_kept mode names i [] outs = refl
 text_kept mode names i (u ∷ units) [] = refl
 text_kept mode names i (u ∷ units) (out ∷ outs) =

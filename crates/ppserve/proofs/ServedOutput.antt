@@ -2,25 +2,27 @@
 use Rattle.std.proofs.Common.{Bool, ◌≡◌, ℕ, ◌<◌, ◌≤◌, List, [], map, length, get_or, take, Option, Some}
 use Rattle.std.proofs.Common.{None, IsSome, All, sym, ap, ◌∙◌, subst, arith, refl, replicate, inl, inr}
 use Rattle.std.proofs.lemmas.Bool.{cases_lt, false≢true}
-use Rattle.std.proofs.lemmas.List.Elements.{All-weaker}
+use Rattle.std.proofs.lemmas.List.Elements.{All-weaker, All-nil}
 use Rattle.std.proofs.lemmas.List.{ext_get_or, get_or_past, get_or-map, get_or-replicate, length-map}
 use Rattle.std.proofs.lemmas.Option.{none-some}
-use Rattle.ppshelf.specs.Content.{Content, readable}
-use Rattle.ppshelf.specs.Files.{max_rows, Files, ShelfView, file_at, Extends, Agree, IsFull, Filled, bytes_at}
+use Rattle.ppshelf.specs.Content.{Content, readable, longest}
+use Rattle.ppshelf.specs.Files.{Files, ShelfView, file_at, Extends, Agree, IsFull, Filled, bytes_at, AllPermitted}
 use Rattle.ppunit.specs.declared.units.Unit.{Unit as UnitOfList}
 use Rattle.ppunit.specs.declared.units.UnitOut.{UnitOut}
 use Rattle.ppunit.specs.Unit.{IsUnitOf}
+use Rattle.ppunit.specs.Units.{AreUnits}
 use Rattle.ppunit.proofs.UnitTest.{unit_of}
 use Rattle.pppool.specs.declared.retention.Retain.{Retain}
-use Rattle.pppool.specs.Retained.{AreRetained, retained}
+use Rattle.pppool.specs.Retained.{retained}
+use Rattle.pppool.specs.Laws.{ListGrows}
 use Rattle.ppserve.specs.declared.list.List.{List as CompilationList}
-use Rattle.ppserve.specs.Contents.{files_of, AreRetainedOverSome}
+use Rattle.ppserve.specs.Contents.{files_of, AreInList, ArePermitted}
 use Rattle.ppserve.specs.Listing.{IsRunnable}
 use Rattle.ppserve.specs.Output.{numbered, unit_lines, output_text}
-use Rattle.ppserve.specs.Serving.{any_fault, ReadsList, Produces, WritesAll, WritesPrefix, Serves, ServesPrefix}
+use Rattle.ppserve.specs.Serving.{any_fault, IsOutput}
 use Rattle.ppserve.specs.declared.output.Mode.{Mode}
 use Rattle.ppserve.specs.code.NeededRetention.{needed_retention}
-use Rattle.ppserve.proofs.KnownStreamBytes.{appends_as}
+use Rattle.ppserve.specs.code.Runs.{AreObservedFor, AreRetainedOverSome}
 use Rattle.ppserve.proofs.RetainedText.{text_kept, some_fault_kept}
 
 -- the content of a filled file entry
@@ -37,15 +39,6 @@ knows_files shelf files full agree len row c e =
           held.1 ∙ ap (λ (x : Content). Some x) (agree row held.0 c held.1 e)
       | inr w ↦ absurd (none-some c (sym (get_or_past files row None w) ∙ e))
     ]
-
--- Retained outputs over a file table that holds the list's files are retained outputs of the list.
-pub gives_all : (retain : Retain) (list : CompilationList) (shelf : ShelfView) (units : List UnitOfList) (outs : List UnitOut) → shelf.names ≡ list.names → shelf.filled ≡ files_of list.contents → units ≡ list.units
-    → AreRetained retain shelf.names shelf.filled list.setting units outs → AreRetained retain list.names (files_of list.contents) list.setting list.units outs
-gives_all retain list shelf units outs named is same gives =
-    let P : List (List ℕ) → Type 0 = λ ns. AreRetained retain ns shelf.filled list.setting units outs in
-    let Q : Files → Type 0 = λ fs. AreRetained retain list.names fs list.setting units outs in
-    let R : List UnitOfList → Type 0 = λ us. AreRetained retain list.names (files_of list.contents) list.setting us outs in
-    subst R same (subst Q is (subst P named gives))
 
 -- If an empty file table is filled with contents, it holds exactly these.
 pub filled_files : (contents : List (List ℕ)) (old new : ShelfView) → old.filled ≡ replicate (length old.names) None → length contents ≡ length old.names → new.names ≡ old.names → length new.filled ≡ length old.names
@@ -64,14 +57,6 @@ filled_files contents old new empty len named long rows full =
     let content : now.0 ≡ readable (bytes_at contents row) = subst Q now.1 (subst P was (rows row in_old)) in
     now.1 ∙ (ap Some content ∙ sym (get_or-map file contents row [] None in_contents)))
 
--- Retained outputs carry over from a file table to a list with equal names and units.
-pub gives_from : (may : List ℕ → Content → Type 0) (retain : Retain) (list : CompilationList) (shelf : ShelfView) (units : List UnitOfList) (outs : List UnitOut) → shelf.names ≡ list.names → units ≡ list.units
-    → AreRetainedOverSome may retain shelf.names list.setting units outs → AreRetainedOverSome may retain list.names list.setting list.units outs
-gives_from may retain list shelf units outs named same gives =
-    let P : List (List ℕ) → Type 0 = λ ns. AreRetainedOverSome may retain ns list.setting units outs in
-    let R : List UnitOfList → Type 0 = λ us. AreRetainedOverSome may retain list.names list.setting us outs in
-    subst R same (subst P named gives)
-
 -- The units of a runnable list satisfy `IsUnitOf` for a file table with its names.
 pub can_run : (list : CompilationList) (names : List (List ℕ)) (units : List UnitOfList) → IsRunnable list → names ≡ list.names → units ≡ list.units → All (IsUnitOf (length names) list.setting.profile) units
 can_run list names units runs named same =
@@ -80,9 +65,11 @@ can_run list names units runs named same =
     let good = All-weaker _ (IsUnitOf (length list.names) list.setting.profile) (λ u h. unit_of (length list.names) list.setting.profile list.setting.profile u refl h) list.units runs.units in
     subst Q (sym named) (subst P (sym same) good)
 
--- A runnable list has at most `max_rows` units.
-pub few_units : (list : CompilationList) (units : List UnitOfList) → IsRunnable list → units ≡ list.units → length units ≤ max_rows
-few_units list units runs same = let P : List UnitOfList → Type 0 = λ us. length us ≤ max_rows in subst P (sym same) runs.units_fit
+-- A runnable list stays so if its contents are moved out of it.
+pub runs_without : (list : CompilationList) (left : List (List ℕ)) → IsRunnable list → left ≡ [] → IsRunnable (record list { contents = left })
+runs_without list left runs none =
+    let P : List (List ℕ) → Type 0 = All (λ bytes. length bytes ≤ longest) in
+    record { names = runs.names; names_fit = runs.names_fit; units_fit = runs.units_fit; small = subst P (sym none) (All-nil (λ bytes. length bytes ≤ longest)); setting = runs.setting; units = runs.units }
 
 -- The text of the retained outputs is the output text of the list.
 text_of : (mode : Mode) (list : CompilationList) (units : List UnitOfList) (shown outs : List UnitOut) → units ≡ list.units → shown ≡ map (retained (needed_retention mode)) outs
@@ -91,47 +78,46 @@ text_of mode list units shown outs same is =
     ap (λ (us : List UnitOfList). numbered (unit_lines mode list.names) 0 us shown) same
     ∙ (ap (λ (os : List UnitOut). numbered (unit_lines mode list.names) 0 list.units os) is ∙ text_kept mode list.names 0 list.units outs)
 
--- A list was read, and `shown` prints like its units' values and has a fault exactly if they have one.
-pub record ProducesText (inline : Bool) (Allowed : CompilationList → Files → Type 0) (mode : Mode) (before after : Option (List ℕ)) (list : CompilationList)
-    (units : List UnitOfList) (shown : List UnitOut) : Type 0 where
-  pub outs : List UnitOut
-  pub produces : Produces inline Allowed before after list outs
-  pub text : numbered (unit_lines mode list.names) 0 units shown ≡ output_text mode list outs
-  pub fault : any_fault shown ≡ any_fault outs
+-- If the retained outputs of a run are printed, the text is the output of the list over the files that the run observed.
+pub retained_output : (may : List ℕ → Content → Type 0) (mode : Mode) (list : CompilationList) (shelf : ShelfView) (units : List UnitOfList) (outs shown : List UnitOut)
+    → shelf.names ≡ list.names
+    → units ≡ list.units
+    → shown ≡ outs
+    → AreRetainedOverSome may (needed_retention mode) shelf list.setting units outs
+    → (any : Bool) (text : List ℕ)
+    → text ≡ numbered (unit_lines mode list.names) 0 units shown
+    → any ≡ any_fault shown
+    → IsOutput (AreObservedFor may shelf) mode list any text
+retained_output may mode list shelf units outs shown named same shows r any text printed fault =
+    let P : List (List ℕ) → Type 0 = λ ns. AreUnits ns r.files list.setting units r.retained.wholes in
+    let Q : List UnitOfList → Type 0 = λ us. AreUnits list.names r.files list.setting us r.retained.wholes in
+    let kept = shows ∙ r.retained.same in
+    record {
+      files = r.files;
+      allowed = r.observed;
+      outs = r.retained.wholes;
+      values = subst Q same (subst P named r.retained.values);
+      printed = printed ∙ text_of mode list units shown r.retained.wholes same kept;
+      fault = fault ∙ (ap any_fault kept ∙ some_fault_kept mode r.retained.wholes);
+    }
 
-pub produced : {inline : Bool} {Allowed : CompilationList → Files → Type 0} {before after : Option (List ℕ)} (mode : Mode) (list : CompilationList)
-    (units : List UnitOfList) (shown outs : List UnitOut)
-    → units ≡ list.units → shown ≡ outs → ReadsList inline before after list → (files : Files) → Allowed list files → AreRetained (needed_retention mode) list.names files list.setting list.units outs
-    → ProducesText inline Allowed mode before after list units shown
-produced mode list units shown outs same is reads files allowed retained = record {
-  outs = retained.wholes;
-  produces = record { reads = reads; files = files; allowed = allowed; values = retained.values };
-  text = text_of mode list units shown retained.wholes same (is ∙ retained.same);
-  fault = ap any_fault (is ∙ retained.same) ∙ some_fault_kept mode retained.wholes;
-}
+-- Files that a run over a disk observed have contents that the disk may return.
+pub output_permitted : (may : List ℕ → Content → Type 0) (shelf : ShelfView) (mode : Mode) (list : CompilationList) → shelf.names ≡ list.names
+    → (any : Bool) (text : List ℕ)
+    → IsOutput (AreObservedFor may shelf) mode list any text
+    → IsOutput (ArePermitted may) mode list any text
+output_permitted may shelf mode list named any text is =
+    let P : List (List ℕ) → Type 0 = λ ns. AllPermitted may ns is.files in
+    record { files = is.files; allowed = subst P named is.allowed.contents_permitted; outs = is.outs; values = is.values; printed = is.printed; fault = is.fault }
 
--- If the whole output of a list was written, `Serves` holds.
-pub served : {inline : Bool} {Allowed : CompilationList → Files → Type 0} {before after : Option (List ℕ)} (mode : Mode) (list : CompilationList)
-    (units : List UnitOfList) (shown : List UnitOut) (out_before out_after : Option (List ℕ)) (any : Bool)
-    → ProducesText inline Allowed mode before after list units shown → WritesAll mode list.names units shown out_before out_after any
-    → Serves inline Allowed mode before after out_before out_after any
-served mode list units shown out_before out_after any text writes = record {
-  list = list;
-  outs = text.outs;
-  produces = text.produces;
-  appends = appends_as out_before out_after _ _ text.text writes.appends;
-  fault = writes.fault ∙ text.fault;
-}
-
--- If a prefix of the output was written, `ServesPrefix` holds.
-pub prefix_served : {inline : Bool} {Allowed : CompilationList → Files → Type 0} {before after : Option (List ℕ)} (mode : Mode) (list : CompilationList)
-    (units : List UnitOfList) (shown : List UnitOut) (out_before out_after : Option (List ℕ))
-    → ProducesText inline Allowed mode before after list units shown → WritesPrefix mode list.names units shown out_before out_after
-    → ServesPrefix inline Allowed mode before after out_before out_after
-prefix_served mode list units shown out_before out_after text writes = record {
-  list = list;
-  outs = text.outs;
-  produces = text.produces;
-  count = writes.count;
-  appends = appends_as out_before out_after _ _ (ap (take writes.count) text.text) writes.appends;
-}
+-- If the file table held the contents of a list, the run observed no others. The contents were moved out of the list.
+pub output_in_list : ListGrows → (may : List ℕ → Content → Type 0) (shelf : ShelfView) (mode : Mode) (list : CompilationList) (left : List (List ℕ))
+    → IsFull shelf
+    → shelf.filled ≡ files_of list.contents
+    → (any : Bool) (text : List ℕ)
+    → IsOutput (AreObservedFor may shelf) mode (record list { contents = left }) any text
+    → IsOutput AreInList mode list any text
+output_in_list grows may shelf mode list left full filled any text is =
+    let wider = grows list.names is.files shelf.filled list.setting list.units is.outs (knows_files shelf is.files full is.allowed.agree is.allowed.rows) is.values in
+    let P : Files → Type 0 = λ fs. AreUnits list.names fs list.setting list.units is.outs in
+    record { files = files_of list.contents; allowed = refl; outs = is.outs; values = subst P filled wider; printed = is.printed; fault = is.fault }

@@ -2,11 +2,6 @@
 use Rattle.std.specs.Prelude.{◌≡◌, ℕ, List, map, Some}
 use Rattle.ppshelf.specs.Content.{Content, readable}
 use Rattle.ppshelf.specs.Files.{Files, AllPermitted}
-use Rattle.pppool.specs.declared.retention.Retain.{Retain}
-use Rattle.pppool.specs.Retained.{AreRetained}
-use Rattle.ppunit.specs.declared.units.Setting.{Setting}
-use Rattle.ppunit.specs.declared.units.Unit.{Unit as UnitOfList}
-use Rattle.ppunit.specs.declared.units.UnitOut.{UnitOut}
 use Rattle.ppserve.specs.declared.list.List.{List as CompilationList}
 
 -- the files with these contents, which are all known
@@ -20,10 +15,3 @@ AreInList list files = files ≡ files_of list.contents
 -- each content is one that a disk may return for its name
 abbrev pub ArePermitted : (List ℕ → Content → Type 0) → CompilationList → Files → Type 0
 ArePermitted may list files = AllPermitted may list.names files
-
--- the retained parts of the units' values over some permitted files
-pub record AreRetainedOverSome (may : List ℕ → Content → Type 0) (retain : Retain) (names : List (List ℕ)) (setting : Setting)
-    (units : List UnitOfList) (outs : List UnitOut) : Type 0 where
-  pub files : Files
-  pub contents_permitted : AllPermitted may names files
-  pub retained : AreRetained retain names files setting units outs

@@ -6,7 +6,7 @@ use Rattle.ppserve.specs.Contents.{AreInList}
 use Rattle.ppserve.specs.Drafts.{Draft}
 use Rattle.ppserve.specs.Listing.{json_value, max_input, names_of, names_hold, sizes_hold, are_known, times_hold, lines_hold, directories_hold}
 use Rattle.ppserve.specs.Listing.{profile_holds, budget_holds, listed, outcome_of, accepted, refused}
-use Rattle.ppserve.specs.Serving.{Serves}
+use Rattle.ppserve.specs.Serving.{Stream, Serves, IsOutput}
 use Rattle.ppserve.specs.Shape.{IsDraft}
 use Rattle.ppserve.specs.declared.list.List.{List as CompilationList}
 use Rattle.ppserve.specs.declared.output.Mode.{Mode}
@@ -62,14 +62,18 @@ AcceptsTheRest =
 
 -- ---- what is printed
 
+-- a stream whose bytes are known before a run
+abbrev pub from : List ℕ → Option (List ℕ) → Stream
+from known after = record { before = Some known; after = after }
+
 -- Two runs over allowed files, whose readers hold the same bytes and whose files agree, have the same output and the same
 -- result.
 abbrev pub OneOutput : (CompilationList → Files → Type 0) → Type 0
 OneOutput Allowed =
     (inline : Bool) (mode : Mode) (known written : List ℕ) (left right : Option (List ℕ)) (one two : List ℕ) (any other : Bool)
-    → (a : Serves inline Allowed mode (Some known) left (Some written) (Some one) any)
-    → (b : Serves inline Allowed mode (Some known) right (Some written) (Some two) other)
-    → Agree a.produces.files b.produces.files
+    → (a : Serves inline Allowed mode (from known left) (from written (Some one)) any)
+    → (b : Serves inline Allowed mode (from known right) (from written (Some two)) other)
+    → Agree a.is_output.files b.is_output.files
     → (one ≡ two) × (any ≡ other)
 
 -- Two runs whose readers hold the same bytes, and whose lists hold their files, have the same output and the same
@@ -77,6 +81,19 @@ OneOutput Allowed =
 abbrev pub OneOutputOfContents : Type 0
 OneOutputOfContents =
     (mode : Mode) (known written : List ℕ) (left right : Option (List ℕ)) (one two : List ℕ) (any other : Bool)
-    → Serves true AreInList mode (Some known) left (Some written) (Some one) any
-    → Serves true AreInList mode (Some known) right (Some written) (Some two) other
+    → Serves true AreInList mode (from known left) (from written (Some one)) any
+    → Serves true AreInList mode (from known right) (from written (Some two)) other
     → (one ≡ two) × (any ≡ other)
+
+-- a text that is an output of the list over allowed files, with whether a unit has a fault
+pub record HasOutput (Allowed : CompilationList → Files → Type 0) (mode : Mode) (list : CompilationList) : Type 0 where
+  pub any : Bool
+  pub text : List ℕ
+  pub is_output : IsOutput Allowed mode list any text
+
+-- A list that is accepted with its contents has an output in each mode.
+abbrev pub SomeOutput : Type 0
+SomeOutput =
+    (mode : Mode) (bytes : List ℕ) (list : CompilationList)
+    → outcome_of true bytes ≡ accepted list
+    → HasOutput AreInList mode list

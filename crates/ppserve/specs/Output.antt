@@ -71,9 +71,13 @@ abbrev pub last_line : Option Fault → List ℕ
 last_line None = codes "ok" ++ (10 ∷ [])
 last_line (Some f) = codes "fault " ++ decimal f.number ++ codes " " ++ place_text f.at ++ fault_text f.text ++ (10 ∷ [])
 
+-- what the modes print: each prints a unit's dependencies and its fault, and this mode its items, too
+abbrev pub shows_items : Mode → Bool
+shows_items Dump = true
+shows_items Deps = false
+
 abbrev pub shown_item_lines : Mode → List Item → List ℕ
-shown_item_lines Dump items = flat_map item_lines items
-shown_item_lines Deps items = []
+shown_item_lines mode items = if shows_items mode then flat_map item_lines items else []
 
 abbrev pub unit_lines : Mode → List (List ℕ) → ℕ → UnitOfList → UnitOut → List ℕ
 unit_lines mode names i unit out =

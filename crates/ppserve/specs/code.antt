@@ -4,3 +4,4 @@ pub mod NeededRetention
 pub mod Printing
 pub mod Records
 pub mod Rounds
+pub mod Runs

@@ -6,7 +6,7 @@ ghost use Rattle.ppserve.specs.declared.serving.RunFault.TheVariants.{List as Re
 use crate::serving::RunFault;
 
 /// Returns the exit status: 0 if no unit has a fault, 1 if one has, 3 if the list is refused, 4 if an allocation
-/// failed, 5 if the reader or the writer failed.
+/// failed or the disk lacked memory, 5 if the reader or the writer failed.
 pub fn status(outcome: &Result<bool, RunFault>) -> u8
     ensures { result ≡ status_of outcome.now }
 {

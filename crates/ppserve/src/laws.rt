@@ -2,10 +2,10 @@
 //! rest on.
 ghost use Rattle.ppserve.specs.Contents.{ArePermitted};
 ghost use Rattle.ppserve.specs.Drafting.{ShapeDecides};
-ghost use Rattle.ppserve.specs.Laws.{OneOutput, OneOutputOfContents, RefusesByTheLeast, AcceptsTheRest};
+ghost use Rattle.ppserve.specs.Laws.{OneOutput, OneOutputOfContents, SomeOutput, RefusesByTheLeast, AcceptsTheRest};
 ghost use Rattle.ppserve.specs.Serving.{KnownBytesDecide};
 
-use pppool::list_growth;
+use pppool::{list_growth, some_values};
 use ppshelf::Disk;
 use ppunit::one_value;
 
@@ -35,4 +35,11 @@ pub fn one_output<D: Disk>()
 {
     one_value();
     list_growth();
+}
+
+/// Theorem: a list that is accepted with its contents has an output, in each mode.
+pub fn some_output()
+    ensures { SomeOutput }
+{
+    some_values();
 }

@@ -4,7 +4,7 @@ ghost use Rattle.std.specs.Prelude.{◌≡◌, ◌<◌, [], Some, length, drop, 
 ghost use Rattle.ppexpand.specs.Slices.{slice_tokens};
 ghost use Rattle.ppserve.specs.code.Records.{all_records, records_of_lines, records_of_slices, remaining_records, YieldsLines, YieldsItems};
 
-use crate::output::{Mode, Output};
+use crate::output::Output;
 use ppexpand::TokenSlice;
 use pptext::{Place, Token};
 use ppunit::{ItemSlice, ItemSlices, Unit, UnitOut};
@@ -153,9 +153,10 @@ impl<'a> LineCursor<'a> {
         let index = self.next_unit;
         let unit = self.output.units.get(index)?;
         let out = self.output.outs.get(index)?;
-        self.items = match self.output.mode {
-            Mode::Dump => Some(out.items.slices()),
-            Mode::Deps => None,
+        self.items = if self.output.mode.shows_items() {
+            Some(out.items.slices())
+        } else {
+            None
         };
         self.last = Some(out);
         self.next_unit = index + 1;

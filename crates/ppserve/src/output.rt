@@ -1,9 +1,14 @@
-//! Prints the output of a list's units. Functions `put_..` append to a buffer, which is flushed whenever it is full.
-ghost use Rattle.std.specs.Prelude.{◌≡◌, ℕ, ◌++◌, ◌∷◌, [], ◌<◌, ◌≤◌};
-ghost use Rattle.std.specs.Prelude.{OnOk, OnErr, IfOk, Some, codes, decimal, false, true, length, take, flat_map};
-ghost use Rattle.std.specs.Io.KnownBytes.{Appends};
+//! Prints the output of a list's units.
+//!
+//! Functions `put_..` append to a buffer, which is flushed whenever it is full. None of them returns an error: each
+//! promises `Puts`, which says what reached the writer and what is still in the buffer, also after a failed write, and
+//! `Puts` of one text and then of another is `Puts` of both. So a function of two lines needs no proof about failures,
+//! and only `print` asks once, at the end, whether a write failed. The lines are read from a `LineCursor`, so that one
+//! thread and several print the same records. The line of a token, most of the output, has a fast path.
+ghost use Rattle.std.specs.Prelude.{◌≡◌, ◌++◌, ◌∷◌, [], ◌<◌, ◌≤◌};
+ghost use Rattle.std.specs.Prelude.{IfOk, Some, codes, decimal, length, take, flat_map};
 ghost use Rattle.ppserve.specs.Output.{escaped, escaped_byte, prints_as_is, hex_digit, place_text, item_lines, pragma_token_line};
-ghost use Rattle.ppserve.specs.Output.{dep_line, fault_text, last_line, output_text};
+ghost use Rattle.ppserve.specs.Output.{dep_line, fault_text, last_line, output_text, shows_items};
 ghost use Rattle.ppserve.specs.code.Records.{record_lines, first_line, last_lines, records_of_lines, remaining_records, output_bytes};
 ghost use Rattle.ppserve.specs.code.Printing.{Puts};
 ghost use Rattle.ppserve.specs.declared.output.Mode.TheVariants.{Dump, Deps};
@@ -17,7 +22,7 @@ use crate::line_cursor::{LineCursor, Lines};
 use crate::line_prefix::LineFields;
 use crate::list::List;
 use crate::out_buffer::OutBuffer;
-use crate::streams::{Failed, Sink, VecSink};
+use crate::streams::{Sink, VecSink};
 use itoa::Buffer;
 use ppexpand::TokenSlice;
 use ppmacro::Hidden;
@@ -32,6 +37,18 @@ pub enum Mode {
     Dump,
     /// Dependencies and the fault.
     Deps,
+}
+
+impl Mode {
+    /// Returns whether this mode prints the units' items. All that differs between the modes follows from this match.
+    pub(crate) fn shows_items(self) -> bool
+        ensures { result ≡ shows_items self }
+    {
+        match self {
+            Mode::Dump => true,
+            Mode::Deps => false,
+        }
+    }
 }
 
 /// Returns the output: for each unit a line with its name, one for each token, each pragma and each token of a pragma,
@@ -73,34 +90,24 @@ fn print_to_vec(alloc: Global, mode: Mode, list: &List, outs: &[UnitOut]) -> Res
         units: list.units.as_slice(),
         outs,
     };
-    let Ok(()) = print(&mut buf, &mut text, output) else {
+    put_through(&mut buf, &mut text, output);
+    if text.failed() {
         return Err(Memory);
-    };
+    }
     Ok(text.into_bytes())
 }
 
-/// Prints the output of units through an empty buffer, without allocating. Fails only if a write fails; then a prefix of
-/// the output has been written.
+/// Prints all lines through an empty buffer, without allocating. After a failed write nothing more is formatted or
+/// written.
 ///
 /// The buffer and the writer are separate parameters. If one struct held both, this couldn't be proved: after the struct
 /// is dropped, the last value of a generic writer isn't known.
-pub(crate) fn print<W: Sink>(
-    buf: &mut OutBuffer,
-    writer: &mut W,
-    output: Output,
-) -> Result<(), Failed>
-    requires buf { buf.old ≡ [] }
-    requires writer { W.has_failed writer.old ≡ false }
-    ensures ok { OnOk result (Appends (W.written writer.old) (W.written writer.new) (output_bytes output.entry)) }
-    ensures failed { OnErr result (W.has_failed writer.new ≡ true) }
-    ensures prefix { OnErr result ((n : ℕ) × Appends (W.written writer.old) (W.written writer.new) (take n (output_bytes output.entry))) }
+pub(crate) fn put_through<W: Sink>(buf: &mut OutBuffer, writer: &mut W, output: Output)
+    requires { buf.old ≡ [] }
+    ensures { Puts W.written W.has_failed writer.old writer.new [] [] (output_bytes output.entry) }
 {
     put_all(buf, writer, output);
     buf.flush(writer);
-    if writer.failed() {
-        return Err(Failed);
-    }
-    Ok(())
 }
 
 /// Prints all lines. After a failed write nothing more is formatted or written.

@@ -1,6 +1,11 @@
 //! Prints in rounds: workers fill a buffer each, then one thread writes the buffers in order.
-ghost use Rattle.std.specs.Prelude.{◌≡◌, ◌<◌, ◌++◌, [], All, IfOk, OnOk, OnErr, length, min, take, flat_map, true, false, ℕ};
-ghost use Rattle.std.specs.Io.KnownBytes.{Appends};
+//!
+//! Formatting takes far longer than writing, so it is what several threads share. A worker can't know where its lines
+//! begin in the output, but it knows its records: a round gives each page the next records, a number that nearly fills
+//! its buffer. The page formats them in front of a `RefusingSink`, which fails if they don't fit. Then the page's
+//! records are formatted again while they are written, and the next rounds give out fewer. All buffers are allocated
+//! before the first round, so that no allocation can fail once a byte was written.
+ghost use Rattle.std.specs.Prelude.{◌≡◌, ◌<◌, ◌++◌, [], All, IfOk, length, min, flat_map};
 ghost use Rattle.ppserve.specs.code.Records.{record_lines, remaining_records, output_bytes};
 ghost use Rattle.ppserve.specs.code.Printing.{Puts};
 ghost use Rattle.ppserve.specs.code.Rounds.{page_records, IsEmpty, IsFilled};
@@ -178,8 +183,9 @@ fn fill_all<T: Threads + Sync>(threads: &T, pages: &mut [Page], names: &OwnedTex
     for_each_mut(threads, pages, count, &fill);
 }
 
-/// Prints all lines in rounds, through empty pages. After a failed write nothing more is formatted or written.
-fn put_in_rounds<'a, T: Threads + Sync, W: Sink>(
+/// Prints all lines in rounds, through empty pages, with one worker per page, without allocating. After a failed write
+/// nothing more is formatted or written.
+pub(crate) fn put_in_rounds<'a, T: Threads + Sync, W: Sink>(
     threads: &T,
     pages: &mut [Page<'a>],
     writer: &mut W,
@@ -201,25 +207,4 @@ fn put_in_rounds<'a, T: Threads + Sync, W: Sink>(
             count = (count / 2).max(MIN_RECORDS);
         }
     }
-}
-
-/// Prints the output of units through empty pages, with one worker per page, without allocating. Fails only if a write
-/// fails; then a prefix of the output has been written.
-pub(crate) fn print_in_rounds<'a, T: Threads + Sync, W: Sink>(
-    threads: &T,
-    pages: &mut [Page<'a>],
-    writer: &mut W,
-    output: Output<'a>,
-) -> Result<(), Failed>
-    requires pages { 0 < length pages.old }
-    requires empty { All IsEmpty pages.old }
-    ensures ok { OnOk result (Appends (W.written writer.old) (W.written writer.new) (output_bytes output.entry)) }
-    ensures failed { OnErr result (W.has_failed writer.new ≡ true) }
-    ensures prefix { OnErr result ((n : ℕ) × Appends (W.written writer.old) (W.written writer.new) (take n (output_bytes output.entry))) }
-{
-    put_in_rounds(threads, pages, writer, output);
-    if writer.failed() {
-        return Err(Failed);
-    }
-    Ok(())
 }

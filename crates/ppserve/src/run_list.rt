@@ -1,18 +1,30 @@
-//! Runs the units of a list with workers.
-ghost use Rattle.std.specs.Prelude.{◌≡◌, ◌≤◌, [], length, map, replicate, string_bytes, All, IfOk, None};
+//! Runs the units of a list with workers, and prints their outputs.
+//!
+//! There is one run, `run_over`, over a file table and a disk. A list that holds its files fills the table before it
+//! runs, and its disk has no file; a list that only names them begins with an empty table. What a run promises, `Delivers`,
+//! is the same for both, over the files that it observes; from that `run_with_contents` and `run_with_disk` conclude what
+//! `serve` promises of each. Outputs borrow from the file table, so that a run keeps it until all is printed, and so does
+//! the printing of the list's names: then `AtEnd` says whether the memory is freed at all.
+ghost use Rattle.std.specs.Prelude.{◌≡◌, ◌≤◌, [], length, map, replicate, string_bytes, All, IfOk, None, false};
 ghost use Rattle.ppshelf.specs.Content.{longest};
 ghost use Rattle.ppshelf.specs.Files.{max_rows, IsFull};
 ghost use Rattle.ppshelf.specs.Names.{AreNames};
 ghost use Rattle.ppunit.specs.Unit.{IsUnitOf};
-ghost use Rattle.pppool.specs.Retained.{AreRetained};
-ghost use Rattle.ppserve.specs.Contents.{files_of, AreRetainedOverSome};
+ghost use Rattle.ppserve.specs.Contents.{files_of, AreInList, ArePermitted};
+ghost use Rattle.ppserve.specs.Listing.{IsRunnable};
+ghost use Rattle.ppserve.specs.Serving.{IsOutput};
 ghost use Rattle.ppserve.specs.code.NeededRetention.{needed_retention};
+ghost use Rattle.ppserve.specs.code.Runs.{AreObservedFor, AreRetainedOverSome, Delivers};
 
-use crate::output::Mode;
-use pppool::{Batch, Gate, Retain, list_growth, run_retaining};
+use crate::list::List;
+use crate::output::{Mode, Output};
+use crate::printing::print;
+use crate::serving::RunFault;
+use crate::streams::Sink;
+use pppool::{Batch, Block, Gate, Retain, Workers, list_growth, run_retaining};
 use ppshelf::{Contents, Disk, MemoryDisk, Shelf, ShelfFault};
 use pptext::{Hashing, Memory, Profile};
-use ppunit::{OwnedText, OwnedTexts, Setting, Unit, UnitOut};
+use ppunit::{OwnedText, OwnedTexts, UnitOut};
 use std::alloc::{AllocError, Global};
 use std::mem;
 use std::thread::Threads;
@@ -22,10 +34,10 @@ use std::thread::Threads;
 pub struct RunOptions {
     /// What is printed of each unit.
     pub mode: Mode,
-    /// The number of workers, which preprocess units in parallel, 1 to 64.
-    pub workers: usize,
-    /// The largest number of units that a worker claims at a time, 1 to 1024.
-    pub block: usize,
+    /// The number of workers, which preprocess units in parallel.
+    pub workers: Workers,
+    /// The largest number of units that a worker claims at a time.
+    pub block: Block,
     /// The hash function of names.
     pub hashing: Hashing,
     /// Whether the memory of files and results is freed after printing.
@@ -51,30 +63,14 @@ impl AtEnd {
     }
 }
 
-/// How often each worker claims units if there are too few for blocks of full size.
-const CLAIMS_PER_WORKER: usize = 16;
-
-impl RunOptions {
-    /// Returns the number of units that a worker claims at a time. It is small for a short list, so that all workers
-    /// end at about the same time.
-    pub(crate) fn block_size(self, units: usize) -> usize
-        requires workers { (1 ≤ self.workers) × (self.workers ≤ 64) }
-        requires block { 1 ≤ self.block }
-        ensures { (1 ≤ result) × (result ≤ self.block) }
-    {
-        units
-            .div_ceil(self.workers * CLAIMS_PER_WORKER)
-            .clamp(1, self.block)
-    }
-}
-
 /// Returns what must be kept of outputs to print them.
 fn needed_retention(mode: Mode) -> Retain
     ensures { result ≡ needed_retention mode }
 {
-    match mode {
-        Mode::Dump => Retain::Everything,
-        Mode::Deps => Retain::WithoutItems,
+    if mode.shows_items() {
+        Retain::Everything
+    } else {
+        Retain::WithoutItems
     }
 }
 
@@ -152,50 +148,107 @@ pub(crate) fn filled_shelf(
     Ok(shelf)
 }
 
-/// Preprocesses the units over a file table whose contents are all known, and returns what is needed of their outputs,
-/// in list order. `run_retaining` proves them for the files that it read; by `list_growth` they hold for all files.
-pub(crate) fn run_over_contents<'a, R: Threads + Sync>(
-    threads: &R,
-    alloc: Global,
-    shelf: &'a Shelf<MemoryDisk>,
-    setting: &Setting,
-    units: &'a [Unit],
-    options: RunOptions,
-) -> Result<Vec<UnitOut<'a>>, Memory>
-    requires full { IsFull shelf.now }
-    requires count { length units.now ≤ max_rows }
-    requires profile { shelf.now.profile ≡ setting.now.profile }
-    requires units { All (IsUnitOf (length shelf.now.names) setting.now.profile) units.now }
-    requires workers { (1 ≤ options.workers) × (options.workers ≤ 64) }
-    requires block { (1 ≤ options.block) × (options.block ≤ 1024) }
-    ensures { IfOk result (λ outs. AreRetained (needed_retention options.mode) shelf.now.names shelf.now.filled setting.now units.now outs.items) }
-{
-    let disk = no_disk(alloc);
-    let mut pass = shelf.pass()?;
-    let batch = Batch {
-        shelf,
-        disk: &disk,
-        gate: &OpenGate,
-        setting,
-        units,
-        workers: options.workers,
-        block: options.block_size(units.len()),
-    };
-    let outs = run_retaining(
-        threads,
-        alloc,
-        &mut pass,
-        &batch,
-        needed_retention(options.mode),
-    )?;
-    pass.contents_permitted();
-    list_growth();
-    Ok(outs)
+/// The files of a run: a file table, and the disk from which it reads the files that it doesn't know.
+struct RunFiles<'d, D: Disk> {
+    shelf: Shelf<D>,
+    disk: &'d D,
 }
 
-/// Preprocesses the units of a batch over one set of files, each with a content that the disk may return for its name.
-/// Returns what is needed of their outputs, in list order.
-pub(crate) fn run_over_disk<'a, R: Threads + Sync, D: Disk + Send + Sync>(
+/// Preprocesses the units of a list that holds its files, and writes their output once all are done. Returns whether a
+/// unit has a fault. Moves the contents out of the list.
+pub(crate) fn run_with_contents<T: Threads + Sync, W: Sink>(
+    threads: &T,
+    alloc: Global,
+    writer: &mut W,
+    list: &mut List,
+    options: RunOptions,
+) -> Result<bool, RunFault>
+    requires writer { W.has_failed writer.old ≡ false }
+    requires runnable { IsRunnable list.old }
+    requires contents { length list.old.contents ≡ length list.old.names }
+    ensures { Delivers W.written W.has_failed (IsOutput AreInList options.mode list.old) writer.old writer.new result }
+{
+    let contents = mem::replace(&mut list.contents, Contents::new(Vec::new(alloc)));
+    let shelf = filled_shelf(
+        alloc,
+        &list.names,
+        list.setting.profile,
+        contents,
+        options.hashing,
+    )?;
+    let disk = no_disk(alloc);
+    // For proofs only: units have the same values over more files.
+    list_growth();
+    let files = RunFiles { shelf, disk: &disk };
+    run_over(threads, alloc, writer, list, files, options)
+}
+
+/// Preprocesses the units of a list that only names its files, and writes their output once all are done. Returns
+/// whether a unit has a fault.
+pub(crate) fn run_with_disk<T: Threads + Sync, W: Sink, D: Disk + Send + Sync>(
+    threads: &T,
+    alloc: Global,
+    writer: &mut W,
+    disk: &D,
+    list: &List,
+    options: RunOptions,
+) -> Result<bool, RunFault>
+    requires writer { W.has_failed writer.old ≡ false }
+    requires runnable { IsRunnable list.now }
+    ensures { Delivers W.written W.has_failed (IsOutput (ArePermitted D.may) options.mode list.now) writer.old writer.new result }
+{
+    let shelf = empty_shelf(alloc, &list.names, list.setting.profile, options.hashing)?;
+    let files = RunFiles { shelf, disk };
+    run_over(threads, alloc, writer, list, files, options)
+}
+
+/// Preprocesses the units of a list over a file table with its names, and writes their output once all are done. Returns
+/// whether a unit has a fault.
+fn run_over<T: Threads + Sync, W: Sink, D: Disk + Send + Sync>(
+    threads: &T,
+    alloc: Global,
+    writer: &mut W,
+    list: &List,
+    files: RunFiles<D>,
+    options: RunOptions,
+) -> Result<bool, RunFault>
+    requires writer { W.has_failed writer.old ≡ false }
+    requires runnable { IsRunnable list.now }
+    requires names { files.shelf.names ≡ list.now.names }
+    requires profile { files.shelf.profile ≡ list.now.setting.profile }
+    ensures { Delivers W.written W.has_failed (IsOutput (AreObservedFor D.may files.entry.shelf) options.mode list.now) writer.old writer.new result }
+{
+    let RunFiles { shelf, disk } = files;
+    let units = list.units.as_slice();
+    let outs = run_batch(
+        threads,
+        alloc,
+        &Batch {
+            shelf: &shelf,
+            disk,
+            gate: &OpenGate,
+            setting: &list.setting,
+            units,
+            workers: options.workers,
+            block: options.block.fitted(units.len(), options.workers),
+        },
+        options.mode,
+    )?;
+    let output = Output {
+        mode: options.mode,
+        names: &list.names,
+        units,
+        outs: outs.as_slice(),
+    };
+    let outcome = print(threads, alloc, writer, options.workers, output);
+    options.at_end.let_go(outs);
+    options.at_end.let_go(shelf);
+    outcome
+}
+
+/// Preprocesses the units of a batch over one set of files, which the run observes. Returns what is needed of their
+/// outputs, in list order.
+fn run_batch<'a, R: Threads + Sync, D: Disk + Send + Sync>(
     threads: &R,
     alloc: Global,
     batch: &Batch<'a, '_, D, OpenGate>,
@@ -204,10 +257,11 @@ pub(crate) fn run_over_disk<'a, R: Threads + Sync, D: Disk + Send + Sync>(
     requires count { length batch.now.units.now ≤ max_rows }
     requires profile { batch.now.shelf.now.profile ≡ batch.now.setting.now.profile }
     requires units { All (IsUnitOf (length batch.now.shelf.now.names) batch.now.setting.now.profile) batch.now.units.now }
-    requires workers { (1 ≤ batch.now.workers) × (batch.now.workers ≤ 64) }
-    requires block { (1 ≤ batch.now.block) × (batch.now.block ≤ 1024) }
-    ensures { IfOk result (λ outs. AreRetainedOverSome D.may (needed_retention mode) batch.now.shelf.now.names batch.now.setting.now batch.now.units.now outs.items) }
+    ensures { IfOk result (λ outs. AreRetainedOverSome D.may (needed_retention mode) batch.now.shelf.now batch.now.setting.now batch.now.units.now outs.items) }
 {
     let mut pass = batch.shelf.pass()?;
-    run_retaining(threads, alloc, &mut pass, batch, needed_retention(mode))
+    let outs = run_retaining(threads, alloc, &mut pass, batch, needed_retention(mode))?;
+    // For proofs only: cites a promise of the pass.
+    pass.contents_permitted();
+    Ok(outs)
 }

@@ -1,4 +1,10 @@
 //! The streams of a run: where the bytes of a list come from, and where its output goes.
+//!
+//! `Feed` and `Sink` are smaller than std's `Read` and `Write`, and promise more: a call says whether it failed and stays
+//! so, and each names its bytes if they are known. std's traits leave it open what an interrupted or an empty transfer
+//! means, so `ReaderFeed` and `WriterSink` decide it once, for any reader and writer. Streams in memory know their bytes,
+//! and a theorem about them is one about `serve`. Those of the system don't: no contract of the kit says which bytes
+//! standard output took. A ghost field can't record them either, since it holds facts and no values.
 ghost use Rattle.std.specs.Prelude.{◌≡◌, [], ◌<◌, ◌≤◌, ℕ, List, Bool, false, Option, Some, length, IfOk, ◌||◌, is_err};
 ghost use Rattle.std.specs.Io.KnownBytes.{ReadConsumes, WriteAppends};
 
@@ -173,7 +179,8 @@ impl<R: Read + Drop> Feed for ReaderFeed<R> {
     }
 }
 
-/// A sink that writes to a writer. Every error of the writer is a failure, and so is a write of no bytes.
+/// A sink that writes to a writer. Every error of the writer is a failure, and so is a write of no bytes. What it knows of
+/// its bytes is what the writer knows: of standard output that is nothing.
 #[derive(Drop)]
 pub struct WriterSink<W> {
     writer: W,

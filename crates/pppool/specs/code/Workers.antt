@@ -6,9 +6,16 @@ use Rattle.ppshelf.specs.Files.{Files, ShelfView, PassView}
 use Rattle.ppunit.specs.declared.units.Unit.{Unit as UnitOfList}
 use Rattle.ppunit.specs.declared.units.Setting.{Setting}
 use Rattle.ppunit.specs.declared.units.UnitOut.{UnitOut}
-use Rattle.pppool.specs.Retained.{IsRetained}
+use Rattle.ppunit.specs.Unit.{IsUnit}
+use Rattle.pppool.specs.Retained.{retained}
 use Rattle.pppool.specs.declared.retention.Retain.{Retain}
 use Rattle.pppool.specs.Desk.{DeskId, SeatView, times}
+
+-- this is what is kept of the unit's value
+pub record IsRetained (retain : Retain) (names : List (List ℕ)) (files : Files) (setting : Setting) (unit : UnitOfList) (out : UnitOut) : Type 0 where
+  pub whole : UnitOut
+  pub value : IsUnit names files setting unit whole
+  pub same : out ≡ retained retain whole
 
 -- what is kept of a unit's output, with the unit's number in the list
 pub record UnitResult : Type 0 where

@@ -7,7 +7,7 @@ ghost use Rattle.ppunit.specs.Unit.{IsUnitOf};
 
 use super::lists::{as_text, setting_of, shelf_of, units_of};
 use super::stage::{Change, Meeting, Scene, Stage};
-use pppool::{Batch, Retain, run, run_retaining};
+use pppool::{Batch, Block, Retain, Workers, run, run_retaining};
 use ppshelf::{Pass, ReadFault, Shelf};
 use pptext::Memory;
 use ppunit::UnitOut;
@@ -23,6 +23,13 @@ struct Parallelism {
     workers: usize,
     block: usize,
     retain: Retain,
+}
+
+impl Parallelism {
+    /// Returns the number of workers and the size of their blocks, if they are within their bounds.
+    fn limits(self) -> Option<(Workers, Block)> {
+        Some((Workers::new(self.workers)?, Block::new(self.block)?))
+    }
 }
 
 /// A case: names, the scene that has files of these names, units with the indices of their files and their definitions,
@@ -44,8 +51,6 @@ fn run_once<'a, R: Threads + Sync>(
     retain: Retain,
 ) -> Result<Vec<UnitOut<'a>>, Memory>
     requires pass { pass.old.shelf ≡ batch.now.shelf.now }
-    requires workers { (1 ≤ batch.now.workers) × (batch.now.workers ≤ 64) }
-    requires block { (1 ≤ batch.now.block) × (batch.now.block ≤ 1024) }
     requires count { length batch.now.units.now ≤ max_rows }
     requires profile { batch.now.shelf.now.profile ≡ batch.now.setting.now.profile }
     requires rows { All (IsUnitOf (length batch.now.shelf.now.names) batch.now.setting.now.profile) batch.now.units.now }
@@ -65,8 +70,6 @@ fn run_over<'a, R: Threads + Sync + Abort>(
     batch: &Batch<'a, '_, Stage, Stage>,
     retain: Retain,
 ) -> Result<Vec<UnitOut<'a>>, Memory>
-    requires workers { (1 ≤ batch.now.workers) × (batch.now.workers ≤ 64) }
-    requires block { (1 ≤ batch.now.block) × (batch.now.block ≤ 1024) }
     requires count { length batch.now.units.now ≤ max_rows }
     requires profile { batch.now.shelf.now.profile ≡ batch.now.setting.now.profile }
     requires rows { All (IsUnitOf (length batch.now.shelf.now.names) batch.now.setting.now.profile) batch.now.units.now }
@@ -99,14 +102,17 @@ fn text_by<R: Threads + Sync + Abort>(
 {
     let setting = setting_of(alloc)?;
     let units = units_of(alloc, shelf, rows)?;
+    let Some((workers, block)) = parallelism.limits() else {
+        return Err(Fail::new("too many workers, or too large a block"));
+    };
     let batch = Batch {
         shelf,
         disk,
         gate: disk,
         setting: &setting,
         units: units.as_slice(),
-        workers: parallelism.workers.clamp(1, 64),
-        block: parallelism.block.clamp(1, 1024),
+        workers,
+        block,
     };
     let outs = run_over(rt, alloc, &batch, parallelism.retain)?;
     Ok(as_text(alloc, outs.as_slice())?)
@@ -183,6 +189,49 @@ fn answers_come_in_the_lists_order(rt: HostRuntime) -> Result<(), Fail> {
             retain,
         };
         assert_gives(&rt, rt.alloc(), &case, &Stage::new(case.scene), parallelism)?;
+    }
+    Ok(())
+}
+
+/// Numbers of units and workers, a block, and the block that fits them: each worker claims about 16 times.
+const FITTED: &[(usize, usize, usize, usize)] = &[
+    (0, 4, 8, 1),
+    (64, 4, 8, 1),
+    (65, 4, 8, 2),
+    (10_000, 4, 8, 8),
+    (10_000, 64, 1024, 10),
+    (65_535, 1, 1024, 1024),
+];
+
+#[test]
+fn blocks_are_small_for_short_lists(rt: HostRuntime) -> Result<(), Fail> {
+    for &(units, workers, block, fitted) in FITTED {
+        let (Some(workers), Some(block)) = (Workers::new(workers), Block::new(block)) else {
+            return Err(Fail::new("too many workers, or too large a block"));
+        };
+        assert!(rt;
+            block.fitted(units, workers).get() == fitted,
+            "{units} units"
+        );
+    }
+    Ok(())
+}
+
+/// The entries of seven units: a hexadecimal digit for each, which is 1.
+const EACH_ONCE: u64 = 0x111_1111;
+
+#[test]
+fn each_unit_enters_the_gate_once(rt: HostRuntime) -> Result<(), Fail> {
+    for &(workers, block, retain, case) in CREWS {
+        let parallelism = Parallelism {
+            workers,
+            block,
+            retain,
+        };
+        let disk = Stage::new(case.scene);
+        assert_gives(&rt, rt.alloc(), &case, &disk, parallelism)?;
+        let entries = disk.entries.load(SeqCst);
+        assert!(rt; entries == EACH_ONCE, "{entries:x} by {workers}");
     }
     Ok(())
 }

@@ -99,6 +99,8 @@ pub(crate) struct Stage {
     pub reads: AtomicU64,
     pub change: Change,
     pub headers: AtomicU64,
+    /// How often units entered the gate: a hexadecimal digit for each of the first 16 units, unit 0's the last.
+    pub entries: AtomicU64,
     pub meeting: Meeting,
     pub came: AtomicU64,
     pub met: AtomicU64,
@@ -114,6 +116,7 @@ impl Stage {
             reads: AtomicU64::new(0),
             change: Change::Nothing,
             headers: AtomicU64::new(0),
+            entries: AtomicU64::new(0),
             meeting: Meeting::Nowhere,
             came: AtomicU64::new(0),
             met: AtomicU64::new(0),
@@ -144,6 +147,9 @@ impl Stage {
 
 impl Gate for Stage {
     fn enter(&self, unit: usize) {
+        if unit < 16 {
+            let _before = self.entries.fetch_add(1 << (4 * unit), SeqCst);
+        }
         if let Meeting::AtUnits(other) = self.meeting {
             if unit == 0 || unit == other {
                 self.wait();

@@ -1,7 +1,7 @@
 //! Tests of streams that fail, that transfer few bytes at a time, and those of the system.
 use super::devices::{Limits, UNLIMITED};
 use super::{assert_ended, assert_sends, by_four, run_list};
-use ppserve::{AtEnd, ReaderFeed, RunFault, WriterSink, serve_from, status};
+use ppserve::{AtEnd, ReaderFeed, RunFault, RunOptions, WriterSink, serve, status};
 use ppshelf::{File, MemoryDisk};
 use pptext::Memory;
 use std::alloc::{AllocError, Global};
@@ -21,7 +21,7 @@ fn writes_nothing_after_a_failed_read(rt: HostRuntime) -> Result<(), Fail> {
         most: 30,
         fails_at: 2,
     };
-    let run = run_list(&rt, EXAMPLE, reading, UNLIMITED);
+    let run = run_list(&rt, EXAMPLE, reading, UNLIMITED)?;
     assert_ended(&rt, &run, b"", (5, "cppunits: read failed"))
 }
 
@@ -90,19 +90,27 @@ fn run_between<R: Threads + AllocGlobal + Sync>(
     rt: &R,
     disk: &MemoryDisk,
     bytes: &mut Vec<u8>,
+    options: RunOptions,
 ) -> Result<bool, RunFault> {
     let mut reader = ReaderFeed::new(NAMED.as_bytes());
     let mut writer = WriterSink::new(bytes);
-    let mut options = by_four();
-    options.at_end = AtEnd::Leave;
-    serve_from(rt, rt.alloc(), &mut reader, &mut writer, disk, options)
+    serve(
+        rt,
+        rt.alloc(),
+        &mut reader,
+        &mut writer,
+        Some(disk),
+        options,
+    )
 }
 
 #[test]
 fn serves_from_a_disk_over_a_reader_and_a_writer(rt: HostRuntime) -> Result<(), Fail> {
     let disk = disk_of(rt.alloc())?;
     let mut bytes = Vec::new(rt.alloc());
-    let outcome = run_between(&rt, &disk, &mut bytes);
+    let mut options = by_four()?;
+    options.at_end = AtEnd::Leave;
+    let outcome = run_between(&rt, &disk, &mut bytes, options);
     assert!(&rt; EXAMPLE_OUTPUT.as_bytes().starts_with(bytes.as_slice()));
     if matches!(outcome, Err(RunFault::Memory) | Err(RunFault::Write)) {
         return Err(Fail::from(Memory));

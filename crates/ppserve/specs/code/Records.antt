@@ -1,5 +1,5 @@
 -- The output as a list of records, and the records after a position in it.
-use Rattle.std.specs.Prelude.{◌≡◌, ℕ, suc, ◌<◌, ◌≤◌, List, [], ◌∷◌, ◌++◌, map, flat_map, length, drop, codes, decimal, Option, Some, None, MatchOption}
+use Rattle.std.specs.Prelude.{◌≡◌, ℕ, suc, ◌<◌, ◌≤◌, List, [], ◌∷◌, ◌++◌, map, flat_map, length, drop, codes, decimal, Option, Some, None, MatchOption, if◌then◌else◌}
 use denote.Ref.{Bor}
 use Rattle.pptext.specs.declared.tokens.Token.{Token}
 use Rattle.ppshelf.specs.Names.{name_in}
@@ -11,9 +11,8 @@ use Rattle.ppunit.specs.declared.units.Unit.{Unit as UnitOfList}
 use Rattle.ppunit.specs.BorrowedItems.{slice_items}
 use Rattle.ppunit.specs.declared.items.ItemSlice.{ItemSlice}
 use Rattle.ppunit.specs.declared.items.ItemSlices.{ItemSlices}
-use Rattle.ppserve.specs.Output.{escaped, item_lines, dep_line, last_line}
+use Rattle.ppserve.specs.Output.{escaped, item_lines, dep_line, last_line, shows_items}
 use Rattle.ppserve.specs.declared.output.Mode.{Mode}
-use Rattle.ppserve.specs.declared.output.Mode.TheVariants.{Dump, Deps}
 use Rattle.ppserve.specs.declared.output.Output.{Output}
 use Rattle.ppserve.specs.declared.line_cursor.Lines.{Lines}
 use Rattle.ppserve.specs.declared.line_cursor.Lines.TheVariants as lines
@@ -37,8 +36,7 @@ record_lines names (OfItem i) = item_lines i
 record_lines names (Last out) = last_lines names out
 
 abbrev pub records_of_items : Mode → List Item → List Record
-records_of_items Dump items = map OfItem items
-records_of_items Deps items = []
+records_of_items mode items = if shows_items mode then map OfItem items else []
 
 -- the records of units, which are numbered from n
 abbrev pub records_from : Mode → ℕ → List UnitOfList → List UnitOut → List Record

@@ -11,4 +11,6 @@ returns-clause-within g c =
 
 pub returns-clause-capped : goal.returns-clause-capped
 returns-clause-capped g c =
-    are_capped c.budget_caps_units.ensures c.args.batch.now.shelf.now.names c.run_retaining.new.pass.files c.args.batch.now.setting.now c.args.batch.now.units.now c.in_ok-outs.outs.items c.names_are_distinct.ensures.names (returns-clause-value g c)
+    let batch = c.args.batch.now in
+    are_capped c.budget_caps_units.ensures batch.shelf.now.names c.run_retaining.new.pass.files batch.setting.now batch.units.now c.in_ok-outs.outs.items c.names_are_distinct.ensures.names
+    (returns-clause-value g c)

@@ -14,15 +14,17 @@ prove-unreachable-requires g c =
     let seats = c.in_ok-seats.seats.items in
     let plan = ap (λ (p : Plan). p.seats) c.in_ok-desk.ensures.plan in
     let same : length seats ≡ c.in_ok-desk.desk.plan.seats = c.in_ok-seats.ensures.count ∙ (c.in_ok-desk.ensures.count ∙ sym plan) in
-    let closed = closes seats c.in_ok-desk.desk.plan.seats same (omega (arith, plan, c.requires.workers.0)) c.in_ok-seats.ensures.drained in
+    let closed = closes seats c.in_ok-desk.desk.plan.seats same (omega (arith, plan, c.get.ensures.bounds.0)) c.in_ok-seats.ensures.drained in
     false≢true (sym c.if-prove.true ∙ (c.close-all_claimed.ensures.value ∙ closed))
 
 pub take_all-requires : goal.take_all-requires
 take_all-requires g c =
     let e = c.in_ok-seats.ensures in
-    let Q : ℕ → Type 0 = λ n. (i : ℕ) → i < length c.args.batch.now.units.now → i / c.args.batch.now.block < n in
+    let batch = c.args.batch.now in
+    let Q : ℕ → Type 0 = λ n. (i : ℕ) → i < length batch.units.now → i / batch.block < n in
     let blocks = ap (λ (p : Plan). p.blocks) c.in_ok-desk.ensures.plan in
-    all_full c.args.retain c.args.batch.now.shelf.now c.run_workers-gathered.new.pass.files c.args.batch.now.setting.now c.args.batch.now.units.now c.args.batch.now.block c.in_ok-desk.desk.plan.blocks (claims_of c.in_ok-seats.seats.items) c.in_ok-seats.slots.items
+    all_full c.args.retain batch.shelf.now c.run_workers-gathered.new.pass.files batch.setting.now batch.units.now batch.block c.in_ok-desk.desk.plan.blocks (claims_of c.in_ok-seats.seats.items)
+    c.in_ok-seats.slots.items
     e.slots e.full (c.close-all_claimed.ensures.whole c.if-prove.false) (subst Q (sym blocks) c.block_count.ensures.all)
 
 pub returns-clause-retained : goal.returns-clause-retained

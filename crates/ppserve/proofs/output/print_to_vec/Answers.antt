@@ -1,4 +1,5 @@
-use Rattle.std.proofs.Common.{◌∙◌}
+use Rattle.std.proofs.Common.{◌∙◌, refl, rules}
+use Rattle.ppserve.proofs.BufferedPrinting.{printed_all}
 use Rattle.ppserve.proofs.RecordLines.{lines_of_all}
 use Rattle.ppserve.proofs.KnownStreamBytes.{written_alone}
 use Rattle.ppserve.proofs.output.print_to_vec.Goals as goal
@@ -6,5 +7,6 @@ use Rattle.ppserve.proofs.output.print_to_vec.Goals as goal
 pub returns : goal.returns
 returns c =
     let all = lines_of_all c.args.mode c.args.list.now.names 0 c.as_slice.result.now c.args.outs.now in
-    let text = written_alone _ _ _ _ c.new-text.ensures.written c.into_bytes.ensures c.in-Ok.ensures.ok ∙ all in
+    let appends = printed_all refl refl (search rules) c.put_through.ensures in
+    let text = written_alone _ _ _ _ c.new-text.ensures.written c.into_bytes.ensures appends ∙ all in
     rw c.as_slice.ensures at text

@@ -1,8 +1,9 @@
-use Rattle.pppool.proofs.SlotFilling.{if_ok_then}
+use Rattle.ppserve.specs.Contents.{AreInList, ArePermitted}
+use Rattle.ppserve.proofs.Delivery.{serves_of}
 use Rattle.ppserve.proofs.serving.serve.Goals as goal
 
-pub returns-clause-ok : goal.returns-clause-ok
-returns-clause-ok g c = if_ok_then c.run_with_contents.result c.run_with_contents.ensures.ok (λ any serves. serves _ _ c.in_ok-list.ensures.ok)
+pub returns-in_ok-list-in-None-clause-ok : goal.returns-in_ok-list-in-None-clause-ok
+returns-in_ok-list-in-None-clause-ok g c = ?
 
-pub returns-clause-prefix_served : goal.returns-clause-prefix_served
-returns-clause-prefix_served g c = λ failed. c.run_with_contents.ensures.prefix_served failed _ _ c.in_ok-list.ensures.ok
+pub returns-in_ok-list-in-Some-clause-ok : goal.returns-in_ok-list-in-Some-clause-ok
+returns-in_ok-list-in-Some-clause-ok g c = ?

@@ -1,7 +1,6 @@
 use Rattle.std.proofs.Common.{List, sym, subst, ap, ◌∙◌}
 use Rattle.ppunit.specs.declared.units.Unit.{Unit as UnitOfList}
-use Rattle.pppool.specs.Retained.{IsRetained}
-use Rattle.pppool.specs.code.Workers.{UnitResult, AreUnitResults, result_units}
+use Rattle.pppool.specs.code.Workers.{IsRetained, UnitResult, AreUnitResults, result_units}
 use Rattle.pppool.proofs.WorkerResults.{answers_push, answered_push}
 use Rattle.pppool.proofs.RetainedOutputs.{kept_of}
 use Rattle.pppool.proofs.workers.Worker.work_unit.Goals as goal

@@ -1,6 +1,6 @@
 use Rattle.std.proofs.Common.{arith}
 use Rattle.std.proofs.lemmas.Grind.{common_steps}
-use Rattle.ppserve.proofs.serving.any_fault.Goals as goal
+use Rattle.ppserve.proofs.printing.any_fault.Goals as goal
 
 pub returns : goal.returns
 returns c = grind (arith, common_steps)

@@ -1,2 +1,0 @@
--- Vocabulary of the code: only contracts inside this crate and views cite these files. No theorem rests on them.
-pub mod Requests

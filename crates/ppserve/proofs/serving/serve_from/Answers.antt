@@ -1,8 +1,0 @@
-use Rattle.pppool.proofs.SlotFilling.{if_ok_then}
-use Rattle.ppserve.proofs.serving.serve_from.Goals as goal
-
-pub returns-clause-ok : goal.returns-clause-ok
-returns-clause-ok g c = if_ok_then c.run_with_disk.result c.run_with_disk.ensures.ok (λ any serves. serves _ _ c.in_ok-list.ensures.ok)
-
-pub returns-clause-prefix_served : goal.returns-clause-prefix_served
-returns-clause-prefix_served g c = λ failed. c.run_with_disk.ensures.prefix_served failed _ _ c.in_ok-list.ensures.ok
