@@ -10,7 +10,7 @@ mod validation;
 use crate::list::drafts::{Draft, draft_of};
 use crate::list::validation::validate;
 use ppshelf::Contents;
-use pptext::{Hashing, Memory, Sequence};
+use pptext::{Hashing, Sequence};
 use ppunit::{OwnedTexts, Setting, Unit};
 use serde_json::{Category, Value};
 use std::alloc::{AllocError, AllocFailed, Global};
@@ -43,14 +43,6 @@ impl From<AllocError> for ListFault {
     ghost from_gives = { λ _ e. e ≡ OutOfMemory };
 
     fn from(_error: AllocError) -> ListFault {
-        ListFault::Memory
-    }
-}
-
-impl From<Memory> for ListFault {
-    ghost from_gives = { λ _ e. e ≡ OutOfMemory };
-
-    fn from(_error: Memory) -> ListFault {
         ListFault::Memory
     }
 }

@@ -15,7 +15,7 @@ use crate::list::{List, ListFault, MAX_INPUT, read_list};
 use crate::run_list::{RunOptions, run_with_contents, run_with_disk};
 use crate::streams::{Feed, Sink};
 use ppshelf::Disk;
-use pptext::{Hashing, Memory};
+use pptext::Hashing;
 use std::alloc::{AllocError, Global};
 use std::thread::Threads;
 use thiserror::Error;
@@ -44,14 +44,6 @@ impl From<AllocError> for RunFault {
     ghost from_gives = { λ _ e. e ≡ OutOfMemory };
 
     fn from(_error: AllocError) -> RunFault {
-        RunFault::Memory
-    }
-}
-
-impl From<Memory> for RunFault {
-    ghost from_gives = { λ _ e. e ≡ OutOfMemory };
-
-    fn from(_error: Memory) -> RunFault {
         RunFault::Memory
     }
 }
