@@ -22,7 +22,9 @@ use Rattle.ppserve.specs.Output.{numbered, unit_lines, output_text}
 use Rattle.ppserve.specs.Serving.{any_fault, IsOutput}
 use Rattle.ppserve.specs.declared.output.Mode.{Mode}
 use Rattle.ppserve.specs.code.NeededRetention.{needed_retention}
-use Rattle.ppserve.specs.code.Runs.{AreObservedFor, AreRetainedOverSome}
+use Rattle.ppserve.specs.declared.output.Output.{Output}
+use Rattle.ppserve.specs.code.Runs.{AreObservedFor, AreRetainedOverSome, IsOutputOf}
+use Rattle.ppserve.proofs.RecordLines.{lines_of_output}
 use Rattle.ppserve.proofs.RetainedText.{text_kept, some_fault_kept}
 
 -- the content of a filled file entry
@@ -79,7 +81,7 @@ text_of mode list units shown outs same is =
     ∙ (ap (λ (os : List UnitOut). numbered (unit_lines mode list.names) 0 list.units os) is ∙ text_kept mode list.names 0 list.units outs)
 
 -- If the retained outputs of a run are printed, the text is the output of the list over the files that the run observed.
-pub retained_output : (may : List ℕ → Content → Type 0) (mode : Mode) (list : CompilationList) (shelf : ShelfView) (units : List UnitOfList) (outs shown : List UnitOut)
+retained_output : (may : List ℕ → Content → Type 0) (mode : Mode) (list : CompilationList) (shelf : ShelfView) (units : List UnitOfList) (outs shown : List UnitOut)
     → shelf.names ≡ list.names
     → units ≡ list.units
     → shown ≡ outs
@@ -100,6 +102,21 @@ retained_output may mode list shelf units outs shown named same shows r any text
       printed = printed ∙ text_of mode list units shown r.retained.wholes same kept;
       fault = fault ∙ (ap any_fault kept ∙ some_fault_kept mode r.retained.wholes);
     }
+
+-- The same of what a run prints.
+pub printed_output : {output : Output} (any : Bool) (text : List ℕ)
+    → IsOutputOf output any text
+    → (may : List ℕ → Content → Type 0) (list : CompilationList) (shelf : ShelfView) (outs : List UnitOut)
+    → shelf.names ≡ list.names
+    → output.names.now ≡ list.names
+    → output.units.now ≡ list.units
+    → output.outs.now ≡ outs
+    → AreRetainedOverSome may (needed_retention output.mode) shelf list.setting output.units.now outs
+    → IsOutput (AreObservedFor may shelf) output.mode list any text
+printed_output {output = output} any text is may list shelf outs named names same shows r =
+    let e : numbered (unit_lines output.mode output.names.now) 0 output.units.now output.outs.now ≡ numbered (unit_lines output.mode list.names) 0 output.units.now output.outs.now =
+    ap (λ (ns : List (List ℕ)). numbered (unit_lines output.mode ns) 0 output.units.now output.outs.now) names in
+    retained_output may output.mode list shelf output.units.now outs output.outs.now named same shows r any text (is.printed ∙ (lines_of_output output ∙ e)) is.fault
 
 -- Files that a run over a disk observed have contents that the disk may return.
 pub output_permitted : (may : List ℕ → Content → Type 0) (shelf : ShelfView) (mode : Mode) (list : CompilationList) → shelf.names ≡ list.names
