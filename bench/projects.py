@@ -160,7 +160,7 @@ def difference(ours, theirs, entry):
         return None
     for at, (mine, other) in enumerate(zip(ours, theirs)):
         if mine != other and not same_file(mine, other, entry):
-            return "token %d: %s, and the compiler has %s" % (at, told(ours, at), told(theirs, at))
+            return "token %d: %s, and the compiler has %s" % (at, excerpt(ours, at), excerpt(theirs, at))
     if len(ours) != len(theirs):
         return "%d tokens, and the compiler has %d" % (len(ours), len(theirs))
     return None
@@ -174,7 +174,7 @@ def same_file(mine, other, entry):
     return os.path.normpath(path) == b"/" + mine[1:-1]
 
 
-def told(tokens, at):
+def excerpt(tokens, at):
     return b" ".join(tokens[max(0, at - 2):at + 3]).decode("utf-8", "replace")[:100]
 
 

@@ -9,12 +9,12 @@ import tempfile
 import time
 
 import depfile
-from commands import Said, commands
+from commands import Report, commands
 from common import DONE, GENERATED, PARTLY, Refused, own_names, parser, run, say, units, written
 from compilers import HAS_INCLUDE, SECONDS, Compilers
 from faults import forms, print_faults, wants_color
-from lists import Builder, Given, bytes_of, list_of
-from runs import PIECE, Program, settled
+from lists import Additions, Builder, bytes_of, list_of
+from runs import PIECE, Program, gather_all
 
 TEXT = """\
 Preprocess the C units of a build, as its compile_commands.json has them.
@@ -52,7 +52,7 @@ class Progress:
         self("")
 
 
-class Counted(Said):
+class Summary(Report):
     """Reports what a list can't express, and counts the commands that are left out."""
 
     def __init__(self, progress):
@@ -71,7 +71,7 @@ class Counted(Said):
             say("%d commands are left out: %s" % (count, reason))
 
 
-class Asked(Given):
+class CompilerAdditions(Additions):
     """Holds the directories and definitions that a unit gets from its compiler's answers."""
 
     def __init__(self, compilers, asked):
@@ -96,22 +96,22 @@ class Work:
     def __init__(self, asked, folder):
         self.asked, self.folder, self.began = asked, folder, time.monotonic()
         self.progress = Progress()
-        self.said = Counted(self.progress)
+        self.report = Summary(self.progress)
         self.program = Program(program_of(asked.program), folder, asked.workers)
         self.faults, self.read = 0, set()
         facts = argparse.Namespace(**FACTS, profile=asked.profile, generate=os.path.join(folder, "root"))
-        self.compilers = Compilers(self.said, asked.query_driver, asked.seconds)
-        self.builder = Builder(facts, self.said, Asked(self.compilers, asked), True)
+        self.compilers = Compilers(self.report, asked.query_driver, asked.seconds)
+        self.builder = Builder(facts, self.report, CompilerAdditions(self.compilers, asked), True)
         self.listed, self.pairs = None, []
 
     def prepare(self):
         """Makes the list, and writes it to a file if that was asked for."""
         self.progress("reading %s" % self.asked.build)
-        all_commands = list(commands(self.asked.build, self.said))
+        all_commands = list(commands(self.asked.build, self.report))
         self.progress("asking compilers")
         self.compilers.ask_for(all_commands)
         self.progress("looking for the files of %d units" % len(all_commands))
-        settled(self.builder, all_commands, self.program, self.learn, self.progress)
+        gather_all(self.builder, all_commands, self.program, self.learn, self.progress)
         rows, self.pairs = self.builder.build(all_commands)
         self.listed = list_of(self.builder.asked, rows, self.pairs)
         if self.asked.list:
@@ -127,7 +127,7 @@ class Work:
             file.write(bytes_of(listed))
 
     def learn(self):
-        self.compilers.learn(self.builder.files.asked_of_operators(self.builder.paths))
+        self.compilers.learn(self.builder.files.names_for_operators(self.builder.paths))
 
     def run(self, word):
         """Returns the path of the output of cppunits."""
@@ -145,10 +145,10 @@ class Work:
 
     def end(self):
         """Prints the summary, and returns the exit status."""
-        self.said.end()
+        self.report.end()
         say("%d units, %d with a fault, %d files (%d on the list), %.1f seconds"
             % (len(self.pairs), self.faults, len(self.read), len(self.listed["files"]), time.monotonic() - self.began))
-        return PARTLY if self.faults or self.said.lines else DONE
+        return PARTLY if self.faults or self.report.lines else DONE
 
     def count(self, path):
         """Counts the faults of an output and the files that were read, and yields its bytes in pieces."""
@@ -181,7 +181,7 @@ def deps(work):
         try:
             text = depfile.rule(target, names, headers)
         except Refused as refusal:
-            work.said.add("%s: %s" % (command.file, refusal))
+            work.report.add("%s: %s" % (command.file, refusal))
             continue
         with written(os.path.join(work.asked.into, own[len(front):])) as file:
             file.write(text)

@@ -39,10 +39,10 @@ class Command:
     `compiler` is the word that names the compiler, after ccache and the like.  `asking` has the options that change what the compiler
     answers.  `near` has the directories with a relative name in the command; the names of their files are relative, too."""
 
-    def __init__(self, entry, said):
+    def __init__(self, entry, report):
         self.directory = os.path.abspath(entry["directory"])
         self.file = at(self.directory, entry["file"])
-        self.said, self.output, self.target = said, self.written(entry.get("output")), None
+        self.report, self.output, self.target = report, self.written(entry.get("output")), None
         self.folders = {kind: [] for kind in FOLDERS.values()}
         self.definitions, self.named, self.includes, self.asking, self.near = {}, set(), [], [], set()
         self.language = SUFFIXES.get(os.path.splitext(self.file)[1], "other")
@@ -82,7 +82,7 @@ class Command:
             elif kind == "skips a word":
                 self.ask(word, next(words, ""))
             elif kind == "not read":
-                self.said.add("%s: %s isn't read" % (self.file, word))
+                self.report.add("%s: %s isn't read" % (self.file, word))
 
     def ask(self, option, word=None):
         """Adds an option that changes the compiler's answers; names of directories become absolute."""
@@ -101,7 +101,7 @@ class Command:
         if option in FOLDERS:
             folder = at(self.directory, word)
             if is_folder(folder):
-                self.said.same(os.path.join(self.directory, word), folder)
+                self.report.same(os.path.join(self.directory, word), folder)
                 self.folders[FOLDERS[option]].append(folder)
                 if not os.path.isabs(word):
                     self.near.add(folder)
@@ -110,7 +110,7 @@ class Command:
         elif option == "-U":
             self.forget(word)
             if word in PREDEFINED:
-                self.said.add("%s: -U%s: this name stays defined" % (self.file, word))
+                self.report.add("%s: -U%s: this name stays defined" % (self.file, word))
         elif option == "-include":
             self.includes.append(word)
         elif option == "-x" and word in LANGUAGES - {"none"}:
@@ -124,7 +124,7 @@ class Command:
         try:
             return name and os.fsdecode(os.fsencode(name))
         except UnicodeEncodeError:
-            self.said.add("%s: -o %s: no text" % (self.file, name))
+            self.report.add("%s: -o %s: no text" % (self.file, name))
             return None
 
     def define(self, word):
@@ -132,10 +132,10 @@ class Command:
         word = re.split("[\r\n]", word, maxsplit=1)[0]
         name = defined_name(word)
         if name in NEVER:
-            self.said.add("%s: -D%s: this name may not be defined" % (self.file, word))
+            self.report.add("%s: -D%s: this name may not be defined" % (self.file, word))
             return
         if not is_text(word):
-            self.said.add("%s: -D%s: no UTF-8 text" % (self.file, word))
+            self.report.add("%s: -D%s: no UTF-8 text" % (self.file, word))
             return
         self.forget(name)
         self.definitions[name] = (word.replace("=", " ", 1) if "=" in word else word + " 1").rstrip(" ")
@@ -253,7 +253,7 @@ def unique(words):
     return list(dict.fromkeys(words))
 
 
-def commands(path, said):
+def commands(path, report):
     """Returns the commands of a build's C units."""
     with opened(path) as file:
         entries = read_json(path, file.read())
@@ -261,14 +261,14 @@ def commands(path, said):
         raise Refused("%s is no compile_commands.json: it is to be an array" % path)
     for number, entry in enumerate(entries):
         try:
-            command = Command(entry, said)
+            command = Command(entry, report)
         except (KeyError, TypeError, AttributeError, ValueError) as error:
             raise Refused("%s, entry %d: no `directory`, `file` and `command` or `arguments` (%s)"
                           % (path, number, error)) from None
         if command.language != "c":
-            said.left_out(command.file, "no C file")
+            report.left_out(command.file, "no C file")
         elif not os.path.isfile(command.file):
-            said.left_out(command.file, "there is no such file (is it made by the build?)")
+            report.left_out(command.file, "there is no such file (is it made by the build?)")
         else:
             yield command
 
@@ -289,7 +289,7 @@ def is_name(name):
     return name != "." and 1 <= len(name.encode()) <= MAX_NAME
 
 
-class Said:
+class Report:
     """Reports what a list can't express: each message once, on standard error."""
 
     def __init__(self):

@@ -85,8 +85,8 @@ class Answer:
 class Compilers:
     """Holds answers by compiler and options.  Each question is asked once, several at a time."""
 
-    def __init__(self, said, globs=(), seconds=SECONDS):
-        self.said, self.globs, self.limit = said, globs, Limit(seconds)
+    def __init__(self, report, globs=(), seconds=SECONDS):
+        self.report, self.globs, self.limit = report, globs, Limit(seconds)
         self.answers, self.failed, self.programs = {}, set(), {}
 
     def answer(self, command):
@@ -100,10 +100,10 @@ class Compilers:
         """Gets all answers that these commands need."""
         keys = [key for key in unique(map(self.key, all_commands)) if key not in self.answers]
         self.answers.update({key: None for key in keys})
-        found = self.each(asked, [(*key, self.limit) for key in keys if key[0] is not None])
+        found = self.each(answer_of, [(*key, self.limit) for key in keys if key[0] is not None])
         for key, answer in found.items():
             if answer.macros.pop("__STDC_HOSTED__", None) == "__STDC_HOSTED__ 0":
-                self.said.add("%s: __STDC_HOSTED__ is 0 there, and stays 1 here" % " ".join([key[0], *key[1]]))
+                self.report.add("%s: __STDC_HOSTED__ is 0 there, and stays 1 here" % " ".join([key[0], *key[1]]))
         self.answers.update(found)
 
     def key(self, command):
@@ -113,9 +113,9 @@ class Compilers:
         """Returns the path of the command's compiler, or None if it isn't run, which is reported."""
         key = (command.compiler, command.directory if os.path.dirname(command.compiler) else None)
         if key not in self.programs:
-            path, reason = trusted(command.compiler, command.directory, self.globs)
+            path, reason = trust(command.compiler, command.directory, self.globs)
             if reason:
-                self.said.add("%s: this compiler isn't asked: %s" % (command.compiler or "no word", reason))
+                self.report.add("%s: this compiler isn't asked: %s" % (command.compiler or "no word", reason))
             self.programs[key] = None if reason else path
         return self.programs[key]
 
@@ -127,7 +127,7 @@ class Compilers:
                 fresh = [(operator, name) for operator in OPERATORS for name in sorted(names) if name not in answer.known[operator]]
                 if fresh or not answer.asked:
                     questions.append((*key, self.limit, fresh))
-        for key, (fresh, printed) in self.each(asked_of_operators, questions).items():
+        for key, (fresh, printed) in self.each(operator_values, questions).items():
             self.answers[key].learn(fresh, printed)
 
     def each(self, task, questions):
@@ -152,30 +152,30 @@ class Compilers:
                 raise
         for question, answer in zip(questions, answers):
             if isinstance(answer, NoAnswer):
-                self.said.add("%s: no answer: %s" % (" ".join([question[0], *question[1]]), answer))
+                self.report.add("%s: no answer: %s" % (" ".join([question[0], *question[1]]), answer))
             elif answer is not None:
                 found[question[:2]] = answer
         return found
 
 
-def asked(program, options, limit):
+def answer_of(program, options, limit):
     """Asks a compiler for its directories and macros."""
     folders = folders_of(ask(program, options, ["-v"], False, limit))
     macros = macros_of(ask(program, options, ["-dM"], True, limit))
     return Answer(folders, macros)
 
 
-def asked_of_operators(program, options, limit, pairs):
+def operator_values(program, options, limit, pairs):
     """Asks a compiler for the values of pairs of an operator and a name; returns the pairs and what it prints."""
     return pairs, ask(program, options, ["-P"], True, limit, question_of(pairs))
 
 
 def ask(program, options, question, output, limit, text=b""):
     """Returns what a compiler prints on standard output (if `output`) or on standard error."""
-    return answered([program, "-E", *question, "-x", "c", *options, "-"], text, output, limit)
+    return output_of([program, "-E", *question, "-x", "c", *options, "-"], text, output, limit)
 
 
-def trusted(word, directory, globs):
+def trust(word, directory, globs):
     """Returns the path of a compiler and the reason why it isn't run; the reason is None if it may be run."""
     if not is_text(word) or "\0" in word:
         return None, "its name is no text"
@@ -207,7 +207,7 @@ def found_on_path(word):
     return shutil.which(word, path=os.pathsep.join(folders)) if word and folders else None
 
 
-def answered(words, text, output, limit):
+def output_of(words, text, output, limit):
     """Runs a program in a temporary directory with a text as its input, and returns its output; time and output are limited."""
     with tempfile.TemporaryDirectory() as folder, tempfile.TemporaryFile() as given:
         given.write(text)

@@ -30,8 +30,8 @@ class Files:
     With the profile gnu, `#include_next` and `__has_include` count, too.  With `every`, a name stands for each file that it may be, and a
     name that a macro makes is looked up in `settled`; otherwise a name is the first file found, and a macro's name may be any header."""
 
-    def __init__(self, said, gnu, every=False):
-        self.said, self.gnu, self.every = said, gnu, every
+    def __init__(self, report, gnu, every=False):
+        self.report, self.gnu, self.every = report, gnu, every
         self.lines, self.there, self.below, self.operators, self.nexts = {}, {}, {}, {}, {}
         self.missing, self.settled, self.shadows, self.defines = set(), {}, {}, {}
 
@@ -103,7 +103,7 @@ class Files:
         for folder in folders:
             path = joined(folder, name)
             if self.is_file(path):
-                self.said.same(os.path.join(folder, name), path)
+                self.report.same(os.path.join(folder, name), path)
                 return path
         return None
 
@@ -114,26 +114,26 @@ class Files:
             path = joined(folder, name)
             if self.is_file(path):
                 if ".." in name:
-                    self.said.same(os.path.join(folder, name), path)
+                    self.report.same(os.path.join(folder, name), path)
                 found.append(path)
         return found
 
-    def reach(self, starts, looked):
+    def reach(self, starts, lookup):
         """Returns these files and all files that they reach over a search, in the order in which they are found."""
         reached, passed = dict.fromkeys(starts), set()
         waiting = list(reversed(list(reached)))
         while waiting:
             path = waiting.pop()
-            fresh = [found for found in unique(looked.asked_for(path, passed)) if found not in reached]
+            fresh = [found for found in unique(lookup.files_for(path, passed)) if found not in reached]
             reached.update(dict.fromkeys(fresh))
             waiting += reversed(fresh)
         return list(reached)
 
-    def above(self, paths, wanted, looked):
+    def above(self, paths, wanted, lookup):
         """Returns the wanted files, and those of `paths` from which one of them is reached."""
         includers, reached, waiting = {}, set(wanted), list(wanted)
         for path in paths if waiting else ():
-            for found in looked.asked_for(path):
+            for found in lookup.files_for(path):
                 includers.setdefault(found, []).append(path)
         while waiting:
             fresh = [path for path in includers.get(waiting.pop(), ()) if path not in reached]
@@ -143,7 +143,7 @@ class Files:
 
     def say_shadow(self, path, name, found):
         """Reports a name in angle brackets that is found in an -iquote directory, since a list has one kind of directory."""
-        self.said.add("%s: <%s> is found in an -iquote directory, as %s" % (path, name, found))
+        self.report.add("%s: <%s> is found in an -iquote directory, as %s" % (path, name, found))
 
     def say_shadows(self, members):
         """Reports each such file that is on the list and comes before the right one."""
@@ -155,7 +155,7 @@ class Files:
         """Records a name that a macro makes in this file."""
         self.settled.setdefault(path, {})[name] = None
 
-    def asked_of_operators(self, paths):
+    def names_for_operators(self, paths):
         """Returns the names that these files may ask a compiler's operators for."""
         names = set()
         for path in paths:
@@ -164,13 +164,13 @@ class Files:
         return names
 
 
-class Looked:
+class Lookup:
     """Remembers the files that names stand for over one search: each name is looked for once, and next to each includer's directory once."""
 
     def __init__(self, files, search, quotes):
-        self.files, self.search, self.quotes, self.known, self.said = files, search, quotes, {}, files.said
+        self.files, self.search, self.quotes, self.known, self.report = files, search, quotes, {}, files.report
 
-    def asked_for(self, path, passed=None):
+    def files_for(self, path, passed=None):
         """Yields the files that a file's include lines can ask for, but not for lines in `passed`, to which it adds the others."""
         own = os.path.dirname(path)
         for form, name in self.files.includes(path):
@@ -192,12 +192,12 @@ class Looked:
         for folder in unique((own, *self.search)):
             yield from self.files.headers(folder)
         if self.quotes:
-            self.said.add("%s: a name that a macro makes is also searched in -iquote directories" % path)
+            self.report.add("%s: a name that a macro makes is also searched in -iquote directories" % path)
 
     def named(self, path, own, form, name):
         if name.startswith("/"):
             if not self.files.every:
-                self.said.add("%s: an include line names %s, which is fault 30" % (path, name))
+                self.report.add("%s: an include line names %s, which is fault 30" % (path, name))
             return []
         folders = self.search if form == ANGLE else (own, *self.search)
         if form == EACH or self.files.every:

@@ -4,10 +4,10 @@ import argparse
 import os
 import tempfile
 
-from commands import Said, commands
+from commands import Report, commands
 from common import DONE, PARTLY, parser, run, say, written
-from lists import Builder, Given, bytes_of, list_of
-from runs import Program, settled
+from lists import Additions, Builder, bytes_of, list_of
+from runs import Program, gather_all
 
 TEXT = """\
 Make a list for cppunits from a compile_commands.json of CMake, Meson, Bear or ninja: the C units in their order, each
@@ -69,14 +69,14 @@ def options():
 
 
 def main():
-    asked, said = options(), Said()
-    builder = Builder(asked, said, Given(asked.system, asked.define), asked.program is not None)
-    all_commands = list(commands(asked.build, said))
+    asked, report = options(), Report()
+    builder = Builder(asked, report, Additions(asked.system, asked.define), asked.program is not None)
+    all_commands = list(commands(asked.build, report))
     if asked.program is None:
         builder.gather(all_commands)
     else:
         with tempfile.TemporaryDirectory() as folder:
-            settled(builder, all_commands, Program(asked.program, folder))
+            gather_all(builder, all_commands, Program(asked.program, folder))
     rows, pairs = builder.build(all_commands)
     data = bytes_of(list_of(asked, rows, pairs))
     with written(asked.output) as file:
@@ -86,8 +86,8 @@ def main():
     for name in sorted(builder.files.missing if asked.missing else ()):
         say("not found: %s" % name)
     say("root %s, %d units, %d files, %d not expressed, %d names of headers not found"
-        % (asked.root or builder.root, len(pairs), len(rows), len(said.lines), len(builder.files.missing)))
-    return PARTLY if said.lines else DONE
+        % (asked.root or builder.root, len(pairs), len(rows), len(report.lines), len(builder.files.missing)))
+    return PARTLY if report.lines else DONE
 
 
 if __name__ == "__main__":

@@ -4,13 +4,13 @@ import time
 
 from commands import defined_name, is_name, unique
 from common import GENERATED, Refused, compact, written
-from files import Files, Looked
+from files import Files, Lookup
 
 MAX_NAMES, MAX_INPUT, MAX_FILE = 65535, 268435456, 16777216
 MONTHS = "Jan Feb Mar Apr May Jun Jul Aug Sep Oct Nov Dec".split()
 
 
-class Given:
+class Additions:
     """Holds the directories and definitions that all units get in addition to those of their commands."""
 
     def __init__(self, folders, texts):
@@ -28,9 +28,9 @@ class Given:
 class Builder:
     """Makes a list: rows of names below a root, units, and generated files."""
 
-    def __init__(self, asked, said, given, every=False):
-        self.asked, self.said, self.given = asked, said, given
-        self.files = Files(said, asked.profile == "gnu", every)
+    def __init__(self, asked, report, additions, every=False):
+        self.asked, self.report, self.additions = asked, report, additions
+        self.files = Files(report, asked.profile == "gnu", every)
         self.made, self.root, self.paths, self.computing, self.searches, self.nexts = {}, None, [], set(), {}, {}
         # by search: the names of its directories below the root
         self.folders = {}
@@ -58,38 +58,38 @@ class Builder:
             groups.setdefault(self.search(command), []).append(command)
         self.computing = set()
         for (search, quotes), members in groups.items():
-            looked = Looked(self.files, search, quotes)
-            found = self.files.reach([path for command in members for path in self.starts(command)], looked)
+            lookup = Lookup(self.files, search, quotes)
+            found = self.files.reach([path for command in members for path in self.starts(command)], lookup)
             reached.update(dict.fromkeys(found))
             if self.files.every:
-                self.computing.update(self.computing_of(members, found, looked))
-                self.note_next(members, found, looked)
+                self.computing.update(self.computing_of(members, found, lookup))
+                self.note_next(members, found, lookup)
         self.files.say_shadows(reached)
         self.paths = list(reached)
 
-    def computing_of(self, members, found, looked):
+    def computing_of(self, members, found, lookup):
         """Returns the units that reach an include line whose name is made by a macro that some file or command defines."""
         macros = {path: names for path in found if (names := self.files.computed_by(path))}
         if not macros:
             return []
         names = set().union(*macros.values())
         defined = self.files.defined_of(names, found).union(*(names & self.macros(command) for command in members))
-        above = self.files.above(found, [path for path, own in macros.items() if own & defined], looked)
+        above = self.files.above(found, [path for path, own in macros.items() if own & defined], lookup)
         return [command for command in members if not above.isdisjoint(self.starts(command))]
 
     def starts(self, command):
         """Returns a unit's file, and the files that -include names."""
         return [command.file, *(path for word in command.includes if (path := self.first_of(command, word)) is not None)]
 
-    def note_next(self, members, found, looked):
+    def note_next(self, members, found, lookup):
         """Records the value of `__has_include_next` for units over one search; if files differ, for each unit by itself."""
         if not self.files.nexts:
             return
-        search = looked.search
+        search = lookup.search
         answers = self.files.next_answers(found, search, set().union(*map(self.macros, members)))
         for command in members:
             if len(answers) > 1:
-                own = self.files.next_answers(self.files.reach(self.starts(command), looked), search, self.macros(command))
+                own = self.files.next_answers(self.files.reach(self.starts(command), lookup), search, self.macros(command))
             else:
                 own = answers
             self.nexts[command] = next(iter(own)) if len(own) == 1 else self.taken.get(command)
@@ -99,7 +99,7 @@ class Builder:
 
     def macros(self, command):
         """Returns the names that a unit's definitions define."""
-        return {*self.given.definitions(command), *command.definitions}
+        return {*self.additions.definitions(command), *command.definitions}
 
     def take_next(self, command, answer):
         """Assumes a value of `__has_include_next` for a unit whose files may disagree; None defines no value."""
@@ -108,7 +108,7 @@ class Builder:
     def search(self, command):
         """Returns a command's directories, and how many of them are for names in quotes only."""
         if command not in self.searches:
-            self.searches[command] = command.search(self.given.folders(command))
+            self.searches[command] = command.search(self.additions.folders(command))
         return self.searches[command]
 
     def first_of(self, command, word):
@@ -130,9 +130,9 @@ class Builder:
         """Returns a file's name in the list, or None if the list can't have it, which is reported."""
         name = self.below(path)
         if name is None:
-            self.said.add("%s: not below the root %s" % (path, self.root))
+            self.report.add("%s: not below the root %s" % (path, self.root))
         elif not is_name(name):
-            self.said.add("%s: no name that a list may hold (UTF-8, no control bytes, at most 1,024 bytes)" % path)
+            self.report.add("%s: no name that a list may hold (UTF-8, no control bytes, at most 1,024 bytes)" % path)
         else:
             return name
         return None
@@ -152,15 +152,15 @@ class Builder:
 
     def defined(self, command):
         """Returns a command's definitions; before them the ones for all units, without names that the command itself defines or undefines."""
-        given = self.given.definitions(command)
+        added = self.additions.definitions(command)
         if self.nexts.get(command) is not None:
-            given = {"__has_include_next": "__has_include_next(x) %d" % self.nexts[command], **given}
-        return [text for name, text in given.items() if name not in command.named] + list(command.definitions.values())
+            added = {"__has_include_next": "__has_include_next(x) %d" % self.nexts[command], **added}
+        return [text for name, text in added.items() if name not in command.named] + list(command.definitions.values())
 
     def folder(self, path):
         name = self.below(path)
         if name is None or (name != "." and not is_name(name)):
-            self.said.add("%s: no directory below the root %s" % (path, self.root))
+            self.report.add("%s: no directory below the root %s" % (path, self.root))
             return None
         return name
 
@@ -168,10 +168,10 @@ class Builder:
         path = self.first_of(command, word)
         name = names.get(path)
         if name is None:
-            self.said.add("%s: -include %s: there is no such file" % (command.file, word))
+            self.report.add("%s: -include %s: there is no such file" % (command.file, word))
             return None
         if not (self.asked.inline or self.asked.generate):
-            self.said.add("%s: -include %s needs --inline or --generate" % (command.file, word))
+            self.report.add("%s: -include %s needs --inline or --generate" % (command.file, word))
             return None
         return name
 
@@ -182,7 +182,7 @@ class Builder:
             return self.made[key]["name"]
         name = "%s/%d/%s" % (GENERATED, len(self.made), file)
         if not is_name(name) or any('"' in word for word in (*first, file)):
-            self.said.add("%s: -include %s: a name that no include line can ask for" % (command.file, " ".join(first)))
+            self.report.add("%s: -include %s: a name that no include line can ask for" % (command.file, " ".join(first)))
             return file
         up = "../" * name.count("/")
         text = "".join('#include "%s%s"\n' % (up, word) for word in (*first, file))
@@ -200,7 +200,7 @@ class Builder:
         with open(path, "rb") as file:
             data = file.read(MAX_FILE + 1)
         if len(data) > MAX_FILE:
-            self.said.add("%s: more than %d bytes" % (path, MAX_FILE))
+            self.report.add("%s: more than %d bytes" % (path, MAX_FILE))
             return None
         try:
             return {"name": name, "text": data.decode()}

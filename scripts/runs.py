@@ -47,11 +47,11 @@ class Program:
             errors.seek(0)
             self.judge(process.returncode, errors.read(1000).decode("utf-8", "replace").strip().split("\n")[0])
 
-    def judge(self, status, said):
+    def judge(self, status, message):
         """Refuses a run that failed."""
         if status not in (0, 1):
             reason = STATUSES.get(status, "status %d" % status)
-            raise Refused("%s: %s%s" % (self.path, reason, said and ": " + said))
+            raise Refused("%s: %s%s" % (self.path, reason, message and ": " + message))
 
     def over(self, listed, root):
         """Returns the root; if files were generated, a directory with them and with links to what is in the root."""
@@ -80,16 +80,16 @@ def whole_lines(stream):
         yield rest
 
 
-def settled(builder, all_commands, program, asked=lambda: None, progress=lambda text: None):
+def gather_all(builder, all_commands, program, ask=lambda: None, progress=lambda text: None):
     """Gathers the files of all units, and adds the files of names that macros make, until no unit asks for more.
 
-    `asked` is called after each gathering, because the questions to compilers depend on the files.  A name that cppunits doesn't find is
+    `ask` is called after each gathering, because the questions to compilers depend on the files.  A name that cppunits doesn't find is
     looked for next to its includer and in each directory.  So is each name that a unit with such include lines found, since another file of
     that name may come first."""
 
     def gather():
         builder.gather(all_commands)
-        asked()
+        ask()
         decide(builder, program)
 
     gather()
@@ -99,14 +99,14 @@ def settled(builder, all_commands, program, asked=lambda: None, progress=lambda 
             return
         progress("round %d: %d units with names that macros make" % (number, len(waiting)))
         before = len(builder.paths)
-        waiting = told(builder, waiting, program)
+        waiting = asking_units(builder, waiting, program)
         gather()
         if len(builder.paths) == before:
             return
-    builder.said.add("%d units ask for ever more names that macros make: no more than %d rounds are gone" % (len(waiting), MAX_ROUNDS))
+    builder.report.add("%d units ask for ever more names that macros make: no more than %d rounds are gone" % (len(waiting), MAX_ROUNDS))
 
 
-def ran(builder, some_commands, program):
+def run_units(builder, some_commands, program):
     """Runs these units, and yields each command with the paths that its unit opened, its fault, and the paths of the list."""
     rows, pairs = builder.build(some_commands)
     listed = list_of(builder.asked, rows, pairs)
@@ -128,7 +128,7 @@ def decide(builder, program):
         builder.take_next(command, builder.taken.get(command) is not False)
     for last in (False, True):
         differing = []
-        for command, opened, _, _ in ran(builder, waiting, program) if waiting else ():
+        for command, opened, _, _ in run_units(builder, waiting, program) if waiting else ():
             if builder.files.next_answers(opened, builder.search(command)[0], builder.macros(command)) - {builder.taken[command]}:
                 differing.append(command)
         for command in differing:
@@ -136,36 +136,36 @@ def decide(builder, program):
         waiting = differing
 
 
-def told(builder, waiting, program):
+def asking_units(builder, waiting, program):
     """Runs these units, and returns those that ask for files which aren't on the list."""
-    lacking, asking = Lacking(builder), []
-    for command, found, fault, names in ran(builder, waiting, program):
-        asked = lacking.asked(command, found) + lacking.faulted(command, fault, names)
-        if asked:
+    missing, asking = MissingFiles(builder), []
+    for command, found, fault, names in run_units(builder, waiting, program):
+        pairs = missing.of_files(command, found) + missing.of_fault(command, fault, names)
+        if pairs:
             asking.append(command)
-        for pair in asked:
+        for pair in pairs:
             builder.files.settle(*pair)
     return asking
 
 
-class Lacking:
+class MissingFiles:
     """Finds files that a unit looks for under names that macros make and that aren't on the list: pairs of an includer and a name."""
 
     def __init__(self, builder):
         self.files, self.builder, self.here = builder.files, builder, set(builder.paths)
         self.searches, self.known = {}, {}
 
-    def faulted(self, command, fault, names):
+    def of_fault(self, command, fault, names):
         """Returns the pair of the unit's fault, if the fault is that there is no such file and yet there is one."""
         words = (fault or "").split(" ", 2)
         if words[0] != NO_FILE or len(words) < 3:
             return []
         row, name = int(words[1].split(":")[0]), os.fsdecode(plain(words[2].encode()))
-        if row >= len(names) or not self.is_lacking(names[row], self.builder.search(command)[0], name):
+        if row >= len(names) or not self.is_missing(names[row], self.builder.search(command)[0], name):
             return []
         return [(names[row], name)]
 
-    def asked(self, command, found):
+    def of_files(self, command, found):
         """Returns pairs for the files that were read: each may have been found by a name that a macro made, and not be the first of that name."""
         includers = [path for path in found if path in self.files.lines and self.files.computed_by(path)]
         if not includers:
@@ -177,11 +177,11 @@ class Lacking:
                 key = number, includer, path
                 if key not in self.known:
                     self.known[key] = [(includer, name) for name in names_of(path, (os.path.dirname(includer), *search))
-                                       if self.is_lacking(includer, search, name)]
+                                       if self.is_missing(includer, search, name)]
                 pairs += self.known[key]
         return pairs
 
-    def is_lacking(self, includer, search, name):
+    def is_missing(self, includer, search, name):
         if name.startswith("/"):
             return False
         return any(path not in self.here for path in self.files.each((os.path.dirname(includer), *search), name))

@@ -1,11 +1,12 @@
 #!/bin/sh
-# The full check.  First `rt ci`, and whether the crates' tests call each public function.  Then tests of the program that it
-# builds: rows of conditions, macro replacement, files, budgets and tokens; files compared with plain passes of phases 1 and 2;
-# the tests of the scripts; the examples of the README and of docs/; cut texts and lists; the limits that take no seconds
-# (names, contents of a directory, includes, conditions, arguments, `#line`, options, units, files, contents of a list,
-# definitions); which lists are refused, and the output for the others; all depths at once in a small stack; streams and files
-# that fail; and runs with refused memory.  The last line is `N passed, N failed` for all of it.  Before it stand the missed
-# tests, each with the missing program and its Debian package.  Longer tests are in tests/hostile.sh.
+# The full check.  First `rt ci`, and whether the crates' tests call each public function.  Then tests of the program that
+# it builds: rows of conditions, macro replacement, files, budgets and tokens; files compared with plain passes of phases 1
+# and 2; the tests of the scripts; the examples of the README and of docs/; what docs/ says of the crates; cut texts and
+# lists; the limits that take no seconds (names, contents of a directory, includes, conditions, arguments, `#line`, options,
+# units, files, contents of a list, definitions); which lists are refused, and the output for the others; all depths at once
+# in a small stack; streams and files that fail; and runs with refused memory.  The last line is `N passed, N failed` for
+# all of it.  Before it stand the missed tests, each with the missing program and its Debian package.  Longer tests are in
+# tests/hostile.sh.
 #
 #     tests/all.sh [PROGRAM]     with a PROGRAM, no `rt ci`: only the other tests, of this program
 case ${1:-/} in
@@ -99,6 +100,8 @@ if has python3 "the tests of the scripts and documents"; then
     begin python3 tests/faults_tests.py
     begin python3 tests/projects_tests.py
     begin python3 tests/docs_examples.py
+    begin python3 tests/docs_specification.py
+    begin python3 tests/house_tests.py
     begin python3 tests/serving_tests.py
     begin python3 tests/truncated.py
     begin python3 tests/hostile_limits.py -k test_a_name -k test_units -k test_files -k test_a_content -k test_definitions -k Text. -k Options.

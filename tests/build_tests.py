@@ -75,9 +75,9 @@ class Builds(Folder):
 
     def tokens(self, commands, *words, **more):
         """Returns the spellings of each unit's tokens, and the lines on standard error."""
-        printed, said = self.build("dump", commands, *words, **more)
+        printed, messages = self.build("dump", commands, *words, **more)
         units = re.split(r"^unit .*\n", printed, flags=re.MULTILINE)[1:]
-        return [[spelled(word.encode()) for word in re.findall(r"^tok \S+ \S+ \S+ (.*)$", unit, re.MULTILINE)] for unit in units], said
+        return [[spelled(word.encode()) for word in re.findall(r"^tok \S+ \S+ \S+ (.*)$", unit, re.MULTILINE)] for unit in units], messages
 
     def asked(self):
         try:
@@ -95,10 +95,10 @@ class Compilers(Builds):
         write(self.top, {"a.c": "#include <sys.h>\nWHO F(1, 2) __STDC_VERSION__ __STDC_HOSTED__\n#if defined __has_include && __has_attribute(good)\n"
                                 "good\n#endif\n#define OWN(a) __has_attribute(a)\n#if OWN(good)\nown\n#endif\n"
                                 "#if __has_attribute(bad)\nbad\n#endif\n#ifdef __has_builtin\nno\n#endif\n"})
-        tokens, said = self.tokens(["gcc -DX -c a.c"])
+        tokens, messages = self.tokens(["gcc -DX -c a.c"])
         self.assertEqual(tokens, [["int", "sys", ";", "1", "1", "2", "199901L", "1", "good", "own"]])
-        self.assertRegex(said[0], r"^build.py: 1 units, 0 with a fault, 2 files \(2 on the list\), [0-9.]+ seconds$")
-        self.assertEqual(len(said), 1)
+        self.assertRegex(messages[0], r"^build.py: 1 units, 0 with a fault, 2 files \(2 on the list\), [0-9.]+ seconds$")
+        self.assertEqual(len(messages), 1)
 
     def test_profiles(self):
         """Wants no operators and no `__STDC_VERSION__` of the compiler in a profile that doesn't allow them."""
@@ -141,9 +141,9 @@ class Compilers(Builds):
 
     def test_compilers_that_are_not_there(self):
         for word in "nowhere-gcc", "/usr/nowhere/gcc", "", "./gcc":
-            tokens, said = self.tokens([["%s" % word, "-Isys", "-c", "a.c"]], status=1)
+            tokens, messages = self.tokens([["%s" % word, "-Isys", "-c", "a.c"]], status=1)
             self.assertEqual(tokens, [["int", "sys", ";", "WHO"]])
-            self.assertIn("this compiler isn't asked: there is no such program", said[0])
+            self.assertIn("this compiler isn't asked: there is no such program", messages[0])
 
     def test_what_is_run_is_what_is_trusted(self):
         """Refuses other names, relative paths, and paths elsewhere; runs each of them if --query-driver allows it."""
@@ -153,9 +153,9 @@ class Compilers(Builds):
         for word, reason in (("nocc", "its name is none"), ("here/gcc", "its path is relative"), ("gcc; touch x", "its name is none"),
                              (self.path("here/gcc"), "neither on PATH nor below /usr or /opt"),
                              ("/usr/../%s/here/gcc" % self.top, "neither on PATH")):
-            tokens, said = self.tokens([[word, "-Isys", "-c", "a.c"]], status=1)
+            tokens, messages = self.tokens([[word, "-Isys", "-c", "a.c"]], status=1)
             self.assertEqual(tokens, [["int", "sys", ";", "WHO"]])
-            self.assertEqual((reason in said[0], "--query-driver" in said[0], self.asked()), (True, True, []), said)
+            self.assertEqual((reason in messages[0], "--query-driver" in messages[0], self.asked()), (True, True, []), messages)
         self.assertEqual(self.tokens([["here/gcc", "-c", "a.c"]], "--query-driver", self.path("here/*"))[0], [["int", "sys", ";", "1"]])
         self.assertNotEqual(self.asked(), [])
         self.assertFalse(os.path.exists(self.path("x")))
@@ -163,8 +163,8 @@ class Compilers(Builds):
     def test_words_that_are_no_text(self):
         for words in ["\ud800/gcc"], ["g\0cc"], ["gcc", "--sysroot=\ud800"], ["gcc", "-isysroot", "\0"], ["gcc", "-o", "\ud800"]:
             self.compiler("bin/gcc")
-            said = self.build("deps", [[*words, "-Isys", "-c", "a.c"]], status=1)[1]
-            self.assertRegex(said[0], "this compiler isn't asked: its name is no text|no answer|no text")
+            messages = self.build("deps", [[*words, "-Isys", "-c", "a.c"]], status=1)[1]
+            self.assertRegex(messages[0], "this compiler isn't asked: its name is no text|no answer|no text")
 
     def test_a_path_that_path_has(self):
         path = self.compiler("bin/arm-none-eabi-gcc-12.2")
@@ -173,10 +173,10 @@ class Compilers(Builds):
     def test_compilers_that_hang(self):
         self.compiler("bin/gcc", "#!/bin/sh\necho $$ >> %(top)s/numbers\nsleep 100 &\necho $! >> %(top)s/numbers\nwait\n")
         began = time.monotonic()
-        tokens, said = self.tokens(["gcc -O%d -Isys -c a.c" % (n % 4) for n in range(8)], "--seconds", "0.3", status=1)
+        tokens, messages = self.tokens(["gcc -O%d -Isys -c a.c" % (n % 4) for n in range(8)], "--seconds", "0.3", status=1)
         self.assertLess(time.monotonic() - began, 10)
         self.assertEqual(tokens, [["int", "sys", ";", "WHO"]] * 8)
-        self.assertIn("no answer: it takes more than 0.3 seconds", said[0])
+        self.assertIn("no answer: it takes more than 0.3 seconds", messages[0])
         with open(self.path("numbers")) as file:
             numbers = file.read().split()
         self.assertEqual([number for number in numbers if self.runs(number)], [])
@@ -194,8 +194,8 @@ class Compilers(Builds):
                              ("echo '#define 1' >&2; echo '#define 1'", "it names no directories"), (folders + "echo '#define 1'", "it names no macros"),
                              ("cat /dev/zero; cat /dev/zero >&2", "no answer: it ")):
             self.compiler("bin/gcc", "#!/bin/sh\n%s\n" % text)
-            tokens, said = self.tokens(["gcc -Isys -c a.c"], "--seconds", "3", status=1)
-            self.assertEqual((tokens, reason in said[0]), ([["int", "sys", ";", "WHO"]], True), said)
+            tokens, messages = self.tokens(["gcc -Isys -c a.c"], "--seconds", "3", status=1)
+            self.assertEqual((tokens, reason in messages[0]), ([["int", "sys", ";", "WHO"]], True), messages)
         self.compiler("bin/gcc", "#!")
         self.assertIn("no answer", self.tokens(["gcc -Isys -c a.c"], status=1)[1][0])
 
@@ -218,16 +218,16 @@ class Lists(Builds):
 
     def names(self, commands, *words, **more):
         """Returns the tokens of units, and the names on the list."""
-        tokens, said = self.tokens(commands, "--list", self.path("list.json"), *words, **more)
+        tokens, messages = self.tokens(commands, "--list", self.path("list.json"), *words, **more)
         with open(self.path("list.json")) as file:
             listed = json.load(file)
-        return tokens, sorted("/" + row["name"] for row in listed["files"]), said
+        return tokens, sorted("/" + row["name"] for row in listed["files"]), messages
 
     def check(self, commands, wanted, names):
-        tokens, listed, said = self.names(commands)
+        tokens, listed, messages = self.names(commands)
         self.assertEqual(tokens, wanted)
         self.assertEqual([os.path.relpath(name, self.top) for name in listed], sorted(names))
-        self.assertEqual(len(said), 1, said)
+        self.assertEqual(len(messages), 1, messages)
 
     def test_every_file_that_a_name_may_be(self):
         write(self.top, {"a.c": '#include <h.h>\n#include "b/q.h"\n', "one/h.h": "#include_next <h.h>\n", "two/h.h": "two\n", "two/b/q.h": "no\n",
@@ -240,8 +240,8 @@ class Lists(Builds):
         """Wants a report if a name in angle brackets is found in such a directory, and only then."""
         write(self.top, {"a.c": "#include <h.h>\n", "b/b.c": '#include "h.h"\n', "q/h.h": "q\n", "i/h.h": "i\n"})
         self.check(["gcc -iquote q -Ii -c a.c"], [["i"]], ["a.c", "i/h.h"])
-        said = self.names(["gcc -iquote q -Ii -c a.c", ("gcc -iquote q -c b/b.c", "b/b.c")], status=1)[2]
-        self.assertEqual(said[0], "build.py: %s/a.c: <h.h> is found in an -iquote directory, as %s/q/h.h" % (self.top, self.top))
+        messages = self.names(["gcc -iquote q -Ii -c a.c", ("gcc -iquote q -c b/b.c", "b/b.c")], status=1)[2]
+        self.assertEqual(messages[0], "build.py: %s/a.c: <h.h> is found in an -iquote directory, as %s/q/h.h" % (self.top, self.top))
 
     def test_whether_there_is_a_next_file(self):
         """Tests the way in which clang's headers ask: a definition has the answer if it is the same for all files that a unit opens."""
@@ -310,15 +310,15 @@ class Lists(Builds):
         """Stops for a unit that always asks for more."""
         files = {"inc/%d.h" % n: "#define N <%d.h>\n#include N\n#undef N\n" % (n + 1) for n in range(70)}
         write(self.top, {"a.c": "#include <0.h>\n", "inc/70.h": "", **files})
-        printed, said = self.build("faults", ["gcc -Iinc -c a.c"], status=1)
-        self.assertIn("1 units ask for ever more names that macros make: no more than 64 rounds are gone", said[0])
+        printed, messages = self.build("faults", ["gcc -Iinc -c a.c"], status=1)
+        self.assertIn("1 units ask for ever more names that macros make: no more than 64 rounds are gone", messages[0])
         self.assertIn("inc/64.h:2:1: error: no such file: 65.h [fault 31]\n    2 | #include N\n", printed)
 
     def test_names_that_are_not_there_are_told_where_a_unit_faults(self):
         write(self.top, {"a.c": "#if 0\n#include <none.h>\n#endif\n", "b.c": "\n#include \"gone%d.h\"\n"})
-        printed, said = self.build("faults", ["gcc -c a.c", ("gcc -c b.c", "b.c")], status=1)
+        printed, messages = self.build("faults", ["gcc -c a.c", ("gcc -c b.c", "b.c")], status=1)
         self.assertEqual(printed.splitlines()[:2], ["b.c:2:1: error: no such file: gone%d.h [fault 31]", "    2 | #include \"gone%d.h\""])
-        self.assertRegex("\n".join(said), r"^build.py: 2 units, 1 with a fault, 2 files \(2 on the list\), \S+ seconds$")
+        self.assertRegex("\n".join(messages), r"^build.py: 2 units, 1 with a fault, 2 files \(2 on the list\), \S+ seconds$")
 
     def test_the_lines_above_a_fault(self):
         """Tests this also for a file of -include, and for the JSON form."""
@@ -335,8 +335,8 @@ class Lists(Builds):
 
     def test_a_file_that_is_included_first(self):
         write(self.top, {"cfg.h": "cfg\n", "a.c": "WHO\n"})
-        tokens, said = self.tokens(["gcc -include cfg.h -c a.c"], "--list", "list.json")
-        self.assertEqual((tokens, len(said)), ([["cfg", "1"]], 1))
+        tokens, messages = self.tokens(["gcc -include cfg.h -c a.c"], "--list", "list.json")
+        self.assertEqual((tokens, len(messages)), ([["cfg", "1"]], 1))
         with open(self.path("list.json"), "rb") as file:
             self.assertIn(b" i+ cfg\n", cppunits("dump", stdin=file).stdout)
         self.build("deps", ["gcc -include cfg.h -o x.o -c a.c"])
@@ -355,9 +355,9 @@ class Lists(Builds):
                 self.assertEqual(file.read(), " \\\n  ".join([target + ":", *names]) + "\n" + "".join(name + ":\n" for name in names[1:]))
 
     def test_commands_that_are_left_out(self):
-        tokens, said = self.tokens([("g++ -c b.cc", "b.cc"), ("g++ -c c.cc", "c.cc"), "gcc -c a.c", ("gcc -c none.c", "none.c")])
+        tokens, messages = self.tokens([("g++ -c b.cc", "b.cc"), ("g++ -c c.cc", "c.cc"), "gcc -c a.c", ("gcc -c none.c", "none.c")])
         self.assertEqual(len(tokens), 1)
-        self.assertEqual(said[:2], ["build.py: 2 commands are left out: no C file",
+        self.assertEqual(messages[:2], ["build.py: 2 commands are left out: no C file",
                                     "build.py: 1 commands are left out: there is no such file (is it made by the build?)"])
 
     def test_list_from_build_asks_the_program(self):
@@ -374,10 +374,10 @@ class Lists(Builds):
         write(self.top, files)
         began = time.monotonic()
         commands = [("gcc -O%d -DN=%d -Iinc -o %d.o -c src/%d.c" % (n % 3, n, n, n), "src/%d.c" % n) for n in range(5000)]
-        printed, said = self.build("faults", commands)
+        printed, messages = self.build("faults", commands)
         self.assertLess(time.monotonic() - began, 60)
         self.assertEqual((printed, len(self.asked())), ("", 9))
-        self.assertIn("5000 units, 0 with a fault, 5101 files", said[0])
+        self.assertIn("5000 units, 0 with a fault, 5101 files", messages[0])
 
 
 class Runs(Builds):
@@ -392,11 +392,11 @@ class Runs(Builds):
         ours, theirs = pty.openpty()
         done = subprocess.run(self.words("faults"), cwd=self.top, env=self.environment(), stdout=subprocess.PIPE, stderr=theirs, check=False)
         os.close(theirs)
-        said = os.read(ours, 65536).decode()
+        messages = os.read(ours, 65536).decode()
         os.close(ours)
         self.assertEqual(done.returncode, 0)
-        self.assertIn("\r\x1b[Krunning 1 units over 2 files", said)
-        self.assertRegex(said, "\r\x1b\\[Kbuild.py: 1 units, 0 with a fault")
+        self.assertIn("\r\x1b[Krunning 1 units over 2 files", messages)
+        self.assertRegex(messages, "\r\x1b\\[Kbuild.py: 1 units, 0 with a fault")
 
     def test_workers_are_the_programs(self):
         """Wants the given number of workers, or the program's own, in each run: those for names that macros make, and that for the units."""
@@ -441,8 +441,8 @@ class Runs(Builds):
         for text, reason in (("exit 3", "it refuses the list"), ("exit 4", "it is out of memory"), ("exit 77", "status 77"),
                              ("kill -9 $$", "status -9"), ("echo no >&2; exit 5", "it can't read or write: no")):
             self.compiler("bin/cppunits", "#!/bin/sh\n%s\n" % text)
-            _, said = self.build("deps", ["gcc -c a.c"], "--program", self.path("bin/cppunits"), status=3)
-            self.assertEqual(said, ["build.py: %s: %s" % (self.path("bin/cppunits"), reason)])
+            _, messages = self.build("deps", ["gcc -c a.c"], "--program", self.path("bin/cppunits"), status=3)
+            self.assertEqual(messages, ["build.py: %s: %s" % (self.path("bin/cppunits"), reason)])
         self.assertIn("there is no such program (--program names one)", self.build("deps", ["gcc -c a.c"], "--program", "none", status=3)[1][0])
         self.compiler("bin/cppunits", "#!/bin/sh\necho nonsense\n")
         self.build("deps", ["gcc -c a.c"], "--program", self.path("bin/cppunits"), status=3)
@@ -477,7 +477,7 @@ class Real(Builds):
                    ["-std=c11", "-fPIC", "-D_POSIX_C_SOURCE=200809L"]]
         commands = [(["gcc", *more, *named, "-Iinc", "-c", "src/a.c"], "src/a.c") for more in options[:2] + options[3:]]
         commands += [(["gcc", *more, "-Iinc", "-c", "src/b.c"], "src/b.c") for more in options]
-        tokens, said = self.tokens(commands, "--list", "list.json")
+        tokens, messages = self.tokens(commands, "--list", "list.json")
         for (words, file), found in zip(commands, tokens):
             text = re.sub("(?m)^#pragma.*", "", well([*words, "-E", "-P"], cwd=self.top).decode())
             self.assertTrue(found == TOKEN.findall(text), words)
@@ -490,7 +490,7 @@ class Real(Builds):
                 found = names_of(rule.read())
             wanted = names_of(well([*words, "-M"], cwd=self.top).decode())
             self.assertEqual(found, wanted, words)
-        self.assertEqual(len(said), 1, said)
+        self.assertEqual(len(messages), 1, messages)
         with open(self.path("list.json")) as file:
             self.assertNotIn(self.path("inc/never.h")[1:], file.read())
 

@@ -3,8 +3,8 @@
 
     tests/called_tests.py [-k NAME]
 
-Public is what a library's lib.rt exports: functions, and the functions of exported types.  A law takes nothing, returns nothing and does
-nothing, so no test has to call it.  A method counts as called if a crate of tests calls a method of that name, for any value.
+Public is what a library's lib.rt exports: functions, and the functions of exported types.  A theorem takes nothing (or `&self`), returns
+nothing and does nothing, so no test has to call it.  A method counts as called if a crate of tests calls a method of that name, for any value.
 """
 import glob
 import os
@@ -17,7 +17,7 @@ LIBRARIES = ("pptext", "ppmacro", "ppexpand", "ppexpr", "ppshelf", "ppunit", "pp
 TESTS = ("pptests", "ppshelftests", "ppruntests")
 EXPORT = re.compile(r"^pub use ([^;]*);", re.MULTILINE)
 ALIAS = re.compile(r"^pub type (\w+)(?:<[^>]*>)? = (\w+)<", re.MULTILINE)
-# the type of an `impl`; or a function, its first parameter, and whether it takes and returns nothing
+# the type of an `impl`; or a function, its first parameter, and whether it has no other and returns nothing
 ITEM = re.compile(
     r"^impl\b(?P<impl>[^{;]*)|^(?P<space> *)pub (?:const )?fn (?P<name>\w+)(?:<[^(]*>)?\((?P<first>[^,)]*)(?P<law>\)$)?", re.MULTILINE)
 TYPE = re.compile(r"(?:.*\bfor\s+)?(?:<[^{]*?>\s*)?([A-Z]\w*)", re.DOTALL)
@@ -30,7 +30,7 @@ def texts(crate):
 
 
 def public(crate):
-    """Yields patterns of calls of a library's public functions, without its laws."""
+    """Yields patterns of calls of a library's public functions, without its theorems."""
     with open(os.path.join(TOP, "crates", crate, "src", "lib.rt")) as file:
         exported = set(re.findall(r"\w+", " ".join(EXPORT.findall(file.read()))))
     for text in texts(crate):
@@ -38,7 +38,7 @@ def public(crate):
         for item in ITEM.finditer(text):
             if item["name"] is None:
                 owner = TYPE.match(item["impl"].strip())[1]
-            elif (owner if item["space"] else item["name"]) in exported and (item["first"] or item["law"] is None):
+            elif (owner if item["space"] else item["name"]) in exported and not (item["law"] and item["first"] in ("", "&self")):
                 method = r"\." if item["first"].strip().endswith("self") else r"\b%s::" % owner
                 yield (method if item["space"] else r"(?<![\w.])") + item["name"] + r"\("
 
@@ -50,7 +50,7 @@ def called():
     return re.sub(r"\b\w+(?=::)", lambda name: aliases.get(name[0], name[0]), tests)
 
 
-class Called(unittest.TestCase):
+class Calls(unittest.TestCase):
     def test_each_public_function_is_called(self):
         tests = called()
         for crate in LIBRARIES:
@@ -61,4 +61,4 @@ class Called(unittest.TestCase):
 
 
 if __name__ == "__main__":
-    main()
+    main(runs_program=False)

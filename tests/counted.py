@@ -115,7 +115,7 @@ STATUS = """status:
 """
 
 
-def main():
+def main(runs_program=True):
     """Runs the tests of the calling file, and prints the missed tests and the counts."""
     words = sys.argv[1:]
     if words in (["--help"], ["-h"]):
@@ -123,7 +123,7 @@ def main():
         sys.exit(0)
     if words and os.path.isfile(words[0]):
         os.environ["CPPUNITS"] = os.path.abspath(words.pop(0))
-    if not os.access(program(), os.X_OK):
+    if runs_program and not os.access(program(), os.X_OK):
         print("%s isn't there: build it by `rt run` in crates/cppunits, or name another by CPPUNITS" % program())
         print("0 passed, 1 failed")
         sys.exit(1)

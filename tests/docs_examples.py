@@ -39,6 +39,7 @@ HOLDS = re.compile(r"`(?P<file>[\w./]+)` holds$")
 COMPILER = re.compile(r"- (?P<name>gcc|clang)(?P<gives> gives)?: (?:`(?P<words>.+)`|nothing)$")
 SECONDS = re.compile(r"\d+\.\d seconds")
 VERSIONS = {"gcc": r"messages\s+are\s+those\s+of\s+gcc\s+(\S+)", "clang": r"messages\s+are\s+those\s+of\s+gcc\s+\S+\s+and\s+clang\s+(\S+)"}
+LINK = re.compile(r"\]\((?!\w+:)([^()#\s]*)(#[^()\s]*)?\)")
 DIAGNOSTIC = re.compile(r"(error|warning): ")
 
 
@@ -119,8 +120,8 @@ class Example:
                         target.write(file["text"])
             command = [claim["name"], "-std=c11", "-pedantic", "-E", "-P", "a.c"]
             done = run(command, cwd=folder, env=dict(os.environ, LC_ALL="C"))
-        said = [line for line in done.stderr.decode().splitlines() if DIAGNOSTIC.search(line)]
-        found = " ".join(done.stdout.decode().split()) if claim["gives"] else said[0] if said else ""
+        messages = [line for line in done.stderr.decode().splitlines() if DIAGNOSTIC.search(line)]
+        found = " ".join(done.stdout.decode().split()) if claim["gives"] else messages[0] if messages else ""
         self.test.assertEqual(found, claim["words"] or "", data)
 
 
@@ -179,6 +180,12 @@ def text_of(name):
         return file.read()
 
 
+def anchors(text):
+    """Returns the anchors of a document's headings."""
+    headings = [part for language, part in parts(text) if language is None and part.startswith("#")]
+    return [re.sub(r"[^\w -]", "", heading.lstrip("# ").lower()).replace(" ", "-") for heading in headings]
+
+
 def compiler_test(compiler):
     def test(self):
         missed(compiler)
@@ -224,6 +231,21 @@ class Documents(unittest.TestCase):
             plain = [part for language, part in parts(text_of(name)) if language == ""]
             outputs = [part for part in plain if part.startswith(("unit ", "cppunits: "))]
             self.assertEqual(outputs, [block for _, _, block in examples(text_of(name)) if block in outputs], name)
+
+    def test_links_lead_somewhere(self):
+        for name in documents():
+            for path, heading in LINK.findall(text_of(name)):
+                target = os.path.normpath(os.path.join(os.path.dirname(name), path)) if path else name
+                with self.subTest(document=name, link=path + heading):
+                    self.assertTrue(os.path.exists(os.path.join(TOP, target)))
+                    if heading:
+                        self.assertIn(heading[1:], anchors(text_of(target)))
+
+    def test_lines_are_short(self):
+        for name in documents():
+            plain = [part for language, part in parts(text_of(name)) if language is None and not part.startswith(("|", "- gcc", "- clang"))]
+            self.assertEqual([line for line in plain if len(line) > 100], [], name)
+        self.assertLessEqual(text_of("README.md").count("\n"), 140)
 
     def test_no_mark_of_a_merge_is_left(self):
         for name in documents():

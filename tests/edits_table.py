@@ -1,10 +1,10 @@
 #!/usr/bin/env python3
-"""Writes docs/MUTANTS.md: for each mutant, which clause of which function refuses it, by the log of the full check.
+"""Prints a table of the mutants: which clause of which function refuses each, by the log of the full check.
 
-    rt ci | tee LOG; tests/edits_table.py LOG > NEW && mv NEW docs/MUTANTS.md
+    rt ci | tee LOG; tests/edits_table.py LOG
 
-A log of some crates, or of a check that was stopped, doesn't name all mutants. The others keep their row of docs/MUTANTS.md. One
-without a row is left out, and the number in its crate's heading shows it.
+A mutant that the log doesn't name, as one of some crates or of a check that was stopped, is left out. The heading of a crate has
+the number of its mutants in the table and in the crate.
 """
 import glob
 import os
@@ -14,22 +14,11 @@ import sys
 TOP = os.path.dirname(os.path.dirname(os.path.abspath(__file__)))
 HEAD = """# Mutants
 
-A mutant, `crates/*/must-fail/*.edit`, changes the meaning of one function, as its name says. The
-prover must refuse it; otherwise a contract is too weak. [TESTING.md](TESTING.md#mutants) says which
-mutants there are and how to write one.
-
-A mutant counts if its meaning is refused, not only its form. If it changes only a value or a
-condition, the code as it stands is the right body of the same form. For the others a right body of
-the same form was tried once and proved. It is in a line `# right:` instead of `new:`.
-
 - *Call* is the public call whose meaning it changes, from the line `# covers:`.
 - *Refused by* is the function that can't be proved, its file, and the first goal that fails. The
   name of a goal says where it arises. `returns-then-is_exhausted`: where the function returns
   because `is_exhausted` holds. `loop-.._preserved`: the invariant after an iteration.
   `..-requires`: what a call requires. The last part is the clause of the contract.
-
-A heading has the number of mutants in the table and in the crate. `tests/edits_table.py` writes
-this page from the log of the full check.
 """
 LINE = re.compile(r"must-fail (\w+)/([\w-]+)\.edit: refused, as it must be(.*)")
 GOAL = re.compile(r"(?:note: |\./)?((?:src|specs|proofs)/[\w+/-]+\.(?:rt|antt)):(\d+):\d+: (.*)")
@@ -61,22 +50,6 @@ def sentence(crate, told):
     return "%s: %s" % (where, "`%s`" % named.group(1) if named else words.strip())
 
 
-def known():
-    """Returns what docs/MUTANTS.md has already, by crate and mutant."""
-    page, crate, found = os.path.join(TOP, "docs", "MUTANTS.md"), None, {}
-    if not os.path.exists(page):
-        return found
-    with open(page) as text:
-        for line in text:
-            head = re.match(r"## (\w+) \(", line)
-            row = re.match(r"\| `([\w-]+)` \| .* \| (.*) \|$", line)
-            if head:
-                crate = head.group(1)
-            elif row:
-                found[crate, row.group(1)] = row.group(2)
-    return found
-
-
 def covered(edit):
     """Returns the public calls that a mutant covers, by its own line."""
     with open(edit) as text:
@@ -85,7 +58,7 @@ def covered(edit):
 
 
 def main():
-    found = known()
+    found = {}
     with open(sys.argv[1], errors="replace") as log:
         for line in log:
             told = LINE.search(line)

@@ -8,7 +8,7 @@ If a unit is ok, its tokens are those of gcc 12 with -std=gnu11, except for the 
 import unittest
 
 from counted import dumped, main
-from row_tests import given
+from row_tests import results
 
 # Texts of a.c, and the result of a unit of it.
 TEXTS = [
@@ -231,7 +231,7 @@ PLACED = [
 
 def gives(files, unit, shared):
     """Returns the result of a unit of the first file; the profile is gnu by default."""
-    return given(files, [{"file": files[0][0], **unit}], **{"profile": "gnu", **shared})
+    return results(files, [{"file": files[0][0], **unit}], **{"profile": "gnu", **shared})
 
 
 class Gnu(unittest.TestCase):

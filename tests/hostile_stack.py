@@ -62,7 +62,7 @@ class Stack(unittest.TestCase):
         self.does(ARRAYS, (3, b"", b"cppunits: list refused L2\n"))
 
 
-class Room(unittest.TestCase):
+class Memory(unittest.TestCase):
     """Tests limits in kilobytes; a stack limit of 1,024 keeps the requests for the workers' stacks small."""
 
     def ends_well(self, workers):

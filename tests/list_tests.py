@@ -162,8 +162,8 @@ class Builds(Lists):
         missed("cmake", "make")
         build = os.path.join(self.top, "elsewhere", "build")
         well(["cmake", "-S", self.root, "-B", build, "-G", "Unix Makefiles"])
-        listed, said = self.listed(os.path.join(build, "compile_commands.json"))
-        self.assertIn("root %s, 3 units, 9 files, 0 not expressed" % self.top, said[-1])
+        listed, messages = self.listed(os.path.join(build, "compile_commands.json"))
+        self.assertIn("root %s, 3 units, 9 files, 0 not expressed" % self.top, messages[-1])
         self.assertIn({"name": "elsewhere/build/made/made.h"}, listed["files"])
         self.assertEqual(cppunits("--root", self.top, "deps", input=json.dumps(listed).encode()).returncode, 0)
 
@@ -179,39 +179,39 @@ class Commands(Lists):
         entry["arguments" if isinstance(command, list) else "command"] = command
         with open(path, "w") as file:
             json.dump([entry], file)
-        listed, said = self.listed(path, "--root", self.root, *words, **more)
-        return listed["units"][0], listed, said[:-1]
+        listed, messages = self.listed(path, "--root", self.root, *words, **more)
+        return listed["units"][0], listed, messages[:-1]
 
     def test_definitions(self):
         command = r"""cc -DA -DB=2 -D C='x y' '-DF(a,b)=a=b' -DE= -DG=1 -UG -DH=1 -DH=2 -UNEVER "-DT=\"q r\"" -DA=last -c a.c"""
-        unit, _, said = self.unit(command)
+        unit, _, messages = self.unit(command)
         self.assertEqual(unit["define"], ["B 2", "C x y", "F(a,b) a=b", "E", "H 2", 'T "q r"', "A last"])
-        self.assertEqual(said, [])
+        self.assertEqual(messages, [])
 
     def test_a_command_counts_for_more_than_what_is_defined_for_all(self):
         words = ["--define", "A 7", "--define", "B 7", "--define", "C 7", "--define", "F(a) 7", "--define", "G", "--define", "G 8"]
-        unit, _, said = self.unit("cc -DA=1 -DB=2 -UB '-DF(x)=x' -c a.c", words=words)
+        unit, _, messages = self.unit("cc -DA=1 -DB=2 -UB '-DF(x)=x' -c a.c", words=words)
         self.assertEqual(unit["define"], ["C 7", "G 8", "A 1", "F(x) x"])
-        self.assertEqual(said, [])
+        self.assertEqual(messages, [])
 
     def test_words_that_can_not_be_expressed(self):
-        unit, _, said = self.unit("cc -D__FILE__=1 -Ddefined -U__STDC__ -imacros m.h -include gone.h -c a.c", status=1)
+        unit, _, messages = self.unit("cc -D__FILE__=1 -Ddefined -U__STDC__ -imacros m.h -include gone.h -c a.c", status=1)
         self.assertNotIn("define", unit)
-        self.assertEqual(len(said), 5)
-        self.assertTrue(all(line.startswith("list_from_build.py: %s/a.c: " % self.root) for line in said), said)
+        self.assertEqual(len(messages), 5)
+        self.assertTrue(all(line.startswith("list_from_build.py: %s/a.c: " % self.root) for line in messages), messages)
 
     def test_words_that_are_no_text(self):
-        unit, _, said = self.unit(["cc", "-DA=\udcff", "-DB=\ud800", "-I\ud800", "-c", "a.c"], status=1)
+        unit, _, messages = self.unit(["cc", "-DA=\udcff", "-DB=\ud800", "-I\ud800", "-c", "a.c"], status=1)
         self.assertNotIn("define", unit)
-        found = [line.rsplit("/", 1)[1] for line in said]
+        found = [line.rsplit("/", 1)[1] for line in messages]
         self.assertEqual(found, ["a.c: -DA=%FF: no UTF-8 text", "a.c: -DB=%ED%A0%80: no UTF-8 text"])
 
     def test_folders_in_their_order(self):
         files = {name + "/x": "" for name in "abcdefg"}
         command = "cc -Ib -isystemc -iquote a -I c -idirafter g -isystem d --include-directory=e -Ib -Inone -c a.c"
-        _, listed, said = self.unit(command, files, ["--system", os.path.join(self.root, "f")])
+        _, listed, messages = self.unit(command, files, ["--system", os.path.join(self.root, "f")])
         self.assertEqual(listed["search"], ["a", "b", "e", "c", "d", "f", "g"])
-        self.assertEqual(said, [])
+        self.assertEqual(messages, [])
 
     def test_arguments_and_response_files(self):
         files = {"more.rsp": "-DX='1 2' \"-DY=\\\"z\\\"\" @again.rsp\n-Iinc", "again.rsp": "-DZ", "inc/h.h": ""}
@@ -227,10 +227,10 @@ class Commands(Lists):
         self.assertEqual(made["text"], '#include "../../cfg/first.h"\n#include "../../a.c"\n')
         dump = cppunits("dump", input=json.dumps(listed).encode())
         self.assertEqual(re.findall(r"^tok .* (\w+)$", dump.stdout.decode(), re.M), ["second", "first", "x"])
-        _, _, said = self.unit(command, files, status=1)
-        self.assertIn("needs --inline or --generate", said[0])
-        unit, listed, said = self.unit(command, files, ["--generate"])
-        self.assertEqual(said, [])
+        _, _, messages = self.unit(command, files, status=1)
+        self.assertIn("needs --inline or --generate", messages[0])
+        unit, listed, messages = self.unit(command, files, ["--generate"])
+        self.assertEqual(messages, [])
         self.assertEqual(cppunits("--root", self.root, "dump", input=json.dumps(listed).encode()).stdout, dump.stdout)
 
     def test_contents_that_are_no_text(self):
@@ -262,14 +262,14 @@ class Commands(Lists):
 
     def test_a_folder_for_names_in_quotes_alone(self):
         files = {"a.c": "#include <h.h>\n", "q/h.h": "", "i/h.h": ""}
-        _, _, said = self.unit("cc -iquote q -Ii -c a.c", files, status=1)
-        self.assertIn("is found in an -iquote directory", said[0])
+        _, _, messages = self.unit("cc -iquote q -Ii -c a.c", files, status=1)
+        self.assertIn("is found in an -iquote directory", messages[0])
         self.unit("cc -iquote q -Ii -c a.c", {**files, "a.c": '#include "h.h"\n'})
 
     def test_what_is_outside_the_root(self):
         write(self.top, {"out/h.h": ""})
-        _, _, said = self.unit("cc -I../out -c a.c", {"a.c": "#include <h.h>\n"}, status=1)
-        self.assertEqual(["not below the root" in said[0], "no directory below the root" in said[1]], [True, True])
+        _, _, messages = self.unit("cc -I../out -c a.c", {"a.c": "#include <h.h>\n"}, status=1)
+        self.assertEqual(["not below the root" in messages[0], "no directory below the root" in messages[1]], [True, True])
 
     def test_what_each_unit_is_compiled_to(self):
         targets = os.path.join(self.top, "targets")
@@ -329,10 +329,10 @@ class Budgets(unittest.TestCase):
         for budget, number in [("-1", 10), ("4294967296", 10), ("18446744073709551616", 10), ("1.5", 10), ("1.0", 10), ("1e3", 10),
                                ("-0", 10), ('"5"', 2), ("null", 2), ("true", 2), ("[5]", 2), ("{}", 2), ("05", 1), ("1e999", 1)]:
             done = self.printed(budget)
-            said = b"cppunits: list refused L%d\n" % number
-            self.assertEqual((done.stdout, done.stderr, done.returncode), (b"", said, 3), budget)
+            messages = b"cppunits: list refused L%d\n" % number
+            self.assertEqual((done.stdout, done.stderr, done.returncode), (b"", messages, 3), budget)
 
-    def test_the_least_number_is_said(self):
+    def test_the_least_number_is_printed(self):
         for number, more in (9, {"profile": "c23"}), (8, {"search": ["/"]}), (6, {"date": ""}), (3, {"files": self.FILES[:1] * 2}):
             self.assertEqual(self.printed("-1", **more).stderr, b"cppunits: list refused L%d\n" % number)
 

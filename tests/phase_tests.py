@@ -102,10 +102,10 @@ def printed(texts):
     """Returns the result of a unit of each of these texts."""
     names = ["%d.c" % number for number in range(len(texts))]
     files = [{"name": name, "text": text.decode()} for name, text in zip(names, texts)]
-    return [told(lines) for lines in dumped(files, [{"file": name} for name in names])]
+    return [result_of(lines) for lines in dumped(files, [{"file": name} for name in names])]
 
 
-def told(lines):
+def result_of(lines):
     """Returns a unit's tokens with their locations, or the location of its fault 2."""
     fault = re.match(rb"fault 2 \d+:(\d+:\d+)", lines[-1])
     if fault:

@@ -35,25 +35,25 @@ class Projects(Folder):
         done = run([sys.executable, os.path.join(TOP, "bench", "projects.py"), "--program", program(), *words, self.path("p")])
         lines = done.stdout.decode().splitlines()
         self.assertEqual(len(lines), 3, done.stderr.decode())
-        said = [line for line in done.stderr.decode().splitlines() if not line.startswith("build.py: ")]
+        messages = [line for line in done.stderr.decode().splitlines() if not line.startswith("build.py: ")]
         cells = [cell.strip() for cell in lines[2].strip("|").split("|")]
-        return cells[:6] + cells[8:], said, done.returncode
+        return cells[:6] + cells[8:], messages, done.returncode
 
     def test_headers_of_the_system(self):
         files = {"p/main.c": MAIN, "p/inc/own.h": OWN, "p/first.h": "#define FIRST\n"}
         commands = [("main.c", "gcc -O2 -Iinc -c main.c -o main.o"), ("main.c", "gcc -std=c11 -Iinc -MD -MF x.d -c main.c"),
                     ("main.c", "gcc -g3 -D_GNU_SOURCE -include first.h -Iinc -c main.c")]
-        cells, said, status = self.compared(files, commands)
-        self.assertEqual((cells, said, status), (["p", "3", "3", "3", "3", "3", "none"], [], 0))
+        cells, messages, status = self.compared(files, commands)
+        self.assertEqual((cells, messages, status), (["p", "3", "3", "3", "3", "3", "none"], [], 0))
 
     def test_what_differs_is_told(self):
         files = {"p/count.c": "int a, b = __COUNTER__;\n", "p/same.c": "int a;\n", "p/fault.c": "#if 'ab'\n#endif\n",
                  "p/wrong.c": "#error no\n"}
-        cells, said, status = self.compared(files, [(name[2:], "gcc -c " + name[2:]) for name in files], "--jobs", "2")
+        cells, messages, status = self.compared(files, [(name[2:], "gcc -c " + name[2:]) for name in files], "--jobs", "2")
         self.assertEqual((cells[1:6], status), (["4", "3", "2", "1", "2"], 1))
         self.assertEqual(cells[6], "fault 25: 1, refused by the compiler: 1, tokens: 1")
-        self.assertEqual([line.split(": ", 1)[1] for line in said],
-                         ["tokens: token 5: b = __COUNTER__ ;, and the compiler has b = 0 ;", "fault: 25 %d:1:1 'ab'" % self.row(said)])
+        self.assertEqual([line.split(": ", 1)[1] for line in messages],
+                         ["tokens: token 5: b = __COUNTER__ ;, and the compiler has b = 0 ;", "fault: 25 %d:1:1 'ab'" % self.row(messages)])
 
     def test_a_compiler_that_hangs(self):
         """Stops a compiler with the programs that it started; its unit counts as one that the compiler refuses."""
@@ -61,11 +61,11 @@ class Projects(Folder):
         os.chmod(self.path("bin/gcc"), 0o755)
         files = {"p/slow.c": "int a;\n", "p/skipped.c": "int b;\n", "p/quick.c": "int c;\n"}
         commands = [(name[2:], "%s -c %s" % (self.path("bin/gcc"), name[2:])) for name in files]
-        cells, said, _ = self.compared(files, commands, "--every", "2", "--seconds", "2")
-        self.assertEqual(cells, ["p, one command of 2", "2", "1", "1", "1", "1", "no answer of the compiler in 2 seconds: 1"], said)
+        cells, messages, _ = self.compared(files, commands, "--every", "2", "--seconds", "2")
+        self.assertEqual(cells, ["p, one command of 2", "2", "1", "1", "1", "1", "no answer of the compiler in 2 seconds: 1"], messages)
 
-    def row(self, said):
-        return int(said[1].split("fault: 25 ")[1].split(":")[0])
+    def row(self, messages):
+        return int(messages[1].split("fault: 25 ")[1].split(":")[0])
 
     def test_dependencies_in_another_order(self):
         sys.path.insert(0, os.path.join(TOP, "scripts"))

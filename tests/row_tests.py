@@ -17,7 +17,7 @@ from counted import LIST, cppunits, dumped, main, spelled
 from truncated import EXAMPLES
 
 
-def told(lines):
+def result_of(lines):
     """Returns a unit's result as `a b | 0 2 | 31 0:4:1 y.h`: its tokens, with a pragma as `pragma@0:1:1[ once ]`, its dependencies and its end."""
     items, rows, end = [], [], ""
     for line in lines:
@@ -37,7 +37,7 @@ def told(lines):
     return " ".join([*items, "|", *rows, "|", end])
 
 
-def given(files, units, root=None, **more):
+def results(files, units, root=None, **more):
     """Returns the result of each unit of a list.  With a root the files are written there; a file gone.h is on the list, but not there."""
     names = [{"name": name} if root else {"name": name, "text": text} for name, text in files]
     if root:
@@ -46,12 +46,12 @@ def given(files, units, root=None, **more):
             with open(os.path.join(root, name), "w", encoding="utf-8") as file:
                 file.write(text)
         names.append({"name": "gone.h"})
-    return [told(lines) for lines in dumped(names, units, *(["--root", root] if root else []), **more)]
+    return [result_of(lines) for lines in dumped(names, units, *(["--root", root] if root else []), **more)]
 
 
-def each_given(texts, **more):
+def result_of_each(texts, **more):
     """Returns the result of a unit of each of these texts, as the only file a.c."""
-    return [given([("a.c", text)], [{"file": "a.c"}], **more)[0] for text in texts]
+    return [results([("a.c", text)], [{"file": "a.c"}], **more)[0] for text in texts]
 
 
 # Expressions whose group is processed, each on a line.
@@ -322,7 +322,7 @@ class Conditions(unittest.TestCase):
         """Wants for each condition after definitions that its group is processed, that it is skipped, or the end of its fault's text."""
         texts = ["%s#if %s\nyes\n#endif\n" % (definitions, expression) for definitions, expression, _ in rows]
         files = [("%d.c" % n, text) for n, text in enumerate(texts)]
-        found = given(files, [{"file": name} for name, _ in files])
+        found = results(files, [{"file": name} for name, _ in files])
         for n, (definitions, expression, wanted) in enumerate(rows):
             if not isinstance(wanted, bool):
                 number, _, rest = wanted.partition(" ")
@@ -348,7 +348,7 @@ class Conditions(unittest.TestCase):
 
     def test_a_byte_that_is_no_text(self):
         file = {"name": "a.c", "hex": b"#if '\xe9' == 233\nyes\n#endif\n".hex()}
-        self.assertEqual([told(lines) for lines in dumped([file], [{"file": "a.c"}])], ["yes | 0 | ok"])
+        self.assertEqual([result_of(lines) for lines in dumped([file], [{"file": "a.c"}])], ["yes | 0 | ok"])
 
     def test_what_is_left_of_a_budget(self):
         for expression, count in COUNTS:
@@ -356,10 +356,10 @@ class Conditions(unittest.TestCase):
                 # the file takes one of the budget, and the next name after these is not replaced
                 text = "%s#if %s\n%sONE\n#endif\n" % (COUNTED, expression, "ONE " * more)
                 wanted = "1 " * more + "| 0 | 35 0:5:%d" % (4 * more + 1)
-                self.assertEqual(each_given([text], budget=1 + count + more), [wanted], (expression, more))
+                self.assertEqual(result_of_each([text], budget=1 + count + more), [wanted], (expression, more))
         for expression, left, fault in SHORT:
             text = "%s#if %s\n#endif\n" % (COUNTED, expression)
-            self.assertEqual(each_given([text], budget=1 + left), ["| 0 | " + fault], (expression, left))
+            self.assertEqual(result_of_each([text], budget=1 + left), ["| 0 | " + fault], (expression, left))
 
     def test_depth_and_length(self):
         for count, wanted in ((256, True), (257, "29 1")):
@@ -463,7 +463,7 @@ class Replacement(unittest.TestCase):
     def gives(self, text, like, end, **more):
         """Wants the tokens of another text, which uses no macro, and this end."""
         files = [("a.c", text), ("b.c", like), ("vers2.h", "")]
-        found, same = given(files, [{"file": "a.c"}, {"file": "b.c"}], **more)
+        found, same = results(files, [{"file": "a.c"}, {"file": "b.c"}], **more)
         tokens = same.removesuffix("| 1 | ok")
         end = re.sub(r"^(\d+) ", r"\1 0:", end)
         rows = "0 2" if "INCFILE(2)" in text else "0"
@@ -480,7 +480,7 @@ class Replacement(unittest.TestCase):
 
     def test_names_that_are_predefined(self):
         texts = ["#ifdef %s\n1\n#endif\n" % name for name in PREDEFINED]
-        self.assertEqual(each_given(texts), ["1 | 0 | ok" if known else "| 0 | ok" for known in PREDEFINED.values()])
+        self.assertEqual(result_of_each(texts), ["1 | 0 | ok" if known else "| 0 | ok" for known in PREDEFINED.values()])
 
     def test_levels_of_arguments(self):
         for count, text, like, end in LEVELS:
@@ -494,7 +494,7 @@ class Replacement(unittest.TestCase):
 
     def test_two_to_the_64th_replacements(self):
         wanted = "0 " * 471 + "| 0 | 35 0:66:1"
-        self.assertEqual(each_given([DOUBLING], budget=1000), [wanted])
+        self.assertEqual(result_of_each([DOUBLING], budget=1000), [wanted])
 
     def test_these_take_little_time_and_memory(self):
         def bounded():
@@ -519,24 +519,24 @@ DEFINITIONS = [(["F(x) x \\ \v\f"], "1 \\ | 0 | ok"), ([""], "| | 9 65535:1:1 de
 
 
 class Forms(unittest.TestCase):
-    def told(self, text, **more):
+    def result(self, text, **more):
         """Returns the result of a unit of a text, or the number by which its list is refused."""
         files, unit = [{"name": "a.c", "text": text}], {"file": "a.c", "define": more.pop("define", [])}
         done = cppunits("dump", input=json.dumps({**LIST, "files": files, "units": [unit], **more}).encode())
         if done.returncode == 3:
             self.assertEqual(done.stdout, b"")
             return int(done.stderr.removeprefix(b"cppunits: list refused L"))
-        return told(done.stdout.splitlines()[1:])
+        return result_of(done.stdout.splitlines()[1:])
 
     def test_dates_and_times(self):
         for name, rows in ("date", DATES), ("time", TIMES):
             for text, is_good in rows.items():
                 wanted = '"%s" | 0 | ok' % text if is_good else 6
-                self.assertEqual(self.told("__%s__\n" % name.upper(), **{name: text}), wanted)
+                self.assertEqual(self.result("__%s__\n" % name.upper(), **{name: text}), wanted)
 
     def test_definitions(self):
         for lines, wanted in DEFINITIONS:
-            self.assertEqual(self.told("F(1)\n", define=lines), wanted, [line[:20] for line in lines])
+            self.assertEqual(self.result("F(1)\n", define=lines), wanted, [line[:20] for line in lines])
 
 
 # Files of one text each, and the result of a unit of it.
@@ -712,38 +712,38 @@ DEEP = [("t\n#include \"s.c\"\n", "t " * 201 + "| 0 | 32 0:2:1 s.c"),
 
 class Units(unittest.TestCase):
     def test_text_directives_and_groups(self):
-        self.assertEqual(each_given([text for text, _ in TEXTS]), [wanted for _, wanted in TEXTS])
+        self.assertEqual(result_of_each([text for text, _ in TEXTS]), [wanted for _, wanted in TEXTS])
 
     def test_branches_of_both_profiles(self):
         texts = [text for text, _, _ in BRANCHED]
-        self.assertEqual(each_given(texts, profile="c11"), [wanted for _, wanted, _ in BRANCHED])
-        self.assertEqual(each_given(texts, profile="later"), [wanted for _, _, wanted in BRANCHED])
+        self.assertEqual(result_of_each(texts, profile="c11"), [wanted for _, wanted, _ in BRANCHED])
+        self.assertEqual(result_of_each(texts, profile="later"), [wanted for _, _, wanted in BRANCHED])
 
     def test_included_files(self):
         for profile, files, cases in INCLUDING:
             names = [name for name, _ in files] + ["gone.h"]
             units = [{"file": names[row], "define": defines} for row, defines, _ in cases]
             with tempfile.TemporaryDirectory() as root:
-                found = given(files, units, root, profile=profile, search=["inc"])
+                found = results(files, units, root, profile=profile, search=["inc"])
             self.assertEqual(found, [wanted for _, _, wanted in cases])
 
     def test_depth_of_includes(self):
         for text, wanted in DEEP:
-            self.assertEqual(given([("s.c", text)], [{"file": "s.c"}]), [wanted])
+            self.assertEqual(results([("s.c", text)], [{"file": "s.c"}]), [wanted])
 
     def test_budgets(self):
         for files, cases in WITHIN:
             for budget, wanted in cases:
-                found = given(files, [{"file": files[0][0]}], profile="later", budget=budget)
+                found = results(files, [{"file": files[0][0]}], profile="later", budget=budget)
                 self.assertEqual(found, [wanted], (files, budget))
 
     def test_each_unit_has_the_budget(self):
         units = [{"file": "a.c"}, {"file": "a.c", "define": ["H"]}]
-        self.assertEqual(given(GUARDED, units, budget=3), ["int a ; | 0 1 | ok", "| 0 1 | ok"])
-        self.assertEqual(given(GUARDED, units, budget=2), ["int a ; | 0 1 | 35 0:2:1", "| 0 1 | 35 0:2:1"])
+        self.assertEqual(results(GUARDED, units, budget=3), ["int a ; | 0 1 | ok", "| 0 1 | ok"])
+        self.assertEqual(results(GUARDED, units, budget=2), ["int a ; | 0 1 | 35 0:2:1", "| 0 1 | 35 0:2:1"])
         # a fault before anything is counted
         units = [{"file": "a.c", "define": ["X 1", "X 2"]}]
-        self.assertEqual(given(GUARDED, units, budget=0), ["| | 16 65535:2:1 X"])
+        self.assertEqual(results(GUARDED, units, budget=0), ["| | 16 65535:2:1 X"])
 
 
 if __name__ == "__main__":

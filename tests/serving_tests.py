@@ -7,10 +7,12 @@ For a refused list the status is 3, standard error has the least number that app
 the status is 1 if a unit has a fault, and 0 if none has, and nothing is on standard error.
 """
 import json
+import os
+import subprocess
 import unittest
 
-from counted import LIST, Folder, cppunits, main, write
-from row_tests import given
+from counted import LIST, Folder, cppunits, main, program, write
+from row_tests import results
 
 # The text that replaces each word in the lists below.
 WORDS = {"$when": '"date":"Feb  9 2024","time":"08:05:03"', "$file": '{"name":"a.c","text":""}', "$unit": '{"file":"a.c"}'}
@@ -387,7 +389,30 @@ class Output(Folder):
                 files = [(name, "#include %s\n" % asked if name == holder else "") for name in names]
                 row = names.index(holder)
                 wanted = "| %d %d | ok" % (row, names.index(found)) if found else "| %d | 31 %d:1:1 %s" % (row, row, asked[1:-1])
-                self.assertEqual(given(files, [{"file": holder, "search": unit}], search=setting), [wanted], (holder, asked))
+                self.assertEqual(results(files, [{"file": holder, "search": unit}], search=setting), [wanted], (holder, asked))
+
+
+class Workers(Folder):
+    def threads(self, *words):
+        """Returns the largest number of threads of a run that were seen at once."""
+        most = 0
+        with open(self.path("list.json"), "rb") as data, subprocess.Popen(
+                [program(), *words, "deps"], stdin=data, stdout=subprocess.DEVNULL) as child:
+            while child.poll() is None:
+                try:
+                    most = max(most, len(os.listdir("/proc/%d/task" % child.pid)))
+                except FileNotFoundError:
+                    # the run has ended
+                    pass
+        self.assertEqual(child.returncode, 0)
+        return most
+
+    def test_each_worker_is_a_thread(self):
+        """Would find that the options for workers and blocks are exchanged, which changes no output."""
+        doubling = "".join("#define A%d A%d A%d\n" % (n + 1, n, n) for n in range(12))
+        write(self.top, {"list.json": listed([{"name": "a.c", "text": doubling + "A12\n"}], [UNIT] * 200)})
+        more = self.threads("--workers", "9", "--block", "3") - self.threads("--workers", "3", "--block", "9")
+        self.assertEqual(more, 6)
 
 
 if __name__ == "__main__":
