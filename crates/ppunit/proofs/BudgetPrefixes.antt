@@ -11,12 +11,11 @@ use Rattle.ppunit.specs.declared.units.UnitOut.{UnitOut}
 use Rattle.ppunit.specs.States.{State, Context, Progress, stopped, with_remaining, output}
 use Rattle.ppunit.specs.Unit.{initial_state, context_of_unit, Translates, IsUnit, count}
 use Rattle.ppunit.specs.Laws.{HasOneValue, HasSomeValue, Grows}
-use Rattle.ppunit.specs.Capped.{HasFault, AtMost, IsCapped, unlimited, BudgetCaps, OnlyBudgetsRefuse, with_budget, GivesNoLess, LargerBudgetsGiveNoLess}
+use Rattle.ppunit.specs.Capped.{HasFault, AtMost, CapsUnit, unlimited, BudgetCaps, OnlyBudgetsRefuse, with_budget, GivesNoLess, LargerBudgetsGiveNoLess}
 use Rattle.ppunit.proofs.OutputPrefixes.{same_beginning}
-use Rattle.ppunit.proofs.SufficientLineBudgets.{holding}
-use Rattle.ppunit.proofs.SufficientBudgets.{unit_suffices}
+use Rattle.ppunit.proofs.SufficientBudgets.{holding, unit_suffices}
 use native.Mathlib.Decide.{dec_lt}
-use Rattle.ppunit.proofs.ExhaustedGroups.{unit_short}
+use Rattle.ppunit.proofs.ExhaustedBudgets.{unit_short}
 
 -- ---- units
 
@@ -26,9 +25,9 @@ stopped_early : (b c : ℕ) (s : State) (f : Fault) (whole out : UnitOut) → ou
     → IsPrefix s.deps whole.deps
     → b < c
     → ¬ HasFault 35 whole
-    → IsCapped b c whole out
+    → CapsUnit b c whole out
 stopped_early b c s f whole out same number items deps less other =
-    subst (IsCapped b c whole) same
+    subst (CapsUnit b c whole) same
     (record {
       items = items;
       deps = deps;
@@ -37,9 +36,9 @@ stopped_early b c s f whole out same number items deps less other =
     })
 
 -- a unit whose budget suffices, compared with the whole
-came_through : (b c : ℕ) (whole out : UnitOut) → whole ≡ out → c ≤ b → IsCapped b c whole out
+came_through : (b c : ℕ) (whole out : UnitOut) → whole ≡ out → c ≤ b → CapsUnit b c whole out
 came_through b c whole out same most =
-    subst (IsCapped b c whole) same
+    subst (CapsUnit b c whole) same
     (record {
       items = same_beginning whole.items;
       deps = same_beginning whole.deps;
@@ -56,7 +55,7 @@ unit_caps : HasOneValue → Grows → OnlyBudgetsRefuse
     → setting.budget ≡ Some b
     → Extends more files
     → (p : IsUnit names more (unlimited setting) unit whole)
-    → IsCapped b (count p) whole out
+    → CapsUnit b (count p) whole out
 unit_caps one grows only names files setting unit out are p b more whole budget extends q =
     let context : Context = context_of_unit names more setting unit in
     let texts : List (List ℕ) = unit.defines.texts in

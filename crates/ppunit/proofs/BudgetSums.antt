@@ -4,14 +4,9 @@ use Rattle.pptext.specs.declared.tokens.Place.{Place}
 use Rattle.pptext.specs.declared.tokens.Token.{Token}
 use Rattle.pptext.specs.declared.tokens.Fault.{Fault}
 use Rattle.pptext.specs.declared.sources.Directive.{Directive}
-use Rattle.pptext.specs.declared.sources.Directive.TheVariants.{Define, Undef, Line, Pragma, Null, Unknown}
-use Rattle.pptext.specs.declared.directives.Question.{Question}
-use Rattle.pptext.specs.declared.directives.Question.TheVariants.{Defined, Value}
-use Rattle.pptext.specs.Classes.{question_by}
 use Rattle.pptext.specs.declared.sources.Profile.{Profile}
 use Rattle.pptext.specs.Lines.{LogicalLine}
 use Rattle.pptext.specs.Tree.{GroupParts, Branches, hash_place}
-use Rattle.ppmacro.specs.Names.{Macros}
 use Rattle.ppexpand.specs.Budget.{spend_one, is_exhausted}
 use Rattle.ppexpand.specs.Expansion.{count_expansion}
 use Rattle.ppexpand.specs.Laws.{plus}
@@ -21,18 +16,17 @@ use Rattle.ppshelf.specs.Files.{Files}
 use Rattle.ppunit.specs.declared.units.Unit.{Unit as UnitOfList}
 use Rattle.ppunit.specs.declared.units.Setting.{Setting}
 use Rattle.ppunit.specs.declared.units.UnitOut.{UnitOut}
-use Rattle.ppunit.specs.States.{State, Context, Progress, with_remaining, with_once, search_of, Search}
+use Rattle.ppunit.specs.States.{State, Context, Progress, search_of, Search}
 use Rattle.ppunit.specs.DirectiveLines.{operands, text_tokens}
-use Rattle.ppunit.specs.Quotes.{unmatched_quote}
-use Rattle.ppunit.specs.LineControl.{Presumed, presumed}
 use Rattle.ppunit.specs.Including.{IncludeName, begins_with_header}
-use Rattle.ppunit.specs.Probing.{condition_tokens}
-use Rattle.ppunit.specs.Conditions.{DecidesBy, DecidesUnless, Decides, DecidesOf}
-use Rattle.ppunit.specs.Directives.{EmitsText, NamesHeaderBy, NamesHeader, ExecutesDirective, with_macros, renumbered_by, is_once, noting_pragma_once}
+use Rattle.ppunit.specs.Conditions.{Decides}
+use Rattle.ppunit.specs.Directives.{EmitsText, NamesHeaderBy, NamesHeader, ExecutesDirective}
 use Rattle.ppunit.specs.Group.{ExecutesGroup, ExecutesBranches, ExecutesControlLine, ExecutesInclude, OpensFile}
-use Rattle.ppunit.specs.Counts.{count_decides_by, count_decides_unless, count_decides, count_names_header_by, count_names_header, count_control_by, count_group, count_branches, count_control, count_includes, count_opening, count_decides_of}
+use Rattle.ppunit.specs.Counts.{count_decides, count_names_header_by, count_names_header, count_control_by, count_group, count_branches, count_control, count_includes, count_opening}
 use Rattle.ppunit.specs.Unit.{Defines, unread, processed, Translates, definitions_fault, translated, IsUnit, count, count_defines, count_translates}
 use Rattle.ppunit.specs.Capped.{AtMost}
+use Rattle.ppunit.specs.code.Effects.{HasEffect}
+use Rattle.ppunit.proofs.DirectiveEffects.{effect_of, count_effect, same_count}
 
 -- ---- sums
 
@@ -59,62 +53,31 @@ pays_then remaining remaining_after n e more = pays remaining e ∙ ap (plus 1) 
 
 -- ---- lines
 
-renumbered_left : (s : State) (r : LogicalLine) (f : Option Fault) (p : Option Presumed) → (renumbered_by s r f p).state.remaining ≡ s.remaining
-renumbered_left s r (Some f) p = refl
-renumbered_left s r None None = refl
-renumbered_left s r None (Some p) = refl
-
-macros_left : (s : State) (m : Result Macros Fault) → (with_macros s m).state.remaining ≡ s.remaining
-macros_left s (Ok m) = refl
-macros_left s (Err f) = refl
-
-noting_left : (profile : Profile) (row : ℕ) (ts : List Token) (s : State) → (noting_pragma_once profile row ts s).remaining ≡ s.remaining
-noting_left profile row ts s = noted (is_once profile ts)
-  where
-    noted : (b : Bool) → (if b then with_once s row else s).remaining ≡ s.remaining
-    noted true = refl
-    noted false = refl
-
 pub asks_by_spends : (header : Bool) (s : State) (line : List Token) (remaining_after : Option ℕ) (include_name : Result IncludeName Fault) (g : NamesHeaderBy header s line remaining_after include_name)
     → s.remaining ≡ plus (count_names_header_by header s line remaining_after include_name g) remaining_after
 asks_by_spends true s line remaining_after include_name g = same_remaining s.remaining remaining_after g.0
 asks_by_spends false s line remaining_after include_name g = expansion_spends s.macros s.env g.expands ∙ ap (plus (count_expansion g.expands)) (sym g.leaves)
 
-pub asks_spends : (s : State) (line : List Token) (remaining_after : Option ℕ) (include_name : Result IncludeName Fault) (g : NamesHeader s line remaining_after include_name) → s.remaining ≡ plus (count_names_header s line remaining_after include_name g) remaining_after
+pub asks_spends : (s : State) (line : List Token) (remaining_after : Option ℕ) (include_name : Result IncludeName Fault) (g : NamesHeader s line remaining_after include_name)
+    → s.remaining ≡ plus (count_names_header s line remaining_after include_name g) remaining_after
 asks_spends s line remaining_after include_name g = asks_by_spends (begins_with_header (operands line)) s line remaining_after include_name g
 
-decides_of_spends : (tokens : Result (List Token) Fault) (s : State) (at : Place) (remaining_after : Option ℕ) (taken : Result Bool Fault) (g : DecidesOf tokens s at remaining_after taken)
-    → s.remaining ≡ plus (count_decides_of tokens s at remaining_after taken g) remaining_after
-decides_of_spends (Err f) s at remaining_after taken g = same_remaining s.remaining remaining_after g.0
-decides_of_spends (Ok tokens) s at remaining_after taken g = condition_spends g
+pub decides_spends : {search : Search} {row : ℕ} {s : State} {line : LogicalLine} {remaining_after : Option ℕ} {taken : Result Bool Fault} (g : Decides search row s line remaining_after taken)
+    → s.remaining ≡ plus (count_decides g) remaining_after
+decides_spends {s = s} {remaining_after = remaining_after} (Decides.unmatched q x) = same_remaining s.remaining remaining_after x.0
+decides_spends {s = s} {remaining_after = remaining_after} (Decides.tests_name q n x) = same_remaining s.remaining remaining_after x.0
+decides_spends {s = s} {remaining_after = remaining_after} (Decides.names_no_header q v e x) = same_remaining s.remaining remaining_after x.0
+decides_spends (Decides.evaluates q v e x) = condition_spends x
 
-decides_by_spends : (search : Search) (row : ℕ) (q : Option Question) (s : State) (line : List Token) (remaining_after : Option ℕ) (taken : Result Bool Fault) (g : DecidesBy search row q s line remaining_after taken)
-    → s.remaining ≡ plus (count_decides_by search row q s line remaining_after taken g) remaining_after
-decides_by_spends search row (Some Value) s line remaining_after taken g = decides_of_spends (condition_tokens search row line) s (hash_place line) remaining_after taken g
-decides_by_spends search row (Some (Defined wanted)) s line remaining_after taken g = same_remaining s.remaining remaining_after g.0
-decides_by_spends search row None s line remaining_after taken g = absurd g
-
-decides_unless_spends : (search : Search) (row : ℕ) (quote : Option Fault) (d : Option Directive) (s : State) (line : List Token) (remaining_after : Option ℕ) (taken : Result Bool Fault) (g : DecidesUnless search row quote d s line remaining_after taken)
-    → s.remaining ≡ plus (count_decides_unless search row quote d s line remaining_after taken g) remaining_after
-decides_unless_spends search row (Some f) d s line remaining_after taken g = same_remaining s.remaining remaining_after g.0
-decides_unless_spends search row None d s line remaining_after taken g = decides_by_spends search row (question_by d) s line remaining_after taken g
-
-pub decides_spends : (search : Search) (row : ℕ) (s : State) (line : LogicalLine) (remaining_after : Option ℕ) (taken : Result Bool Fault) (g : Decides search row s line remaining_after taken)
-    → s.remaining ≡ plus (count_decides search row s line remaining_after taken g) remaining_after
-decides_spends search row s line remaining_after taken g = decides_unless_spends search row (unmatched_quote line.tokens) line.directive s line.tokens remaining_after taken g
+effect_spends : {profile : Profile} {row : ℕ} {d : Option Directive} {s : State} {line : LogicalLine} {m : Progress} (e : HasEffect profile row d s line m)
+    → s.remaining ≡ plus (count_effect e) m.state.remaining
+effect_spends {s = s} {m = m} (HasEffect.immediate is gives) = same_remaining s.remaining m.state.remaining (ap (λ x. x.state.remaining) gives)
+effect_spends {s = s} (HasEffect.expanding x is expands gives) = expansion_spends s.macros s.env expands ∙ ap (plus (count_expansion expands)) (sym (ap (λ x. x.state.remaining) gives))
 
 pub control_by_spends : (profile : Profile) (row : ℕ) (d : Option Directive) (s : State) (line : LogicalLine) (m : Progress) (g : ExecutesDirective profile row d s line m)
     → s.remaining ≡ plus (count_control_by profile row d s line m g) m.state.remaining
-control_by_spends profile row (Some Null) s line m g = same_remaining s.remaining m.state.remaining (ap (λ x. x.state.remaining) g)
-control_by_spends profile row (Some Define) s line m g = same_remaining s.remaining m.state.remaining (ap (λ x. x.state.remaining) g ∙ macros_left s _)
-control_by_spends profile row (Some Undef) s line m g = same_remaining s.remaining m.state.remaining (ap (λ x. x.state.remaining) g ∙ macros_left s _)
-control_by_spends profile row (Some Line) s line m g =
-    let same : m.state.remaining ≡ g.expanded.remaining = ap (λ x. x.state.remaining) g.is ∙ renumbered_left (with_remaining s g.expanded.remaining) line g.expanded.fault (presumed g.expanded.tokens) in
-    expansion_spends s.macros s.env g.expands ∙ ap (plus (count_expansion g.expands)) (sym same)
-control_by_spends profile row (Some Pragma) s line m g =
-    same_remaining s.remaining m.state.remaining (ap (λ x. x.state.remaining) g ∙ noting_left profile row (operands line.tokens) _)
-control_by_spends profile row (Some Unknown) s line m g = same_remaining s.remaining m.state.remaining (ap (λ x. x.state.remaining) g)
-control_by_spends profile row _ s line m g = absurd g
+control_by_spends profile row d s line m g =
+    effect_spends (effect_of profile row d s line m g) ∙ ap (λ n. plus n m.state.remaining) (sym (same_count profile row d s line m g))
 
 pub run_spends : (s : State) (tokens : List Token) (m : Progress) (g : EmitsText s tokens m) → s.remaining ≡ plus (count_expansion g.expands) m.state.remaining
 run_spends s tokens m g = expansion_spends s.macros s.env g.expands ∙ ap (plus (count_expansion g.expands)) (sym (ap (λ x. x.state.remaining) g.is))
@@ -128,18 +91,18 @@ module _ (context : Context) where
     group_spends (ExecutesGroup.no_parts {s = s}) = plus-nothing s.remaining
     group_spends (ExecutesGroup.text_lines {s = s} {lines = lines} {m = m} gives rest) = both _ _ _ (run_spends s (text_tokens lines) m gives) (group_spends rest)
     group_spends (ExecutesGroup.control here rest) = both _ _ _ (control_spends here) (group_spends rest)
-    group_spends {row = row} (ExecutesGroup.taken {s = s} {line = line} {remaining_after = remaining_after} decides here rest) =
-        both _ _ _ (decides_spends (search_of context) row s line remaining_after (Ok true) decides) (both _ _ _ (group_spends here) (group_spends rest))
-    group_spends {row = row} (ExecutesGroup.skipped {s = s} {line = line} {remaining_after = remaining_after} decides here rest) =
-        both _ _ _ (decides_spends (search_of context) row s line remaining_after (Ok false) decides) (both _ _ _ (branches_spend here) (group_spends rest))
-    group_spends {row = row} (ExecutesGroup.condition_fault {s = s} {line = line} {remaining_after = remaining_after} {f = f} decides) = decides_spends (search_of context) row s line remaining_after (Err f) decides
+    group_spends (ExecutesGroup.taken decides here rest) =
+        both _ _ _ (decides_spends decides) (both _ _ _ (group_spends here) (group_spends rest))
+    group_spends (ExecutesGroup.skipped decides here rest) =
+        both _ _ _ (decides_spends decides) (both _ _ _ (branches_spend here) (group_spends rest))
+    group_spends (ExecutesGroup.condition_fault decides) = decides_spends decides
 
     pub branches_spend : {depth row : ℕ} {s : State} {bs : Branches} {m : Progress} (d : ExecutesBranches context depth row s bs m) → s.remaining ≡ plus (count_branches d) m.state.remaining
     branches_spend (ExecutesBranches.no_branch_taken {s = s}) = plus-nothing s.remaining
     branches_spend (ExecutesBranches.else_group e here) = group_spends here
-    branches_spend {row = row} (ExecutesBranches.branch_taken {s = s} {line = line} {remaining_after = remaining_after} e decides here) = both _ _ _ (decides_spends (search_of context) row s line remaining_after (Ok true) decides) (group_spends here)
-    branches_spend {row = row} (ExecutesBranches.branch_skipped {s = s} {line = line} {remaining_after = remaining_after} e decides rest) = both _ _ _ (decides_spends (search_of context) row s line remaining_after (Ok false) decides) (branches_spend rest)
-    branches_spend {row = row} (ExecutesBranches.branch_condition_fault {s = s} {line = line} {remaining_after = remaining_after} {f = f} e decides) = decides_spends (search_of context) row s line remaining_after (Err f) decides
+    branches_spend (ExecutesBranches.branch_taken e decides here) = both _ _ _ (decides_spends decides) (group_spends here)
+    branches_spend (ExecutesBranches.branch_skipped e decides rest) = both _ _ _ (decides_spends decides) (branches_spend rest)
+    branches_spend (ExecutesBranches.branch_condition_fault e decides) = decides_spends decides
 
     pub control_spends : {depth row : ℕ} {s : State} {line : LogicalLine} {m : Progress} (d : ExecutesControlLine context depth row s line m) → s.remaining ≡ plus (count_control d) m.state.remaining
     control_spends (ExecutesControlLine.error {s = s} e) = plus-nothing s.remaining

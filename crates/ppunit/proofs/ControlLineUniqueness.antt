@@ -16,7 +16,7 @@ use Rattle.ppunit.specs.Directives.{ExecutesDirective, message, checks_quotes, N
 use Rattle.ppunit.specs.Group.{ExecutesControlLine, ExecutesInclude, OpensFile}
 use Rattle.ppunit.proofs.LineUniqueness.{OneExpansion, OneDecision, OneRow, control_by_once, asks_once}
 use Rattle.ppunit.proofs.SectionUniqueness.{stopped_again}
-use Rattle.ppunit.proofs.ControlClasses.{control_class}
+use Rattle.ppunit.proofs.DirectiveEffects.{control_class}
 
 -- A line whose quotes are checked is neither `#error` nor a line without effect.
 error_quiet : (c : Option Class) → c ≡ Some class.Error → checks_quotes c ≡ true → ⊥

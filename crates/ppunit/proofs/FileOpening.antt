@@ -12,7 +12,8 @@ use Rattle.ppshelf.specs.Content.{unreadable, readable}
 use Rattle.ppshelf.specs.Names.{name_in}
 use Rattle.ppshelf.specs.Files.{Files, Extends}
 use Rattle.ppunit.specs.declared.states.FileContext.{FileContext}
-use Rattle.ppunit.specs.States.{UnitContext, State, file_context, Progress, running, stopped, with_dependency, entering, with_one_spent, literal, context_over, Context}
+use Rattle.ppunit.specs.States.{State, file_context, Progress, running, stopped, with_dependency, entering, with_one_spent, literal, Context}
+use Rattle.ppunit.specs.code.Contexts.{UnitContext, context_over}
 use Rattle.ppunit.specs.Dependencies.{has_row}
 use Rattle.ppunit.specs.Group.{depth_limit, ExecutesGroup, OpensFile}
 use Rattle.ppunit.specs.code.Opening.{Entered, IsRefusedOpening, SpendsOpening, HasLines, HasFault, Begins}

@@ -22,7 +22,8 @@ use Rattle.ppunit.specs.Conditions.{is_macro_name}
 use Rattle.ppunit.specs.Directives.{EmitsText}
 use Rattle.ppunit.specs.Group.{depth_limit, ExecutesGroup, ExecutesBranches, OpensFile}
 use Rattle.ppunit.specs.Counts.{count_group, count_opening}
-use Rattle.ppunit.specs.Guarded.{GuardsLeaveOut, IsLeftOut}
+use Rattle.ppunit.specs.Guarded.{GuardsLeaveOut}
+use Rattle.ppunit.specs.code.Opening.{IsLeftOut}
 use Rattle.ppunit.proofs.FileTokens.{IsSpelledLine, source_spelled}
 use Rattle.ppexpand.specs.ExpansionStep as turns
 use Rattle.ppunit.proofs.GuardLines.{guard_line}

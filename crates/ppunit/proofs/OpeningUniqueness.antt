@@ -109,7 +109,10 @@ module _ (readings : OneReading) (trees : OneTree) (context : Context) where
       (OpensFile.read {bytes = c} {lines = lines} {m = m} f more n is reads tree here) =
       subst (λ z. AfterReading depth at s row directory z (leaving s m)) (same_reading row c bytes (Ok lines) x is reads e p) (by_lines tree here)
 
-  pub after_fault : {depth row : ℕ} {directory : Option ℕ} {at : Place} {s : State} {f : Fault} {x : Result (List LogicalLine) Fault} {m : Progress} → Err f ≡ x → AfterReading depth at s row directory x m → stopped (with_dependency (with_one_spent s) row) f ≡ m
+  pub after_fault : {depth row : ℕ} {directory : Option ℕ} {at : Place} {s : State} {f : Fault} {x : Result (List LogicalLine) Fault} {m : Progress}
+      → Err f ≡ x
+      → AfterReading depth at s row directory x m
+      → stopped (with_dependency (with_one_spent s) row) f ≡ m
   after_fault {row = row} {s = s} {f = f} e (by_fault {f = g}) = let same : f ≡ g = cc in ap (λ x. stopped (with_dependency (with_one_spent s) row) x) same
   after_fault e (by_lines tree here) = absurd (cc)
 

@@ -43,7 +43,9 @@ module _ (expansions : OneExpansion) (decisions : OneDecision) (context : Contex
         → AfterSection depth row s line ps bs qs end
     is_refused : {remaining_after : Option ℕ} {f : Fault} → Decides (search_of context) row s line remaining_after (Err f) → AfterSection depth row s line ps bs qs (stopped (with_remaining s remaining_after) f)
 
-  pub at_section : {depth row : ℕ} {s : State} {line : LogicalLine} {ps qs : GroupParts} {bs : Branches} {end : Progress} → ExecutesGroup context depth row (running s) (Section line ps bs qs) end → AfterSection depth row s line ps bs qs end
+  pub at_section : {depth row : ℕ} {s : State} {line : LogicalLine} {ps qs : GroupParts} {bs : Branches} {end : Progress}
+      → ExecutesGroup context depth row (running s) (Section line ps bs qs) end
+      → AfterSection depth row s line ps bs qs end
   at_section (ExecutesGroup.taken decides here rest) = is_taken decides here rest
   at_section (ExecutesGroup.skipped decides here rest) = is_skipped decides here rest
   at_section (ExecutesGroup.condition_fault decides) = is_refused decides
@@ -102,7 +104,10 @@ module _ (expansions : OneExpansion) (decisions : OneDecision) (context : Contex
       subst (λ (x : Option ℕ). ExecutesBranches context depth row (with_remaining s x) bs z) remainders here
 
   -- Equal faults with equal remaining budgets stop with equal outcomes.
-  pub stopped_again : {A : Type 0} (s : State) (remaining_after following : Option ℕ) (f g : Fault) → ◌≡◌ {A = Result A Fault} (Err f) (Err g) → remaining_after ≡ following → stopped (with_remaining s remaining_after) f ≡ stopped (with_remaining s following) g
+  pub stopped_again : {A : Type 0} (s : State) (remaining_after following : Option ℕ) (f g : Fault)
+      → ◌≡◌ {A = Result A Fault} (Err f) (Err g)
+      → remaining_after ≡ following
+      → stopped (with_remaining s remaining_after) f ≡ stopped (with_remaining s following) g
   stopped_again s remaining_after following f g faults remainders = let same : f ≡ g = cc in λ i. stopped (with_remaining s (remainders i)) (same i)
 
   refused_again : (row : ℕ) (s : State) (line : LogicalLine) (remaining_after following : Option ℕ) (f g : Fault)
@@ -113,7 +118,10 @@ module _ (expansions : OneExpansion) (decisions : OneDecision) (context : Contex
       let one = decides_once expansions decisions (search_of context) row s line remaining_after following (Err f) (Err g) decides decides' in
       stopped_again {A = Bool} s remaining_after following f g one.0 one.1
 
-  same_decision : (row : ℕ) (s : State) (line : LogicalLine) (remaining_after following : Option ℕ) (a b : Result Bool Fault) → Decides (search_of context) row s line remaining_after a → Decides (search_of context) row s line following b → a ≡ b
+  same_decision : (row : ℕ) (s : State) (line : LogicalLine) (remaining_after following : Option ℕ) (a b : Result Bool Fault)
+      → Decides (search_of context) row s line remaining_after a
+      → Decides (search_of context) row s line following b
+      → a ≡ b
   same_decision row s line remaining_after following a b p q = (decides_once expansions decisions (search_of context) row s line remaining_after following a b p q).0
 
   pub after_taken : {depth row : ℕ} {s : State} {line : LogicalLine} {ps qs : GroupParts} {bs : Branches} {remaining_after : Option ℕ} {m y : Progress}
@@ -153,7 +161,8 @@ module _ (expansions : OneExpansion) (decisions : OneDecision) (context : Contex
       let differs : Err f ≡ Ok true = same_decision row s line remaining_after following (Err f) (Ok true) decides decides' in absurd (cc)
   after_refused {row = row} {s = s} {line = line} {remaining_after = remaining_after} {f = f} decides z (is_skipped {remaining_after = following} decides' here' rest') =
       let differs : Err f ≡ Ok false = same_decision row s line remaining_after following (Err f) (Ok false) decides decides' in absurd (cc)
-  after_refused {row = row} {s = s} {line = line} {remaining_after = remaining_after} {f = f} decides z (is_refused {remaining_after = following} {f = g} decides') = refused_again row s line remaining_after following f g decides decides'
+  after_refused {row = row} {s = s} {line = line} {remaining_after = remaining_after} {f = f} decides z (is_refused {remaining_after = following} {f = g} decides') =
+      refused_again row s line remaining_after following f g decides decides'
 
   not_both : (line : LogicalLine) → line.directive ≡ Some Else → line.directive ≢ Some Else → ⊥
   not_both line e f = f e

@@ -1,17 +1,118 @@
--- Groups and units have the same effect with any sufficient budget, and leave the rest of the budget.
-use Rattle.std.proofs.Common.{◌≡◌, ℕ, zero, suc, ◌+◌, List, [], true, false, Option, Some, None, Ok, Err, refl, sym, subst, arith}
+-- Lines, groups and units have the same effect with any sufficient budget, and leave the rest of the budget.
+use Rattle.std.proofs.Common.{◌≡◌, ℕ, zero, suc, ◌+◌, List, [], ◌∷◌, Bool, true, false, Option, Some, None, Result, Ok, Err, refl, ap, ◌∙◌, subst, arith, if◌then◌else◌, sym}
 use Rattle.pptext.specs.declared.tokens.Place.{Place}
+use Rattle.pptext.specs.declared.tokens.Token.{Token}
+use Rattle.pptext.specs.declared.tokens.Fault.{Fault}
+use Rattle.pptext.specs.declared.sources.Directive.{Directive}
+use Rattle.pptext.specs.declared.sources.Profile.{Profile}
 use Rattle.pptext.specs.Lines.{LogicalLine}
-use Rattle.pptext.specs.Tree.{GroupParts, Branches, Done, End}
+use Rattle.pptext.specs.Tree.{hash_place, GroupParts, Branches, Done, End}
+use Rattle.ppexpand.specs.Expansion.{count_expansion}
+use Rattle.ppexpand.specs.Budget.{is_exhausted}
+use Rattle.ppexpand.proofs.BudgetLemmas.{Covers, larger, covers_rest, expansion_enough, without, covers_less}
+use Rattle.ppexpr.proofs.ConditionBudgets.{condition_enough}
+use Rattle.ppunit.specs.States.{State, Progress, with_remaining, Search, Context, running, stopped, search_of}
+use Rattle.ppunit.specs.DirectiveLines.{operands, text_tokens}
+use Rattle.ppunit.specs.LineControl.{presumed}
+use Rattle.ppunit.specs.Including.{IncludeName, begins_with_header}
+use Rattle.ppunit.specs.Conditions.{Decides}
+use Rattle.ppunit.specs.Directives.{EmitsText, NamesHeaderBy, NamesHeader, ExecutesDirective}
+use Rattle.ppunit.specs.Counts.{count_decides, count_names_header_by, count_names_header, count_control_by, count_group, count_branches, count_control, count_includes, count_opening}
+use Rattle.ppunit.proofs.BudgetSums.{asks_spends, decides_spends, run_spends, group_spends, branches_spend, control_spends, defines_spends}
+use Rattle.ppunit.specs.code.Effects.{affected, HasEffect}
+use Rattle.ppunit.proofs.DirectiveEffects.{effect_of, executes, count_effect, same_count, effect_of_any_budget, line_of_any_budget}
 use Rattle.pptext.specs.Tokens.{fault}
-use Rattle.ppexpand.proofs.BudgetLemmas.{Covers, without, covers_less, covers_rest}
-use Rattle.ppunit.specs.States.{State, Context, Progress, running, stopped, with_remaining, search_of}
-use Rattle.ppunit.specs.DirectiveLines.{text_tokens}
 use Rattle.ppunit.specs.Group.{ExecutesGroup, ExecutesBranches, ExecutesControlLine, ExecutesInclude, OpensFile}
-use Rattle.ppunit.specs.Counts.{count_group, count_branches, count_control, count_includes, count_opening}
 use Rattle.ppunit.specs.Unit.{Defines, unread, processed, Translates, definitions_fault, translated, count_defines, count_translates}
-use Rattle.ppunit.proofs.BudgetSums.{group_spends, branches_spend, control_spends, defines_spends}
-use Rattle.ppunit.proofs.SufficientLineBudgets.{holding, run_enough, asks_enough, decides_enough, control_by_enough, asks_rest, decides_rest, run_rest, covered}
+
+-- ---- a line has the same effect with any sufficient budget, and leaves the rest of the budget
+
+-- the same outcome with a remaining budget of n
+abbrev pub holding : ℕ → Progress → Progress
+holding n r = record r { state = with_remaining r.state (Some n) }
+
+pub run_enough : (s : State) (tokens : List Token) (m : Progress) (b : ℕ) → Covers s.remaining b
+    → (g : EmitsText s tokens m) (n : ℕ)
+    → b ≡ count_expansion g.expands + n
+    → EmitsText (with_remaining s (Some b)) tokens (holding n m)
+run_enough s tokens m b is g n sum = record {
+  expanded = record g.expanded { remaining = Some n };
+  expands = expansion_enough s.macros s.env b is g.expands n sum;
+  is = ap (holding n) g.is;
+}
+
+asks_by_enough : (header : Bool) (s : State) (line : List Token) (remaining_after : Option ℕ) (include_name : Result IncludeName Fault) (b : ℕ) → Covers s.remaining b
+    → (g : NamesHeaderBy header s line remaining_after include_name) (n : ℕ)
+    → b ≡ count_names_header_by header s line remaining_after include_name g + n
+    → NamesHeaderBy header (with_remaining s (Some b)) line (Some n) include_name
+asks_by_enough true s line remaining_after include_name b is g n sum = (ap Some (omega arith), g.1)
+asks_by_enough false s line remaining_after include_name b is g n sum = record {
+  expanded = record g.expanded { remaining = Some n };
+  expands = expansion_enough s.macros s.env b is g.expands n sum;
+  leaves = refl;
+  is = g.is;
+}
+
+pub asks_enough : (s : State) (line : List Token) (remaining_after : Option ℕ) (include_name : Result IncludeName Fault) (b : ℕ) → Covers s.remaining b
+    → (g : NamesHeader s line remaining_after include_name) (n : ℕ)
+    → b ≡ count_names_header s line remaining_after include_name g + n
+    → NamesHeader (with_remaining s (Some b)) line (Some n) include_name
+asks_enough s line remaining_after include_name b is g n sum = asks_by_enough (begins_with_header (operands line)) s line remaining_after include_name b is g n sum
+
+pub decides_enough : {search : Search} {row : ℕ} {s : State} {line : LogicalLine} {remaining_after : Option ℕ} {taken : Result Bool Fault} (b : ℕ) → Covers s.remaining b
+    → (g : Decides search row s line remaining_after taken) (n : ℕ)
+    → b ≡ count_decides g + n
+    → Decides search row (with_remaining s (Some b)) line (Some n) taken
+decides_enough b is (Decides.unmatched q x) n sum = Decides.unmatched q (ap Some (omega arith), x.1)
+decides_enough b is (Decides.tests_name q m x) n sum = Decides.tests_name q m (ap Some (omega arith), x.1)
+decides_enough b is (Decides.names_no_header q v e x) n sum = Decides.names_no_header q v e (ap Some (omega arith), x.1)
+decides_enough b is (Decides.evaluates q v e x) n sum = Decides.evaluates q v e (condition_enough b is x n sum)
+
+effect_enough : (profile : Profile) (row : ℕ) (d : Option Directive) (s : State) (line : LogicalLine) (m : Progress) (b : ℕ) → Covers s.remaining b
+    → (e : HasEffect profile row d s line m) (n : ℕ)
+    → b ≡ count_effect e + n
+    → HasEffect profile row d (with_remaining s (Some b)) line (holding n m)
+effect_enough profile row d s line m b is (HasEffect.immediate {e = e} does gives) n sum =
+    let same : n ≡ b = omega arith in
+    HasEffect.immediate (effect_of_any_budget profile row d s line (Some b) ∙ does) (ap (holding n) gives ∙ ap (λ x. affected (with_remaining s (Some x)) e) same)
+effect_enough profile row d s line m b is (HasEffect.expanding x does expands gives) n sum =
+    HasEffect.expanding (record x { remaining = Some n }) does (expansion_enough s.macros s.env b is expands n sum)
+    (ap (holding n) gives ∙ ap (affected (with_remaining s (Some n))) (line_of_any_budget s line x.fault (presumed x.tokens) (Some b)))
+
+pub control_by_enough : (profile : Profile) (row : ℕ) (d : Option Directive) (s : State) (line : LogicalLine) (m : Progress) (b : ℕ) → Covers s.remaining b
+    → (g : ExecutesDirective profile row d s line m) (n : ℕ)
+    → b ≡ count_control_by profile row d s line m g + n
+    → ExecutesDirective profile row d (with_remaining s (Some b)) line (holding n m)
+control_by_enough profile row d s line m b is g n sum =
+    executes profile row d (with_remaining s (Some b)) line (holding n m)
+    (effect_enough profile row d s line m b is (effect_of profile row d s line m g) n (sum ∙ ap (λ k. k + n) (same_count profile row d s line m g)))
+
+-- If the budget covers the count of a line and m more, the remaining budget covers m.
+pub asks_rest : (s : State) (line : List Token) (remaining_after : Option ℕ) (include_name : Result IncludeName Fault) (b m : ℕ) → Covers s.remaining b
+    → (g : NamesHeader s line remaining_after include_name)
+    → b ≡ count_names_header s line remaining_after include_name g + m
+    → Covers remaining_after m
+asks_rest s line remaining_after include_name b m is g sum =
+    covers_rest remaining_after (count_names_header s line remaining_after include_name g) m is (asks_spends s line remaining_after include_name g) sum
+
+pub decides_rest : {search : Search} {row : ℕ} {s : State} {line : LogicalLine} {remaining_after : Option ℕ} {taken : Result Bool Fault} (b m : ℕ) → Covers s.remaining b
+    → (g : Decides search row s line remaining_after taken)
+    → b ≡ count_decides g + m
+    → Covers remaining_after m
+decides_rest {remaining_after = remaining_after} b m is g sum = covers_rest remaining_after (count_decides g) m is (decides_spends g) sum
+
+pub run_rest : (s : State) (tokens : List Token) (r : Progress) (b m : ℕ) → Covers s.remaining b
+    → (g : EmitsText s tokens r)
+    → b ≡ count_expansion g.expands + m
+    → Covers r.state.remaining m
+run_rest s tokens r b m is g sum = covers_rest r.state.remaining (count_expansion g.expands) m is (run_spends s tokens r g) sum
+
+pub covered : (remaining : Option ℕ) (b : ℕ) → Covers remaining (suc b) → is_exhausted remaining ≡ true → ⊥
+covered None b is e = absurd (cc)
+covered (Some zero) b (larger low) e = absurd (omega arith)
+covered (Some (suc n)) b is e = absurd (cc)
+
+-- ---- groups and units have the same effect with any sufficient budget, and leave the rest of the budget
 
 module _ (context : Context) where
   pub group_rest : {depth row : ℕ} {r : Progress} {ps : GroupParts} {end : Progress} (b m : ℕ) → Covers r.state.remaining b
@@ -55,18 +156,18 @@ module _ (context : Context) where
     group_enough b is (ExecutesGroup.control here rest) n sum =
         let k = count_group rest in
         ExecutesGroup.control (control_enough b is here (k + n) (omega arith)) (group_enough (k + n) (control_rest b (k + n) is here (omega arith)) rest n refl)
-    group_enough {row = row} b is (ExecutesGroup.taken {s = s} {line = line} {remaining_after = remaining_after} decides here rest) n sum =
+    group_enough b is (ExecutesGroup.taken decides here rest) n sum =
         let j = count_group here in
         let k = count_group rest in
-        let remaining = decides_rest (search_of context) row s line remaining_after (Ok true) b (j + (k + n)) is decides (omega arith) in
-        ExecutesGroup.taken (decides_enough (search_of context) row s line remaining_after (Ok true) b is decides (j + (k + n)) (omega arith)) (group_enough (j + (k + n)) remaining here (k + n) refl) (group_enough (k + n) (group_rest (j + (k + n)) (k + n) remaining here refl) rest n refl)
-    group_enough {row = row} b is (ExecutesGroup.skipped {s = s} {line = line} {remaining_after = remaining_after} decides here rest) n sum =
+        let remaining = decides_rest b (j + (k + n)) is decides (omega arith) in
+        ExecutesGroup.taken (decides_enough b is decides (j + (k + n)) (omega arith)) (group_enough (j + (k + n)) remaining here (k + n) refl) (group_enough (k + n) (group_rest (j + (k + n)) (k + n) remaining here refl) rest n refl)
+    group_enough b is (ExecutesGroup.skipped decides here rest) n sum =
         let j = count_branches here in
         let k = count_group rest in
-        let remaining = decides_rest (search_of context) row s line remaining_after (Ok false) b (j + (k + n)) is decides (omega arith) in
-        ExecutesGroup.skipped (decides_enough (search_of context) row s line remaining_after (Ok false) b is decides (j + (k + n)) (omega arith))
+        let remaining = decides_rest b (j + (k + n)) is decides (omega arith) in
+        ExecutesGroup.skipped (decides_enough b is decides (j + (k + n)) (omega arith))
         (branches_enough (j + (k + n)) remaining here (k + n) refl) (group_enough (k + n) (branches_rest (j + (k + n)) (k + n) remaining here refl) rest n refl)
-    group_enough {row = row} b is (ExecutesGroup.condition_fault {s = s} {line = line} {remaining_after = remaining_after} {f = f} decides) n sum = ExecutesGroup.condition_fault (decides_enough (search_of context) row s line remaining_after (Err f) b is decides n sum)
+    group_enough b is (ExecutesGroup.condition_fault decides) n sum = ExecutesGroup.condition_fault (decides_enough b is decides n sum)
 
     pub branches_enough : {depth row : ℕ} {s : State} {bs : Branches} {m : Progress} (b : ℕ) → Covers s.remaining b
         → (d : ExecutesBranches context depth row s bs m) (n : ℕ)
@@ -76,14 +177,14 @@ module _ (context : Context) where
         let same : b ≡ n = omega arith in
         subst (λ x. ExecutesBranches context depth row (with_remaining s (Some b)) (End line) (holding x (running s))) same ExecutesBranches.no_branch_taken
     branches_enough b is (ExecutesBranches.else_group e here) n sum = ExecutesBranches.else_group e (group_enough b is here n sum)
-    branches_enough {row = row} b is (ExecutesBranches.branch_taken {s = s} {line = line} {remaining_after = remaining_after} e decides here) n sum =
+    branches_enough b is (ExecutesBranches.branch_taken e decides here) n sum =
         let j = count_group here in
-        ExecutesBranches.branch_taken e (decides_enough (search_of context) row s line remaining_after (Ok true) b is decides (j + n) (omega arith)) (group_enough (j + n) (decides_rest (search_of context) row s line remaining_after (Ok true) b (j + n) is decides (omega arith)) here n refl)
-    branches_enough {row = row} b is (ExecutesBranches.branch_skipped {s = s} {line = line} {remaining_after = remaining_after} e decides rest) n sum =
+        ExecutesBranches.branch_taken e (decides_enough b is decides (j + n) (omega arith)) (group_enough (j + n) (decides_rest b (j + n) is decides (omega arith)) here n refl)
+    branches_enough b is (ExecutesBranches.branch_skipped e decides rest) n sum =
         let j = count_branches rest in
-        ExecutesBranches.branch_skipped e (decides_enough (search_of context) row s line remaining_after (Ok false) b is decides (j + n) (omega arith)) (branches_enough (j + n) (decides_rest (search_of context) row s line remaining_after (Ok false) b (j + n) is decides (omega arith)) rest n refl)
-    branches_enough {row = row} b is (ExecutesBranches.branch_condition_fault {s = s} {line = line} {remaining_after = remaining_after} {f = f} e decides) n sum =
-        ExecutesBranches.branch_condition_fault e (decides_enough (search_of context) row s line remaining_after (Err f) b is decides n sum)
+        ExecutesBranches.branch_skipped e (decides_enough b is decides (j + n) (omega arith)) (branches_enough (j + n) (decides_rest b (j + n) is decides (omega arith)) rest n refl)
+    branches_enough b is (ExecutesBranches.branch_condition_fault e decides) n sum =
+        ExecutesBranches.branch_condition_fault e (decides_enough b is decides n sum)
 
     pub control_enough : {depth row : ℕ} {s : State} {line : LogicalLine} {m : Progress} (b : ℕ) → Covers s.remaining b
         → (d : ExecutesControlLine context depth row s line m) (n : ℕ)
@@ -139,7 +240,7 @@ module _ (context : Context) where
         let same : b ≡ n = omega arith in
         subst (λ x. OpensFile context depth at (with_remaining s (Some (suc b))) row directory (holding x m)) same (OpensFile.content_fault fits refl once file reads)
     opened_enough zero is (OpensFile.read fits more once file reads tree here) n sum = absurd (omega arith)
-    opened_enough (suc b) is (OpensFile.read {s = s} fits more once file reads tree here) n sum =
+    opened_enough (suc b) is (OpensFile.read fits more once file reads tree here) n sum =
         OpensFile.read fits refl once file reads tree (group_enough b (covers_less is) here n (omega arith))
 
   pub defines_enough : {defines : List (List ℕ)} {s : State} {m : Progress} (b : ℕ) → Covers s.remaining b

@@ -9,7 +9,6 @@ use Rattle.pptext.specs.declared.sources.Profile.{Profile}
 use Rattle.pptext.specs.declared.sources.Directive.TheVariants.{Define, Undef, Line, Pragma, Null, Unknown}
 use Rattle.pptext.specs.declared.directives.Class.{Class}
 use Rattle.pptext.specs.declared.directives.Class.TheVariants as class
-use Rattle.pptext.specs.Classes.{class_of}
 use Rattle.pptext.specs.Profiles.{has_later}
 use Rattle.pptext.specs.Lines.{LogicalLine}
 use Rattle.pptext.specs.Tree.{hash_place}
@@ -118,7 +117,3 @@ ExecutesDirective profile row (Some Line) s line progress = SetsLine s line prog
 ExecutesDirective profile row (Some Pragma) s line progress = progress ≡ running (pragma_emitted profile row s line.tokens)
 ExecutesDirective profile row (Some Unknown) s line progress = progress ≡ stopped s (named_fault 8 line.tokens)
 ExecutesDirective _ _ _ s line progress = ⊥
-
--- the control lines that open no file, except `#error` and those without effect
-abbrev pub IsControl : Directive → Type 0
-IsControl d = class_of d ≡ class.Control

@@ -99,8 +99,8 @@ mutual
         → ExecutesControlLine context depth row s line m
 
   -- An include line without unmatched quotes (6.10.2). Its operands name no header or their expansion has a fault, or no file
-  -- is found for the header, or the file that is found is opened one level deeper. The search begins after the directory
-  -- with the number `previous_directory`, or at the first directory if that is `None`. `found` is the index of the file and
+  -- is found for the header, or the file that is found is opened one level deeper. Only the directories after the one with
+  -- the number `previous_directory` are searched; if that is `None`, the search is that of `#include`. `found` is the index of the file and
   -- the number of its directory.
   pub data ExecutesInclude (context : Context) : ℕ → ℕ → Option ℕ → State → LogicalLine → Progress → Type 0 where
     operand_fault : {depth row : ℕ} {previous_directory : Option ℕ} {s : State} {line : LogicalLine} {remaining_after : Option ℕ} {f : Fault}

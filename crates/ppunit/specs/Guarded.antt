@@ -40,7 +40,3 @@ GuardsOnlyLeaveOut =
     → is_exhausted s.remaining ≡ false
     → OpensFile context depth at s row directory end
     → end ≡ running (with_dependency (with_one_spent s) row)
-
--- the lines are one if-section under a guard, and the guard is defined
-abbrev pub IsLeftOut : State → List LogicalLine → Type 0
-IsLeftOut s lines = (x : List ℕ) × GuardedBy lines x × (is_macro_name s.macros x ≡ true)

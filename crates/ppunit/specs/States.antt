@@ -6,18 +6,12 @@ use Rattle.ppmacro.specs.Substitution.{escaped}
 use Rattle.ppmacro.specs.Names.{Macros}
 use Rattle.ppexpand.specs.declared.env.Env.{Env}
 use Rattle.ppexpand.specs.Budget.{spend_one}
-use Rattle.ppshelf.specs.Files.{Files, ShelfView}
+use Rattle.ppshelf.specs.Files.{Files}
 use Rattle.ppshelf.specs.Names.{name_in}
 use Rattle.ppunit.specs.Dependencies.{with_row}
 use Rattle.ppunit.specs.declared.states.FileContext.{FileContext}
 use Rattle.ppunit.specs.declared.units.Item.{Item}
 use Rattle.ppunit.specs.declared.units.UnitOut.{UnitOut}
-
--- a unit's file table, and the directories that are searched, the unit's before the setting's
-pub record UnitContext : Type 0 where
-  pub shelf : ShelfView
-  pub unit_directories : List (List ℕ)
-  pub setting_directories : List (List ℕ)
 
 -- the context of a unit, which stays constant: the names of all files, their profile, their known contents, and the directories
 -- that are searched, the unit's before the setting's
@@ -42,27 +36,6 @@ search_of context =
       profile = context.profile;
       unit_directories = context.unit_directories;
       setting_directories = context.setting_directories;
-    }
-
--- the search of a unit
-abbrev pub search_in_unit : UnitContext → Search
-search_in_unit unit_context =
-    record {
-      names = unit_context.shelf.names;
-      profile = unit_context.shelf.profile;
-      unit_directories = unit_context.unit_directories;
-      setting_directories = unit_context.setting_directories;
-    }
-
--- the context of a unit over these contents
-abbrev pub context_over : UnitContext → Files → Context
-context_over unit_context files =
-    record {
-      names = unit_context.shelf.names;
-      profile = unit_context.shelf.profile;
-      files = files;
-      unit_directories = unit_context.unit_directories;
-      setting_directories = unit_context.setting_directories;
     }
 
 -- the state of phase 4

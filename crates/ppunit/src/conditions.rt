@@ -6,8 +6,10 @@ ghost use Rattle.pptext.specs.Tree.{hash_place};
 ghost use Rattle.ppexpr.specs.Conditions.{IsCondition};
 ghost use Rattle.ppunit.specs.Conditions as spec;
 ghost use Rattle.ppunit.specs.DirectiveLines as spec_lines;
+ghost use Rattle.ppunit.specs.code.Lines.{directed, DecidesOf, IsConditional};
 ghost use Rattle.ppunit.specs.Probing.{condition_tokens};
-ghost use Rattle.ppunit.specs.States.{search_in_unit, with_remaining};
+ghost use Rattle.ppunit.specs.States.{with_remaining};
+ghost use Rattle.ppunit.specs.code.Contexts.{search_in_unit};
 
 use crate::directive_line::{DirectiveTokens, line_fault, one_identifier, refuse_unmatched_quote};
 use crate::open_file::UnitContext;
@@ -29,16 +31,18 @@ pub(crate) fn decide<D: Disk>(
     line: &DirectiveTokens<'_>,
 ) -> Result<bool, Error>
     requires rows { 0 < length context.now.shelf.names }
-    requires condition { spec.IsConditional directive }
+    requires condition { IsConditional directive }
     ensures rest { state.new ≡ with_remaining state.old state.new.remaining }
     ensures decides { UnlessOutOfMemory result (λ taken.
         (number : ℕ)
-        → spec.Decides (search_in_unit context.now) row state.old (spec_lines.directed directive line.now number) state.new.remaining taken) }
+        → spec.Decides (search_in_unit context.now) row state.old (directed directive line.now number) state.new.remaining taken) }
 {
     refuse_unmatched_quote(line)?;
     match directive.question() {
+        Some(Question::Value) => by_condition(context, state, row, line),
         Some(Question::Defined(wanted)) => by_name(context.alloc, wanted, &state.macros, line),
-        _ => by_condition(context, state, row, line),
+        // The line of a conditional directive asks for one of them.
+        None => Ok(true),
     }
 }
 
@@ -67,7 +71,7 @@ fn by_condition<D: Disk>(
     requires { 0 < length context.now.shelf.names }
     ensures rest { state.new ≡ with_remaining state.old state.new.remaining }
     ensures is { UnlessOutOfMemory result (λ taken.
-        spec.DecidesOf (condition_tokens (search_in_unit context.now) row line.now) state.old (hash_place line.now) state.new.remaining taken) }
+        DecidesOf (condition_tokens (search_in_unit context.now) row line.now) state.old (hash_place line.now) state.new.remaining taken) }
 {
     let at = line.hash_place();
     let operands = line.operands();
@@ -90,7 +94,7 @@ fn value(alloc: Global, state: &mut State, at: Place, tokens: &[Token]) -> Resul
     let (taken, remaining) = evaluate(
         alloc,
         &state.macros,
-        &state.env,
+        &state.file_context.env,
         state.remaining,
         at,
         tokens,

@@ -4,6 +4,7 @@ ghost use Rattle.std.specs.Result.{result_err};
 ghost use Rattle.pptext.specs.Errors.{UnlessOutOfMemory};
 ghost use Rattle.ppunit.specs.Directives as spec;
 ghost use Rattle.ppunit.specs.DirectiveLines as spec_lines;
+ghost use Rattle.ppunit.specs.code.Lines.{directed, IsControl};
 ghost use Rattle.pptext.specs.Tree.{hash_place};
 ghost use Rattle.ppmacro.specs.Define.{after_define, after_undef};
 ghost use Rattle.ppunit.specs.States.{running};
@@ -28,7 +29,13 @@ pub(crate) fn emit_text<'x>(
     if tokens.is_empty() {
         return Ok(());
     }
-    let expanded = expand(alloc, &state.macros, &state.env, state.remaining, tokens)?;
+    let expanded = expand(
+        alloc,
+        &state.macros,
+        &state.file_context.env,
+        state.remaining,
+        tokens,
+    )?;
     state.remaining = expanded.remaining;
     state.items.extend(expanded.tokens)?;
     match expanded.fault {
@@ -39,7 +46,7 @@ pub(crate) fn emit_text<'x>(
 
 /// Returns the message of `#error` (6.10.5): the tokens, with one space where a token other than the first has leading
 /// white space.
-#[tactic(auto, using(crate::proofs::Messages::message_is))]
+#[tactic(auto, using(crate::proofs::OperandTexts::message_is))]
 fn message(alloc: Global, tokens: &[Token]) -> Result<Vec<u8>, AllocError>
     ensures { IfOk result (λ m. m.items ≡ spec.message tokens.now) }
 {
@@ -156,9 +163,9 @@ fn control_any<'x>(
     profile: Profile,
     line: DirectiveLine<'x>,
 ) -> Result<(), Error>
-    requires { spec.IsControl line.directive }
+    requires { IsControl line.directive }
     ensures { UnlessOutOfMemory result (λ r.
-        spec.ExecutesDirective profile line.entry.row (Some line.entry.directive) state.old (spec_lines.directed line.entry.directive line.entry.tokens line.entry.number)
+        spec.ExecutesDirective profile line.entry.row (Some line.entry.directive) state.old (directed line.entry.directive line.entry.tokens line.entry.number)
         (record { state = state.new; fault = result_err r })) }
 {
     match line.directive {
@@ -178,9 +185,9 @@ pub(crate) fn control<'x>(
     profile: Profile,
     line: DirectiveLine<'x>,
 ) -> Result<(), Error>
-    requires { spec.IsControl line.directive }
+    requires { IsControl line.directive }
     ensures { UnlessOutOfMemory result (λ r.
-        spec.ExecutesDirective profile line.entry.row (Some line.entry.directive) state.old (spec_lines.directed line.entry.directive line.entry.tokens line.entry.number)
+        spec.ExecutesDirective profile line.entry.row (Some line.entry.directive) state.old (directed line.entry.directive line.entry.tokens line.entry.number)
         (record { state = state.new; fault = result_err r })) }
 {
     // Most control lines define a macro.

@@ -1,4 +1,11 @@
 //! The header that an `#include` line names (6.10.2).
+//!
+//! A header name right after `include` is a token of its own kind, since phase 3 knows the directive. Otherwise the
+//! operands are expanded, and then a string literal or the tokens between `<` and `>` name the header. Those tokens are
+//! joined by their spellings, with one space where a token has leading white space.
+//!
+//! `__has_include` reads the same two forms without expansion: `name_of_tokens` is for it. A name that no file can have,
+//! an empty one or one that begins with `/`, is fault 30 in a line, and no header in a condition.
 ghost use Rattle.std.specs.Prelude.{◌≡◌, ◌∷◌, IfOk, [], true};
 ghost use Rattle.std.specs.Option.{option_map};
 ghost use Rattle.pptext.specs.Errors.{UnlessOutOfMemory};

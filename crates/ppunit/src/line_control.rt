@@ -5,7 +5,8 @@ ghost use Rattle.std.specs.Result.{result_err};
 ghost use Rattle.pptext.specs.Errors.{UnlessOutOfMemory};
 ghost use Rattle.pptext.specs.declared.sources.Directive.TheVariants.{Line};
 ghost use Rattle.ppunit.specs.LineControl as spec;
-ghost use Rattle.ppunit.specs.DirectiveLines.{directed, line_fault};
+ghost use Rattle.ppunit.specs.DirectiveLines.{line_fault};
+ghost use Rattle.ppunit.specs.code.Lines.{directed};
 ghost use Rattle.ppunit.specs.Directives.{SetsLine};
 
 use crate::directive_line::{DirectiveTokens, line_fault};
@@ -123,6 +124,6 @@ pub(crate) fn renumber<'x>(
 {
     let tokens = expand_operands(alloc, state, line.operands())?;
     let presumed = presumed_or_fault(alloc, line, tokens.as_slice())?;
-    set_presumed(&mut state.env, presumed, physical);
+    set_presumed(&mut state.file_context.env, presumed, physical);
     Ok(())
 }

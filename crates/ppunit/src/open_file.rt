@@ -1,4 +1,12 @@
 //! Opens files (6.10.2): dependencies, contents, and the predefined names in a file.
+//!
+//! Opening has an order that a unit's value depends on: the depth and the budget are checked first, then the file becomes
+//! a dependency, then `#pragma once` is asked, and only then is its content looked up. So a file that isn't read again
+//! needs no content, and one that can't be read is a dependency too. A file whose include guard is defined is read and
+//! then skipped as a whole: its lines would only be stepped over.
+//!
+//! A file is opened here and walked in `line_walk`: `open` returns the file and the context that is restored after it,
+//! so that no function calls itself for an included file.
 ghost use Rattle.std.specs.Prelude.{◌≡◌, ◌<◌, ◌^◌, pos, length, IfOk, OnOk, IfErr, IfSome};
 ghost use Rattle.std.specs.Result.{result_err};
 ghost use Rattle.pptext.specs.Errors.{UnlessOutOfMemory};
@@ -9,7 +17,8 @@ ghost use Rattle.ppunit.specs.Directives.{FindsFile};
 ghost use Rattle.ppunit.specs.Group.{OpensFile};
 ghost use Rattle.ppunit.specs.code.Preprocessor.{KeepsContext};
 ghost use Rattle.ppunit.specs.code.Opening.{SpendsOpening, HasLines, HasFault, Begins};
-ghost use Rattle.ppunit.specs.States.{Progress, with_dependency, literal, context_over};
+ghost use Rattle.ppunit.specs.States.{Progress, with_dependency, literal};
+ghost use Rattle.ppunit.specs.code.Contexts.{context_over};
 ghost use Rattle.ppunit.specs.code.Walk.{Leads};
 
 use crate::guards::is_left_out;
@@ -18,7 +27,7 @@ use crate::line_access::line_count;
 use crate::preprocessor::Preprocessor;
 use crate::states::{FileContext, State, literal};
 use ppexpand::Env;
-use ppshelf::{Directories, Disk, Form, Shelf, resolve, resolve_next};
+use ppshelf::{Directories, Disk, Shelf, resolve, resolve_next};
 use pptext::{Error, Fault, Memory, Place, Profile, Source};
 use std::alloc::{AllocError, Global};
 use std::marker::Model;
@@ -37,7 +46,7 @@ pub(crate) struct UnitContext<'a, 'b, D: Disk> {
 }
 
 impl<'a, 'b, D: Disk> Model for UnitContext<'a, 'b, D> {
-    ghost use Rattle.ppunit.specs.States.{UnitContext};
+    ghost use Rattle.ppunit.specs.code.Contexts.{UnitContext};
 
     ghost Value = { UnitContext };
 
@@ -173,7 +182,8 @@ fn file_env(alloc: Global, outer: &Env, name: &str) -> Result<Env, AllocError>
 
 /// Returns the index of the file that an include line in the file `from` names, and the number of the directory in
 /// which it is found. If `from` has a directory number, only the directories after that one are searched. The file of a
-/// unit's definitions isn't in the file table, and has no files next to it.
+/// unit's definitions isn't in the file table, and has no files next to it: all directories are searched, from number 1
+/// on.
 pub(crate) fn resolve_in<D: Disk>(
     context: &UnitContext<'_, '_, D>,
     from: LocatedFile,
@@ -199,7 +209,7 @@ pub(crate) fn resolve_in<D: Disk>(
             directories,
         );
     }
-    resolve(context.alloc, shelf, 0, Form::Angle, name, directories)
+    resolve_next(context.alloc, shelf, 0, name, directories)
 }
 
 /// Spends one opening from the budget, if the file at index `row` may be opened at this depth. Fault 32 if it is too
@@ -249,7 +259,7 @@ fn begin<'a>(
     if is_left_out(state, source) {
         return Ok(None);
     }
-    let env = file_env(alloc, &state.env, name)?;
+    let env = file_env(alloc, &state.file_context.env, name)?;
     let directory = opening.directory;
     let outer = state.enter(FileContext { env, directory });
     let file = OpenFile::new(opening.row, source);

@@ -23,7 +23,13 @@ pub(crate) fn expand_operands<'x>(
         tokens,
         fault,
         remaining,
-    } = expand(alloc, &state.macros, &state.env, state.remaining, operands)?;
+    } = expand(
+        alloc,
+        &state.macros,
+        &state.file_context.env,
+        state.remaining,
+        operands,
+    )?;
     state.remaining = remaining;
     if let Some(fault) = fault {
         return Err(Error::Fault(fault));

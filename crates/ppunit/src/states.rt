@@ -32,8 +32,7 @@ pub(crate) struct State<'x> {
     pub deps: Rows,
     pub once: Rows,
     pub remaining: Option<u64>,
-    pub env: Env,
-    pub directory: Option<usize>,
+    pub file_context: FileContext,
 }
 
 impl<'x> Model for State<'x> {
@@ -57,8 +56,8 @@ impl<'x> Model for State<'x> {
       deps = s.deps;
       once = s.once;
       remaining = s.remaining;
-      env = s.env;
-      directory = s.directory;
+      env = s.file_context.env;
+      directory = s.file_context.directory;
     } };
 }
 
@@ -86,8 +85,10 @@ impl<'x> State<'x> {
             deps: Rows::new(alloc),
             once: Rows::new(alloc),
             remaining,
-            env,
-            directory: None,
+            file_context: FileContext {
+                env,
+                directory: None,
+            },
         }
     }
 
@@ -96,18 +97,14 @@ impl<'x> State<'x> {
         ensures outer { result ≡ file_context self.old }
         ensures inner { self.new ≡ in_file_context inner self.old }
     {
-        FileContext {
-            env: replace(&mut self.env, inner.env),
-            directory: replace(&mut self.directory, inner.directory),
-        }
+        replace(&mut self.file_context, inner)
     }
 
     /// Returns to a file with the context `outer`.
     pub(crate) fn restore_context(&mut self, outer: FileContext)
         ensures { self.new ≡ in_file_context outer self.old }
     {
-        self.env = outer.env;
-        self.directory = outer.directory;
+        self.file_context = outer;
     }
 
     /// Emits a pragma.

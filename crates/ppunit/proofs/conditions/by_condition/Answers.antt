@@ -1,4 +1,4 @@
-use Rattle.ppunit.specs.States.{search_in_unit}
+use Rattle.ppunit.specs.code.Contexts.{search_in_unit}
 use Rattle.ppunit.proofs.LineDecisions.{decides_unprobed, decides_probed}
 use Rattle.ppunit.proofs.UnitValue.{on_settled}
 use Rattle.ppunit.proofs.conditions.by_condition.Goals as goal

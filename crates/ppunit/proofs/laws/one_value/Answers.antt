@@ -1,5 +1,5 @@
 use Rattle.std.proofs.Common.{sym, ◌∙◌}
-use Rattle.ppunit.proofs.CountUniqueness.{unit_once}
+use Rattle.ppunit.proofs.UnitUniqueness.{unit_once}
 use Rattle.ppunit.proofs.laws.one_value.Goals as goal
 
 pub returns : goal.returns

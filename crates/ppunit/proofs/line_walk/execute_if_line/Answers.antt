@@ -1,10 +1,11 @@
 use Rattle.std.proofs.Common.{◌+◌, Bool, Ok, Err, refl, sym, subst}
 use Rattle.pptext.proofs.ErrorReturns.{stopped}
-use Rattle.ppunit.specs.States.{State, context_over, search_in_unit}
+use Rattle.ppunit.specs.States.{State}
+use Rattle.ppunit.specs.code.Contexts.{context_over, search_in_unit}
 use Rattle.ppunit.specs.Conditions.{Decides}
 use Rattle.ppunit.specs.code.Walk.{line_at, Advances}
 use Rattle.ppunit.proofs.LineDecisions.{decides_at}
-use Rattle.ppunit.proofs.EnteredSection.{enter_taken, enter_skipped, enter_refused}
+use Rattle.ppunit.proofs.SectionWalks.{enter_taken, enter_skipped, enter_refused}
 use Rattle.ppunit.proofs.UnitValue.{on_settled}
 use Rattle.ppunit.proofs.line_walk.execute_if_line.Goals as goal
 

@@ -1,9 +1,9 @@
 use Rattle.std.proofs.Common.{◌+◌, Bool, Ok, Err, ◌∙◌, sym, subst, arith}
 use Rattle.pptext.proofs.ErrorReturns.{stopped}
-use Rattle.ppunit.specs.States.{State, search_in_unit}
+use Rattle.ppunit.specs.States.{State}
+use Rattle.ppunit.specs.code.Contexts.{search_in_unit}
 use Rattle.ppunit.specs.code.Walk.{FindsBranch}
-use Rattle.ppunit.proofs.SectionEnds.{next_inside}
-use Rattle.ppunit.proofs.BranchSearch.{EntersAt, BranchSoFar, branch_more, branch_taken, branch_refused, branch_found}
+use Rattle.ppunit.proofs.SectionWalks.{next_inside, EntersAt, BranchSoFar, branch_more, branch_taken, branch_refused, branch_found}
 use Rattle.ppunit.proofs.OptionCases.{none_of}
 use Rattle.ppunit.proofs.line_walk.find_branch.Goals as goal
 
@@ -21,7 +21,8 @@ pub overflow_add-result : goal.overflow_add-result
 overflow_add-result g c = omega (arith, (next_inside c.args.source.now c.loop-next.index c.in-Some.next c.loop-next.invariant.within (sym c.line.ensures.next ∙ c.in-Some.is)).1, c.line.ensures.few)
 
 pub returns-then-branch-clause-further : goal.returns-then-branch-clause-further
-returns-then-branch-clause-further g c = omega (arith, (next_inside c.args.source.now c.loop-next.index c.in-Some.next c.loop-next.invariant.within (sym c.line.ensures.next ∙ c.in-Some.is)).0, c.loop-next.invariant.from)
+returns-then-branch-clause-further g c =
+    omega (arith, (next_inside c.args.source.now c.loop-next.index c.in-Some.next c.loop-next.invariant.within (sym c.line.ensures.next ∙ c.in-Some.is)).0, c.loop-next.invariant.from)
 
 pub returns-then-branch-clause-found : goal.returns-then-branch-clause-found
 returns-then-branch-clause-found g c ps bs qs k b =
@@ -32,7 +33,8 @@ returns-then-branch-clause-found g c ps bs qs k b =
     c.in_ok-takes_branch.ensures.takes_branch) ps bs qs k b)
 
 pub loop-next-smaller : goal.loop-next-smaller
-loop-next-smaller g c = let h = next_inside c.args.source.now c.loop-next.index c.in-Some.next c.loop-next.invariant.within (sym c.line.ensures.next ∙ c.in-Some.is) in omega (arith, h.0, h.1, c.loop-next.invariant.within)
+loop-next-smaller g c =
+    let h = next_inside c.args.source.now c.loop-next.index c.in-Some.next c.loop-next.invariant.within (sym c.line.ensures.next ∙ c.in-Some.is) in omega (arith, h.0, h.1, c.loop-next.invariant.within)
 
 pub loop-next-preserved : goal.loop-next-preserved
 loop-next-preserved g c =
@@ -44,4 +46,6 @@ loop-next-preserved g c =
 
 pub returns-clause-found : goal.returns-clause-found
 returns-clause-found g c ps bs qs k b =
-    absurd (branch_found (search_in_unit c.args.context.now) c.args.row c.args.source.now c.args.start c.loop-next.index c.args.state.now c.loop-next.state c.loop-next.invariant (sym c.line.ensures.next ∙ none_of c.line.result.now.next_branch c.in_default.not-Some) ps bs qs k b)
+    absurd
+    (branch_found (search_in_unit c.args.context.now) c.args.row c.args.source.now c.args.start c.loop-next.index c.args.state.now c.loop-next.state c.loop-next.invariant
+    (sym c.line.ensures.next ∙ none_of c.line.result.now.next_branch c.in_default.not-Some) ps bs qs k b)

@@ -1,5 +1,5 @@
 use Rattle.std.proofs.Common.{sym, ◌∙◌}
-use Rattle.ppunit.specs.States.{search_in_unit}
+use Rattle.ppunit.specs.code.Contexts.{search_in_unit}
 use Rattle.ppunit.specs.code.Walk.{line_at}
 use Rattle.ppunit.proofs.LineDecisions.{enters_asked}
 use Rattle.ppunit.proofs.UnitValue.{on_settled}

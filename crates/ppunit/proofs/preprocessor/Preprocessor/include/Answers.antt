@@ -1,13 +1,15 @@
 use Rattle.std.proofs.Common.{◌≡◌, ℕ, suc, ◌+◌, List, Some, sym, ap, ◌∙◌, subst, arith}
 use Rattle.pptext.specs.declared.tokens.Fault.{Fault}
 use Rattle.pptext.proofs.ErrorReturns.{stopped}
-use Rattle.ppunit.specs.States.{State, with_remaining, context_over}
-use Rattle.ppunit.specs.DirectiveLines.{directed, line_fault}
+use Rattle.ppunit.specs.States.{State, with_remaining}
+use Rattle.ppunit.specs.code.Contexts.{context_over}
+use Rattle.ppunit.specs.DirectiveLines.{line_fault}
+use Rattle.ppunit.specs.code.Lines.{directed}
 use Rattle.ppunit.specs.Including.{IncludeName}
 use Rattle.ppunit.specs.Directives.{FindsFile}
 use Rattle.ppunit.specs.Group.{ExecutesInclude}
 use Rattle.ppunit.proofs.OptionCases.{none_of}
-use Rattle.ppunit.proofs.ControlLineSteps.{leads_included}
+use Rattle.ppunit.proofs.ControlLines.{leads_included}
 use Rattle.ppunit.proofs.UnitValue.{on_settled}
 use Rattle.ppunit.proofs.preprocessor.Preprocessor.include.Goals as goal
 

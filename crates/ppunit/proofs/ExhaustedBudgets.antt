@@ -1,22 +1,118 @@
--- If their budget is too small, groups and units stop with fault 35, after a prefix of their full output.
-use Rattle.std.proofs.Common.{◌≡◌, ℕ, zero, suc, ◌+◌, ◌-◌, ◌<◌, ◌≤◌, List, [], true, false, Option, Some, Ok, Err, refl, arith}
+-- If their budget is too small, lines, groups and units stop with fault 35, after a prefix of their full output.
+use Rattle.std.proofs.Common.{◌≡◌, ℕ, ◌<◌, List, [], ◌++◌, map, Bool, true, false, Option, Some, None, Result, Ok, Err, refl, sym, ap, ◌∙◌, subst, arith, append_assoc, append-nil, zero, suc, ◌+◌, ◌-◌, ◌≤◌}
+use Rattle.std.proofs.lemmas.List.{map-append}
 use Rattle.pptext.specs.declared.tokens.Place.{Place}
+use Rattle.pptext.specs.declared.tokens.Token.{Token}
+use Rattle.pptext.specs.declared.tokens.Fault.{Fault}
+use Rattle.pptext.specs.declared.sources.Directive.{Directive}
+use Rattle.pptext.specs.declared.sources.Profile.{Profile}
 use Rattle.pptext.specs.Lines.{LogicalLine}
-use Rattle.pptext.specs.Tree.{GroupParts, Branches}
-use Rattle.pptext.specs.Tokens.{fault}
+use Rattle.pptext.specs.Tree.{hash_place, GroupParts, Branches}
 use Rattle.ppexpand.specs.Expansion.{count_expansion}
-use Rattle.ppexpand.proofs.BudgetLemmas.{Covers, covers_less}
-use Rattle.ppunit.specs.States.{State, file_context, in_file_context, Context, Progress, stopped, with_dependency, with_remaining, with_one_spent, search_of}
-use Rattle.ppunit.specs.DirectiveLines.{text_tokens}
+use Rattle.ppexpand.proofs.BudgetLemmas.{StopsEarly, Covers, expansion_short, covers_less}
+use Rattle.ppexpr.proofs.ConditionBudgets.{condition_short}
+use Rattle.ppunit.specs.declared.units.Item.{Item}
+use Rattle.ppunit.specs.States.{State, Progress, stopped, emitted, with_remaining, Search, file_context, in_file_context, Context, with_dependency, with_one_spent, search_of}
+use Rattle.ppunit.specs.DirectiveLines.{operands, line_fault, text_tokens}
+use Rattle.ppunit.specs.LineControl.{presumed}
+use Rattle.ppunit.specs.Including.{IncludeName, begins_with_header, name_of_expansion_or}
+use Rattle.ppunit.specs.Conditions.{Decides}
+use Rattle.ppunit.specs.Directives.{EmitsText, NamesHeaderBy, NamesHeader, ExecutesDirective}
+use Rattle.ppunit.specs.Counts.{count_decides, count_names_header_by, count_names_header, count_control_by, count_group, count_branches, count_control, count_includes, count_opening}
+use Rattle.ppunit.proofs.OutputPrefixes.{Before, before_then, control_by_before, same_state, depends, group_before, branches_before, opened_before}
+use Rattle.ppunit.specs.code.Effects.{affected, line_effect, HasEffect}
+use Rattle.ppunit.proofs.DirectiveEffects.{effect_of, executes, count_effect, same_count, fault_affects}
+use Rattle.pptext.specs.Tokens.{fault}
 use Rattle.ppunit.specs.Group.{depth_limit, ExecutesGroup, ExecutesBranches, ExecutesControlLine, ExecutesInclude, OpensFile}
-use Rattle.ppunit.specs.Counts.{count_decides, count_names_header, count_group, count_branches, count_control, count_includes, count_opening}
 use Rattle.ppunit.specs.Unit.{Defines, unread, processed, Translates, definitions_fault, translated, count_defines, count_translates}
-use Rattle.ppunit.proofs.OutputPrefixes.{Before, same_state, before_then, depends, group_before, branches_before, opened_before}
-use Rattle.ppunit.proofs.SufficientLineBudgets.{holding, run_enough, asks_enough, asks_rest, decides_enough, decides_rest, run_rest}
-use Rattle.ppunit.proofs.SufficientBudgets.{group_rest, branches_rest}
-use Rattle.ppunit.proofs.SufficientBudgets.{control_rest, defines_rest, group_enough, branches_enough, control_enough, defines_enough}
+use Rattle.ppunit.proofs.SufficientBudgets.{holding, run_enough, asks_enough, asks_rest, decides_enough, decides_rest, run_rest}
+use Rattle.ppunit.proofs.SufficientBudgets.{group_rest, branches_rest, control_rest, defines_rest, group_enough, branches_enough, control_enough, defines_enough}
 use native.Mathlib.Decide.{dec_lt}
-use Rattle.ppunit.proofs.ExhaustedLines.{Stops, over_same, over_then, run_short, asks_short, decides_short, control_by_short}
+use Rattle.ppunit.specs.declared.units.Item.TheVariants as item
+
+-- ---- if its budget is too small, a line stops with fault 35, after a prefix of its full output
+
+-- a unit stops in state s with fault 35; with a sufficient budget it reaches state t
+pub record Over (s t : State) (f : Fault) : Type 0 where
+  pub number : f.number ≡ 35
+  pub remaining : s.remaining ≡ Some 0
+  pub before : Before s t
+
+abbrev pub Stops : State → (State → Fault → Type 0) → Type 0
+Stops t P = (s : State) × (f : Fault) × Over s t f × P s f
+
+pub over_same : (s t : State) (f : Fault) → f.number ≡ 35 → Before s t → Over (with_remaining s (Some 0)) t f
+over_same s t f e h = record { number = e; remaining = refl; before = h }
+
+pub over_then : (s t u : State) (f : Fault) → Over s t f → Before t u → Over s u f
+over_then s t u f o h = record { number = o.number; remaining = o.remaining; before = before_then s t u o.before h }
+
+-- ---- lines
+
+pub run_short : (s : State) (tokens : List Token) (m : Progress) (b : ℕ) → Covers s.remaining b
+    → (g : EmitsText s tokens m)
+    → b < count_expansion g.expands
+    → Stops m.state (λ t f. EmitsText (with_remaining s (Some b)) tokens (stopped t f))
+run_short s tokens m b is g less =
+    let x : StopsEarly s.macros s.env b tokens g.expanded = expansion_short s.macros s.env b is g.expands less in
+    let items : List Item = map item.Token x.expanded.tokens in
+    let more : List Item = map item.Token x.begins.0 in
+    let made : map item.Token g.expanded.tokens ≡ items ++ more = ap (λ ts. map item.Token ts) x.begins.1 ∙ map-append item.Token x.expanded.tokens x.begins.0 in
+    let whole : m.state.items ≡ (s.items ++ items) ++ more = ap (λ r. r.state.items) g.is ∙ ap (λ l. s.items ++ l) made ∙ sym (append_assoc s.items items more) in
+    let deps : m.state.deps ≡ s.deps = ap (λ r. r.state.deps) g.is in (
+      emitted (with_remaining s (Some 0)) items,
+      x.fault,
+      record { number = x.number; remaining = refl; before = ((more, whole), ([], deps ∙ sym (append-nil s.deps))) },
+      record { expanded = x.expanded; expands = x.is; is = λ i. record { state = emitted (with_remaining s ((sym x.nothing) i)) items; fault = (sym x.stopped) i } },
+    )
+
+asks_by_short : (header : Bool) (s : State) (line : List Token) (remaining_after : Option ℕ) (include_name : Result IncludeName Fault) (b : ℕ) → Covers s.remaining b
+    → (g : NamesHeaderBy header s line remaining_after include_name)
+    → b < count_names_header_by header s line remaining_after include_name g
+    → (f : Fault) × (f.number ≡ 35) × NamesHeaderBy header (with_remaining s (Some b)) line (Some 0) (Err f)
+asks_by_short true s line remaining_after include_name b is g less = absurd (omega arith)
+asks_by_short false s line remaining_after include_name b is g less =
+    let x : StopsEarly s.macros s.env b (operands line) g.expanded = expansion_short s.macros s.env b is g.expands less in
+    (x.fault, x.number, record { expanded = x.expanded; expands = x.is; leaves = sym x.nothing; is = λ i. name_of_expansion_or (line_fault 30 line []) ((sym x.stopped) i) x.expanded.tokens })
+
+pub asks_short : (s : State) (line : List Token) (remaining_after : Option ℕ) (include_name : Result IncludeName Fault) (b : ℕ) → Covers s.remaining b
+    → (g : NamesHeader s line remaining_after include_name)
+    → b < count_names_header s line remaining_after include_name g
+    → (f : Fault) × (f.number ≡ 35) × NamesHeader (with_remaining s (Some b)) line (Some 0) (Err f)
+asks_short s line remaining_after include_name b is g less = asks_by_short (begins_with_header (operands line)) s line remaining_after include_name b is g less
+
+pub decides_short : {search : Search} {row : ℕ} {s : State} {line : LogicalLine} {remaining_after : Option ℕ} {taken : Result Bool Fault} (b : ℕ) → Covers s.remaining b
+    → (g : Decides search row s line remaining_after taken)
+    → b < count_decides g
+    → (f : Fault) × (f.number ≡ 35) × Decides search row (with_remaining s (Some b)) line (Some 0) (Err f)
+decides_short b is (Decides.unmatched q x) less = absurd (omega arith)
+decides_short b is (Decides.tests_name q n x) less = absurd (omega arith)
+decides_short b is (Decides.names_no_header q v e x) less = absurd (omega arith)
+decides_short b is (Decides.evaluates q v e x) less = let y = condition_short b is x less in (y.0, y.1, Decides.evaluates q v e y.2)
+
+effect_short : (profile : Profile) (row : ℕ) (d : Option Directive) (s : State) (line : LogicalLine) (m : Progress) (b : ℕ) → Covers s.remaining b
+    → Before s m.state
+    → (e : HasEffect profile row d s line m)
+    → b < count_effect e
+    → Stops m.state (λ t f. HasEffect profile row d (with_remaining s (Some b)) line (stopped t f))
+effect_short profile row d s line m b is before (HasEffect.immediate does gives) less = absurd (omega arith)
+effect_short profile row d s line m b is before (HasEffect.expanding x does expands gives) less =
+    let y : StopsEarly s.macros s.env b (operands line.tokens) x = expansion_short s.macros s.env b is expands less in
+    let t = with_remaining s (Some 0) in
+    let outcome : stopped t y.fault ≡ affected (with_remaining (with_remaining s (Some b)) y.expanded.remaining) (line_effect (with_remaining s (Some b)) line y.expanded.fault (presumed y.expanded.tokens)) =
+    (sym (fault_affects t y.fault)) ∙ (λ i. affected (with_remaining s ((sym y.nothing) i)) (line_effect (with_remaining s (Some b)) line ((sym y.stopped) i) (presumed y.expanded.tokens))) in
+    (t, y.fault, over_same s m.state y.fault y.number before, HasEffect.expanding y.expanded does y.is outcome)
+
+pub control_by_short : (profile : Profile) (row : ℕ) (d : Option Directive) (s : State) (line : LogicalLine) (m : Progress) (b : ℕ) → Covers s.remaining b
+    → (g : ExecutesDirective profile row d s line m)
+    → b < count_control_by profile row d s line m g
+    → Stops m.state (λ t f. ExecutesDirective profile row d (with_remaining s (Some b)) line (stopped t f))
+control_by_short profile row d s line m b is g less =
+    let all : b < count_effect (effect_of profile row d s line m g) = subst (λ n. b < n) (same_count profile row d s line m g) less in
+    let x = effect_short profile row d s line m b is (control_by_before profile row d s line m g) (effect_of profile row d s line m g) all in
+    (x.0, x.1, x.2, executes profile row d (with_remaining s (Some b)) line (stopped x.0 x.1) x.3)
+
+-- ---- if their budget is too small, groups and units stop with fault 35, after a prefix of their full output
 
 module _ (context : Context) where
   -- opening a file with an exhausted budget
@@ -42,7 +138,7 @@ module _ (context : Context) where
               let x = group_short (b - c) remaining rest (omega arith) in
               (x.0, x.1, x.2, ExecutesGroup.text_lines {end = stopped x.0 x.1} (run_enough s (text_tokens lines) m b is gives (b - c) sum) x.3))
         ]
-    group_short {end = end} b is (ExecutesGroup.control {s = s} {m = m} here rest) less =
+    group_short {end = end} b is (ExecutesGroup.control {m = m} here rest) less =
         let c = count_control here in
         elim (dec_lt b c) [
           | yes less ↦
@@ -54,58 +150,58 @@ module _ (context : Context) where
               let x = group_short (b - c) remaining rest (omega arith) in
               (x.0, x.1, x.2, ExecutesGroup.control {end = stopped x.0 x.1} (control_enough context b is here (b - c) sum) x.3))
         ]
-    group_short {row = row} {end = end} b is (ExecutesGroup.taken {s = s} {line = line} {remaining_after = remaining_after} {m = m} decides here rest) less =
-        let c = count_decides (search_of context) row s line remaining_after (Ok true) decides in
+    group_short {end = end} b is (ExecutesGroup.taken {s = s} {m = m} decides here rest) less =
+        let c = count_decides decides in
         let j = count_group here in
         let k = count_group rest in
         let one = group_before context here in
         let two = group_before context rest in
         elim (dec_lt b c) [
           | yes less ↦
-              (let x = decides_short (search_of context) row s line remaining_after (Ok true) b is decides less in
+              (let x = decides_short b is decides less in
               (with_remaining s (Some 0), x.0, over_same s end.state x.0 x.1 (before_then s m.state end.state one two), ExecutesGroup.condition_fault x.2))
           | no not_less ↦
               (let sum : b ≡ c + (b - c) = omega arith in
-              let remaining = decides_rest (search_of context) row s line remaining_after (Ok true) b (b - c) is decides sum in
+              let remaining = decides_rest b (b - c) is decides sum in
               elim (dec_lt (b - c) j) [
                 | yes less ↦
                     (let x = group_short (b - c) remaining here less in
-                    (x.0, x.1, over_then x.0 m.state end.state x.1 x.2 two, ExecutesGroup.taken {end = stopped x.0 x.1} (decides_enough (search_of context) row s line remaining_after (Ok true) b is decides (b - c) sum) x.3 ExecutesGroup.already_stopped))
+                    (x.0, x.1, over_then x.0 m.state end.state x.1 x.2 two, ExecutesGroup.taken {end = stopped x.0 x.1} (decides_enough b is decides (b - c) sum) x.3 ExecutesGroup.already_stopped))
                 | no not_less2 ↦
                     (let n = b - c - j in
                     let sum2 : b - c ≡ j + n = omega arith in
                     let next = group_rest context (b - c) n remaining here sum2 in
                     let x = group_short n next rest (omega arith) in
-                    (x.0, x.1, x.2, ExecutesGroup.taken {end = stopped x.0 x.1} (decides_enough (search_of context) row s line remaining_after (Ok true) b is decides (b - c) sum) (group_enough context (b - c) remaining here n sum2) x.3))
+                    (x.0, x.1, x.2, ExecutesGroup.taken {end = stopped x.0 x.1} (decides_enough b is decides (b - c) sum) (group_enough context (b - c) remaining here n sum2) x.3))
               ])
         ]
-    group_short {row = row} {end = end} b is (ExecutesGroup.skipped {s = s} {line = line} {remaining_after = remaining_after} {m = m} decides here rest) less =
-        let c = count_decides (search_of context) row s line remaining_after (Ok false) decides in
+    group_short {end = end} b is (ExecutesGroup.skipped {s = s} {m = m} decides here rest) less =
+        let c = count_decides decides in
         let j = count_branches here in
         let k = count_group rest in
         let one = branches_before context here in
         let two = group_before context rest in
         elim (dec_lt b c) [
           | yes less ↦
-              (let x = decides_short (search_of context) row s line remaining_after (Ok false) b is decides less in
+              (let x = decides_short b is decides less in
               (with_remaining s (Some 0), x.0, over_same s end.state x.0 x.1 (before_then s m.state end.state one two), ExecutesGroup.condition_fault x.2))
           | no not_less ↦
               (let sum : b ≡ c + (b - c) = omega arith in
-              let remaining = decides_rest (search_of context) row s line remaining_after (Ok false) b (b - c) is decides sum in
+              let remaining = decides_rest b (b - c) is decides sum in
               elim (dec_lt (b - c) j) [
                 | yes less ↦
                     (let x = branches_short (b - c) remaining here less in
-                    (x.0, x.1, over_then x.0 m.state end.state x.1 x.2 two, ExecutesGroup.skipped {end = stopped x.0 x.1} (decides_enough (search_of context) row s line remaining_after (Ok false) b is decides (b - c) sum) x.3 ExecutesGroup.already_stopped))
+                    (x.0, x.1, over_then x.0 m.state end.state x.1 x.2 two, ExecutesGroup.skipped {end = stopped x.0 x.1} (decides_enough b is decides (b - c) sum) x.3 ExecutesGroup.already_stopped))
                 | no not_less2 ↦
                     (let n = b - c - j in
                     let sum2 : b - c ≡ j + n = omega arith in
                     let next = branches_rest context (b - c) n remaining here sum2 in
                     let x = group_short n next rest (omega arith) in
-                    (x.0, x.1, x.2, ExecutesGroup.skipped {end = stopped x.0 x.1} (decides_enough (search_of context) row s line remaining_after (Ok false) b is decides (b - c) sum) (branches_enough context (b - c) remaining here n sum2) x.3))
+                    (x.0, x.1, x.2, ExecutesGroup.skipped {end = stopped x.0 x.1} (decides_enough b is decides (b - c) sum) (branches_enough context (b - c) remaining here n sum2) x.3))
               ])
         ]
-    group_short {row = row} b is (ExecutesGroup.condition_fault {s = s} {line = line} {remaining_after = remaining_after} {f = f} decides) less =
-        let x = decides_short (search_of context) row s line remaining_after (Err f) b is decides less in
+    group_short b is (ExecutesGroup.condition_fault {s = s} {remaining_after = remaining_after} decides) less =
+        let x = decides_short b is decides less in
         (with_remaining s (Some 0), x.0, over_same s (with_remaining s remaining_after) x.0 x.1 (same_state s), ExecutesGroup.condition_fault x.2)
 
     branches_short : {depth row : ℕ} {s : State} {bs : Branches} {m : Progress} (b : ℕ) → Covers s.remaining b
@@ -116,32 +212,32 @@ module _ (context : Context) where
     branches_short b is (ExecutesBranches.else_group e here) less =
         let x = group_short b is here less in
         (x.0, x.1, x.2, ExecutesBranches.else_group e x.3)
-    branches_short {row = row} {m = m} b is (ExecutesBranches.branch_taken {s = s} {line = line} {remaining_after = remaining_after} e decides here) less =
-        let c = count_decides (search_of context) row s line remaining_after (Ok true) decides in
+    branches_short {m = m} b is (ExecutesBranches.branch_taken {s = s} e decides here) less =
+        let c = count_decides decides in
         elim (dec_lt b c) [
           | yes less ↦
-              (let x = decides_short (search_of context) row s line remaining_after (Ok true) b is decides less in
+              (let x = decides_short b is decides less in
               (with_remaining s (Some 0), x.0, over_same s m.state x.0 x.1 (group_before context here), ExecutesBranches.branch_condition_fault e x.2))
           | no not_less ↦
               (let sum : b ≡ c + (b - c) = omega arith in
-              let remaining = decides_rest (search_of context) row s line remaining_after (Ok true) b (b - c) is decides sum in
+              let remaining = decides_rest b (b - c) is decides sum in
               let x = group_short (b - c) remaining here (omega arith) in
-              (x.0, x.1, x.2, ExecutesBranches.branch_taken {m = stopped x.0 x.1} e (decides_enough (search_of context) row s line remaining_after (Ok true) b is decides (b - c) sum) x.3))
+              (x.0, x.1, x.2, ExecutesBranches.branch_taken {m = stopped x.0 x.1} e (decides_enough b is decides (b - c) sum) x.3))
         ]
-    branches_short {row = row} {m = m} b is (ExecutesBranches.branch_skipped {s = s} {line = line} {remaining_after = remaining_after} e decides here) less =
-        let c = count_decides (search_of context) row s line remaining_after (Ok false) decides in
+    branches_short {m = m} b is (ExecutesBranches.branch_skipped {s = s} e decides here) less =
+        let c = count_decides decides in
         elim (dec_lt b c) [
           | yes less ↦
-              (let x = decides_short (search_of context) row s line remaining_after (Ok false) b is decides less in
+              (let x = decides_short b is decides less in
               (with_remaining s (Some 0), x.0, over_same s m.state x.0 x.1 (branches_before context here), ExecutesBranches.branch_condition_fault e x.2))
           | no not_less ↦
               (let sum : b ≡ c + (b - c) = omega arith in
-              let remaining = decides_rest (search_of context) row s line remaining_after (Ok false) b (b - c) is decides sum in
+              let remaining = decides_rest b (b - c) is decides sum in
               let x = branches_short (b - c) remaining here (omega arith) in
-              (x.0, x.1, x.2, ExecutesBranches.branch_skipped {m = stopped x.0 x.1} e (decides_enough (search_of context) row s line remaining_after (Ok false) b is decides (b - c) sum) x.3))
+              (x.0, x.1, x.2, ExecutesBranches.branch_skipped {m = stopped x.0 x.1} e (decides_enough b is decides (b - c) sum) x.3))
         ]
-    branches_short {row = row} b is (ExecutesBranches.branch_condition_fault {s = s} {line = line} {remaining_after = remaining_after} {f = f} e decides) less =
-        let x = decides_short (search_of context) row s line remaining_after (Err f) b is decides less in
+    branches_short b is (ExecutesBranches.branch_condition_fault {s = s} {remaining_after = remaining_after} e decides) less =
+        let x = decides_short b is decides less in
         (with_remaining s (Some 0), x.0, over_same s (with_remaining s remaining_after) x.0 x.1 (same_state s), ExecutesBranches.branch_condition_fault e x.2)
 
     control_short : {depth row : ℕ} {s : State} {line : LogicalLine} {m : Progress} (b : ℕ) → Covers s.remaining b
@@ -187,15 +283,18 @@ module _ (context : Context) where
         → Stops m.state (λ t f. OpensFile context depth at (with_remaining s (Some b)) row directory (stopped t f))
     opened_short b is (OpensFile.too_deep deep) less = absurd (omega arith)
     opened_short b is (OpensFile.exhausted fits spent) less = absurd (omega arith)
-    opened_short {depth} {row} {directory} {at} zero is (OpensFile.not_read_again {s = s} fits more once) less = over_here {depth = depth} {row = row} {directory = directory} {at = at} s (with_dependency (with_one_spent s) row) fits (depends s row)
+    opened_short {depth} {row} {directory} {at} zero is (OpensFile.not_read_again {s = s} fits more once) less =
+        over_here {depth = depth} {row = row} {directory = directory} {at = at} s (with_dependency (with_one_spent s) row) fits (depends s row)
     opened_short (suc b) is (OpensFile.not_read_again fits more once) less = absurd (omega arith)
-    opened_short {depth} {row} {directory} {at} zero is (OpensFile.not_readable {s = s} fits more once file) less = over_here {depth = depth} {row = row} {directory = directory} {at = at} s (with_dependency (with_one_spent s) row) fits (depends s row)
+    opened_short {depth} {row} {directory} {at} zero is (OpensFile.not_readable {s = s} fits more once file) less =
+        over_here {depth = depth} {row = row} {directory = directory} {at = at} s (with_dependency (with_one_spent s) row) fits (depends s row)
     opened_short (suc b) is (OpensFile.not_readable fits more once file) less = absurd (omega arith)
-    opened_short {depth} {row} {directory} {at} zero is (OpensFile.content_fault {s = s} fits more once file reads) less = over_here {depth = depth} {row = row} {directory = directory} {at = at} s (with_dependency (with_one_spent s) row) fits (depends s row)
+    opened_short {depth} {row} {directory} {at} zero is (OpensFile.content_fault {s = s} fits more once file reads) less =
+        over_here {depth = depth} {row = row} {directory = directory} {at = at} s (with_dependency (with_one_spent s) row) fits (depends s row)
     opened_short (suc b) is (OpensFile.content_fault fits more once file reads) less = absurd (omega arith)
     opened_short {depth} {row} {directory} {at} zero is (OpensFile.read {s = s} {m = m} fits more once file reads tree here) less =
         over_here {depth = depth} {row = row} {directory = directory} {at = at} s (in_file_context (file_context s) m.state) fits (before_then s (with_dependency s row) m.state (depends s row) (group_before context here))
-    opened_short (suc b) is (OpensFile.read {s = s} {m = m} fits more once file reads tree here) less =
+    opened_short (suc b) is (OpensFile.read {s = s} fits more once file reads tree here) less =
         let x = group_short b (covers_less is) here (omega arith) in
         (in_file_context (file_context s) x.0, x.1, record { number = x.2.number; remaining = x.2.remaining; before = x.2.before }, OpensFile.read fits refl once file reads tree x.3)
 
