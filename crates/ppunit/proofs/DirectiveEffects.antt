@@ -12,14 +12,16 @@ use Rattle.pptext.specs.Classes.{class_by, class_of, opens, ends}
 use Rattle.pptext.specs.Lines.{LogicalLine}
 use Rattle.pptext.specs.Tree.{hash_place}
 use Rattle.ppmacro.specs.Names.{Macros}
-use Rattle.ppmacro.specs.Define.{after_define, after_undef}
+use Rattle.std.specs.Result.{result_err}
+use Rattle.ppmacro.specs.Define.{after_define, after_undef, Leaves}
 use Rattle.ppmacro.proofs.FaultNumbers.{define_number, undef_number}
+use Rattle.ppexpand.specs.declared.meter.Meter.{Meter}
 use Rattle.ppexpand.specs.declared.env.Env.{Env}
-use Rattle.ppexpand.specs.declared.expansion.Expanded.{Expanded}
+use Rattle.ppexpand.specs.Expansion.{Expansion}
 use Rattle.ppexpand.specs.Expansion.{IsExpansion, count_expansion}
 use Rattle.ppunit.specs.declared.units.Item.TheVariants as item
 use Rattle.ppunit.specs.Dependencies.{with_row}
-use Rattle.ppunit.specs.States.{State, Progress, running, stopped, emitted, with_once, with_remaining}
+use Rattle.ppunit.specs.States.{State, Progress, running, stopped, emitted, with_once, with_meter}
 use Rattle.ppunit.specs.DirectiveLines.{operands, line_fault, named_fault}
 use Rattle.ppunit.specs.LineControl.{Presumed, presumed, renumbered}
 use Rattle.ppunit.specs.Directives.{ExecutesDirective, SetsLine, with_macros, renumbered_by, is_once, pragma_emitted, checks_quotes}
@@ -47,11 +49,16 @@ of_pragma profile row s line = noted (is_once profile (operands line))
     noted true = refl
     noted false = refl
 
-of_line : (s : State) (line : LogicalLine) (f : Option Fault) (p : Option Presumed) (remaining : Option ℕ)
-    → affected (with_remaining s remaining) (line_effect s line f p) ≡ renumbered_by (with_remaining s remaining) line f p
-of_line s line (Some f) p remaining = nothing_emitted (with_remaining s remaining) s.macros s.env (Some f)
-of_line s line None None remaining = nothing_emitted (with_remaining s remaining) s.macros s.env (Some (line_fault 33 line.tokens []))
-of_line s line None (Some p) remaining = nothing_emitted (with_remaining s remaining) s.macros (renumbered s line p).env None
+of_line : (s : State) (line : LogicalLine) (f : Option Fault) (p : Option Presumed) (meter : Meter)
+    → affected (with_meter s meter) (line_effect s line f p) ≡ renumbered_by (with_meter s meter) line f p
+of_line s line (Some f) p meter = nothing_emitted (with_meter s meter) s.macros s.env (Some f)
+of_line s line None None meter = nothing_emitted (with_meter s meter) s.macros s.env (Some (line_fault 33 line.tokens []))
+of_line s line None (Some p) meter = nothing_emitted (with_meter s meter) s.macros (renumbered s line p).env None
+
+-- what `#define` and `#undef` leave in the table
+pub leaves_macros : (s : State) (new : Macros) (r : Result (Unit {0}) Fault) (a : Result Macros Fault) → Leaves s.macros new r a → record { state = record s { macros = new }; fault = result_err r } ≡ with_macros s a
+leaves_macros s new (Ok u) a is = ap (with_macros s) (sym is)
+leaves_macros s new (Err f) a (is, same) = ap (λ (m : Macros). record { state = record s { macros = m }; fault = Some f }) same ∙ ap (with_macros s) (sym is)
 
 -- ---- executing a line is having its effect
 
@@ -66,7 +73,7 @@ effect_of profile row (Some Null) s line m g = HasEffect.immediate refl (g ∙ s
 effect_of profile row (Some Define) s line m g = HasEffect.immediate refl (g ∙ sym (of_macros s (after_define profile s.macros (hash_place line.tokens) (operands line.tokens))))
 effect_of profile row (Some Undef) s line m g = HasEffect.immediate refl (g ∙ sym (of_macros s (after_undef profile s.macros (hash_place line.tokens) (operands line.tokens))))
 effect_of profile row (Some Line) s line m g =
-    HasEffect.expanding g.expanded refl g.expands (g.is ∙ sym (of_line s line g.expanded.fault (presumed g.expanded.tokens) g.expanded.remaining))
+    HasEffect.expanding g.expanded refl g.expands (g.is ∙ sym (of_line s line g.expanded.fault (presumed g.expanded.tokens) g.expanded.meter))
 effect_of profile row (Some Pragma) s line m g = HasEffect.immediate refl (g ∙ sym (of_pragma profile row s line.tokens))
 effect_of profile row (Some Unknown) s line m g = HasEffect.immediate refl (g ∙ sym (nothing_emitted s s.macros s.env (Some (named_fault 8 line.tokens))))
 effect_of profile row d s line m g = absurd g
@@ -91,7 +98,7 @@ executes_at_once profile row d s line e is = absurd (no_immediate e is)
 pub executes : (profile : Profile) (row : ℕ) (d : Option Directive) (s : State) (line : LogicalLine) (m : Progress) → HasEffect profile row d s line m → ExecutesDirective profile row d s line m
 executes profile row d s line m (HasEffect.immediate {e = e} is gives) = subst (ExecutesDirective profile row d s line) (sym gives) (executes_at_once profile row d s line e is)
 executes profile row d s line m (HasEffect.expanding x is expands gives) =
-    let sets : SetsLine s line m = record { expanded = x; expands = expands; is = gives ∙ of_line s line x.fault (presumed x.tokens) x.remaining } in
+    let sets : SetsLine s line m = record { expanded = x; expands = expands; is = gives ∙ of_line s line x.fault (presumed x.tokens) x.meter } in
     subst (λ (z : Option Directive). ExecutesDirective profile row z s line m) (sym is) sets
 
 -- the replacements in its operands
@@ -112,19 +119,19 @@ same_count profile row d s line m g = absurd g
 
 -- ---- facts of effects
 
--- An effect does not depend on the budget.
-pub effect_of_any_budget : (profile : Profile) (row : ℕ) (d : Option Directive) (s : State) (line : LogicalLine) (n : Option ℕ) → immediate_effect profile row d (with_remaining s n) line ≡ immediate_effect profile row d s line
-effect_of_any_budget profile row (Some Null) s line n = refl
-effect_of_any_budget profile row (Some Define) s line n = refl
-effect_of_any_budget profile row (Some Undef) s line n = refl
-effect_of_any_budget profile row (Some Pragma) s line n = refl
-effect_of_any_budget profile row (Some Unknown) s line n = refl
-effect_of_any_budget profile row d s line n = refl
+-- An effect does not depend on the meter.
+pub effect_of_any_meter : (profile : Profile) (row : ℕ) (d : Option Directive) (s : State) (line : LogicalLine) (n : Meter) → immediate_effect profile row d (with_meter s n) line ≡ immediate_effect profile row d s line
+effect_of_any_meter profile row (Some Null) s line n = refl
+effect_of_any_meter profile row (Some Define) s line n = refl
+effect_of_any_meter profile row (Some Undef) s line n = refl
+effect_of_any_meter profile row (Some Pragma) s line n = refl
+effect_of_any_meter profile row (Some Unknown) s line n = refl
+effect_of_any_meter profile row d s line n = refl
 
-pub line_of_any_budget : (s : State) (line : LogicalLine) (f : Option Fault) (p : Option Presumed) (n : Option ℕ) → line_effect s line f p ≡ line_effect (with_remaining s n) line f p
-line_of_any_budget s line (Some f) p n = refl
-line_of_any_budget s line None None n = refl
-line_of_any_budget s line None (Some p) n = refl
+pub line_of_any_meter : (s : State) (line : LogicalLine) (f : Option Fault) (p : Option Presumed) (n : Meter) → line_effect s line f p ≡ line_effect (with_meter s n) line f p
+line_of_any_meter s line (Some f) p n = refl
+line_of_any_meter s line None None n = refl
+line_of_any_meter s line None (Some p) n = refl
 
 -- A fault alone leaves the state as it is.
 pub fault_affects : (s : State) (f : Fault) → affected s (only_fault s f) ≡ stopped s f
@@ -194,7 +201,7 @@ line_effect_other s r None (Some p) h = tt
 
 -- A line has a fault 35 only if the expansion of its operands has one.
 pub effect_other : {profile : Profile} {row : ℕ} {d : Option Directive} {s : State} {line : LogicalLine} {m : Progress}
-    → ((x : Expanded) → IsExpansion s.macros s.env s.remaining (operands line.tokens) x → IsOther x.fault)
+    → ((x : Expansion) → IsExpansion s.macros s.env s.meter (operands line.tokens) x → IsOther x.fault)
     → HasEffect profile row d s line m
     → IsOther m.fault
 effect_other {profile} {row} {d} {s} {line} expansions (HasEffect.immediate {e = e} is gives) = subst (λ (r : Progress). IsOther r.fault) (sym gives) (immediate_effect_other profile row d s line e is)

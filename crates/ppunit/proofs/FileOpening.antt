@@ -45,7 +45,7 @@ opens_known context depth row directory at name s a t known (fits, some, pays) j
 
 -- the opening is spent from the budget, and the file, which is to be read, is a dependency
 abbrev pub IsReady : ℕ → ℕ → State → State → Type 0
-IsReady depth row s t = (depth ≤ depth_limit) × (is_exhausted s.remaining ≡ false) × (has_row row s.once ≡ false) × (t ≡ with_dependency (with_one_spent s) row)
+IsReady depth row s t = (depth ≤ depth_limit) × (is_exhausted s.meter ≡ false) × (has_row row s.once ≡ false) × (t ≡ with_dependency (with_one_spent s) row)
 
 pub ready : (depth row : ℕ) (at : Place) (name : List ℕ) (s a t : State) (known : Bool)
     → SpendsOpening depth at name s a None

@@ -18,8 +18,9 @@ use Rattle.pptext.specs.Guard.{named, is_not_defined, are_parentheses, ident_if,
 use Rattle.pptext.proofs.KindUniqueness.{begins}
 use Rattle.pptext.specs.Tokens.{is_identifier_kind}
 use Rattle.ppmacro.specs.Define.{same_bool}
+use Rattle.ppexpand.specs.Budget.{with_budget}
 use Rattle.ppexpand.specs.Laws.{plus}
-use Rattle.ppexpand.proofs.BudgetLemmas.{without}
+use Rattle.ppexpand.proofs.BudgetLemmas.{Covers, without}
 use Rattle.ppexpr.specs.Conditions.{IsCondition, count_condition}
 use Rattle.ppexpr.proofs.ConditionUniqueness.{same_condition}
 use Rattle.ppexpr.proofs.ConditionBudgets.{condition_spends, condition_enough}
@@ -32,11 +33,12 @@ use Rattle.ppunit.specs.Conditions.{is_macro_name, by_name, Decides}
 use Rattle.ppunit.specs.Counts.{count_decides}
 use Rattle.ppunit.proofs.FileTokens.{IsSpelled, AreSpelled, IsSpelledLine, opens_header, kind_is, defined_spelled}
 use Rattle.std.specs.FinMap as table
+use Rattle.ppexpand.specs.declared.meter.Meter.{Meter}
 use Rattle.ppunit.proofs.QuoteFreeTokens.{is_quote, is_ident_kind, ident_unquoted, named_is, is_hash, hash_unquoted, opens_by, AreUnquoted, no_quote, named_unquoted}
 
 -- the group after a line is not taken, and that costs nothing
 abbrev SkipsLine : Search → ℕ → State → LogicalLine → Type 0
-SkipsLine search row s line = (h : Decides search row s line s.remaining (Ok false)) × (count_decides h ≡ 0)
+SkipsLine search row s line = (h : Decides search row s line s.meter (Ok false)) × (count_decides h ≡ 0)
 
 -- each line of these tokens skips its group, at no cost
 abbrev Skips : Search → ℕ → State → Option Directive → List Token → Type 0
@@ -104,22 +106,31 @@ defined_is t spelled is =
 name_is : (t : Token) → t.kind ≡ Ident → as_name t ≡ t
 name_is t e = let k : Ident ≡ t.kind = sym e in λ i. record t { kind = k i }
 
--- the condition is false with any remaining budget, and spends nothing
+-- the condition is false with any meter, and spends nothing
 abbrev IsFalseFreely : State → Place → List Token → Type 0
-IsFalseFreely s at tokens = (remaining : Option ℕ) → IsCondition s.macros s.env at tokens remaining (Ok false) remaining
+IsFalseFreely s at tokens = (meter : Meter) → IsCondition s.macros s.env at tokens meter (Ok false) meter
 
 nothing_spent : (n count : ℕ) → Some n ≡ plus count (Some n) → count ≡ 0
 nothing_spent n count e = let same : n ≡ count + n = cc in omega arith
 
 -- The count of such a condition is 0.
-costs_nothing : (s : State) (at : Place) (tokens : List Token) (condition : IsFalseFreely s at tokens) (remaining : Option ℕ) → count_condition (condition remaining) ≡ 0
-costs_nothing s at tokens condition (Some n) = nothing_spent n (count_condition (condition (Some n))) (condition_spends (condition (Some n)))
-costs_nothing s at tokens condition None =
-    let k = count_condition (condition None) in
-    let sufficed : IsCondition s.macros s.env at tokens (Some k) (Ok false) (Some 0) = condition_enough k without (condition None) 0 (omega arith) in
-    let remainders : Some k ≡ Some 0 = (same_condition s.macros s.env at tokens (Some k) (Some k) (Some 0) (Ok false) (Ok false) (condition (Some k)) sufficed).1 in
-    let counts : k ≡ 0 = cc in
-    counts
+costs_nothing : (s : State) (at : Place) (tokens : List Token) (condition : IsFalseFreely s at tokens) (meter : Meter) → count_condition (condition meter) ≡ 0
+costs_nothing s at tokens condition meter = by_budget meter.remaining refl
+  where
+    k : ℕ
+    k = count_condition (condition meter)
+
+    by_budget : (budget : Option ℕ) → meter.remaining ≡ budget → count_condition (condition meter) ≡ 0
+    by_budget (Some n) e = nothing_spent n k (sym e ∙ condition_spends (condition meter) ∙ ap (plus k) e)
+    by_budget None e =
+        let all : Meter = with_budget (Some k) meter in
+        let none : Meter = with_budget (Some 0) meter in
+        let sufficed : IsCondition s.macros s.env at tokens all (Ok false) none =
+        condition_enough k (subst (λ (b : Option ℕ). Covers b k) (sym e) without) (condition meter) 0 (omega arith) in
+        let meters : all ≡ none = (same_condition s.macros s.env at tokens all all none (Ok false) (Ok false) (condition all) sufficed).1 in
+        let rests : Some k ≡ Some 0 = ap (λ (m : Meter). m.remaining) meters in
+        let counts : k ≡ 0 = cc in
+        counts
 
 -- If operands have no `__has_include` to replace, they are the tokens of the condition.
 unprobed : (search : Search) (row : ℕ) (h d : Token) (ts : List Token) → probed search row ts ≡ Some ts → condition_tokens search row (h ∷ d ∷ ts) ≡ Ok ts
@@ -135,7 +146,7 @@ by_condition : (search : Search) (row : ℕ) (s : State) (h d : Token) (ts : Lis
     → unmatched_quote (h ∷ d ∷ ts) ≡ None
     → Skips search row s (Some If) (h ∷ d ∷ ts)
 by_condition search row s h d ts stays condition quotes number =
-    (Decides.evaluates quotes refl (unprobed search row h d ts stays) (condition s.remaining), costs_nothing s h.at ts condition s.remaining)
+    (Decides.evaluates quotes refl (unprobed search row h d ts stays) (condition s.meter), costs_nothing s h.at ts condition s.meter)
 
 by_ifndef : (search : Search) (row : ℕ) (s : State) (profile : Profile) (h d t : Token) (x : List ℕ)
     → is_hash h.text ≡ true
@@ -165,7 +176,7 @@ by_bare search row s profile h d n f t x sn sf hash g known =
     let name = name_is t g.kind in
     let same : (punctuator (codes "!") n ∷ as_defined f ∷ as_name t ∷ []) ≡ (n ∷ f ∷ t ∷ []) = λ i. bang i ∷ asks i ∷ name i ∷ [] in
     let stays : probed search row (n ∷ f ∷ t ∷ []) ≡ Some (n ∷ f ∷ t ∷ []) = subst (λ (z : List Token). probed search row z ≡ Some z) same refl in
-    let condition : IsFalseFreely s h.at (n ∷ f ∷ t ∷ []) = subst (λ (z : List Token). IsFalseFreely s h.at z) same (λ remaining. bare_false s.macros s.env h.at remaining n f t (known_name s x t g.name known)) in
+    let condition : IsFalseFreely s h.at (n ∷ f ∷ t ∷ []) = subst (λ (z : List Token). IsFalseFreely s h.at z) same (λ meter. bare_false s.macros s.env h.at meter n f t (known_name s x t g.name known)) in
     decided search row s profile h d (n ∷ f ∷ t ∷ []) (codes "if") If hash p.0 (if_called profile) refl
     (named_unquoted n (codes "!") q.0 refl, (named_unquoted f (codes "defined") q.1 refl, (ident_unquoted t g.kind, tt)))
     (by_condition search row s h d (n ∷ f ∷ t ∷ []) stays condition)
@@ -193,7 +204,7 @@ by_parenthesized search row s profile h d n f l t r x sn sf sl sr hash g known =
     λ i. bang i ∷ asks i ∷ opens i ∷ name i ∷ closes i ∷ [] in
     let stays : probed search row (n ∷ f ∷ l ∷ t ∷ r ∷ []) ≡ Some (n ∷ f ∷ l ∷ t ∷ r ∷ []) = subst (λ (z : List Token). probed search row z ≡ Some z) same refl in
     let condition : IsFalseFreely s h.at (n ∷ f ∷ l ∷ t ∷ r ∷ []) = subst (λ (z : List Token). IsFalseFreely s h.at z) same
-    (λ remaining. parenthesized_false s.macros s.env h.at remaining n f l t r (known_name s x t g.name known)) in
+    (λ meter. parenthesized_false s.macros s.env h.at meter n f l t r (known_name s x t g.name known)) in
     decided search row s profile h d (n ∷ f ∷ l ∷ t ∷ r ∷ []) (codes "if") If hash p.0 (if_called profile) refl (
       named_unquoted n (codes "!") q.0 refl,
       (
@@ -228,7 +239,7 @@ pub guard_line : (search : Search) (row : ℕ) (s : State) (profile : Profile) (
     → role r ≡ role_of_directive If
     → guard_name r.tokens ≡ Some x
     → is_macro_name s.macros x ≡ true
-    → (h : Decides search row s r s.remaining (Ok false)) × (count_decides h ≡ 0)
+    → (h : Decides search row s r s.meter (Ok false)) × (count_decides h ≡ 0)
 guard_line search row s profile r x (spelled, directed) opens is known =
     subst (λ (z : Option Directive). Skips search row s z r.tokens) (sym directed)
     (guard_decides search row s profile r.tokens x spelled (ap role_by (sym directed) ∙ opens) is known) r.number

@@ -63,9 +63,9 @@ module _ (context : Context) (more : Files) (grows : Extends more context.files)
         → (e : ExecutesInclude wider depth row following s line m) × (count_includes e ≡ count_includes d)
     includes_grow (ExecutesInclude.operand_fault asks) = (ExecutesInclude.operand_fault asks, refl)
     includes_grow (ExecutesInclude.missing a asks finds) = (ExecutesInclude.missing a asks finds, refl)
-    includes_grow (ExecutesInclude.included {s = s} {line = line} {remaining_after = remaining_after} a found asks finds opens) =
+    includes_grow (ExecutesInclude.included {s = s} {line = line} {meter_after = meter_after} a found asks finds opens) =
         let o = opened_grows opens in
-        (ExecutesInclude.included a found asks finds o.0, ap (λ n. count_names_header s line.tokens remaining_after (Ok a) asks + n) o.1)
+        (ExecutesInclude.included a found asks finds o.0, ap (λ n. count_names_header s line.tokens meter_after (Ok a) asks + n) o.1)
 
     pub opened_grows : {depth row : ℕ} {directory : Option ℕ} {at : Place} {s : State} {m : Progress} (d : OpensFile context depth at s row directory m)
         → (e : OpensFile wider depth at s row directory m) × (count_opening e ≡ count_opening d)

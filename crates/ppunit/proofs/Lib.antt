@@ -7,7 +7,7 @@ pub mod OperandTexts
 pub mod LargerFileSets
 -- A control line that opens no file and isn't `#error` has an effect, and what holds of each effect.
 pub mod DirectiveEffects
--- The effect of a line that opens no file is unique, and so is the remaining budget.
+-- The effect of a line that opens no file is unique, and so is the meter after it.
 pub mod LineUniqueness
 -- Over the same files an if-section has one outcome, if its groups have one each.
 pub mod SectionUniqueness
@@ -15,7 +15,7 @@ pub mod SectionUniqueness
 pub mod ControlLineUniqueness
 -- Over the same files the opening of a file has one outcome, if the group of the file has one.
 pub mod OpeningUniqueness
--- Over the same files a unit reaches one state, with one remaining budget: it has one value and one count.
+-- Over the same files a unit reaches one state, with one meter after it: it has one value and one count.
 pub mod UnitUniqueness
 -- The value of a unit, from the reading of its definitions and the walk over its lines.
 pub mod UnitValue

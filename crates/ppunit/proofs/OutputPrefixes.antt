@@ -10,7 +10,7 @@ use Rattle.pptext.specs.Tree.{GroupParts, Branches, hash_place}
 use Rattle.ppexpand.specs.Laws.{IsPrefix}
 use Rattle.ppunit.specs.declared.units.Item.{Item}
 use Rattle.ppunit.specs.Dependencies.{has_row}
-use Rattle.ppunit.specs.States.{State, Context, Progress, emitted, with_dependency, with_once, with_remaining}
+use Rattle.ppunit.specs.States.{State, Context, Progress, emitted, with_dependency, with_once, with_meter}
 use Rattle.ppunit.specs.DirectiveLines.{operands, text_tokens}
 use Rattle.ppunit.specs.LineControl.{presumed}
 use Rattle.ppunit.specs.Directives.{EmitsText, ExecutesDirective}

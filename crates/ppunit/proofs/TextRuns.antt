@@ -1,9 +1,10 @@
 -- A walk over a text run, and the end of a text run. A run without tokens, for example of blank lines, emits nothing.
-use Rattle.std.proofs.Common.{◌≡◌, ℕ, List, [], ◌∷◌, length, nat_eq, Option, None, Some, refl, append-nil, sym, true, zero, suc, arith, ◌≢◌, ◌+◌, ◌-◌, ◌<◌, ◌++◌, take, drop, ap, ◌∙◌, subst, ◌≤◌, add-one}
+use Rattle.std.proofs.Common.{◌≡◌, ℕ, List, [], ◌∷◌, length, nat_eq, Option, None, Some, refl, append-nil, sym, true, zero, suc, arith, ◌≢◌, ◌+◌, ◌-◌, ◌<◌, ◌++◌, take, drop, ap, ◌∙◌, subst, ◌≤◌, add-one, Bool, false, if◌then◌else◌}
 use Rattle.std.proofs.lemmas.Bool.{eqb-true}
 use Rattle.pptext.specs.declared.tokens.Token.{Token}
 use Rattle.ppmacro.specs.Names.{Macros}
 use Rattle.ppexpand.specs.declared.env.Env.{Env}
+use Rattle.ppexpand.specs.Budget.{is_exhausted, refused}
 use Rattle.ppexpand.specs.ExpansionStep.{Done, expansion_step}
 use Rattle.ppexpand.specs.Expansion.{stops_with, done, step_in_budget}
 use Rattle.ppunit.specs.States.{State, Context, running}
@@ -13,6 +14,7 @@ use Rattle.std.specs.List.{AllByRecursion}
 use Rattle.pptext.specs.declared.tokens.Fault.{Fault}
 use Rattle.pptext.specs.Lines.{LogicalLine}
 use Rattle.pptext.specs.Tree.{GroupParts, Done, TextLines, Control, Section, End, Branch, part_lines, branch_lines, BeginsTextLines, AreGroupParts, role, role_by}
+use Rattle.ppexpand.specs.declared.meter.Meter.{Meter}
 use Rattle.ppunit.specs.Group.{ExecutesGroup}
 use Rattle.ppunit.specs.DirectiveLines.{text_tokens}
 use Rattle.ppshelf.specs.Files.{Files}
@@ -23,21 +25,24 @@ use Rattle.ppunit.proofs.IndexedLines.{at_index, from_index}
 
 -- ---- a text run without tokens, for example of blank lines, emits nothing
 
-none_next : (macros : Macros) (env : Env) (remaining : Option ℕ) → step_in_budget macros env remaining [] ≡ Done
+done_anyway : (exhausted : Bool) → (if exhausted then refused [] Done else Done) ≡ Done
+done_anyway true = refl
+done_anyway false = refl
+
+-- With any meter, an empty list is expanded.
+pub none_next : (macros : Macros) (env : Env) (meter : Meter) → step_in_budget macros env meter [] ≡ Done
 unfolding expansion_step
-none_next macros env None = refl
-none_next macros env (Some zero) = refl
-none_next macros env (Some (suc n)) = refl
+none_next macros env meter = done_anyway (is_exhausted meter)
 
 without_tokens : (s : State) → EmitsText s [] (record { state = s; fault = None })
 without_tokens s = record {
-  expanded = record { tokens = []; fault = None; remaining = s.remaining };
+  expanded = record { tokens = []; fault = None; meter = s.meter };
   expands = record {
-    outcome = stops_with s.remaining None;
-    expands = (0, done (none_next s.macros s.env s.remaining));
+    outcome = stops_with s.meter None;
+    expands = (0, done (none_next s.macros s.env s.meter));
     emitted = refl;
     fault_is = refl;
-    remaining_is = refl;
+    meter_is = refl;
   };
   is = λ i. record { state = record s { items = sym (append-nil s.items) i }; fault = None };
 }

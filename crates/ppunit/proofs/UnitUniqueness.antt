@@ -1,10 +1,11 @@
--- Over the same files a unit reaches one state, with one remaining budget: it has one value and one count.
+-- Over the same files a unit reaches one state, with one meter after it: it has one value and one count.
 use Rattle.std.proofs.Common.{◌≡◌, ℕ, List, Option, Some, None, Result, Ok, Err, refl, sym, ap, ◌∙◌, subst, ◌+◌, arith}
 use Rattle.pptext.specs.declared.tokens.Place.{Place}
 use Rattle.pptext.specs.declared.tokens.Fault.{Fault}
 use Rattle.pptext.specs.Lines.{LogicalLine}
 use Rattle.pptext.specs.Sources.{Reads}
 use Rattle.pptext.specs.Tree.{GroupParts, Branches, Tree}
+use Rattle.ppexpand.specs.declared.meter.Meter.{Meter}
 use Rattle.ppshelf.specs.Names.{AreNames}
 use Rattle.ppunit.specs.States.{State, Context, Progress, running, stopped, leaving, output}
 use Rattle.ppunit.specs.DirectiveLines.{text_tokens}
@@ -20,7 +21,7 @@ use Rattle.ppunit.specs.Laws.{HasOneValue}
 use Rattle.ppunit.proofs.BudgetSums.{unit_spends}
 use Rattle.ppunit.proofs.SufficientBudgets.{holding, unit_enough}
 
--- ---- over the same files a unit reaches one state, with one remaining budget
+-- ---- over the same files a unit reaches one state, with one meter after it
 
 module _ (expansions : OneExpansion) (decisions : OneDecision) (readings : OneReading) (trees : OneTree) (rows : OneRow) where
   module _ (context : Context) (once : AreNames context.names) where
@@ -132,8 +133,8 @@ module _ (expansions : OneExpansion) (decisions : OneDecision) (readings : OneRe
 
 -- ---- over the same files a unit has one value and one count
 
--- Amounts that leave the same remaining budget of one budget are equal.
-spent_once : (b m n : ℕ) (remaining : Option ℕ) → Some b ≡ plus m remaining → Some b ≡ plus n remaining → m ≡ n
+-- Amounts that leave the same rest of one budget are equal.
+spent_once : (b m n : ℕ) (rest : Option ℕ) → Some b ≡ plus m rest → Some b ≡ plus n rest → m ≡ n
 spent_once b m n None p q = absurd (cc)
 spent_once b m n (Some k) p q = let x : b ≡ m + k = cc in let y : b ≡ n + k = cc in omega arith
 
@@ -143,19 +144,19 @@ module _ (expansions : OneExpansion) (decisions : OneDecision) (readings : OneRe
     progress_once {z = z} d e = translates_once expansions decisions readings trees rows context names d z e
 
     -- Without a budget, both derivations are compared with a budget that suffices for both.
-    counted_once : {defines : List (List ℕ)} {row : ℕ} {s : State} {y z : Progress} (remaining : Option ℕ)
-        → s.remaining ≡ remaining
+    counted_once : {defines : List (List ℕ)} {row : ℕ} {s : State} {y z : Progress} (budget : Option ℕ)
+        → s.meter.remaining ≡ budget
         → (d : Translates context defines row s y) (e : Translates context defines row s z)
         → count_translates d ≡ count_translates e
     counted_once {y = y} (Some b) is d e =
-        let remainders = ap (λ (r : Progress). r.state.remaining) (progress_once d e) in
-        spent_once b (count_translates d) (count_translates e) y.state.remaining (sym is ∙ unit_spends context d)
+        let remainders = ap (λ (r : Progress). r.state.meter.remaining) (progress_once d e) in
+        spent_once b (count_translates d) (count_translates e) y.state.meter.remaining (sym is ∙ unit_spends context d)
         (sym is ∙ unit_spends context e ∙ ap (plus (count_translates e)) (sym remainders))
     counted_once {y = y} {z = z} None is d e =
         let m = count_translates d in
         let n = count_translates e in
         let same : holding n y ≡ holding m z = progress_once (unit_enough context is d (m + n) n refl) (unit_enough context is e (m + n) m (omega arith)) in
-        let remainders : Some n ≡ Some m = ap (λ (r : Progress). r.state.remaining) same in
+        let remainders : Some n ≡ Some m = ap (λ (r : Progress). r.state.meter.remaining) same in
         let counts : n ≡ m = cc in
         sym counts
 

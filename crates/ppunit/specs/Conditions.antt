@@ -10,6 +10,7 @@ use Rattle.pptext.specs.Lines.{LogicalLine}
 use Rattle.pptext.specs.Tree.{hash_place}
 use Rattle.ppmacro.specs.Names.{Macros}
 use Rattle.ppmacro.specs.Define.{same_bool}
+use Rattle.ppexpand.specs.declared.meter.Meter.{Meter}
 use Rattle.ppexpr.specs.Conditions.{IsCondition}
 use Rattle.ppunit.specs.States.{Search, State}
 use Rattle.ppunit.specs.DirectiveLines.{operands, named_fault, one_identifier}
@@ -27,30 +28,30 @@ by_name wanted macros line None = Err (named_fault 9 line)
 by_name wanted macros line (Some name) = Ok (same_bool wanted (is_macro_name macros name))
 
 -- the decision spends nothing from the budget
-abbrev pub DecidesFreely : State → Result Bool Fault → Option ℕ → Result Bool Fault → Type 0
-DecidesFreely s decision remaining_after taken = (remaining_after ≡ s.remaining) × (taken ≡ decision)
+abbrev pub DecidesFreely : State → Result Bool Fault → Meter → Result Bool Fault → Type 0
+DecidesFreely s decision meter_after taken = (meter_after ≡ s.meter) × (taken ≡ decision)
 
--- Whether the group after a line of the file at index `row` is taken, or the line's fault, and the remaining budget. The
+-- Whether the group after a line of the file at index `row` is taken, or the line's fault, and the meter after it. The
 -- line has an unmatched quote, or it asks for a name, or the tokens of its condition have a fault, or it has a condition.
-pub data Decides (search : Search) (row : ℕ) (s : State) (line : LogicalLine) (remaining_after : Option ℕ) (taken : Result Bool Fault) : Type 0 where
+pub data Decides (search : Search) (row : ℕ) (s : State) (line : LogicalLine) (meter_after : Meter) (taken : Result Bool Fault) : Type 0 where
   unmatched : {f : Fault}
       → unmatched_quote line.tokens ≡ Some f
-      → DecidesFreely s (Err f) remaining_after taken
-      → Decides search row s line remaining_after taken
+      → DecidesFreely s (Err f) meter_after taken
+      → Decides search row s line meter_after taken
   tests_name : {wanted : Bool}
       → unmatched_quote line.tokens ≡ None
       → question_by line.directive ≡ Some (Defined wanted)
-      → DecidesFreely s (by_name wanted s.macros line.tokens (one_identifier (operands line.tokens))) remaining_after taken
-      → Decides search row s line remaining_after taken
+      → DecidesFreely s (by_name wanted s.macros line.tokens (one_identifier (operands line.tokens))) meter_after taken
+      → Decides search row s line meter_after taken
   names_no_header : {f : Fault}
       → unmatched_quote line.tokens ≡ None
       → question_by line.directive ≡ Some Value
       → condition_tokens search row line.tokens ≡ Err f
-      → DecidesFreely s (Err f) remaining_after taken
-      → Decides search row s line remaining_after taken
+      → DecidesFreely s (Err f) meter_after taken
+      → Decides search row s line meter_after taken
   evaluates : {tokens : List Token}
       → unmatched_quote line.tokens ≡ None
       → question_by line.directive ≡ Some Value
       → condition_tokens search row line.tokens ≡ Ok tokens
-      → IsCondition s.macros s.env (hash_place line.tokens) tokens s.remaining taken remaining_after
-      → Decides search row s line remaining_after taken
+      → IsCondition s.macros s.env (hash_place line.tokens) tokens s.meter taken meter_after
+      → Decides search row s line meter_after taken

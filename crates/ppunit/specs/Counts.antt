@@ -9,6 +9,7 @@ use Rattle.pptext.specs.declared.sources.Directive.TheVariants.{Line}
 use Rattle.pptext.specs.declared.sources.Profile.{Profile}
 use Rattle.pptext.specs.Lines.{LogicalLine}
 use Rattle.pptext.specs.Tree.{GroupParts, Branches}
+use Rattle.ppexpand.specs.declared.meter.Meter.{Meter}
 use Rattle.ppexpand.specs.Expansion.{count_expansion}
 use Rattle.ppexpr.specs.Conditions.{count_condition}
 use Rattle.ppunit.specs.States.{Search, State, Context, Progress}
@@ -20,22 +21,22 @@ use Rattle.ppunit.specs.Group.{ExecutesGroup, ExecutesBranches, ExecutesControlL
 
 -- ---- lines: the replacements in their operands
 
-abbrev pub count_decides : {search : Search} {row : ℕ} {s : State} {line : LogicalLine} {remaining_after : Option ℕ} {taken : Result Bool Fault}
-    → Decides search row s line remaining_after taken
+abbrev pub count_decides : {search : Search} {row : ℕ} {s : State} {line : LogicalLine} {meter_after : Meter} {taken : Result Bool Fault}
+    → Decides search row s line meter_after taken
     → ℕ
 count_decides (Decides.unmatched quote freely) = 0
 count_decides (Decides.tests_name quote question freely) = 0
 count_decides (Decides.names_no_header quote question tokens freely) = 0
 count_decides (Decides.evaluates quote question tokens condition) = count_condition condition
 
-abbrev pub count_names_header_by : (header : Bool) (s : State) (line : List Token) (remaining_after : Option ℕ) (include_name : Result IncludeName Fault)
-    → NamesHeaderBy header s line remaining_after include_name
+abbrev pub count_names_header_by : (header : Bool) (s : State) (line : List Token) (meter_after : Meter) (include_name : Result IncludeName Fault)
+    → NamesHeaderBy header s line meter_after include_name
     → ℕ
-count_names_header_by true s line remaining_after include_name h = 0
-count_names_header_by false s line remaining_after include_name h = count_expansion h.expands
+count_names_header_by true s line meter_after include_name h = 0
+count_names_header_by false s line meter_after include_name h = count_expansion h.expands
 
-abbrev pub count_names_header : (s : State) (line : List Token) (remaining_after : Option ℕ) (include_name : Result IncludeName Fault) → NamesHeader s line remaining_after include_name → ℕ
-count_names_header s line remaining_after include_name h = count_names_header_by (begins_with_header (operands line)) s line remaining_after include_name h
+abbrev pub count_names_header : (s : State) (line : List Token) (meter_after : Meter) (include_name : Result IncludeName Fault) → NamesHeader s line meter_after include_name → ℕ
+count_names_header s line meter_after include_name h = count_names_header_by (begins_with_header (operands line)) s line meter_after include_name h
 
 abbrev pub count_control_by : (profile : Profile) (row : ℕ) (d : Option Directive) (s : State) (line : LogicalLine) (m : Progress)
     → ExecutesDirective profile row d s line m
@@ -81,10 +82,10 @@ abbrev mutual
   pub count_includes : {context : Context} {depth row : ℕ} {previous_directory : Option ℕ} {s : State} {line : LogicalLine} {m : Progress}
       → ExecutesInclude context depth row previous_directory s line m
       → ℕ
-  count_includes (ExecutesInclude.operand_fault {s = s} {line = line} {remaining_after = remaining_after} {f = f} names) = count_names_header s line.tokens remaining_after (Err f) names
-  count_includes (ExecutesInclude.missing {s = s} {line = line} {remaining_after = remaining_after} a names finds) = count_names_header s line.tokens remaining_after (Ok a) names
-  count_includes (ExecutesInclude.included {s = s} {line = line} {remaining_after = remaining_after} a found names finds opens) =
-      count_names_header s line.tokens remaining_after (Ok a) names + count_opening opens
+  count_includes (ExecutesInclude.operand_fault {s = s} {line = line} {meter_after = meter_after} {f = f} names) = count_names_header s line.tokens meter_after (Err f) names
+  count_includes (ExecutesInclude.missing {s = s} {line = line} {meter_after = meter_after} a names finds) = count_names_header s line.tokens meter_after (Ok a) names
+  count_includes (ExecutesInclude.included {s = s} {line = line} {meter_after = meter_after} a found names finds opens) =
+      count_names_header s line.tokens meter_after (Ok a) names + count_opening opens
 
   pub count_opening : {context : Context} {depth row : ℕ} {directory : Option ℕ} {at : Place} {s : State} {m : Progress}
       → OpensFile context depth at s row directory m

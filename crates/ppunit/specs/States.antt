@@ -5,6 +5,7 @@ use Rattle.pptext.specs.declared.sources.Profile.{Profile}
 use Rattle.ppmacro.specs.Substitution.{escaped}
 use Rattle.ppmacro.specs.Names.{Macros}
 use Rattle.ppexpand.specs.declared.env.Env.{Env}
+use Rattle.ppexpand.specs.declared.meter.Meter.{Meter}
 use Rattle.ppexpand.specs.Budget.{spend_one}
 use Rattle.ppshelf.specs.Files.{Files}
 use Rattle.ppshelf.specs.Names.{name_in}
@@ -47,8 +48,8 @@ pub record State : Type 0 where
   pub deps : List ℕ
   -- those of them that are not read again
   pub once : List ℕ
-  -- the remaining budget
-  pub remaining : Option ℕ
+  -- the meter of its expansions and opened files, which has the remaining budget
+  pub meter : Meter
   -- the values of the predefined names
   pub env : Env
   -- the number of the directory in which the current file was found; the main file has none
@@ -84,13 +85,13 @@ with_dependency s row = record s { deps = with_row row s.deps }
 abbrev pub with_once : State → ℕ → State
 with_once s row = record s { once = with_row row s.once }
 
--- the state with this remaining budget
-abbrev pub with_remaining : State → Option ℕ → State
-with_remaining s remaining = record s { remaining = remaining }
+-- the state with this meter
+abbrev pub with_meter : State → Meter → State
+with_meter s meter = record s { meter = meter }
 
 -- the state in which one is taken from the budget, for an opened file
 abbrev pub with_one_spent : State → State
-with_one_spent s = with_remaining s (spend_one s.remaining)
+with_one_spent s = with_meter s (spend_one s.meter)
 
 -- the output of a unit
 abbrev pub output : Progress → UnitOut

@@ -19,7 +19,7 @@ ghost use Rattle.pptext.specs.Classes.{opens_section, ends_group};
 ghost use Rattle.pptext.specs.declared.sources.Directive.{Directive};
 ghost use Rattle.ppshelf.specs.Files.{Files};
 ghost use Rattle.ppunit.specs.Group.{ExecutesControlLine, ExecutesInclude};
-ghost use Rattle.ppunit.specs.States.{Context, Progress, with_remaining};
+ghost use Rattle.ppunit.specs.States.{Context, Progress, with_meter};
 ghost use Rattle.ppunit.specs.code.Contexts.{context_over, search_in_unit};
 ghost use Rattle.ppunit.specs.code.Lines.{directed};
 ghost use Rattle.ppunit.specs.code.Preprocessor.{KeepsContext};
@@ -60,7 +60,7 @@ fn text_end(source: &Source, start: usize) -> usize
 }
 
 /// Returns whether the group after the branch line at `index` is taken, in the file at index `row`. Returns true at
-/// `#else` and `#endif`. Changes nothing in `state` but the remaining budget.
+/// `#else` and `#endif`. Changes nothing in `state` but the meter.
 fn takes_branch<D: Disk>(
     context: &UnitContext<'_, '_, D>,
     state: &mut State,
@@ -70,8 +70,8 @@ fn takes_branch<D: Disk>(
 ) -> Result<bool, Error>
     requires rows { 0 < length context.now.shelf.names }
     requires index { index < length source.now }
-    ensures rest { state.new ≡ with_remaining state.old state.new.remaining }
-    ensures takes_branch { UnlessOutOfMemory result (λ taken. TakesBranch (search_in_unit context.now) row state.old (line_at source.now index) state.new.remaining taken) }
+    ensures rest { state.new ≡ with_meter state.old state.new.meter }
+    ensures takes_branch { UnlessOutOfMemory result (λ taken. TakesBranch (search_in_unit context.now) row state.old (line_at source.now index) state.new.meter taken) }
 {
     let Some(directive) = line(source, index).directive else {
         return Ok(true);
@@ -227,7 +227,7 @@ impl<'x, 'a: 'x, D: Disk> Preprocessor<'_, 'x, 'a, D> {
         let include_name = read_include_name(context.alloc, &mut self.state, tokens)?;
         let Some((row, directory)) = resolve_in(context, from, &include_name)? else {
             let name = include_name.name.as_bytes();
-            return Err(Error::Fault(line_fault(context.alloc, 31, tokens, name)?));
+            return Err(line_fault(context.alloc, 31, tokens, name));
         };
         let opening = LocatedFile {
             row,
@@ -253,16 +253,16 @@ impl<'x, 'a: 'x, D: Disk> Preprocessor<'_, 'x, 'a, D> {
     {
         let context = self.context;
         match line.directive.class() {
-            Class::Error => Err(Error::Fault(error(context.alloc, &line.tokens)?)),
+            Class::Error => Err(error(context.alloc, &line.tokens)),
             Class::Ignored => Ok(None),
             Class::Includes(include_next) => {
-                refuse_unmatched_quote(&line.tokens)?;
+                refuse_unmatched_quote(context.alloc, &line.tokens)?;
                 let row = line.row;
                 let directory = previous_directory(include_next, &self.state);
                 self.include(depth, LocatedFile { row, directory }, &line.tokens)
             }
             _ => {
-                refuse_unmatched_quote(&line.tokens)?;
+                refuse_unmatched_quote(context.alloc, &line.tokens)?;
                 control(context.alloc, &mut self.state, context.profile(), line)?;
                 Ok(None)
             }

@@ -28,8 +28,8 @@ use crate::preprocessor::Preprocessor;
 use crate::states::{FileContext, State, literal};
 use ppexpand::Env;
 use ppshelf::{Directories, Disk, Shelf, resolve, resolve_next};
-use pptext::{Error, Fault, Memory, Place, Profile, Source};
-use std::alloc::{AllocError, Global};
+use pptext::{Error, Memory, Place, Profile, Source};
+use std::alloc::Global;
 use std::marker::Model;
 
 /// The largest depth of an included file: the unit's file has depth 0, and an included file is one deeper than its
@@ -169,7 +169,7 @@ pub(crate) struct LocatedFile {
 }
 
 /// Returns the predefined names at the beginning of a file.
-fn file_env(alloc: Global, outer: &Env, name: &str) -> Result<Env, AllocError>
+fn file_env(alloc: Global, outer: &Env, name: &str) -> Result<Env, Memory>
     ensures { IfOk result (λ e. e ≡ record outer.now { name = literal name.now; shift = pos 0 }) }
 {
     Ok(Env {
@@ -226,17 +226,17 @@ fn spend_opening<D: Disk>(
 {
     if depth > DEEPEST {
         let name = context.shelf().name(row);
-        return Err(Error::Fault(Fault::new(context.alloc, 32, at, name.as_bytes())?));
+        return Err(Error::new(context.alloc, 32, at, name.as_bytes()));
     }
     if state.is_exhausted() {
-        return Err(Error::Fault(Fault::bare(35, at)));
+        return Err(Error::bare(context.alloc, 35, at));
     }
     state.spend();
     Ok(())
 }
 
 /// Adds the file at index `row` to the dependencies. Returns whether it is marked by `#pragma once`.
-fn record_dependency(state: &mut State, row: usize) -> Result<bool, AllocError>
+fn record_dependency(state: &mut State, row: usize) -> Result<bool, Memory>
     ensures joins { OnOk result (state.new ≡ with_dependency state.old row) }
     ensures is_once { IfOk result (λ is_once. is_once ≡ has_row row state.old.once) }
 {
@@ -253,7 +253,7 @@ fn begin<'a>(
     opening: LocatedFile,
     name: &str,
     source: &'a Source,
-) -> Result<Option<Entered<'a>>, AllocError>
+) -> Result<Option<Entered<'a>>, Memory>
     ensures { IfOk result (λ entered. Begins name.now opening.row opening.directory source.now state.old state.new entered) }
 {
     if is_left_out(state, source) {
@@ -277,15 +277,13 @@ impl<'a, D: Disk> Preprocessor<'_, '_, 'a, D> {
     {
         let context = self.context;
         let shelf = context.shelf();
-        let Ok(loaded) = shelf.look(self.pass, row, context.disk) else {
-            return Err(Error::Memory);
-        };
+        let loaded = shelf.look(self.pass, row, context.disk)?;
         match loaded.lines() {
             Some(Ok(source)) => Ok(source),
-            Some(Err(fault)) => Err(Error::Fault(fault.clone()?)),
+            Some(Err(fault)) => Err(Error::of(context.alloc, fault.clone()?)),
             None => {
                 let name = shelf.name(row).as_bytes();
-                Err(Error::Fault(Fault::new(context.alloc, 6, at, name)?))
+                Err(Error::new(context.alloc, 6, at, name))
             }
         }
     }

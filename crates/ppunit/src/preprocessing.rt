@@ -27,7 +27,7 @@ use crate::preprocessor::Preprocessor;
 use crate::states::State;
 use crate::units::{Setting, Unit, UnitOut};
 use ppshelf::{Directories, Disk, Pass, Shelf};
-use pptext::{Error, Fault, Memory, Place, split_memory, tree_unless_fault};
+use pptext::{Error, Fault, Memory, Place, tree_unless_fault};
 use std::alloc::Global;
 
 impl<'x, 'a: 'x, D: Disk> Preprocessor<'_, 'x, 'a, D> {
@@ -41,7 +41,7 @@ impl<'x, 'a: 'x, D: Disk> Preprocessor<'_, 'x, 'a, D> {
     {
         let source = match defines.lines() {
             Ok(source) => source,
-            Err(fault) => return Err(Error::Fault(fault.clone()?)),
+            Err(fault) => return Err(Error::of(self.context.alloc, fault.clone()?)),
         };
         tree_unless_fault();
         let file = OpenFile::new(COMMAND_FILE as usize, source);
@@ -98,8 +98,11 @@ impl<'x, 'a: 'x, D: Disk> Preprocessor<'_, 'x, 'a, D> {
             Translates (context_over self.old.context.now self.new.pass.now.files) unit.now.defines.texts unit.now.file self.old.state
             (record { state = self.new.state; fault = fault })) }
     {
-        let translated = self.translate(&unit.defines, unit.file);
-        Ok(split_memory(translated)?.err())
+        match self.translate(&unit.defines, unit.file) {
+            Ok(()) => Ok(None),
+            Err(Error::Fault(fault)) => Ok(Some(fault.into_fault())),
+            Err(Error::Memory) => Err(Memory),
+        }
     }
 }
 
@@ -132,7 +135,7 @@ fn into_output<'x>(
     let State {
         macros: _,
         once: _,
-        remaining: _,
+        meter: _,
         items,
         deps,
         file_context: _,

@@ -11,7 +11,7 @@ use crate::including::{IncludeName, name_of_tokens};
 use crate::open_file::{LocatedFile, UnitContext, resolve_in};
 use ppshelf::Disk;
 use pptext::{Kind, Memory, Profile, Spelling, Token};
-use std::alloc::{AllocError, Global};
+use std::alloc::Global;
 
 /// Returns whether the token is the name `__has_include`.
 fn is_has_include(token: &Token) -> bool
@@ -87,7 +87,7 @@ fn has_file<D: Disk>(
 }
 
 /// Returns the number that replaces `__has_include` and its parentheses: 1 if a file is found, and 0 otherwise.
-fn number_for(alloc: Global, name: &Token, found: bool) -> Result<Token, AllocError>
+fn number_for(alloc: Global, name: &Token, found: bool) -> Result<Token, Memory>
     ensures { IfOk result (λ t. t ≡ spec.number_for name.now found) }
 {
     let digit = if found {

@@ -11,12 +11,12 @@ use Rattle.pptext.specs.Tree.{hash_place}
 use Rattle.ppmacro.specs.Names.{Macros}
 use Rattle.ppmacro.specs.Define.{after_define, after_undef}
 use Rattle.ppexpand.specs.declared.env.Env.{Env}
-use Rattle.ppexpand.specs.declared.expansion.Expanded.{Expanded}
+use Rattle.ppexpand.specs.Expansion.{Expansion}
 use Rattle.ppexpand.specs.Expansion.{IsExpansion}
 use Rattle.ppunit.specs.declared.units.Item.{Item}
 use Rattle.ppunit.specs.declared.units.Item.TheVariants as item
 use Rattle.ppunit.specs.Dependencies.{with_row}
-use Rattle.ppunit.specs.States.{State, Progress, with_remaining}
+use Rattle.ppunit.specs.States.{State, Progress, with_meter}
 use Rattle.ppunit.specs.DirectiveLines.{operands, line_fault, named_fault}
 use Rattle.ppunit.specs.LineControl.{Presumed, presumed, renumbered}
 use Rattle.ppunit.specs.Directives.{is_once}
@@ -74,8 +74,8 @@ line_effect s line None (Some p) = record { macros = s.macros; items = []; once 
 -- the outcome is that of an effect: of a line that expands no operands, or of `#line` after the expansion of its operands
 pub data HasEffect (profile : Profile) (row : ℕ) (d : Option Directive) (s : State) (line : LogicalLine) (m : Progress) : Type 0 where
   immediate : {e : Effect} → immediate_effect profile row d s line ≡ Some e → m ≡ affected s e → HasEffect profile row d s line m
-  expanding : (x : Expanded)
+  expanding : (x : Expansion)
       → d ≡ Some Line
-      → IsExpansion s.macros s.env s.remaining (operands line.tokens) x
-      → m ≡ affected (with_remaining s x.remaining) (line_effect s line x.fault (presumed x.tokens))
+      → IsExpansion s.macros s.env s.meter (operands line.tokens) x
+      → m ≡ affected (with_meter s x.meter) (line_effect s line x.fault (presumed x.tokens))
       → HasEffect profile row d s line m

@@ -7,6 +7,7 @@ use Rattle.pptext.specs.declared.sources.Directive.{Directive}
 use Rattle.pptext.specs.declared.directives.Class.TheVariants as class
 use Rattle.pptext.specs.Lines.{LogicalLine}
 use Rattle.pptext.specs.Classes.{class_of, question_of}
+use Rattle.ppexpand.specs.declared.meter.Meter.{Meter}
 use Rattle.ppexpr.specs.Conditions.{IsCondition}
 use Rattle.ppunit.specs.States.{State}
 use Rattle.ppunit.specs.Conditions.{DecidesFreely}
@@ -24,6 +25,6 @@ abbrev pub IsConditional : Directive → Type 0
 IsConditional d = IsSome (question_of d)
 
 -- the value of a condition of these tokens, or the fault of the step before it, which spends nothing
-abbrev pub DecidesOf : Result (List Token) Fault → State → Place → Option ℕ → Result Bool Fault → Type 0
-DecidesOf (Err f) s at remaining_after taken = DecidesFreely s (Err f) remaining_after taken
-DecidesOf (Ok tokens) s at remaining_after taken = IsCondition s.macros s.env at tokens s.remaining taken remaining_after
+abbrev pub DecidesOf : Result (List Token) Fault → State → Place → Meter → Result Bool Fault → Type 0
+DecidesOf (Err f) s at meter_after taken = DecidesFreely s (Err f) meter_after taken
+DecidesOf (Ok tokens) s at meter_after taken = IsCondition s.macros s.env at tokens s.meter taken meter_after

@@ -28,11 +28,11 @@ pub record Entered : Type 0 where
 -- why a file of this name isn't opened: it is too deep, or else the budget is exhausted
 abbrev pub IsRefusedOpening : ℕ → Place → List ℕ → State → Fault → Type 0
 IsRefusedOpening depth at name s f =
-    ((depth_limit < depth) × (f ≡ fault 32 at name)) ⊎ ((depth ≤ depth_limit) × (is_exhausted s.remaining ≡ true) × (f ≡ fault 35 at []))
+    ((depth_limit < depth) × (f ≡ fault 32 at name)) ⊎ ((depth ≤ depth_limit) × (is_exhausted s.meter ≡ true) × (f ≡ fault 35 at []))
 
 -- one opening is spent from the budget, unless there is such a fault, which changes nothing
 abbrev pub SpendsOpening : ℕ → Place → List ℕ → State → State → Option Fault → Type 0
-SpendsOpening depth at name s t None = (depth ≤ depth_limit) × (is_exhausted s.remaining ≡ false) × (t ≡ with_one_spent s)
+SpendsOpening depth at name s t None = (depth ≤ depth_limit) × (is_exhausted s.meter ≡ false) × (t ≡ with_one_spent s)
 SpendsOpening depth at name s t (Some f) = (t ≡ s) × IsRefusedOpening depth at name s f
 
 -- the file at index `row` has these lines

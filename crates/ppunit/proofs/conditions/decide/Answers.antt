@@ -29,6 +29,6 @@ returns-in-Some-Defined-clause-decides g c =
 pub returns-in-Some-Value-clause-decides : goal.returns-in-Some-Value-clause-decides
 returns-in-Some-Value-clause-decides g c =
     on_settled c.by_condition.result
-    (λ taken is number. decides_of (search_in_unit c.args.context.now) c.args.row c.args.state.now (directed c.args.directive c.args.line.now number) _ c.by_condition.new.state.remaining taken
+    (λ taken is number. decides_of (search_in_unit c.args.context.now) c.args.row c.args.state.now (directed c.args.directive c.args.line.now number) _ c.by_condition.new.state.meter taken
     (sym c.in_ok-refuse_unmatched_quote.ensures) (sym c.question.ensures ∙ c.in-Some-Value.is ∙ ap (λ (q : Question). Some q) c.in-Some-Value.field-0-is) refl is)
     c.by_condition.ensures.is

@@ -14,7 +14,7 @@ pub returns-in_err-takes_branch-clause-found : goal.returns-in_err-takes_branch-
 returns-in_err-takes_branch-clause-found g c =
     stopped _ _ _ _ c.from_residual.ensures.1 c.in_err-takes_branch.ensures.takes_branch (λ fault entered ps bs qs k b.
     subst (λ (z : State). FindsBranch (search_in_unit c.args.context.now) c.args.row c.args.source.now c.args.state.now z bs qs k (Err fault)) (sym c.in_err-takes_branch.ensures.rest)
-    (branch_refused (search_in_unit c.args.context.now) c.args.row c.args.source.now c.args.start c.in-Some.next c.loop-next.index c.args.state.now c.loop-next.state c.takes_branch.new.state.remaining
+    (branch_refused (search_in_unit c.args.context.now) c.args.row c.args.source.now c.args.start c.in-Some.next c.loop-next.index c.args.state.now c.loop-next.state c.takes_branch.new.state.meter
     fault c.loop-next.invariant (sym c.line.ensures.next ∙ c.in-Some.is) entered ps bs qs k b))
 
 pub overflow_add-result : goal.overflow_add-result
@@ -27,9 +27,9 @@ returns-then-branch-clause-further g c =
 pub returns-then-branch-clause-found : goal.returns-then-branch-clause-found
 returns-then-branch-clause-found g c ps bs qs k b =
     subst (λ (z : State). FindsBranch (search_in_unit c.args.context.now) c.args.row c.args.source.now c.args.state.now z bs qs k (Ok (c.in-Some.next + 1))) (sym c.in_ok-takes_branch.ensures.rest)
-    (branch_taken (search_in_unit c.args.context.now) c.args.row c.args.source.now c.args.start c.in-Some.next c.loop-next.index c.args.state.now c.loop-next.state c.takes_branch.new.state.remaining
+    (branch_taken (search_in_unit c.args.context.now) c.args.row c.args.source.now c.args.start c.in-Some.next c.loop-next.index c.args.state.now c.loop-next.state c.takes_branch.new.state.meter
     c.loop-next.invariant (sym c.line.ensures.next ∙ c.in-Some.is)
-    (subst (λ (z : Bool). EntersAt (search_in_unit c.args.context.now) c.args.row c.args.source.now c.in-Some.next c.loop-next.state c.takes_branch.new.state.remaining (Ok z)) c.if-branch.true
+    (subst (λ (z : Bool). EntersAt (search_in_unit c.args.context.now) c.args.row c.args.source.now c.in-Some.next c.loop-next.state c.takes_branch.new.state.meter (Ok z)) c.if-branch.true
     c.in_ok-takes_branch.ensures.takes_branch) ps bs qs k b)
 
 pub loop-next-smaller : goal.loop-next-smaller
@@ -39,9 +39,9 @@ loop-next-smaller g c =
 pub loop-next-preserved : goal.loop-next-preserved
 loop-next-preserved g c =
     subst (λ (z : State). BranchSoFar (search_in_unit c.args.context.now) c.args.row c.args.source.now c.args.start c.args.state.now z c.in-Some.next) (sym c.in_ok-takes_branch.ensures.rest)
-    (branch_more (search_in_unit c.args.context.now) c.args.row c.args.source.now c.args.start c.in-Some.next c.loop-next.index c.args.state.now c.loop-next.state c.takes_branch.new.state.remaining
+    (branch_more (search_in_unit c.args.context.now) c.args.row c.args.source.now c.args.start c.in-Some.next c.loop-next.index c.args.state.now c.loop-next.state c.takes_branch.new.state.meter
     c.loop-next.invariant (sym c.line.ensures.next ∙ c.in-Some.is)
-    (subst (λ (z : Bool). EntersAt (search_in_unit c.args.context.now) c.args.row c.args.source.now c.in-Some.next c.loop-next.state c.takes_branch.new.state.remaining (Ok z)) c.if-branch.false
+    (subst (λ (z : Bool). EntersAt (search_in_unit c.args.context.now) c.args.row c.args.source.now c.in-Some.next c.loop-next.state c.takes_branch.new.state.meter (Ok z)) c.if-branch.false
     c.in_ok-takes_branch.ensures.takes_branch))
 
 pub returns-clause-found : goal.returns-clause-found
