@@ -150,7 +150,7 @@ found_at lines index next ps bs qs k b found =
     let same : index + 1 + length (part_lines ps) ≡ next = cc in
     ap (λ (z : ℕ). drop z lines) (sym same) ∙ known.1
 
-abbrev pub EntersAt : Search → ℕ → List LogicalLine → ℕ → State → Option ℕ → Result Bool Fault → Type 0
+abbrev pub EntersAt : Search → ℕ → List LogicalLine → ℕ → State → Meter → Result Bool Fault → Type 0
 EntersAt search row lines index s meter_after taken = TakesBranch search row s (line_at lines index) meter_after taken
 
 enters_by : (search : Search) (row : ℕ) (lines : List LogicalLine) (index : ℕ) (s : State) (meter_after : Meter) (taken : Result Bool Fault) (r : LogicalLine) (d : Option Directive)

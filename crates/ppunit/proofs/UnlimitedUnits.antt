@@ -71,13 +71,13 @@ abbrev IsOtherNumber : Option ℕ → Type 0
 IsOtherNumber None = Unit {0}
 IsOtherNumber (Some n) = n ≢ 35
 
-opened_other : (a : Role) (r : LogicalLine) (os : List Open) → IsOtherNumber (after_line a r os).0
-opened_other (Elses final) r [] = λ e. absurd (omega arith)
-opened_other (Elses final) r ((o, true) ∷ os) = λ e. absurd (omega arith)
-opened_other (Elses final) r ((o, false) ∷ os) = tt
-opened_other Closes r [] = λ e. absurd (omega arith)
-opened_other Closes r (o ∷ os) = tt
-opened_other a r os = tt
+role_other : (a : Role) (r : LogicalLine) (os : List Open) → IsOtherNumber (after_line a r os).0
+role_other (Elses final) r [] = λ e. absurd (omega arith)
+role_other (Elses final) r ((o, true) ∷ os) = λ e. absurd (omega arith)
+role_other (Elses final) r ((o, false) ∷ os) = tt
+role_other Closes r [] = λ e. absurd (omega arith)
+role_other Closes r (o ∷ os) = tt
+role_other a r os = tt
 
 end_other : (os : List Open) → IsOther (fault_at_end os)
 end_other [] = tt
@@ -89,7 +89,7 @@ or_other r (Some n) later h k = h
 
 groups_other : (os : List Open) (lines : List LogicalLine) → IsOther (group_fault os lines)
 groups_other os [] = end_other os
-groups_other os (r ∷ rs) = or_other r (after_line (role r) r os).0 _ (opened_other (role r) r os) (groups_other (after_line (role r) r os).1 rs)
+groups_other os (r ∷ rs) = or_other r (after_line (role r) r os).0 _ (role_other (role r) r os) (groups_other (after_line (role r) r os).1 rs)
 
 pub reads_other : {profile : Profile} {file : ℕ} {bytes : List ℕ} {f : Fault} → IsFaultOf profile file bytes f → f.number ≢ 35
 reads_other (IsFaultOf.spliced_end e) = λ h. absurd (omega arith)
