@@ -114,7 +114,7 @@ pub other_control : (context : Context) (depth row : ℕ) (by : Profile) (s t : 
     → unmatched_quote r.tokens ≡ None
     → ExecutesDirective by row (Some d) s r (record { state = t; fault = f })
     → ExecutesControlLine context depth row s r (record { state = t; fault = f })
-other_control context depth row by s t d r f one is alone control =
+other_control context depth row by s t d r f one is alone does =
     let here = subst (λ (z : Profile). ExecutesDirective z row (Some d) s r (record { state = t; fault = f })) one does in
     let line = subst (λ (z : Option Directive). ExecutesDirective context.profile row z s r (record { state = t; fault = f })) (sym is) here in
     ExecutesControlLine.executed alone line

@@ -208,7 +208,7 @@ enter_branch search row lines next s meter_after (End r) qs k e outer entered =
       k,
       stands_behind lines next r qs k e outer.1 outer.2,
       λ context by depth end rest.
-          (running s, ExecutesBranches.no_branch_taken, subst (λ (z : Option ℕ). Ends context depth row (running (with_meter s z)) qs k end) same rest),
+          (running s, ExecutesBranches.no_branch_taken, subst (λ (z : Meter). Ends context depth row (running (with_meter s z)) qs k end) same rest),
     )
 enter_branch search row lines next s meter_after (Branch r ps bs) qs k e ((last, (before, true, is, parts, more)), following, context) entered =
     let there = e ∙ lay_branch r ps qs bs k in
