@@ -217,7 +217,7 @@ enter_branch search row lines next s meter_after (Branch r ps bs) qs k e ((last,
       (bs, qs) ∷ k,
       stands_behind lines next r ps ((bs, qs) ∷ k) there parts ((true, more), following, context),
       λ context by depth end rest.
-          let here = subst (λ (z : Option ℕ). ExecutesGroup context depth row (running (with_meter s z)) ps rest.0) same rest.1 in
+          let here = subst (λ (z : Meter). ExecutesGroup context depth row (running (with_meter s z)) ps rest.0) same rest.1 in
           (rest.0, ExecutesBranches.else_group (else_directive r.directive is) here, rest.2),
     )
 enter_branch search row lines next s meter_after (Branch r ps bs) qs k e ((last, (before, false, is, parts, more)), following, context) entered =
