@@ -1,6 +1,7 @@
 -- The value of a unit with a budget is a prefix of its value without a budget or with a larger one.
 use Rattle.std.proofs.Common.{◌≡◌, ℕ, ◌-◌, ◌<◌, ◌≤◌, List, Option, Some, None, refl, sym, ap, ◌∙◌, subst, arith, inl, inr}
 use Rattle.pptext.specs.declared.tokens.Fault.{Fault}
+use Rattle.ppexpand.specs.Budget.{new_meter}
 use Rattle.ppexpand.specs.Laws.{IsPrefix}
 use Rattle.ppexpand.proofs.BudgetLemmas.{Covers, without, larger}
 use Rattle.ppshelf.specs.Names.{AreNames}
@@ -8,15 +9,14 @@ use Rattle.ppshelf.specs.Files.{Files, Extends}
 use Rattle.ppunit.specs.declared.units.Unit.{Unit as UnitOfList}
 use Rattle.ppunit.specs.declared.units.Setting.{Setting}
 use Rattle.ppunit.specs.declared.units.UnitOut.{UnitOut}
-use Rattle.ppunit.specs.States.{State, Context, Progress, stopped, with_remaining, output}
+use Rattle.ppunit.specs.States.{State, Context, Progress, stopped, with_meter, output}
 use Rattle.ppunit.specs.Unit.{initial_state, context_of_unit, Translates, IsUnit, count}
 use Rattle.ppunit.specs.Laws.{HasOneValue, HasSomeValue, Grows}
-use Rattle.ppunit.specs.Capped.{HasFault, AtMost, IsCapped, unlimited, BudgetCaps, OnlyBudgetsRefuse, with_budget, GivesNoLess, LargerBudgetsGiveNoLess}
+use Rattle.ppunit.specs.Capped.{HasFault, AtMost, CapsUnit, unlimited, BudgetCaps, OnlyBudgetsRefuse, with_budget, GivesNoLess, LargerBudgetsGiveNoLess}
 use Rattle.ppunit.proofs.OutputPrefixes.{same_beginning}
-use Rattle.ppunit.proofs.SufficientLineBudgets.{holding}
-use Rattle.ppunit.proofs.SufficientBudgets.{unit_suffices}
+use Rattle.ppunit.proofs.SufficientBudgets.{budgeted, holding, unit_suffices}
 use native.Mathlib.Decide.{dec_lt}
-use Rattle.ppunit.proofs.ExhaustedGroups.{unit_short}
+use Rattle.ppunit.proofs.ExhaustedBudgets.{unit_short}
 
 -- ---- units
 
@@ -26,9 +26,9 @@ stopped_early : (b c : ℕ) (s : State) (f : Fault) (whole out : UnitOut) → ou
     → IsPrefix s.deps whole.deps
     → b < c
     → ¬ HasFault 35 whole
-    → IsCapped b c whole out
+    → CapsUnit b c whole out
 stopped_early b c s f whole out same number items deps less other =
-    subst (IsCapped b c whole) same
+    subst (CapsUnit b c whole) same
     (record {
       items = items;
       deps = deps;
@@ -37,9 +37,9 @@ stopped_early b c s f whole out same number items deps less other =
     })
 
 -- a unit whose budget suffices, compared with the whole
-came_through : (b c : ℕ) (whole out : UnitOut) → whole ≡ out → c ≤ b → IsCapped b c whole out
+came_through : (b c : ℕ) (whole out : UnitOut) → whole ≡ out → c ≤ b → CapsUnit b c whole out
 came_through b c whole out same most =
-    subst (IsCapped b c whole) same
+    subst (CapsUnit b c whole) same
     (record {
       items = same_beginning whole.items;
       deps = same_beginning whole.deps;
@@ -56,17 +56,17 @@ unit_caps : HasOneValue → Grows → OnlyBudgetsRefuse
     → setting.budget ≡ Some b
     → Extends more files
     → (p : IsUnit names more (unlimited setting) unit whole)
-    → IsCapped b (count p) whole out
+    → CapsUnit b (count p) whole out
 unit_caps one grows only names files setting unit out are p b more whole budget extends q =
     let context : Context = context_of_unit names more setting unit in
     let texts : List (List ℕ) = unit.defines.texts in
     let start : State = initial_state (unlimited setting) in
     let c : ℕ = count q in
     let there : IsUnit names more setting unit out = (grows names files more setting unit out extends p).0 in
-    let same : (r : Progress) → Translates context texts unit.file (with_remaining start (Some b)) r → output r ≡ out =
+    let same : (r : Progress) → Translates context texts unit.file (budgeted start b) r → output r ≡ out =
     λ r d.
     let within : IsUnit names more setting unit (output r) =
-    record { progress = r; translates = subst (λ l. Translates context texts unit.file (with_remaining start l) r) (sym budget) d; is_output = refl } in
+    record { progress = r; translates = subst (λ l. Translates context texts unit.file (with_meter start (new_meter l)) r) (sym budget) d; is_output = refl } in
     (one names more setting unit (output r) out are within there).0 in
     elim (dec_lt b c) [
       | yes less ↦

@@ -4,15 +4,11 @@ use Rattle.pptext.specs.declared.tokens.Place.{Place}
 use Rattle.pptext.specs.declared.tokens.Token.{Token}
 use Rattle.pptext.specs.declared.tokens.Fault.{Fault}
 use Rattle.pptext.specs.declared.sources.Directive.{Directive}
-use Rattle.pptext.specs.declared.sources.Directive.TheVariants.{Define, Undef, Line, Pragma, Null, Unknown}
-use Rattle.pptext.specs.declared.directives.Question.{Question}
-use Rattle.pptext.specs.declared.directives.Question.TheVariants.{Defined, Value}
-use Rattle.pptext.specs.Classes.{question_by}
 use Rattle.pptext.specs.declared.sources.Profile.{Profile}
 use Rattle.pptext.specs.Lines.{LogicalLine}
 use Rattle.pptext.specs.Tree.{GroupParts, Branches, hash_place}
-use Rattle.ppmacro.specs.Names.{Macros}
-use Rattle.ppexpand.specs.Budget.{spend_one, is_exhausted}
+use Rattle.ppexpand.specs.declared.meter.Meter.{Meter}
+use Rattle.ppexpand.specs.Budget.{spend_one, is_exhausted, is_used_up, one_less}
 use Rattle.ppexpand.specs.Expansion.{count_expansion}
 use Rattle.ppexpand.specs.Laws.{plus}
 use Rattle.ppexpand.proofs.BudgetLemmas.{plus-plus, plus-nothing, expansion_spends}
@@ -21,18 +17,17 @@ use Rattle.ppshelf.specs.Files.{Files}
 use Rattle.ppunit.specs.declared.units.Unit.{Unit as UnitOfList}
 use Rattle.ppunit.specs.declared.units.Setting.{Setting}
 use Rattle.ppunit.specs.declared.units.UnitOut.{UnitOut}
-use Rattle.ppunit.specs.States.{State, Context, Progress, with_remaining, with_once, search_of, Search}
+use Rattle.ppunit.specs.States.{State, Context, Progress, search_of, Search}
 use Rattle.ppunit.specs.DirectiveLines.{operands, text_tokens}
-use Rattle.ppunit.specs.Quotes.{unmatched_quote}
-use Rattle.ppunit.specs.LineControl.{Presumed, presumed}
 use Rattle.ppunit.specs.Including.{IncludeName, begins_with_header}
-use Rattle.ppunit.specs.Probing.{condition_tokens}
-use Rattle.ppunit.specs.Conditions.{DecidesBy, DecidesUnless, Decides, DecidesOf}
-use Rattle.ppunit.specs.Directives.{EmitsText, NamesHeaderBy, NamesHeader, ExecutesDirective, with_macros, renumbered_by, is_once, noting_pragma_once}
+use Rattle.ppunit.specs.Conditions.{Decides}
+use Rattle.ppunit.specs.Directives.{EmitsText, NamesHeaderBy, NamesHeader, ExecutesDirective}
 use Rattle.ppunit.specs.Group.{ExecutesGroup, ExecutesBranches, ExecutesControlLine, ExecutesInclude, OpensFile}
-use Rattle.ppunit.specs.Counts.{count_decides_by, count_decides_unless, count_decides, count_names_header_by, count_names_header, count_control_by, count_group, count_branches, count_control, count_includes, count_opening, count_decides_of}
+use Rattle.ppunit.specs.Counts.{count_decides, count_names_header_by, count_names_header, count_control_by, count_group, count_branches, count_control, count_includes, count_opening}
 use Rattle.ppunit.specs.Unit.{Defines, unread, processed, Translates, definitions_fault, translated, IsUnit, count, count_defines, count_translates}
 use Rattle.ppunit.specs.Capped.{AtMost}
+use Rattle.ppunit.specs.code.Effects.{HasEffect}
+use Rattle.ppunit.proofs.DirectiveEffects.{effect_of, count_effect, same_count}
 
 -- ---- sums
 
@@ -41,132 +36,105 @@ both : {a b : Option ℕ} (c : Option ℕ) (m n : ℕ) → a ≡ plus m b → b 
 both c m n p q = p ∙ ap (plus m) q ∙ plus-plus m n c
 
 -- nothing was spent
-same_remaining : (remaining remaining_after : Option ℕ) → remaining_after ≡ remaining → remaining ≡ plus 0 remaining_after
-same_remaining remaining remaining_after e = sym e ∙ plus-nothing remaining_after
+same_budget : (meter meter_after : Meter) → meter_after ≡ meter → meter.remaining ≡ plus 0 meter_after.remaining
+same_budget meter meter_after e = sym (ap (λ (m : Meter). m.remaining) e) ∙ plus-nothing meter_after.remaining
 
 -- Without a budget, there is none afterwards.
-pub still_none : {remaining remaining_after : Option ℕ} (n : ℕ) → remaining ≡ None → remaining ≡ plus n remaining_after → remaining_after ≡ None
-still_none {remaining_after = None} n is e = refl
-still_none {remaining_after = Some k} n is e = absurd (cc)
+pub still_none : {budget rest : Option ℕ} (n : ℕ) → budget ≡ None → budget ≡ plus n rest → rest ≡ None
+still_none {rest = None} n is e = refl
+still_none {rest = Some k} n is e = absurd (cc)
 
-pays : (remaining : Option ℕ) → is_exhausted remaining ≡ false → remaining ≡ plus 1 (spend_one remaining)
-pays None e = refl
-pays (Some zero) e = absurd (cc)
-pays (Some (suc n)) e = ap Some (omega arith)
+one_spent : (budget : Option ℕ) → is_used_up budget ≡ false → budget ≡ plus 1 (one_less budget)
+one_spent None e = refl
+one_spent (Some zero) e = absurd (cc)
+one_spent (Some (suc n)) e = ap Some (omega arith)
 
-pays_then : (remaining remaining_after : Option ℕ) (n : ℕ) → is_exhausted remaining ≡ false → spend_one remaining ≡ plus n remaining_after → remaining ≡ plus (suc n) remaining_after
-pays_then remaining remaining_after n e more = pays remaining e ∙ ap (plus 1) more ∙ plus-plus 1 n remaining_after ∙ ap (λ k. plus k remaining_after) (omega arith)
+pays : (meter : Meter) → is_exhausted meter ≡ false → meter.remaining ≡ plus 1 (spend_one meter).remaining
+pays meter e = one_spent meter.remaining e
+
+pays_then : (meter meter_after : Meter) (n : ℕ) → is_exhausted meter ≡ false → (spend_one meter).remaining ≡ plus n meter_after.remaining → meter.remaining ≡ plus (suc n) meter_after.remaining
+pays_then meter meter_after n e more =
+    pays meter e ∙ ap (plus 1) more ∙ plus-plus 1 n meter_after.remaining ∙ ap (λ k. plus k meter_after.remaining) (omega arith)
 
 -- ---- lines
 
-renumbered_left : (s : State) (r : LogicalLine) (f : Option Fault) (p : Option Presumed) → (renumbered_by s r f p).state.remaining ≡ s.remaining
-renumbered_left s r (Some f) p = refl
-renumbered_left s r None None = refl
-renumbered_left s r None (Some p) = refl
+pub asks_by_spends : (header : Bool) (s : State) (line : List Token) (meter_after : Meter) (include_name : Result IncludeName Fault) (g : NamesHeaderBy header s line meter_after include_name)
+    → s.meter.remaining ≡ plus (count_names_header_by header s line meter_after include_name g) meter_after.remaining
+asks_by_spends true s line meter_after include_name g = same_budget s.meter meter_after g.0
+asks_by_spends false s line meter_after include_name g = expansion_spends s.macros s.env g.expands ∙ ap (λ (m : Meter). plus (count_expansion g.expands) m.remaining) (sym g.leaves)
 
-macros_left : (s : State) (m : Result Macros Fault) → (with_macros s m).state.remaining ≡ s.remaining
-macros_left s (Ok m) = refl
-macros_left s (Err f) = refl
+pub asks_spends : (s : State) (line : List Token) (meter_after : Meter) (include_name : Result IncludeName Fault) (g : NamesHeader s line meter_after include_name)
+    → s.meter.remaining ≡ plus (count_names_header s line meter_after include_name g) meter_after.remaining
+asks_spends s line meter_after include_name g = asks_by_spends (begins_with_header (operands line)) s line meter_after include_name g
 
-noting_left : (profile : Profile) (row : ℕ) (ts : List Token) (s : State) → (noting_pragma_once profile row ts s).remaining ≡ s.remaining
-noting_left profile row ts s = noted (is_once profile ts)
-  where
-    noted : (b : Bool) → (if b then with_once s row else s).remaining ≡ s.remaining
-    noted true = refl
-    noted false = refl
+pub decides_spends : {search : Search} {row : ℕ} {s : State} {line : LogicalLine} {meter_after : Meter} {taken : Result Bool Fault} (g : Decides search row s line meter_after taken)
+    → s.meter.remaining ≡ plus (count_decides g) meter_after.remaining
+decides_spends {s = s} {meter_after = meter_after} (Decides.unmatched q x) = same_budget s.meter meter_after x.0
+decides_spends {s = s} {meter_after = meter_after} (Decides.tests_name q n x) = same_budget s.meter meter_after x.0
+decides_spends {s = s} {meter_after = meter_after} (Decides.names_no_header q v e x) = same_budget s.meter meter_after x.0
+decides_spends (Decides.evaluates q v e x) = condition_spends x
 
-pub asks_by_spends : (header : Bool) (s : State) (line : List Token) (remaining_after : Option ℕ) (include_name : Result IncludeName Fault) (g : NamesHeaderBy header s line remaining_after include_name)
-    → s.remaining ≡ plus (count_names_header_by header s line remaining_after include_name g) remaining_after
-asks_by_spends true s line remaining_after include_name g = same_remaining s.remaining remaining_after g.0
-asks_by_spends false s line remaining_after include_name g = expansion_spends s.macros s.env g.expands ∙ ap (plus (count_expansion g.expands)) (sym g.leaves)
-
-pub asks_spends : (s : State) (line : List Token) (remaining_after : Option ℕ) (include_name : Result IncludeName Fault) (g : NamesHeader s line remaining_after include_name) → s.remaining ≡ plus (count_names_header s line remaining_after include_name g) remaining_after
-asks_spends s line remaining_after include_name g = asks_by_spends (begins_with_header (operands line)) s line remaining_after include_name g
-
-decides_of_spends : (tokens : Result (List Token) Fault) (s : State) (at : Place) (remaining_after : Option ℕ) (taken : Result Bool Fault) (g : DecidesOf tokens s at remaining_after taken)
-    → s.remaining ≡ plus (count_decides_of tokens s at remaining_after taken g) remaining_after
-decides_of_spends (Err f) s at remaining_after taken g = same_remaining s.remaining remaining_after g.0
-decides_of_spends (Ok tokens) s at remaining_after taken g = condition_spends g
-
-decides_by_spends : (search : Search) (row : ℕ) (q : Option Question) (s : State) (line : List Token) (remaining_after : Option ℕ) (taken : Result Bool Fault) (g : DecidesBy search row q s line remaining_after taken)
-    → s.remaining ≡ plus (count_decides_by search row q s line remaining_after taken g) remaining_after
-decides_by_spends search row (Some Value) s line remaining_after taken g = decides_of_spends (condition_tokens search row line) s (hash_place line) remaining_after taken g
-decides_by_spends search row (Some (Defined wanted)) s line remaining_after taken g = same_remaining s.remaining remaining_after g.0
-decides_by_spends search row None s line remaining_after taken g = absurd g
-
-decides_unless_spends : (search : Search) (row : ℕ) (quote : Option Fault) (d : Option Directive) (s : State) (line : List Token) (remaining_after : Option ℕ) (taken : Result Bool Fault) (g : DecidesUnless search row quote d s line remaining_after taken)
-    → s.remaining ≡ plus (count_decides_unless search row quote d s line remaining_after taken g) remaining_after
-decides_unless_spends search row (Some f) d s line remaining_after taken g = same_remaining s.remaining remaining_after g.0
-decides_unless_spends search row None d s line remaining_after taken g = decides_by_spends search row (question_by d) s line remaining_after taken g
-
-pub decides_spends : (search : Search) (row : ℕ) (s : State) (line : LogicalLine) (remaining_after : Option ℕ) (taken : Result Bool Fault) (g : Decides search row s line remaining_after taken)
-    → s.remaining ≡ plus (count_decides search row s line remaining_after taken g) remaining_after
-decides_spends search row s line remaining_after taken g = decides_unless_spends search row (unmatched_quote line.tokens) line.directive s line.tokens remaining_after taken g
+effect_spends : {profile : Profile} {row : ℕ} {d : Option Directive} {s : State} {line : LogicalLine} {m : Progress} (e : HasEffect profile row d s line m)
+    → s.meter.remaining ≡ plus (count_effect e) m.state.meter.remaining
+effect_spends {s = s} {m = m} (HasEffect.immediate is gives) = same_budget s.meter m.state.meter (ap (λ x. x.state.meter) gives)
+effect_spends {s = s} (HasEffect.expanding x is expands gives) = expansion_spends s.macros s.env expands ∙ ap (plus (count_expansion expands)) (sym (ap (λ x. x.state.meter.remaining) gives))
 
 pub control_by_spends : (profile : Profile) (row : ℕ) (d : Option Directive) (s : State) (line : LogicalLine) (m : Progress) (g : ExecutesDirective profile row d s line m)
-    → s.remaining ≡ plus (count_control_by profile row d s line m g) m.state.remaining
-control_by_spends profile row (Some Null) s line m g = same_remaining s.remaining m.state.remaining (ap (λ x. x.state.remaining) g)
-control_by_spends profile row (Some Define) s line m g = same_remaining s.remaining m.state.remaining (ap (λ x. x.state.remaining) g ∙ macros_left s _)
-control_by_spends profile row (Some Undef) s line m g = same_remaining s.remaining m.state.remaining (ap (λ x. x.state.remaining) g ∙ macros_left s _)
-control_by_spends profile row (Some Line) s line m g =
-    let same : m.state.remaining ≡ g.expanded.remaining = ap (λ x. x.state.remaining) g.is ∙ renumbered_left (with_remaining s g.expanded.remaining) line g.expanded.fault (presumed g.expanded.tokens) in
-    expansion_spends s.macros s.env g.expands ∙ ap (plus (count_expansion g.expands)) (sym same)
-control_by_spends profile row (Some Pragma) s line m g =
-    same_remaining s.remaining m.state.remaining (ap (λ x. x.state.remaining) g ∙ noting_left profile row (operands line.tokens) _)
-control_by_spends profile row (Some Unknown) s line m g = same_remaining s.remaining m.state.remaining (ap (λ x. x.state.remaining) g)
-control_by_spends profile row _ s line m g = absurd g
+    → s.meter.remaining ≡ plus (count_control_by profile row d s line m g) m.state.meter.remaining
+control_by_spends profile row d s line m g =
+    effect_spends (effect_of profile row d s line m g) ∙ ap (λ n. plus n m.state.meter.remaining) (sym (same_count profile row d s line m g))
 
-pub run_spends : (s : State) (tokens : List Token) (m : Progress) (g : EmitsText s tokens m) → s.remaining ≡ plus (count_expansion g.expands) m.state.remaining
-run_spends s tokens m g = expansion_spends s.macros s.env g.expands ∙ ap (plus (count_expansion g.expands)) (sym (ap (λ x. x.state.remaining) g.is))
+pub run_spends : (s : State) (tokens : List Token) (m : Progress) (g : EmitsText s tokens m) → s.meter.remaining ≡ plus (count_expansion g.expands) m.state.meter.remaining
+run_spends s tokens m g = expansion_spends s.macros s.env g.expands ∙ ap (plus (count_expansion g.expands)) (sym (ap (λ x. x.state.meter.remaining) g.is))
 
 -- ---- groups
 
 module _ (context : Context) where
   mutual
-    pub group_spends : {depth row : ℕ} {r : Progress} {ps : GroupParts} {end : Progress} (d : ExecutesGroup context depth row r ps end) → r.state.remaining ≡ plus (count_group d) end.state.remaining
-    group_spends (ExecutesGroup.already_stopped {s = s}) = plus-nothing s.remaining
-    group_spends (ExecutesGroup.no_parts {s = s}) = plus-nothing s.remaining
+    pub group_spends : {depth row : ℕ} {r : Progress} {ps : GroupParts} {end : Progress} (d : ExecutesGroup context depth row r ps end) → r.state.meter.remaining ≡ plus (count_group d) end.state.meter.remaining
+    group_spends (ExecutesGroup.already_stopped {s = s}) = plus-nothing s.meter.remaining
+    group_spends (ExecutesGroup.no_parts {s = s}) = plus-nothing s.meter.remaining
     group_spends (ExecutesGroup.text_lines {s = s} {lines = lines} {m = m} gives rest) = both _ _ _ (run_spends s (text_tokens lines) m gives) (group_spends rest)
     group_spends (ExecutesGroup.control here rest) = both _ _ _ (control_spends here) (group_spends rest)
-    group_spends {row = row} (ExecutesGroup.taken {s = s} {line = line} {remaining_after = remaining_after} decides here rest) =
-        both _ _ _ (decides_spends (search_of context) row s line remaining_after (Ok true) decides) (both _ _ _ (group_spends here) (group_spends rest))
-    group_spends {row = row} (ExecutesGroup.skipped {s = s} {line = line} {remaining_after = remaining_after} decides here rest) =
-        both _ _ _ (decides_spends (search_of context) row s line remaining_after (Ok false) decides) (both _ _ _ (branches_spend here) (group_spends rest))
-    group_spends {row = row} (ExecutesGroup.condition_fault {s = s} {line = line} {remaining_after = remaining_after} {f = f} decides) = decides_spends (search_of context) row s line remaining_after (Err f) decides
+    group_spends (ExecutesGroup.taken decides here rest) =
+        both _ _ _ (decides_spends decides) (both _ _ _ (group_spends here) (group_spends rest))
+    group_spends (ExecutesGroup.skipped decides here rest) =
+        both _ _ _ (decides_spends decides) (both _ _ _ (branches_spend here) (group_spends rest))
+    group_spends (ExecutesGroup.condition_fault decides) = decides_spends decides
 
-    pub branches_spend : {depth row : ℕ} {s : State} {bs : Branches} {m : Progress} (d : ExecutesBranches context depth row s bs m) → s.remaining ≡ plus (count_branches d) m.state.remaining
-    branches_spend (ExecutesBranches.no_branch_taken {s = s}) = plus-nothing s.remaining
+    pub branches_spend : {depth row : ℕ} {s : State} {bs : Branches} {m : Progress} (d : ExecutesBranches context depth row s bs m) → s.meter.remaining ≡ plus (count_branches d) m.state.meter.remaining
+    branches_spend (ExecutesBranches.no_branch_taken {s = s}) = plus-nothing s.meter.remaining
     branches_spend (ExecutesBranches.else_group e here) = group_spends here
-    branches_spend {row = row} (ExecutesBranches.branch_taken {s = s} {line = line} {remaining_after = remaining_after} e decides here) = both _ _ _ (decides_spends (search_of context) row s line remaining_after (Ok true) decides) (group_spends here)
-    branches_spend {row = row} (ExecutesBranches.branch_skipped {s = s} {line = line} {remaining_after = remaining_after} e decides rest) = both _ _ _ (decides_spends (search_of context) row s line remaining_after (Ok false) decides) (branches_spend rest)
-    branches_spend {row = row} (ExecutesBranches.branch_condition_fault {s = s} {line = line} {remaining_after = remaining_after} {f = f} e decides) = decides_spends (search_of context) row s line remaining_after (Err f) decides
+    branches_spend (ExecutesBranches.branch_taken e decides here) = both _ _ _ (decides_spends decides) (group_spends here)
+    branches_spend (ExecutesBranches.branch_skipped e decides rest) = both _ _ _ (decides_spends decides) (branches_spend rest)
+    branches_spend (ExecutesBranches.branch_condition_fault e decides) = decides_spends decides
 
-    pub control_spends : {depth row : ℕ} {s : State} {line : LogicalLine} {m : Progress} (d : ExecutesControlLine context depth row s line m) → s.remaining ≡ plus (count_control d) m.state.remaining
-    control_spends (ExecutesControlLine.error {s = s} e) = plus-nothing s.remaining
-    control_spends (ExecutesControlLine.ignored {s = s} e) = plus-nothing s.remaining
-    control_spends (ExecutesControlLine.quote_fault {s = s} e q) = plus-nothing s.remaining
+    pub control_spends : {depth row : ℕ} {s : State} {line : LogicalLine} {m : Progress} (d : ExecutesControlLine context depth row s line m) → s.meter.remaining ≡ plus (count_control d) m.state.meter.remaining
+    control_spends (ExecutesControlLine.error {s = s} e) = plus-nothing s.meter.remaining
+    control_spends (ExecutesControlLine.ignored {s = s} e) = plus-nothing s.meter.remaining
+    control_spends (ExecutesControlLine.quote_fault {s = s} e q) = plus-nothing s.meter.remaining
     control_spends {row = row} (ExecutesControlLine.executed {s = s} {line = line} {m = m} q does) = control_by_spends context.profile row line.directive s line m does
     control_spends (ExecutesControlLine.include e q here) = includes_spend here
 
-    pub includes_spend : {depth row : ℕ} {following : Option ℕ} {s : State} {line : LogicalLine} {m : Progress} (d : ExecutesInclude context depth row following s line m) → s.remaining ≡ plus (count_includes d) m.state.remaining
-    includes_spend (ExecutesInclude.operand_fault {s = s} {line = line} {remaining_after = remaining_after} {f = f} asks) = asks_spends s line.tokens remaining_after (Err f) asks
-    includes_spend (ExecutesInclude.missing {s = s} {line = line} {remaining_after = remaining_after} a asks finds) = asks_spends s line.tokens remaining_after (Ok a) asks
-    includes_spend (ExecutesInclude.included {s = s} {line = line} {remaining_after = remaining_after} a found asks finds opens) =
-        both _ _ _ (asks_spends s line.tokens remaining_after (Ok a) asks) (opened_spends opens)
+    pub includes_spend : {depth row : ℕ} {following : Option ℕ} {s : State} {line : LogicalLine} {m : Progress} (d : ExecutesInclude context depth row following s line m) → s.meter.remaining ≡ plus (count_includes d) m.state.meter.remaining
+    includes_spend (ExecutesInclude.operand_fault {s = s} {line = line} {meter_after = meter_after} {f = f} asks) = asks_spends s line.tokens meter_after (Err f) asks
+    includes_spend (ExecutesInclude.missing {s = s} {line = line} {meter_after = meter_after} a asks finds) = asks_spends s line.tokens meter_after (Ok a) asks
+    includes_spend (ExecutesInclude.included {s = s} {line = line} {meter_after = meter_after} a found asks finds opens) =
+        both _ _ _ (asks_spends s line.tokens meter_after (Ok a) asks) (opened_spends opens)
 
-    pub opened_spends : {depth row : ℕ} {directory : Option ℕ} {at : Place} {s : State} {m : Progress} (d : OpensFile context depth at s row directory m) → s.remaining ≡ plus (count_opening d) m.state.remaining
-    opened_spends (OpensFile.too_deep {s = s} deep) = plus-nothing s.remaining
-    opened_spends (OpensFile.exhausted {s = s} fits spent) = plus-nothing s.remaining
-    opened_spends (OpensFile.not_read_again {s = s} fits more once) = pays s.remaining more
-    opened_spends (OpensFile.not_readable {s = s} fits more once file) = pays s.remaining more
-    opened_spends (OpensFile.content_fault {s = s} fits more once file reads) = pays s.remaining more
-    opened_spends (OpensFile.read {s = s} {m = m} fits more once file reads tree here) = pays_then s.remaining m.state.remaining _ more (group_spends here)
+    pub opened_spends : {depth row : ℕ} {directory : Option ℕ} {at : Place} {s : State} {m : Progress} (d : OpensFile context depth at s row directory m) → s.meter.remaining ≡ plus (count_opening d) m.state.meter.remaining
+    opened_spends (OpensFile.too_deep {s = s} deep) = plus-nothing s.meter.remaining
+    opened_spends (OpensFile.exhausted {s = s} fits spent) = plus-nothing s.meter.remaining
+    opened_spends (OpensFile.not_read_again {s = s} fits more once) = pays s.meter more
+    opened_spends (OpensFile.not_readable {s = s} fits more once file) = pays s.meter more
+    opened_spends (OpensFile.content_fault {s = s} fits more once file reads) = pays s.meter more
+    opened_spends (OpensFile.read {s = s} {m = m} fits more once file reads tree here) = pays_then s.meter m.state.meter _ more (group_spends here)
 
-  pub defines_spends : {defines : List (List ℕ)} {s : State} {m : Progress} (d : Defines context defines s m) → s.remaining ≡ plus (count_defines d) m.state.remaining
-  defines_spends (unread {s = s} reads) = plus-nothing s.remaining
+  pub defines_spends : {defines : List (List ℕ)} {s : State} {m : Progress} (d : Defines context defines s m) → s.meter.remaining ≡ plus (count_defines d) m.state.meter.remaining
+  defines_spends (unread {s = s} reads) = plus-nothing s.meter.remaining
   defines_spends (processed reads tree here) = group_spends here
 
-  pub unit_spends : {defines : List (List ℕ)} {row : ℕ} {s : State} {m : Progress} (d : Translates context defines row s m) → s.remaining ≡ plus (count_translates d) m.state.remaining
+  pub unit_spends : {defines : List (List ℕ)} {row : ℕ} {s : State} {m : Progress} (d : Translates context defines row s m) → s.meter.remaining ≡ plus (count_translates d) m.state.meter.remaining
   unit_spends (definitions_fault here) = defines_spends here
   unit_spends (translated here opens) = both _ _ _ (defines_spends here) (opened_spends opens)
 
@@ -178,4 +146,4 @@ at_most (Some b) None n e = absurd (cc)
 at_most (Some b) (Some k) n e = let sum : b ≡ n + k = cc in omega arith
 
 pub stays_in_budget : (names : List (List ℕ)) (files : Files) (setting : Setting) (unit : UnitOfList) (out : UnitOut) (p : IsUnit names files setting unit out) → AtMost setting.budget (count p)
-stays_in_budget names files setting unit out p = at_most setting.budget p.progress.state.remaining (count p) (unit_spends _ p.translates)
+stays_in_budget names files setting unit out p = at_most setting.budget p.progress.state.meter.remaining (count p) (unit_spends _ p.translates)

@@ -7,16 +7,17 @@ use Rattle.pptext.specs.declared.directives.Class.TheVariants as class
 use Rattle.pptext.specs.Classes.{class_by}
 use Rattle.pptext.specs.Lines.{LogicalLine}
 use Rattle.pptext.specs.Tree.{hash_place}
+use Rattle.ppexpand.specs.declared.meter.Meter.{Meter}
 use Rattle.ppshelf.specs.Names.{AreNames}
 use Rattle.ppunit.specs.Including.{IncludeName}
-use Rattle.ppunit.specs.States.{State, Context, Progress, running, stopped, with_remaining}
+use Rattle.ppunit.specs.States.{State, Context, Progress, running, stopped, with_meter}
 use Rattle.ppunit.specs.DirectiveLines.{operands, line_fault}
 use Rattle.ppunit.specs.Quotes.{unmatched_quote}
 use Rattle.ppunit.specs.Directives.{ExecutesDirective, message, checks_quotes, NamesHeader, FindsFile}
 use Rattle.ppunit.specs.Group.{ExecutesControlLine, ExecutesInclude, OpensFile}
 use Rattle.ppunit.proofs.LineUniqueness.{OneExpansion, OneDecision, OneRow, control_by_once, asks_once}
 use Rattle.ppunit.proofs.SectionUniqueness.{stopped_again}
-use Rattle.ppunit.proofs.ControlClasses.{control_class}
+use Rattle.ppunit.proofs.DirectiveEffects.{control_class}
 
 -- A line whose quotes are checked is neither `#error` nor a line without effect.
 error_quiet : (c : Option Class) → c ≡ Some class.Error → checks_quotes c ≡ true → ⊥
@@ -95,51 +96,51 @@ module _ (expansions : OneExpansion) (decisions : OneDecision) (rows : OneRow) (
       subst (λ (b : Bool). ExecutesInclude context depth row (if b then s.directory else None) s line m) same here
 
   -- An include line names one header.
-  same_asked : (s : State) (line : List Token) (remaining_after following : Option ℕ) (a b : IncludeName) → NamesHeader s line remaining_after (Ok a) → NamesHeader s line following (Ok b) → a ≡ b
-  same_asked s line remaining_after following a b p q = let one : Ok a ≡ Ok b = (asks_once expansions decisions s line remaining_after following (Ok a) (Ok b) p q).0 in cc
+  same_asked : (s : State) (line : List Token) (meter_after following : Meter) (a b : IncludeName) → NamesHeader s line meter_after (Ok a) → NamesHeader s line following (Ok b) → a ≡ b
+  same_asked s line meter_after following a b p q = let one : Ok a ≡ Ok b = (asks_once expansions decisions s line meter_after following (Ok a) (Ok b) p q).0 in cc
 
-  pub after_operand_fault : {depth row : ℕ} {start : Option ℕ} {s : State} {line : LogicalLine} {remaining_after : Option ℕ} {f : Fault} {m : Progress}
-      → NamesHeader s line.tokens remaining_after (Err f)
+  pub after_operand_fault : {depth row : ℕ} {start : Option ℕ} {s : State} {line : LogicalLine} {meter_after : Meter} {f : Fault} {m : Progress}
+      → NamesHeader s line.tokens meter_after (Err f)
       → ExecutesInclude context depth row start s line m
-      → stopped (with_remaining s remaining_after) f ≡ m
-  after_operand_fault {s = s} {line = line} {remaining_after = remaining_after} {f = f} asks (ExecutesInclude.operand_fault {remaining_after = following} {f = g} asks') =
-      let one = asks_once expansions decisions s line.tokens remaining_after following (Err f) (Err g) asks asks' in
-      stopped_again expansions decisions context {A = IncludeName} s remaining_after following f g one.0 one.1
-  after_operand_fault {s = s} {line = line} {remaining_after = remaining_after} {f = f} asks (ExecutesInclude.missing {remaining_after = following} a asks' finds) =
-      let one : Err f ≡ Ok a = (asks_once expansions decisions s line.tokens remaining_after following (Err f) (Ok a) asks asks').0 in absurd (cc)
-  after_operand_fault {s = s} {line = line} {remaining_after = remaining_after} {f = f} asks (ExecutesInclude.included {remaining_after = following} a found asks' finds opens) =
-      let one : Err f ≡ Ok a = (asks_once expansions decisions s line.tokens remaining_after following (Err f) (Ok a) asks asks').0 in absurd (cc)
+      → stopped (with_meter s meter_after) f ≡ m
+  after_operand_fault {s = s} {line = line} {meter_after = meter_after} {f = f} asks (ExecutesInclude.operand_fault {meter_after = following} {f = g} asks') =
+      let one = asks_once expansions decisions s line.tokens meter_after following (Err f) (Err g) asks asks' in
+      stopped_again expansions decisions context {A = IncludeName} s meter_after following f g one.0 one.1
+  after_operand_fault {s = s} {line = line} {meter_after = meter_after} {f = f} asks (ExecutesInclude.missing {meter_after = following} a asks' finds) =
+      let one : Err f ≡ Ok a = (asks_once expansions decisions s line.tokens meter_after following (Err f) (Ok a) asks asks').0 in absurd (cc)
+  after_operand_fault {s = s} {line = line} {meter_after = meter_after} {f = f} asks (ExecutesInclude.included {meter_after = following} a found asks' finds opens) =
+      let one : Err f ≡ Ok a = (asks_once expansions decisions s line.tokens meter_after following (Err f) (Ok a) asks asks').0 in absurd (cc)
 
-  pub after_missing : {depth row : ℕ} {start : Option ℕ} {s : State} {line : LogicalLine} {remaining_after : Option ℕ} {m : Progress} (a : IncludeName)
-      → NamesHeader s line.tokens remaining_after (Ok a)
+  pub after_missing : {depth row : ℕ} {start : Option ℕ} {s : State} {line : LogicalLine} {meter_after : Meter} {m : Progress} (a : IncludeName)
+      → NamesHeader s line.tokens meter_after (Ok a)
       → FindsFile context row start a None
       → ExecutesInclude context depth row start s line m
-      → stopped (with_remaining s remaining_after) (line_fault 31 line.tokens a.name) ≡ m
-  after_missing {s = s} {line = line} {remaining_after = remaining_after} a asks finds (ExecutesInclude.operand_fault {remaining_after = following} {f = f} asks') =
-      let one : Ok a ≡ Err f = (asks_once expansions decisions s line.tokens remaining_after following (Ok a) (Err f) asks asks').0 in absurd (cc)
-  after_missing {s = s} {line = line} {remaining_after = remaining_after} a asks finds (ExecutesInclude.missing {remaining_after = following} b asks' finds') =
-      let same = same_asked s line.tokens remaining_after following a b asks asks' in
-      let remainders = (asks_once expansions decisions s line.tokens remaining_after following (Ok a) (Ok b) asks asks').1 in
-      λ i. stopped (with_remaining s (remainders i)) (line_fault 31 line.tokens (same i).name)
-  after_missing {row = row} {start = start} {s = s} {line = line} {remaining_after = remaining_after} a asks finds (ExecutesInclude.included {remaining_after = following} b found asks' finds' opens) =
-      let same = same_asked s line.tokens remaining_after following a b asks asks' in
+      → stopped (with_meter s meter_after) (line_fault 31 line.tokens a.name) ≡ m
+  after_missing {s = s} {line = line} {meter_after = meter_after} a asks finds (ExecutesInclude.operand_fault {meter_after = following} {f = f} asks') =
+      let one : Ok a ≡ Err f = (asks_once expansions decisions s line.tokens meter_after following (Ok a) (Err f) asks asks').0 in absurd (cc)
+  after_missing {s = s} {line = line} {meter_after = meter_after} a asks finds (ExecutesInclude.missing {meter_after = following} b asks' finds') =
+      let same = same_asked s line.tokens meter_after following a b asks asks' in
+      let remainders = (asks_once expansions decisions s line.tokens meter_after following (Ok a) (Ok b) asks asks').1 in
+      λ i. stopped (with_meter s (remainders i)) (line_fault 31 line.tokens (same i).name)
+  after_missing {row = row} {start = start} {s = s} {line = line} {meter_after = meter_after} a asks finds (ExecutesInclude.included {meter_after = following} b found asks' finds' opens) =
+      let same = same_asked s line.tokens meter_after following a b asks asks' in
       let one : None ≡ Some found = finds_once row start b None (Some found) (subst (λ x. FindsFile context row start x None) same finds) finds' in absurd (cc)
 
-  pub after_included : {depth row : ℕ} {start : Option ℕ} {s : State} {line : LogicalLine} {remaining_after : Option ℕ} {m : Progress} (a : IncludeName) (found : ℕ × ℕ)
-      → NamesHeader s line.tokens remaining_after (Ok a)
+  pub after_included : {depth row : ℕ} {start : Option ℕ} {s : State} {line : LogicalLine} {meter_after : Meter} {m : Progress} (a : IncludeName) (found : ℕ × ℕ)
+      → NamesHeader s line.tokens meter_after (Ok a)
       → FindsFile context row start a (Some found)
       → ExecutesInclude context depth row start s line m
-      → OpensFile context (suc depth) (hash_place line.tokens) (with_remaining s remaining_after) found.0 (Some found.1) m
-  after_included {s = s} {line = line} {remaining_after = remaining_after} a found asks finds (ExecutesInclude.operand_fault {remaining_after = following} {f = f} asks') =
-      let one : Ok a ≡ Err f = (asks_once expansions decisions s line.tokens remaining_after following (Ok a) (Err f) asks asks').0 in absurd (cc)
-  after_included {row = row} {start = start} {s = s} {line = line} {remaining_after = remaining_after} a found asks finds (ExecutesInclude.missing {remaining_after = following} b asks' finds') =
-      let same = same_asked s line.tokens remaining_after following a b asks asks' in
+      → OpensFile context (suc depth) (hash_place line.tokens) (with_meter s meter_after) found.0 (Some found.1) m
+  after_included {s = s} {line = line} {meter_after = meter_after} a found asks finds (ExecutesInclude.operand_fault {meter_after = following} {f = f} asks') =
+      let one : Ok a ≡ Err f = (asks_once expansions decisions s line.tokens meter_after following (Ok a) (Err f) asks asks').0 in absurd (cc)
+  after_included {row = row} {start = start} {s = s} {line = line} {meter_after = meter_after} a found asks finds (ExecutesInclude.missing {meter_after = following} b asks' finds') =
+      let same = same_asked s line.tokens meter_after following a b asks asks' in
       let one : Some found ≡ None = finds_once row start b (Some found) None (subst (λ x. FindsFile context row start x (Some found)) same finds) finds' in absurd (cc)
-  after_included {depth = depth} {row = row} {start = start} {s = s} {line = line} {remaining_after = remaining_after} {m = m} a found asks finds
-      (ExecutesInclude.included {remaining_after = following} b other asks' finds' opens) =
-      let same = same_asked s line.tokens remaining_after following a b asks asks' in
+  after_included {depth = depth} {row = row} {start = start} {s = s} {line = line} {meter_after = meter_after} {m = m} a found asks finds
+      (ExecutesInclude.included {meter_after = following} b other asks' finds' opens) =
+      let same = same_asked s line.tokens meter_after following a b asks asks' in
       let one : Some found ≡ Some other = finds_once row start b (Some found) (Some other) (subst (λ x. FindsFile context row start x (Some found)) same finds) finds' in
       let same_row : other ≡ found = cc in
-      let remainders = sym (asks_once expansions decisions s line.tokens remaining_after following (Ok a) (Ok b) asks asks').1 in
-      subst (λ (x : Option ℕ). OpensFile context (suc depth) (hash_place line.tokens) (with_remaining s x) found.0 (Some found.1) m) remainders
-      (subst (λ (x : ℕ × ℕ). OpensFile context (suc depth) (hash_place line.tokens) (with_remaining s following) x.0 (Some x.1) m) same_row opens)
+      let remainders = sym (asks_once expansions decisions s line.tokens meter_after following (Ok a) (Ok b) asks asks').1 in
+      subst (λ (x : Meter). OpensFile context (suc depth) (hash_place line.tokens) (with_meter s x) found.0 (Some found.1) m) remainders
+      (subst (λ (x : ℕ × ℕ). OpensFile context (suc depth) (hash_place line.tokens) (with_meter s following) x.0 (Some x.1) m) same_row opens)

@@ -7,23 +7,20 @@ use Rattle.pptext.specs.declared.tokens.Token.{Token}
 use Rattle.pptext.specs.declared.tokens.Fault.{Fault}
 use Rattle.pptext.specs.declared.sources.Profile.{Profile}
 use Rattle.pptext.specs.declared.sources.Directive.{Directive}
-use Rattle.pptext.specs.declared.sources.Directive.TheVariants.{Define, Undef, Line, Pragma, Null, Unknown}
 use Rattle.pptext.specs.Lines.{LogicalLine}
 use Rattle.pptext.specs.Tree.{hash_place, GroupParts, Branches}
-use Rattle.ppmacro.specs.Names.{Macros}
-use Rattle.ppmacro.specs.Define.{after_define, after_undef}
 use Rattle.ppshelf.specs.Files.{Files}
 use Rattle.ppunit.specs.declared.units.Unit.{Unit as UnitOfList}
 use Rattle.ppunit.specs.declared.units.Setting.{Setting}
 use Rattle.ppunit.specs.declared.units.UnitOut.{UnitOut}
-use Rattle.ppunit.specs.declared.units.Item.TheVariants as item
 use Rattle.ppunit.specs.Dependencies.{with_row}
-use Rattle.ppunit.specs.States.{State, Context, Progress, emitted, with_once, with_remaining}
+use Rattle.ppunit.specs.States.{State, Context, Progress, emitted, with_once, with_meter}
 use Rattle.ppunit.specs.DirectiveLines.{operands, text_tokens}
-use Rattle.ppunit.specs.LineControl.{Presumed, presumed}
-use Rattle.ppunit.specs.Directives.{EmitsText, renumbered_by, with_macros, is_once, ExecutesDirective}
+use Rattle.ppunit.specs.Directives.{EmitsText, ExecutesDirective}
 use Rattle.ppunit.specs.Group.{ExecutesGroup, ExecutesBranches, ExecutesControlLine, ExecutesInclude, OpensFile}
 use Rattle.ppunit.specs.Unit.{IsUnit, Defines, unread, processed, Translates, definitions_fault, translated, context_of_unit}
+use Rattle.ppunit.specs.code.Effects.{HasEffect}
+use Rattle.ppunit.proofs.DirectiveEffects.{effect_of}
 use Rattle.ppshelf.proofs.SearchResults.{first_within}
 
 -- ---- effects that leave the dependencies unchanged
@@ -31,34 +28,14 @@ use Rattle.ppshelf.proofs.SearchResults.{first_within}
 run_keeps : (s : State) (tokens : List Token) (m : Progress) → EmitsText s tokens m → m.state.deps ≡ s.deps
 run_keeps s tokens m gives = ap (λ (r : Progress). r.state.deps) gives.is
 
-renumbered_keeps : (s : State) (r : LogicalLine) (f : Option Fault) (p : Option Presumed) → (renumbered_by s r f p).state.deps ≡ s.deps
-renumbered_keeps s r (Some f) p = refl
-renumbered_keeps s r None None = refl
-renumbered_keeps s r None (Some p) = refl
-
-macros_keep : (s : State) (r : Result Macros Fault) → (with_macros s r).state.deps ≡ s.deps
-macros_keep s (Ok macros) = refl
-macros_keep s (Err f) = refl
-
-noting_keeps : (b : Bool) (s : State) (row : ℕ) → (if b then with_once s row else s).deps ≡ s.deps
-noting_keeps true s row = refl
-noting_keeps false s row = refl
+effect_keeps : {profile : Profile} {row : ℕ} {d : Option Directive} {s : State} {r : LogicalLine} {m : Progress} → HasEffect profile row d s r m → m.state.deps ≡ s.deps
+effect_keeps (HasEffect.immediate is gives) = ap (λ (z : Progress). z.state.deps) gives
+effect_keeps (HasEffect.expanding x is expands gives) = ap (λ (z : Progress). z.state.deps) gives
 
 control_keeps : (profile : Profile) (row : ℕ) (d : Option Directive) (s : State) (r : LogicalLine) (m : Progress)
     → ExecutesDirective profile row d s r m
     → m.state.deps ≡ s.deps
-control_keeps profile row (Some Define) s r m does =
-    ap (λ (z : Progress). z.state.deps) does ∙ macros_keep s (after_define profile s.macros (hash_place r.tokens) (operands r.tokens))
-control_keeps profile row (Some Undef) s r m does =
-    ap (λ (z : Progress). z.state.deps) does ∙ macros_keep s (after_undef profile s.macros (hash_place r.tokens) (operands r.tokens))
-control_keeps profile row (Some Line) s r m does =
-    ap (λ (z : Progress). z.state.deps) does.is ∙ renumbered_keeps (with_remaining s does.expanded.remaining) r does.expanded.fault (presumed does.expanded.tokens)
-control_keeps profile row (Some Pragma) s r m does =
-    let t = emitted s (item.Pragma (hash_place r.tokens) (operands r.tokens) ∷ []) in
-    ap (λ (z : Progress). z.state.deps) does ∙ noting_keeps (is_once profile (operands r.tokens)) t row
-control_keeps profile row (Some Null) s r m does = ap (λ (z : Progress). z.state.deps) does
-control_keeps profile row (Some Unknown) s r m does = ap (λ (z : Progress). z.state.deps) does
-control_keeps profile row d s r m does = absurd does
+control_keeps profile row d s r m does = effect_keeps (effect_of profile row d s r m does)
 
 -- ---- files that become dependencies
 

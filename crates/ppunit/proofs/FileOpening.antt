@@ -12,7 +12,8 @@ use Rattle.ppshelf.specs.Content.{unreadable, readable}
 use Rattle.ppshelf.specs.Names.{name_in}
 use Rattle.ppshelf.specs.Files.{Files, Extends}
 use Rattle.ppunit.specs.declared.states.FileContext.{FileContext}
-use Rattle.ppunit.specs.States.{UnitContext, State, file_context, Progress, running, stopped, with_dependency, entering, with_one_spent, literal, context_over, Context}
+use Rattle.ppunit.specs.States.{State, file_context, Progress, running, stopped, with_dependency, entering, with_one_spent, literal, Context}
+use Rattle.ppunit.specs.code.Contexts.{UnitContext, context_over}
 use Rattle.ppunit.specs.Dependencies.{has_row}
 use Rattle.ppunit.specs.Group.{depth_limit, ExecutesGroup, OpensFile}
 use Rattle.ppunit.specs.code.Opening.{Entered, IsRefusedOpening, SpendsOpening, HasLines, HasFault, Begins}
@@ -44,7 +45,7 @@ opens_known context depth row directory at name s a t known (fits, some, pays) j
 
 -- the opening is spent from the budget, and the file, which is to be read, is a dependency
 abbrev pub IsReady : ℕ → ℕ → State → State → Type 0
-IsReady depth row s t = (depth ≤ depth_limit) × (is_exhausted s.remaining ≡ false) × (has_row row s.once ≡ false) × (t ≡ with_dependency (with_one_spent s) row)
+IsReady depth row s t = (depth ≤ depth_limit) × (is_exhausted s.meter ≡ false) × (has_row row s.once ≡ false) × (t ≡ with_dependency (with_one_spent s) row)
 
 pub ready : (depth row : ℕ) (at : Place) (name : List ℕ) (s a t : State) (known : Bool)
     → SpendsOpening depth at name s a None

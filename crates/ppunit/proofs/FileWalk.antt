@@ -1,4 +1,5 @@
--- A walk over the lines of a file, from the first line to the end.
+-- A walk over the lines of a file, from the first line to the end. What each call of the preprocessor preserves, two calls
+-- in sequence preserve.
 use Rattle.std.proofs.Common.{◌≡◌, ℕ, ◌≤◌, List, [], ◌∷◌, length, refl, sym, ◌∙◌, subst, Ok, Err}
 use Rattle.std.proofs.lemmas.List.{drop_all}
 use Rattle.pptext.specs.declared.tokens.Fault.{Fault}
@@ -9,6 +10,11 @@ use Rattle.ppunit.specs.Group.{ExecutesGroup}
 use Rattle.ppshelf.specs.Files.{Files, Extends}
 use Rattle.ppunit.specs.code.Walk.{EnclosingSections, lines_to_end, HasPartsAt, Ends, Advances}
 use Rattle.ppunit.proofs.FirstLineCases.{lay_run, lay_control, lay_section}
+use Rattle.ppshelf.specs.declared.disk.Disk.{Ghosts}
+use Rattle.ppunit.specs.declared.preprocessor.Preprocessor.{Preprocessor}
+use Rattle.ppunit.specs.code.Preprocessor.{KeepsContext}
+
+-- ---- a walk over the lines of a file, from the first line to the end
 
 -- the walk is at `index` in state t: all that the rest of the lines reaches meets the goal `whole`
 pub record FileSoFar (context : Files → Context) (files : Files) (whole : Files → Progress → Type 0) (depth row : ℕ) (lines : List LogicalLine) (index : ℕ) (t : State) : Type 0 where
@@ -68,3 +74,12 @@ pub file_done : (context : Files → Context) (files : Files) (whole : Files →
     → whole more (running t)
 file_done context files whole depth row lines index t sofar over more grows =
     sofar.ends more grows (running t) (nothing_laid (context more) depth row t sofar.parts sofar.outer (sym sofar.stands.rest ∙ drop_all index lines over) sofar.stands.parts)
+
+-- ---- what each call of the preprocessor preserves, two calls in sequence preserve
+
+pub continues_on : {D : Type 0} {g : Ghosts D} (a b c : Preprocessor D g) → KeepsContext a b → KeepsContext b c → KeepsContext a c
+continues_on a b c ab bc = record {
+  context = bc.context ∙ ab.context;
+  pass = bc.pass ∙ ab.pass;
+  grows = extends_trans c.pass.now.files b.pass.now.files a.pass.now.files bc.grows ab.grows;
+}

@@ -8,6 +8,7 @@ use Rattle.pptext.specs.declared.directives.Class.TheVariants as class
 use Rattle.pptext.specs.Classes.{class_of, opens, opens_section, elifs, ends, ends_group}
 use Rattle.pptext.specs.Lines.{LogicalLine}
 use Rattle.pptext.specs.Tree.{TextLine, ControlLine, Opens, Elses, GroupParts, Done, TextLines, Control, Section, Branches, End, Branch, part_lines, branch_lines, AreGroupParts, AreBranches, role, role_in, role_by}
+use Rattle.ppexpand.specs.declared.meter.Meter.{Meter}
 use Rattle.ppunit.specs.States.{Search, State}
 use Rattle.ppunit.specs.Conditions.{Decides}
 use Rattle.ppunit.specs.code.Walk.{EnclosingSections, lines_to_end, AreEnclosingSections, ContinuesIf, ContinuesBy}
@@ -61,13 +62,13 @@ elif_in : (c : Class) → role_in c ≡ Elses false → elifs c ≡ true
 elif_in (class.Elifs q) e = refl
 elif_in c e = absurd (cc)
 
-pub condition_decides : (search : Search) (row : ℕ) (d : Option Directive) (s : State) (r : LogicalLine) (remaining_after : Option ℕ) (taken : Result Bool Fault)
+pub condition_decides : (search : Search) (row : ℕ) (d : Option Directive) (s : State) (r : LogicalLine) (meter_after : Meter) (taken : Result Bool Fault)
     → role_by d ≡ role_by (Some Elif)
-    → ContinuesBy search row d s r remaining_after taken
-    → Decides search row s r remaining_after taken
-condition_decides search row None s r remaining_after taken e entered = absurd (cc)
-condition_decides search row (Some d) s r remaining_after taken e entered =
-    subst (λ (b : Bool). ContinuesIf search row b s r remaining_after taken) (elif_in (class_of d) e) entered
+    → ContinuesBy search row d s r meter_after taken
+    → Decides search row s r meter_after taken
+condition_decides search row None s r meter_after taken e entered = absurd (cc)
+condition_decides search row (Some d) s r meter_after taken e entered =
+    subst (λ (b : Bool). ContinuesIf search row b s r meter_after taken) (elif_in (class_of d) e) entered
 
 control_in : (c : Class) → opens c ≡ false → ends c ≡ false → role_in c ≡ ControlLine
 control_in (class.Opens q) o e = absurd (cc)

@@ -8,9 +8,6 @@ use Rattle.pptext.specs.declared.tokens.Kind.{Kind}
 use Rattle.pptext.specs.declared.tokens.Kind.TheVariants.{Ident, Punct}
 use Rattle.pptext.specs.declared.sources.Directive.{Directive}
 use Rattle.pptext.specs.declared.sources.Directive.TheVariants.{If, Ifndef}
-use Rattle.pptext.specs.declared.directives.Question.{Question}
-use Rattle.pptext.specs.declared.directives.Question.TheVariants.{Value}
-use Rattle.pptext.specs.Classes.{question_of, question_by}
 use Rattle.pptext.specs.declared.sources.Profile.{Profile}
 use Rattle.pptext.specs.declared.sources.Profile.TheVariants.{C11, Later, Gnu}
 use Rattle.pptext.specs.Profiles.{is_gnu}
@@ -21,8 +18,9 @@ use Rattle.pptext.specs.Guard.{named, is_not_defined, are_parentheses, ident_if,
 use Rattle.pptext.proofs.KindUniqueness.{begins}
 use Rattle.pptext.specs.Tokens.{is_identifier_kind}
 use Rattle.ppmacro.specs.Define.{same_bool}
+use Rattle.ppexpand.specs.Budget.{with_budget}
 use Rattle.ppexpand.specs.Laws.{plus}
-use Rattle.ppexpand.proofs.BudgetLemmas.{without}
+use Rattle.ppexpand.proofs.BudgetLemmas.{Covers, without}
 use Rattle.ppexpr.specs.Conditions.{IsCondition, count_condition}
 use Rattle.ppexpr.proofs.ConditionUniqueness.{same_condition}
 use Rattle.ppexpr.proofs.ConditionBudgets.{condition_spends, condition_enough}
@@ -31,25 +29,20 @@ use Rattle.ppunit.specs.States.{Search, State}
 use Rattle.ppunit.specs.Quotes.{unmatched_quote}
 use Rattle.ppunit.specs.DirectiveLines.{line_fault}
 use Rattle.ppunit.specs.Probing.{probed, tokens_or, condition_tokens}
-use Rattle.ppunit.specs.Conditions.{is_macro_name, by_name, DecidesOf, Decides, DecidesBy, DecidesUnless}
-use Rattle.ppunit.specs.Counts.{count_decides_of, count_decides_by, count_decides_unless, count_decides}
+use Rattle.ppunit.specs.Conditions.{is_macro_name, by_name, Decides}
+use Rattle.ppunit.specs.Counts.{count_decides}
 use Rattle.ppunit.proofs.FileTokens.{IsSpelled, AreSpelled, IsSpelledLine, opens_header, kind_is, defined_spelled}
 use Rattle.std.specs.FinMap as table
+use Rattle.ppexpand.specs.declared.meter.Meter.{Meter}
 use Rattle.ppunit.proofs.QuoteFreeTokens.{is_quote, is_ident_kind, ident_unquoted, named_is, is_hash, hash_unquoted, opens_by, AreUnquoted, no_quote, named_unquoted}
 
 -- the group after a line is not taken, and that costs nothing
-abbrev SkipsOf : Result (List Token) Fault → State → Place → Type 0
-SkipsOf tokens s at = (h : DecidesOf tokens s at s.remaining (Ok false)) × (count_decides_of tokens s at s.remaining (Ok false) h ≡ 0)
+abbrev SkipsLine : Search → ℕ → State → LogicalLine → Type 0
+SkipsLine search row s line = (h : Decides search row s line s.meter (Ok false)) × (count_decides h ≡ 0)
 
-abbrev SkipsBy : Search → ℕ → Option Question → State → List Token → Type 0
-SkipsBy search row q s tokens = (h : DecidesBy search row q s tokens s.remaining (Ok false)) × (count_decides_by search row q s tokens s.remaining (Ok false) h ≡ 0)
-
-abbrev SkipsUnless : Search → ℕ → Option Fault → Option Directive → State → List Token → Type 0
-SkipsUnless search row quote d s tokens = (h : DecidesUnless search row quote d s tokens s.remaining (Ok false)) × (count_decides_unless search row quote d s tokens s.remaining (Ok false) h ≡ 0)
-
--- a line of these tokens skips its group, at no cost
+-- each line of these tokens skips its group, at no cost
 abbrev Skips : Search → ℕ → State → Option Directive → List Token → Type 0
-Skips search row s d tokens = SkipsUnless search row (unmatched_quote tokens) d s tokens
+Skips search row s d tokens = (number : ℕ) → SkipsLine search row s (record { tokens = tokens; number = number; directive = d })
 
 -- A line with this directive name and without unmatched quotes skips its group.
 decided : (search : Search) (row : ℕ) (s : State) (profile : Profile) (h d : Token) (ts : List Token) (name : List ℕ) (is_called : Directive)
@@ -58,15 +51,14 @@ decided : (search : Search) (row : ℕ) (s : State) (profile : Profile) (h d : T
     → directive_named profile name ≡ is_called
     → is_quote name ≡ false
     → AreUnquoted ts
-    → SkipsBy search row (question_of is_called) s (h ∷ d ∷ ts)
+    → (unmatched_quote (h ∷ d ∷ ts) ≡ None → Skips search row s (Some is_called) (h ∷ d ∷ ts))
     → Skips search row s (directive_of profile (h ∷ d ∷ ts)) (h ∷ d ∷ ts)
 decided search row s profile h d ts name is_called hash is called plain rest decides =
     let quotes : unmatched_quote (h ∷ d ∷ ts) ≡ None = no_quote (h ∷ d ∷ ts) (hash_unquoted h hash, (named_unquoted d name is plain, rest)) in
     let directive : directive_of profile (h ∷ d ∷ ts) ≡ Some is_called =
     ap (λ (b : Bool). if b then Some (directive_named profile d.text) else None) hash
     ∙ ap (λ (z : List ℕ). Some (directive_named profile z)) (named_is d name is) ∙ ap (λ (z : Directive). Some z) called in
-    subst (λ (q : Option Fault). SkipsUnless search row q (directive_of profile (h ∷ d ∷ ts)) s (h ∷ d ∷ ts)) (sym quotes)
-    (subst (λ (z : Option Directive). SkipsBy search row (question_by z) s (h ∷ d ∷ ts)) (sym directive) decides)
+    subst (λ (z : Option Directive). Skips search row s z (h ∷ d ∷ ts)) (sym directive) (decides quotes)
 
 -- In each profile, `if` and `ifndef` are directive names.
 if_called : (profile : Profile) → directive_named profile (codes "if") ≡ If
@@ -114,38 +106,47 @@ defined_is t spelled is =
 name_is : (t : Token) → t.kind ≡ Ident → as_name t ≡ t
 name_is t e = let k : Ident ≡ t.kind = sym e in λ i. record t { kind = k i }
 
--- the condition is false with any remaining budget, and spends nothing
+-- the condition is false with any meter, and spends nothing
 abbrev IsFalseFreely : State → Place → List Token → Type 0
-IsFalseFreely s at tokens = (remaining : Option ℕ) → IsCondition s.macros s.env at tokens remaining (Ok false) remaining
+IsFalseFreely s at tokens = (meter : Meter) → IsCondition s.macros s.env at tokens meter (Ok false) meter
 
 nothing_spent : (n count : ℕ) → Some n ≡ plus count (Some n) → count ≡ 0
 nothing_spent n count e = let same : n ≡ count + n = cc in omega arith
 
 -- The count of such a condition is 0.
-costs_nothing : (s : State) (at : Place) (tokens : List Token) (condition : IsFalseFreely s at tokens) (remaining : Option ℕ) → count_condition (condition remaining) ≡ 0
-costs_nothing s at tokens condition (Some n) = nothing_spent n (count_condition (condition (Some n))) (condition_spends (condition (Some n)))
-costs_nothing s at tokens condition None =
-    let k = count_condition (condition None) in
-    let sufficed : IsCondition s.macros s.env at tokens (Some k) (Ok false) (Some 0) = condition_enough k without (condition None) 0 (omega arith) in
-    let remainders : Some k ≡ Some 0 = (same_condition s.macros s.env at tokens (Some k) (Some k) (Some 0) (Ok false) (Ok false) (condition (Some k)) sufficed).1 in
-    let counts : k ≡ 0 = cc in
-    counts
+costs_nothing : (s : State) (at : Place) (tokens : List Token) (condition : IsFalseFreely s at tokens) (meter : Meter) → count_condition (condition meter) ≡ 0
+costs_nothing s at tokens condition meter = by_budget meter.remaining refl
+  where
+    k : ℕ
+    k = count_condition (condition meter)
+
+    by_budget : (budget : Option ℕ) → meter.remaining ≡ budget → count_condition (condition meter) ≡ 0
+    by_budget (Some n) e = nothing_spent n k (sym e ∙ condition_spends (condition meter) ∙ ap (plus k) e)
+    by_budget None e =
+        let all : Meter = with_budget (Some k) meter in
+        let none : Meter = with_budget (Some 0) meter in
+        let sufficed : IsCondition s.macros s.env at tokens all (Ok false) none =
+        condition_enough k (subst (λ (b : Option ℕ). Covers b k) (sym e) without) (condition meter) 0 (omega arith) in
+        let meters : all ≡ none = (same_condition s.macros s.env at tokens all all none (Ok false) (Ok false) (condition all) sufficed).1 in
+        let rests : Some k ≡ Some 0 = ap (λ (m : Meter). m.remaining) meters in
+        let counts : k ≡ 0 = cc in
+        counts
 
 -- If operands have no `__has_include` to replace, they are the tokens of the condition.
-unprobed : (search : Search) (row : ℕ) (h d : Token) (ts : List Token) → probed search row None ts ≡ Some ts → condition_tokens search row (h ∷ d ∷ ts) ≡ Ok ts
+unprobed : (search : Search) (row : ℕ) (h d : Token) (ts : List Token) → probed search row ts ≡ Some ts → condition_tokens search row (h ∷ d ∷ ts) ≡ Ok ts
 unprobed search row h d ts e = chosen (is_gnu search.profile)
   where
-    chosen : (b : Bool) → (if b then tokens_or (line_fault 30 (h ∷ d ∷ ts) []) (probed search row None ts) else Ok ts) ≡ Ok ts
+    chosen : (b : Bool) → (if b then tokens_or (line_fault 30 (h ∷ d ∷ ts) []) (probed search row ts) else Ok ts) ≡ Ok ts
     chosen true = ap (tokens_or (line_fault 30 (h ∷ d ∷ ts) [])) e
     chosen false = refl
 
 by_condition : (search : Search) (row : ℕ) (s : State) (h d : Token) (ts : List Token)
-    → probed search row None ts ≡ Some ts
+    → probed search row ts ≡ Some ts
     → IsFalseFreely s h.at ts
-    → SkipsBy search row (Some Value) s (h ∷ d ∷ ts)
-by_condition search row s h d ts stays condition =
-    subst (λ (z : Result (List Token) Fault). SkipsOf z s h.at) (sym (unprobed search row h d ts stays))
-    (condition s.remaining, costs_nothing s h.at ts condition s.remaining)
+    → unmatched_quote (h ∷ d ∷ ts) ≡ None
+    → Skips search row s (Some If) (h ∷ d ∷ ts)
+by_condition search row s h d ts stays condition quotes number =
+    (Decides.evaluates quotes refl (unprobed search row h d ts stays) (condition s.meter), costs_nothing s h.at ts condition s.meter)
 
 by_ifndef : (search : Search) (row : ℕ) (s : State) (profile : Profile) (h d t : Token) (x : List ℕ)
     → is_hash h.text ≡ true
@@ -154,14 +155,11 @@ by_ifndef : (search : Search) (row : ℕ) (s : State) (profile : Profile) (h d t
     → Skips search row s (directive_of profile (h ∷ d ∷ t ∷ [])) (h ∷ d ∷ t ∷ [])
 by_ifndef search row s profile h d t x hash g known =
     let line = h ∷ d ∷ t ∷ [] in
-    decided search row s profile h d (t ∷ []) (codes "ifndef") Ifndef hash g.form (ifndef_called profile) refl (ident_unquoted t g.kind, tt) (
-      (
-        refl,
-        sym (ap (λ (k : Kind). by_name false s.macros line (if is_identifier_kind k then Some t.text else None)) g.kind ∙ ap
-            (λ (b : Bool). Ok (same_bool false b)) (known_name s x t g.name known)),
-      ),
-      refl,
-    )
+    let defined : by_name false s.macros line (if is_identifier_kind t.kind then Some t.text else None) ≡ Ok false =
+    ap (λ (k : Kind). by_name false s.macros line (if is_identifier_kind k then Some t.text else None)) g.kind
+    ∙ ap (λ (b : Bool). Ok (same_bool false b)) (known_name s x t g.name known) in
+    decided search row s profile h d (t ∷ []) (codes "ifndef") Ifndef hash g.form (ifndef_called profile) refl (ident_unquoted t g.kind, tt)
+    (λ quotes number. (Decides.tests_name quotes refl (refl, sym defined), refl))
 
 by_bare : (search : Search) (row : ℕ) (s : State) (profile : Profile) (h d n f t : Token) (x : List ℕ)
     → IsSpelled n
@@ -177,8 +175,8 @@ by_bare search row s profile h d n f t x sn sf hash g known =
     let asks = defined_is f sf q.1 in
     let name = name_is t g.kind in
     let same : (punctuator (codes "!") n ∷ as_defined f ∷ as_name t ∷ []) ≡ (n ∷ f ∷ t ∷ []) = λ i. bang i ∷ asks i ∷ name i ∷ [] in
-    let stays : probed search row None (n ∷ f ∷ t ∷ []) ≡ Some (n ∷ f ∷ t ∷ []) = subst (λ (z : List Token). probed search row None z ≡ Some z) same refl in
-    let condition : IsFalseFreely s h.at (n ∷ f ∷ t ∷ []) = subst (λ (z : List Token). IsFalseFreely s h.at z) same (λ remaining. bare_false s.macros s.env h.at remaining n f t (known_name s x t g.name known)) in
+    let stays : probed search row (n ∷ f ∷ t ∷ []) ≡ Some (n ∷ f ∷ t ∷ []) = subst (λ (z : List Token). probed search row z ≡ Some z) same refl in
+    let condition : IsFalseFreely s h.at (n ∷ f ∷ t ∷ []) = subst (λ (z : List Token). IsFalseFreely s h.at z) same (λ meter. bare_false s.macros s.env h.at meter n f t (known_name s x t g.name known)) in
     decided search row s profile h d (n ∷ f ∷ t ∷ []) (codes "if") If hash p.0 (if_called profile) refl
     (named_unquoted n (codes "!") q.0 refl, (named_unquoted f (codes "defined") q.1 refl, (ident_unquoted t g.kind, tt)))
     (by_condition search row s h d (n ∷ f ∷ t ∷ []) stays condition)
@@ -204,8 +202,9 @@ by_parenthesized search row s profile h d n f l t r x sn sf sl sr hash g known =
     let closes = punctuator_is r (codes ")") sr context.1 refl refl in
     let same : (punctuator (codes "!") n ∷ as_defined f ∷ punctuator (codes "(") l ∷ as_name t ∷ punctuator (codes ")") r ∷ []) ≡ (n ∷ f ∷ l ∷ t ∷ r ∷ []) =
     λ i. bang i ∷ asks i ∷ opens i ∷ name i ∷ closes i ∷ [] in
-    let stays : probed search row None (n ∷ f ∷ l ∷ t ∷ r ∷ []) ≡ Some (n ∷ f ∷ l ∷ t ∷ r ∷ []) = subst (λ (z : List Token). probed search row None z ≡ Some z) same refl in
-    let condition : IsFalseFreely s h.at (n ∷ f ∷ l ∷ t ∷ r ∷ []) = subst (λ (z : List Token). IsFalseFreely s h.at z) same (λ remaining. parenthesized_false s.macros s.env h.at remaining n f l t r (known_name s x t g.name known)) in
+    let stays : probed search row (n ∷ f ∷ l ∷ t ∷ r ∷ []) ≡ Some (n ∷ f ∷ l ∷ t ∷ r ∷ []) = subst (λ (z : List Token). probed search row z ≡ Some z) same refl in
+    let condition : IsFalseFreely s h.at (n ∷ f ∷ l ∷ t ∷ r ∷ []) = subst (λ (z : List Token). IsFalseFreely s h.at z) same
+    (λ meter. parenthesized_false s.macros s.env h.at meter n f l t r (known_name s x t g.name known)) in
     decided search row s profile h d (n ∷ f ∷ l ∷ t ∷ r ∷ []) (codes "if") If hash p.0 (if_called profile) refl (
       named_unquoted n (codes "!") q.0 refl,
       (
@@ -240,7 +239,7 @@ pub guard_line : (search : Search) (row : ℕ) (s : State) (profile : Profile) (
     → role r ≡ role_of_directive If
     → guard_name r.tokens ≡ Some x
     → is_macro_name s.macros x ≡ true
-    → (h : Decides search row s r s.remaining (Ok false)) × (count_decides search row s r s.remaining (Ok false) h ≡ 0)
+    → (h : Decides search row s r s.meter (Ok false)) × (count_decides h ≡ 0)
 guard_line search row s profile r x (spelled, directed) opens is known =
     subst (λ (z : Option Directive). Skips search row s z r.tokens) (sym directed)
-    (guard_decides search row s profile r.tokens x spelled (ap role_by (sym directed) ∙ opens) is known)
+    (guard_decides search row s profile r.tokens x spelled (ap role_by (sym directed) ∙ opens) is known) r.number

@@ -9,9 +9,9 @@ use Rattle.pptext.specs.Lines.{LogicalLine}
 use Rattle.pptext.specs.Tree.{GroupParts, Done, TextLines, Control, Section, End, Branch, part_lines, AreGroupParts}
 use Rattle.pptext.specs.Guard.{IsBlankLine, AreBlank, GuardedParts, GuardedBy}
 use Rattle.pptext.proofs.Trees.{at_most_one}
-use Rattle.ppexpand.specs.ExpansionStep.{expansion_step}
+use Rattle.ppexpand.specs.declared.meter.Meter.{Meter}
 use Rattle.ppexpand.specs.Budget.{is_exhausted}
-use Rattle.ppexpand.specs.Expansion.{stops_with, done, step_in_budget, count_expansion}
+use Rattle.ppexpand.specs.Expansion.{stops_with, done, count_expansion}
 use Rattle.ppshelf.specs.Content.{Content, unreadable, readable, IsRead}
 use Rattle.ppshelf.specs.Files.{file_at}
 use Rattle.ppunit.specs.declared.units.Item.{Item}
@@ -22,10 +22,11 @@ use Rattle.ppunit.specs.Conditions.{is_macro_name}
 use Rattle.ppunit.specs.Directives.{EmitsText}
 use Rattle.ppunit.specs.Group.{depth_limit, ExecutesGroup, ExecutesBranches, OpensFile}
 use Rattle.ppunit.specs.Counts.{count_group, count_opening}
-use Rattle.ppunit.specs.Guarded.{GuardsLeaveOut, IsLeftOut}
+use Rattle.ppunit.specs.Guarded.{GuardsLeaveOut}
+use Rattle.ppunit.specs.code.Opening.{IsLeftOut}
 use Rattle.ppunit.proofs.FileTokens.{IsSpelledLine, source_spelled}
-use Rattle.ppexpand.specs.ExpansionStep as turns
 use Rattle.ppunit.proofs.GuardLines.{guard_line}
+use Rattle.ppunit.proofs.TextRuns.{none_next}
 
 -- ---- the file
 
@@ -38,20 +39,14 @@ abbrev GivesNothing : State → List Token → Type 0
 GivesNothing s tokens = (g : EmitsText s tokens (running s)) × (count_expansion g.expands ≡ 0)
 
 nothing_gives : (s : State) → GivesNothing s []
-unfolding expansion_step
 nothing_gives s = (
   record {
-    expanded = record { tokens = []; fault = None; remaining = s.remaining };
-    expands = record { outcome = stops_with s.remaining None; expands = (0, done (unspent s.remaining)); emitted = refl; fault_is = refl; remaining_is = refl };
+    expanded = record { tokens = []; fault = None; meter = s.meter };
+    expands = record { outcome = stops_with s.meter None; expands = (0, done (none_next s.macros s.env s.meter)); emitted = refl; fault_is = refl; meter_is = refl };
     is = ap (λ (items : List Item). running (record s { items = items })) (sym (append-nil s.items));
   },
   refl,
 )
-  where
-    unspent : (remaining : Option ℕ) → step_in_budget s.macros s.env remaining [] ≡ turns.Done
-    unspent None = refl
-    unspent (Some zero) = refl
-    unspent (Some (suc n)) = refl
 
 blank_gives : (s : State) (lines : List LogicalLine) → AllByRecursion IsBlankLine lines → GivesNothing s (text_tokens lines)
 blank_gives s lines blank = subst (λ (z : List Token). GivesNothing s z) (sym (blank_tokens lines blank)) (nothing_gives s)
@@ -122,13 +117,13 @@ one_guard lines x y (parts, tree, guarded) (parts', tree', guarded') =
 
 pub opens_left_out : (context : Context) (depth row : ℕ) (directory : Option ℕ) (at : Place) (s a : State) (content : Content) (lines : List LogicalLine)
     → depth ≤ depth_limit
-    → is_exhausted s.remaining ≡ false
+    → is_exhausted s.meter ≡ false
     → file_at context.files row ≡ Some content
     → IsRead context.profile row content (Ok lines)
     → a ≡ with_dependency (with_one_spent s) row
     → IsLeftOut a lines
     → OpensFile context depth at s row directory (running a)
-opens_left_out context depth row directory at s a unreadable lines fits some known reads is remaining = absurd reads
+opens_left_out context depth row directory at s a unreadable lines fits some known reads is meter = absurd reads
 opens_left_out context depth row directory at s a (readable bytes) lines fits some known reads is (x, guarded, defined) =
     subst (λ (z : State). OpensFile context depth at s row directory (running z)) (sym is)
     (guards_leave_out context depth row directory at s bytes lines x fits known reads guarded (subst (λ (z : State). is_macro_name z.macros x ≡ true) is defined) some).0

@@ -31,25 +31,25 @@ module _ (context : Context) (more : Files) (grows : Extends more context.files)
         let h = control_grows here in
         let r = group_grows rest in
         (ExecutesGroup.control h.0 r.0, both h.1 r.1)
-    group_grows {row = row} (ExecutesGroup.taken {s = s} {line = line} {remaining_after = remaining_after} decides here rest) =
+    group_grows (ExecutesGroup.taken decides here rest) =
         let h = group_grows here in
         let r = group_grows rest in
-        (ExecutesGroup.taken decides h.0 r.0, ap (λ n. count_decides (search_of context) row s line remaining_after (Ok true) decides + n) (both h.1 r.1))
-    group_grows {row = row} (ExecutesGroup.skipped {s = s} {line = line} {remaining_after = remaining_after} decides here rest) =
+        (ExecutesGroup.taken decides h.0 r.0, ap (λ n. count_decides decides + n) (both h.1 r.1))
+    group_grows (ExecutesGroup.skipped decides here rest) =
         let h = branches_grow here in
         let r = group_grows rest in
-        (ExecutesGroup.skipped decides h.0 r.0, ap (λ n. count_decides (search_of context) row s line remaining_after (Ok false) decides + n) (both h.1 r.1))
+        (ExecutesGroup.skipped decides h.0 r.0, ap (λ n. count_decides decides + n) (both h.1 r.1))
     group_grows (ExecutesGroup.condition_fault decides) = (ExecutesGroup.condition_fault decides, refl)
 
     branches_grow : {depth row : ℕ} {s : State} {bs : Branches} {m : Progress} (d : ExecutesBranches context depth row s bs m) → (e : ExecutesBranches wider depth row s bs m) × (count_branches e ≡ count_branches d)
     branches_grow ExecutesBranches.no_branch_taken = (ExecutesBranches.no_branch_taken, refl)
     branches_grow (ExecutesBranches.else_group is here) = let h = group_grows here in (ExecutesBranches.else_group is h.0, h.1)
-    branches_grow {row = row} (ExecutesBranches.branch_taken {s = s} {line = line} {remaining_after = remaining_after} is decides here) =
+    branches_grow (ExecutesBranches.branch_taken is decides here) =
         let h = group_grows here in
-        (ExecutesBranches.branch_taken is decides h.0, ap (λ n. count_decides (search_of context) row s line remaining_after (Ok true) decides + n) h.1)
-    branches_grow {row = row} (ExecutesBranches.branch_skipped {s = s} {line = line} {remaining_after = remaining_after} is decides rest) =
+        (ExecutesBranches.branch_taken is decides h.0, ap (λ n. count_decides decides + n) h.1)
+    branches_grow (ExecutesBranches.branch_skipped is decides rest) =
         let r = branches_grow rest in
-        (ExecutesBranches.branch_skipped is decides r.0, ap (λ n. count_decides (search_of context) row s line remaining_after (Ok false) decides + n) r.1)
+        (ExecutesBranches.branch_skipped is decides r.0, ap (λ n. count_decides decides + n) r.1)
     branches_grow (ExecutesBranches.branch_condition_fault is decides) = (ExecutesBranches.branch_condition_fault is decides, refl)
 
     control_grows : {depth row : ℕ} {s : State} {line : LogicalLine} {m : Progress} (d : ExecutesControlLine context depth row s line m) → (e : ExecutesControlLine wider depth row s line m) × (count_control e ≡ count_control d)
@@ -59,14 +59,16 @@ module _ (context : Context) (more : Files) (grows : Extends more context.files)
     control_grows (ExecutesControlLine.executed q does) = (ExecutesControlLine.executed q does, refl)
     control_grows (ExecutesControlLine.include is q here) = let h = includes_grow here in (ExecutesControlLine.include is q h.0, h.1)
 
-    includes_grow : {depth row : ℕ} {following : Option ℕ} {s : State} {line : LogicalLine} {m : Progress} (d : ExecutesInclude context depth row following s line m) → (e : ExecutesInclude wider depth row following s line m) × (count_includes e ≡ count_includes d)
+    includes_grow : {depth row : ℕ} {following : Option ℕ} {s : State} {line : LogicalLine} {m : Progress} (d : ExecutesInclude context depth row following s line m)
+        → (e : ExecutesInclude wider depth row following s line m) × (count_includes e ≡ count_includes d)
     includes_grow (ExecutesInclude.operand_fault asks) = (ExecutesInclude.operand_fault asks, refl)
     includes_grow (ExecutesInclude.missing a asks finds) = (ExecutesInclude.missing a asks finds, refl)
-    includes_grow (ExecutesInclude.included {s = s} {line = line} {remaining_after = remaining_after} a found asks finds opens) =
+    includes_grow (ExecutesInclude.included {s = s} {line = line} {meter_after = meter_after} a found asks finds opens) =
         let o = opened_grows opens in
-        (ExecutesInclude.included a found asks finds o.0, ap (λ n. count_names_header s line.tokens remaining_after (Ok a) asks + n) o.1)
+        (ExecutesInclude.included a found asks finds o.0, ap (λ n. count_names_header s line.tokens meter_after (Ok a) asks + n) o.1)
 
-    pub opened_grows : {depth row : ℕ} {directory : Option ℕ} {at : Place} {s : State} {m : Progress} (d : OpensFile context depth at s row directory m) → (e : OpensFile wider depth at s row directory m) × (count_opening e ≡ count_opening d)
+    pub opened_grows : {depth row : ℕ} {directory : Option ℕ} {at : Place} {s : State} {m : Progress} (d : OpensFile context depth at s row directory m)
+        → (e : OpensFile wider depth at s row directory m) × (count_opening e ≡ count_opening d)
     opened_grows (OpensFile.too_deep deep) = (OpensFile.too_deep deep, refl)
     opened_grows (OpensFile.exhausted fits spent) = (OpensFile.exhausted fits spent, refl)
     opened_grows (OpensFile.not_read_again fits some known) = (OpensFile.not_read_again fits some known, refl)

@@ -1,5 +1,5 @@
 -- A decision from the tokens and the directive of a line is a decision of the line.
-use Rattle.std.proofs.Common.{◌≡◌, ℕ, Bool, true, false, ◌&&◌, if◌then◌else◌, List, [], refl, sym, ap, ◌∙◌, subst, Option, None, Some, IsSome, Result, Ok}
+use Rattle.std.proofs.Common.{◌≡◌, ◌≢◌, ℕ, Bool, true, false, ◌&&◌, if◌then◌else◌, List, [], refl, sym, ap, ◌∙◌, subst, Option, None, Some, IsSome, Result, Ok, Err}
 use Rattle.std.specs.List.{list_any}
 use Rattle.std.proofs.lemmas.Bool.{false≢true}
 use Rattle.pptext.specs.declared.tokens.Place.{Place}
@@ -8,54 +8,88 @@ use Rattle.pptext.specs.declared.tokens.Fault.{Fault}
 use Rattle.pptext.specs.declared.sources.Profile.{Profile}
 use Rattle.pptext.specs.declared.sources.Directive.{Directive}
 use Rattle.pptext.specs.declared.directives.Class.{Class}
+use Rattle.pptext.specs.declared.directives.Question.TheVariants.{Defined, Value}
+use Rattle.pptext.specs.declared.directives.Question.{Question}
 use Rattle.pptext.specs.declared.directives.Class.TheVariants as class
-use Rattle.pptext.specs.Classes.{class_of, question_in, elifs, begins_elif_group}
+use Rattle.pptext.specs.Classes.{class_of, question_in, question_of, question_by, elifs, begins_elif_group}
 use Rattle.pptext.specs.Lines.{LogicalLine}
 use Rattle.ppunit.specs.States.{Search, State}
-use Rattle.ppunit.specs.Conditions.{DecidesOf, Decides, DecidesUnless, IsConditional}
+use Rattle.ppunit.specs.Conditions.{by_name, Decides}
+use Rattle.ppunit.specs.code.Lines.{directed, DecidesOf, IsConditional}
 use Rattle.ppunit.specs.Quotes.{unmatched_quote}
-use Rattle.ppunit.specs.DirectiveLines.{operands, line_fault, directed}
+use Rattle.ppunit.specs.DirectiveLines.{operands, line_fault, one_identifier}
 use Rattle.ppunit.specs.Probing.{is_has_include, probed, tokens_or, condition_tokens}
 use Rattle.ppexpr.specs.Conditions.{IsCondition}
 use Rattle.pptext.specs.Profiles.{is_gnu}
 use Rattle.pptext.specs.Tree.{hash_place}
+use Rattle.ppexpand.specs.declared.meter.Meter.{Meter}
 use Rattle.ppunit.proofs.HasIncludeNumbers.{unused}
 use Rattle.ppunit.specs.code.Walk.{ContinuesIf, ContinuesBy, TakesBranch}
 
-pub decides_at : (search : Search) (row : ℕ) (s : State) (r : LogicalLine) (d : Directive) (tokens : List Token) (remaining_after : Option ℕ) (taken : Result Bool Fault)
+pub decides_at : (search : Search) (row : ℕ) (s : State) (r : LogicalLine) (d : Directive) (tokens : List Token) (meter_after : Meter) (taken : Result Bool Fault)
     → r.directive ≡ Some d
     → tokens ≡ r.tokens
-    → ((number : ℕ) → Decides search row s (directed d tokens number) remaining_after taken)
-    → Decides search row s r remaining_after taken
-decides_at search row s r d tokens remaining_after taken is same decides =
-    subst (λ (z : Option Directive). DecidesUnless search row (unmatched_quote r.tokens) z s r.tokens remaining_after taken) (sym is)
-    (subst (λ (ts : List Token). DecidesUnless search row (unmatched_quote ts) (Some d) s ts remaining_after taken) same (decides 0))
+    → ((number : ℕ) → Decides search row s (directed d tokens number) meter_after taken)
+    → Decides search row s r meter_after taken
+decides_at search row s r d tokens meter_after taken is same decides =
+    subst (λ (z : Option Directive). Decides search row s (record { tokens = r.tokens; number = r.number; directive = z }) meter_after taken) (sym is)
+    (subst (λ (ts : List Token). Decides search row s (directed d ts r.number) meter_after taken) same (decides r.number))
+
+-- The value of a line's condition, or the fault of its tokens, is the decision of the line.
+pub decides_of : (search : Search) (row : ℕ) (s : State) (line : LogicalLine) (tokens : Result (List Token) Fault) (meter_after : Meter) (taken : Result Bool Fault)
+    → unmatched_quote line.tokens ≡ None
+    → question_by line.directive ≡ Some Value
+    → condition_tokens search row line.tokens ≡ tokens
+    → DecidesOf tokens s (hash_place line.tokens) meter_after taken
+    → Decides search row s line meter_after taken
+decides_of search row s line (Err f) meter_after taken q v e decides = Decides.names_no_header q v e decides
+decides_of search row s line (Ok tokens) meter_after taken q v e decides = Decides.evaluates q v e decides
+
+-- an unmatched quote
+pub decides_quote : (search : Search) (row : ℕ) (s : State) (d : Directive) (tokens : List Token) (number : ℕ) (f : Fault)
+    → unmatched_quote tokens ≡ Some f
+    → Decides search row s (directed d tokens number) s.meter (Err f)
+decides_quote search row s d tokens number f q = Decides.unmatched q (refl, refl)
+
+-- a line that asks for a name
+pub decides_name : (search : Search) (row : ℕ) (s : State) (d : Directive) (tokens : List Token) (number : ℕ) (wanted : Bool) (taken : Result Bool Fault)
+    → unmatched_quote tokens ≡ None
+    → question_of d ≡ Some (Defined wanted)
+    → taken ≡ by_name wanted s.macros tokens (one_identifier (operands tokens))
+    → Decides search row s (directed d tokens number) s.meter taken
+decides_name search row s d tokens number wanted taken q n is = Decides.tests_name q n (refl, is)
+
+-- A line that asks, but not for a name, has a condition.
+pub asks_value : (q : Option Question) → IsSome q → ((wanted : Bool) → q ≢ Some (Defined wanted)) → q ≡ Some Value
+asks_value None has other = absurd (cc)
+asks_value (Some Value) has other = refl
+asks_value (Some (Defined wanted)) has other = absurd (other wanted refl)
 
 -- Processing continues after a line whose directive has no condition.
-enters_by_directive : (search : Search) (row : ℕ) (d : Directive) (s : State) (r : LogicalLine) → begins_elif_group d ≡ false → ContinuesBy search row (Some d) s r s.remaining (Ok true)
-enters_by_directive search row d s r e = subst (λ (b : Bool). ContinuesIf search row b s r s.remaining (Ok true)) (sym e) (refl, refl)
+enters_by_directive : (search : Search) (row : ℕ) (d : Directive) (s : State) (r : LogicalLine) → begins_elif_group d ≡ false → ContinuesBy search row (Some d) s r s.meter (Ok true)
+enters_by_directive search row d s r e = subst (λ (b : Bool). ContinuesIf search row b s r s.meter (Ok true)) (sym e) (refl, refl)
 
-pub enters_no_directive : (search : Search) (row : ℕ) (s : State) (r : LogicalLine) → r.directive ≡ None → TakesBranch search row s r s.remaining (Ok true)
-enters_no_directive search row s r is = subst (λ (z : Option Directive). ContinuesBy search row z s r s.remaining (Ok true)) (sym is) (refl, refl)
+pub enters_no_directive : (search : Search) (row : ℕ) (s : State) (r : LogicalLine) → r.directive ≡ None → TakesBranch search row s r s.meter (Ok true)
+enters_no_directive search row s r is = subst (λ (z : Option Directive). ContinuesBy search row z s r s.meter (Ok true)) (sym is) (refl, refl)
 
-pub enters_unasked : (search : Search) (row : ℕ) (s : State) (r : LogicalLine) (d : Directive) → r.directive ≡ Some d → begins_elif_group d ≡ false → TakesBranch search row s r s.remaining (Ok true)
-enters_unasked search row s r d is e = subst (λ (z : Option Directive). ContinuesBy search row z s r s.remaining (Ok true)) (sym is) (enters_by_directive search row d s r e)
+pub enters_unasked : (search : Search) (row : ℕ) (s : State) (r : LogicalLine) (d : Directive) → r.directive ≡ Some d → begins_elif_group d ≡ false → TakesBranch search row s r s.meter (Ok true)
+enters_unasked search row s r d is e = subst (λ (z : Option Directive). ContinuesBy search row z s r s.meter (Ok true)) (sym is) (enters_by_directive search row d s r e)
 
-enters_by_condition : (search : Search) (row : ℕ) (d : Directive) (s : State) (r : LogicalLine) (remaining_after : Option ℕ) (taken : Result Bool Fault)
+enters_by_condition : (search : Search) (row : ℕ) (d : Directive) (s : State) (r : LogicalLine) (meter_after : Meter) (taken : Result Bool Fault)
     → begins_elif_group d ≡ true
-    → Decides search row s r remaining_after taken
-    → ContinuesBy search row (Some d) s r remaining_after taken
-enters_by_condition search row d s r remaining_after taken e decides = subst (λ (b : Bool). ContinuesIf search row b s r remaining_after taken) (sym e) decides
+    → Decides search row s r meter_after taken
+    → ContinuesBy search row (Some d) s r meter_after taken
+enters_by_condition search row d s r meter_after taken e decides = subst (λ (b : Bool). ContinuesIf search row b s r meter_after taken) (sym e) decides
 
-pub enters_asked : (search : Search) (row : ℕ) (s : State) (r : LogicalLine) (d : Directive) (tokens : List Token) (remaining_after : Option ℕ) (taken : Result Bool Fault)
+pub enters_asked : (search : Search) (row : ℕ) (s : State) (r : LogicalLine) (d : Directive) (tokens : List Token) (meter_after : Meter) (taken : Result Bool Fault)
     → r.directive ≡ Some d
     → tokens ≡ r.tokens
     → begins_elif_group d ≡ true
-    → ((number : ℕ) → Decides search row s (directed d tokens number) remaining_after taken)
-    → TakesBranch search row s r remaining_after taken
-enters_asked search row s r d tokens remaining_after taken is same e decides =
-    subst (λ (z : Option Directive). ContinuesBy search row z s r remaining_after taken) (sym is)
-    (enters_by_condition search row d s r remaining_after taken e (decides_at search row s r d tokens remaining_after taken is same decides))
+    → ((number : ℕ) → Decides search row s (directed d tokens number) meter_after taken)
+    → TakesBranch search row s r meter_after taken
+enters_asked search row s r d tokens meter_after taken is same e decides =
+    subst (λ (z : Option Directive). ContinuesBy search row z s r meter_after taken) (sym is)
+    (enters_by_condition search row d s r meter_after taken e (decides_at search row s r d tokens meter_after taken is same decides))
 
 elif_asks : (c : Class) → elifs c ≡ true → IsSome (question_in c)
 elif_asks (class.Elifs q) e = refl
@@ -67,42 +101,42 @@ conditional d e = elif_asks (class_of d) e
 -- ---- conditions, with or without uses of `__has_include`
 
 unprobed_by : (search : Search) (row : ℕ) (f : Fault) (ts : List Token) (b : Bool) → (b && list_any is_has_include ts) ≡ false
-    → (if b then tokens_or f (probed search row None ts) else Ok ts) ≡ Ok ts
+    → (if b then tokens_or f (probed search row ts) else Ok ts) ≡ Ok ts
 unprobed_by search row f ts true e = ap (tokens_or f) (unused search row ts e)
 unprobed_by search row f ts false e = refl
 
 -- Without uses of `__has_include`, the condition is that of the operands.
-pub decides_unprobed : (search : Search) (row : ℕ) (s : State) (line ts : List Token) (profile : Profile) (at : Place) (remaining_after : Option ℕ) (taken : Result Bool Fault)
+pub decides_unprobed : (search : Search) (row : ℕ) (s : State) (line ts : List Token) (profile : Profile) (at : Place) (meter_after : Meter) (taken : Result Bool Fault)
     → profile ≡ search.profile
     → ts ≡ operands line
     → at ≡ hash_place line
     → false ≡ (is_gnu profile && list_any is_has_include ts)
-    → IsCondition s.macros s.env at ts s.remaining taken remaining_after
-    → DecidesOf (condition_tokens search row line) s (hash_place line) remaining_after taken
-decides_unprobed search row s line ts profile at remaining_after taken same_profile same_tokens same_place e condition =
+    → IsCondition s.macros s.env at ts s.meter taken meter_after
+    → DecidesOf (condition_tokens search row line) s (hash_place line) meter_after taken
+decides_unprobed search row s line ts profile at meter_after taken same_profile same_tokens same_place e condition =
     let unprobed = unprobed_by search row (line_fault 30 line []) (operands line) (is_gnu search.profile)
     (sym (e ∙ ap (λ (z : Profile). is_gnu z && list_any is_has_include ts) same_profile ∙ ap (λ (z : List Token). is_gnu search.profile && list_any is_has_include z) same_tokens)) in
-    subst (λ (z : Result (List Token) Fault). DecidesOf z s (hash_place line) remaining_after taken) (sym unprobed)
-    (subst (λ (z : Place). IsCondition s.macros s.env z (operands line) s.remaining taken remaining_after) same_place
-    (subst (λ (z : List Token). IsCondition s.macros s.env at z s.remaining taken remaining_after) same_tokens condition))
+    subst (λ (z : Result (List Token) Fault). DecidesOf z s (hash_place line) meter_after taken) (sym unprobed)
+    (subst (λ (z : Place). IsCondition s.macros s.env z (operands line) s.meter taken meter_after) same_place
+    (subst (λ (z : List Token). IsCondition s.macros s.env at z s.meter taken meter_after) same_tokens condition))
 
 probed_by : (search : Search) (row : ℕ) (f : Fault) (ts : List Token) (b : Bool) → (b && list_any is_has_include ts) ≡ true
-    → (if b then tokens_or f (probed search row None ts) else Ok ts) ≡ tokens_or f (probed search row None ts)
+    → (if b then tokens_or f (probed search row ts) else Ok ts) ≡ tokens_or f (probed search row ts)
 probed_by search row f ts true e = refl
 probed_by search row f ts false e = absurd (false≢true e)
 
 -- With uses of `__has_include`, the condition is that of the operands with a number for each use.
-pub decides_probed : (search : Search) (row : ℕ) (s : State) (line ts us : List Token) (profile : Profile) (at : Place) (remaining_after : Option ℕ) (taken : Result Bool Fault)
+pub decides_probed : (search : Search) (row : ℕ) (s : State) (line ts us : List Token) (profile : Profile) (at : Place) (meter_after : Meter) (taken : Result Bool Fault)
     → profile ≡ search.profile
     → ts ≡ operands line
     → at ≡ hash_place line
     → true ≡ (is_gnu profile && list_any is_has_include ts)
-    → Some us ≡ probed search row None ts
-    → IsCondition s.macros s.env at us s.remaining taken remaining_after
-    → DecidesOf (condition_tokens search row line) s (hash_place line) remaining_after taken
-decides_probed search row s line ts us profile at remaining_after taken same_profile same_tokens same_place e is condition =
+    → Some us ≡ probed search row ts
+    → IsCondition s.macros s.env at us s.meter taken meter_after
+    → DecidesOf (condition_tokens search row line) s (hash_place line) meter_after taken
+decides_probed search row s line ts us profile at meter_after taken same_profile same_tokens same_place e is condition =
     let tokens = probed_by search row (line_fault 30 line []) (operands line) (is_gnu search.profile)
     (sym (e ∙ ap (λ (z : Profile). is_gnu z && list_any is_has_include ts) same_profile ∙ ap (λ (z : List Token). is_gnu search.profile && list_any is_has_include z) same_tokens)) in
-    let known = ap (tokens_or (line_fault 30 line [])) (is ∙ ap (λ (z : List Token). probed search row None z) same_tokens) ∙ sym tokens in
-    subst (λ (z : Result (List Token) Fault). DecidesOf z s (hash_place line) remaining_after taken) known
-    (subst (λ (z : Place). IsCondition s.macros s.env z us s.remaining taken remaining_after) same_place condition)
+    let known = ap (tokens_or (line_fault 30 line [])) (is ∙ ap (λ (z : List Token). probed search row z) same_tokens) ∙ sym tokens in
+    subst (λ (z : Result (List Token) Fault). DecidesOf z s (hash_place line) meter_after taken) known
+    (subst (λ (z : Place). IsCondition s.macros s.env z us s.meter taken meter_after) same_place condition)

@@ -1,43 +1,42 @@
--- The effect of a line that opens no file is unique, and so is the remaining budget.
-use Rattle.std.proofs.Common.{◌≡◌, ℕ, Bool, true, false, List, [], map, Option, Some, None, Result, sym, ap, ◌∙◌, Ok, Err}
+-- The effect of a line that opens no file is unique, and so is the meter after it.
+use Rattle.std.proofs.Common.{◌≡◌, ℕ, Bool, true, false, List, [], map, Option, Some, None, Result, sym, ap, ◌∙◌, subst, Ok, Err}
 use Rattle.pptext.specs.declared.tokens.Place.{Place}
 use Rattle.pptext.specs.declared.tokens.Token.{Token}
 use Rattle.pptext.specs.declared.tokens.Fault.{Fault}
 use Rattle.pptext.specs.declared.sources.Profile.{Profile}
 use Rattle.pptext.specs.declared.sources.Directive.{Directive}
-use Rattle.pptext.specs.declared.sources.Directive.TheVariants.{Define, Undef, Line, Pragma, Null, Unknown}
-use Rattle.pptext.specs.declared.directives.Question.{Question}
 use Rattle.pptext.specs.declared.directives.Question.TheVariants.{Defined, Value}
-use Rattle.pptext.specs.Classes.{question_by}
 use Rattle.pptext.specs.Lines.{LogicalLine}
 use Rattle.pptext.specs.Sources.{Reads}
 use Rattle.pptext.specs.Tree.{hash_place, GroupParts, Tree}
 use Rattle.ppmacro.specs.Names.{Macros}
+use Rattle.ppexpand.specs.declared.meter.Meter.{Meter}
 use Rattle.ppexpand.specs.declared.env.Env.{Env}
-use Rattle.ppexpand.specs.declared.expansion.Expanded.{Expanded}
+use Rattle.ppexpand.specs.Expansion.{Expansion}
 use Rattle.ppexpand.specs.Expansion.{IsExpansion}
 use Rattle.ppexpr.specs.Conditions.{IsCondition}
 use Rattle.ppshelf.specs.Names.{AreNames}
 use Rattle.ppshelf.specs.Search.{Candidate, IsFirstRow}
-use Rattle.ppunit.specs.States.{State, Progress, emitted, with_remaining, Search}
-use Rattle.ppunit.specs.DirectiveLines.{operands, line_fault}
-use Rattle.ppunit.specs.Quotes.{unmatched_quote}
+use Rattle.ppunit.specs.States.{State, Progress, emitted, with_meter, Search}
+use Rattle.ppunit.specs.DirectiveLines.{operands, line_fault, one_identifier}
 use Rattle.ppunit.specs.LineControl.{presumed}
 use Rattle.ppunit.specs.Including.{IncludeName, begins_with_header, name_of_expansion_or}
-use Rattle.ppunit.specs.Probing.{condition_tokens}
-use Rattle.ppunit.specs.Conditions.{Decides, DecidesBy, DecidesUnless, DecidesOf}
-use Rattle.ppunit.specs.Directives.{EmitsText, SetsLine, renumbered_by, ExecutesDirective, NamesHeader, NamesHeaderBy}
+use Rattle.ppunit.specs.Conditions.{by_name, Decides}
+use Rattle.ppunit.specs.Directives.{EmitsText, ExecutesDirective, NamesHeader, NamesHeaderBy}
+use Rattle.ppunit.specs.code.Effects.{affected, line_effect, HasEffect}
+use Rattle.ppunit.proofs.DirectiveEffects.{effect_of, line_is_not_immediate}
 use Rattle.ppunit.specs.declared.units.Item.TheVariants as item
 
 abbrev pub OneExpansion : Type 0
-OneExpansion = (macros : Macros) (env : Env) (remaining : Option ℕ) (tokens : List Token) (a b : Expanded) → IsExpansion macros env remaining tokens a → IsExpansion macros env remaining tokens b → a ≡ b
+OneExpansion =
+    (macros : Macros) (env : Env) (meter : Meter) (tokens : List Token) (a b : Expansion) → IsExpansion macros env meter tokens a → IsExpansion macros env meter tokens b → a ≡ b
 
 abbrev pub OneDecision : Type 0
 OneDecision =
-    (macros : Macros) (env : Env) (at : Place) (tokens : List Token) (remaining remaining_after following : Option ℕ) (a b : Result Bool Fault)
-    → IsCondition macros env at tokens remaining a remaining_after
-    → IsCondition macros env at tokens remaining b following
-    → (a ≡ b) × (remaining_after ≡ following)
+    (macros : Macros) (env : Env) (at : Place) (tokens : List Token) (meter meter_after following : Meter) (a b : Result Bool Fault)
+    → IsCondition macros env at tokens meter a meter_after
+    → IsCondition macros env at tokens meter b following
+    → (a ≡ b) × (meter_after ≡ following)
 
 abbrev pub OneReading : Type 0
 OneReading =
@@ -54,76 +53,87 @@ module _ (expansions : OneExpansion) (decisions : OneDecision) where
   pub run_once : (s : State) (tokens : List Token) (a b : Progress) → EmitsText s tokens a → EmitsText s tokens b → a ≡ b
   run_once s tokens a b p q =
       p.is
-      ∙ ap (λ (e : Expanded). record { state = emitted (with_remaining s e.remaining) (map item.Token e.tokens); fault = e.fault })
-      (expansions s.macros s.env s.remaining tokens p.expanded q.expanded p.expands q.expands)
+      ∙ ap (λ (e : Expansion). record { state = emitted (with_meter s e.meter) (map item.Token e.tokens); fault = e.fault })
+      (expansions s.macros s.env s.meter tokens p.expanded q.expanded p.expands q.expands)
       ∙ sym q.is
 
-  line_once : (s : State) (r : LogicalLine) (a b : Progress) → SetsLine s r a → SetsLine s r b → a ≡ b
-  line_once s r a b p q =
-      p.is
-      ∙ ap (λ (e : Expanded). renumbered_by (with_remaining s e.remaining) r e.fault (presumed e.tokens))
-      (expansions s.macros s.env s.remaining (operands r.tokens) p.expanded q.expanded p.expands q.expands)
-      ∙ sym q.is
+  effect_once : (profile : Profile) (row : ℕ) (d : Option Directive) (s : State) (r : LogicalLine) (a b : Progress)
+      → HasEffect profile row d s r a
+      → HasEffect profile row d s r b
+      → a ≡ b
+  effect_once profile row d s r a b (HasEffect.immediate {e = e} p made) (HasEffect.immediate {e = f} q gives) =
+      let same : e ≡ f = cc in
+      made ∙ ap (affected s) same ∙ sym gives
+  effect_once profile row d s r a b (HasEffect.immediate {e = e} p made) (HasEffect.expanding x is expands gives) = absurd (line_is_not_immediate profile row d s r e is p)
+  effect_once profile row d s r a b (HasEffect.expanding x is expands made) (HasEffect.immediate {e = e} q gives) = absurd (line_is_not_immediate profile row d s r e is q)
+  effect_once profile row d s r a b (HasEffect.expanding x is expands made) (HasEffect.expanding y is' expands' gives) =
+      made
+      ∙ ap (λ (e : Expansion). affected (with_meter s e.meter) (line_effect s r e.fault (presumed e.tokens)))
+      (expansions s.macros s.env s.meter (operands r.tokens) x y expands expands')
+      ∙ sym gives
 
   pub control_by_once : (profile : Profile) (row : ℕ) (d : Option Directive) (s : State) (r : LogicalLine) (a b : Progress)
       → ExecutesDirective profile row d s r a
       → ExecutesDirective profile row d s r b
       → a ≡ b
-  control_by_once profile row (Some Null) s r a b p q = p ∙ sym q
-  control_by_once profile row (Some Define) s r a b p q = p ∙ sym q
-  control_by_once profile row (Some Undef) s r a b p q = p ∙ sym q
-  control_by_once profile row (Some Line) s r a b p q = line_once s r a b p q
-  control_by_once profile row (Some Pragma) s r a b p q = p ∙ sym q
-  control_by_once profile row (Some Unknown) s r a b p q = p ∙ sym q
-  control_by_once profile row d s r a b p q = absurd p
+  control_by_once profile row d s r a b p q = effect_once profile row d s r a b (effect_of profile row d s r a p) (effect_of profile row d s r b q)
 
-  -- A result that costs nothing is unique, and so is the remaining budget.
-  free_once : {A : Type 0} (remaining remaining_after following : Option ℕ) (is a b : A) → (remaining_after ≡ remaining) × (a ≡ is) → (following ≡ remaining) × (b ≡ is) → (a ≡ b) × (remaining_after ≡ following)
-  free_once remaining remaining_after following is a b p q = (p.1 ∙ sym q.1, p.0 ∙ sym q.0)
+  -- A result that costs nothing is unique, and so is the meter after it.
+  free_once : {A : Type 0} (meter meter_after following : Meter) (is a b : A) → (meter_after ≡ meter) × (a ≡ is) → (following ≡ meter) × (b ≡ is) → (a ≡ b) × (meter_after ≡ following)
+  free_once meter meter_after following is a b p q = (p.1 ∙ sym q.1, p.0 ∙ sym q.0)
 
-  asks_by_once : (header : Bool) (s : State) (line : List Token) (remaining_after following : Option ℕ) (a b : Result IncludeName Fault)
-      → NamesHeaderBy header s line remaining_after a
+  asks_by_once : (header : Bool) (s : State) (line : List Token) (meter_after following : Meter) (a b : Result IncludeName Fault)
+      → NamesHeaderBy header s line meter_after a
       → NamesHeaderBy header s line following b
-      → (a ≡ b) × (remaining_after ≡ following)
-  asks_by_once true s line remaining_after following a b p q = free_once s.remaining remaining_after following _ a b p q
-  asks_by_once false s line remaining_after following a b p q =
-      let one = expansions s.macros s.env s.remaining (operands line) p.expanded q.expanded p.expands q.expands in (
-        p.is ∙ ap (λ (e : Expanded). name_of_expansion_or (line_fault 30 line []) e.fault e.tokens) one ∙ sym q.is,
-        p.leaves ∙ ap (λ (e : Expanded). e.remaining) one ∙ sym q.leaves,
+      → (a ≡ b) × (meter_after ≡ following)
+  asks_by_once true s line meter_after following a b p q = free_once s.meter meter_after following _ a b p q
+  asks_by_once false s line meter_after following a b p q =
+      let one = expansions s.macros s.env s.meter (operands line) p.expanded q.expanded p.expands q.expands in (
+        p.is ∙ ap (λ (e : Expansion). name_of_expansion_or (line_fault 30 line []) e.fault e.tokens) one ∙ sym q.is,
+        p.leaves ∙ ap (λ (e : Expansion). e.meter) one ∙ sym q.leaves,
       )
 
-  pub asks_once : (s : State) (line : List Token) (remaining_after following : Option ℕ) (a b : Result IncludeName Fault)
-      → NamesHeader s line remaining_after a
+  pub asks_once : (s : State) (line : List Token) (meter_after following : Meter) (a b : Result IncludeName Fault)
+      → NamesHeader s line meter_after a
       → NamesHeader s line following b
-      → (a ≡ b) × (remaining_after ≡ following)
-  asks_once s line remaining_after following a b p q = asks_by_once (begins_with_header (operands line)) s line remaining_after following a b p q
+      → (a ≡ b) × (meter_after ≡ following)
+  asks_once s line meter_after following a b p q = asks_by_once (begins_with_header (operands line)) s line meter_after following a b p q
 
-  decides_of_once : (tokens : Result (List Token) Fault) (s : State) (at : Place) (remaining_after following : Option ℕ) (a b : Result Bool Fault)
-      → DecidesOf tokens s at remaining_after a
-      → DecidesOf tokens s at following b
-      → (a ≡ b) × (remaining_after ≡ following)
-  decides_of_once (Err f) s at remaining_after following a b p q = free_once s.remaining remaining_after following _ a b p q
-  decides_of_once (Ok tokens) s at remaining_after following a b p q = decisions s.macros s.env at tokens s.remaining remaining_after following a b p q
-
-  decides_by_once : (search : Search) (row : ℕ) (question : Option Question) (s : State) (line : List Token) (remaining_after following : Option ℕ) (a b : Result Bool Fault)
-      → DecidesBy search row question s line remaining_after a
-      → DecidesBy search row question s line following b
-      → (a ≡ b) × (remaining_after ≡ following)
-  decides_by_once search row (Some Value) s line remaining_after following a b p q =
-      decides_of_once (condition_tokens search row line) s (hash_place line) remaining_after following a b p q
-  decides_by_once search row (Some (Defined wanted)) s line remaining_after following a b p q = free_once s.remaining remaining_after following _ a b p q
-  decides_by_once search row None s line remaining_after following a b p q = absurd p
-
-  decides_unless_once : (search : Search) (row : ℕ) (quote : Option Fault) (d : Option Directive) (s : State) (line : List Token) (remaining_after following : Option ℕ) (a b : Result Bool Fault)
-      → DecidesUnless search row quote d s line remaining_after a
-      → DecidesUnless search row quote d s line following b
-      → (a ≡ b) × (remaining_after ≡ following)
-  decides_unless_once search row None d s line remaining_after following a b p q = decides_by_once search row (question_by d) s line remaining_after following a b p q
-  decides_unless_once search row (Some f) d s line remaining_after following a b p q = free_once s.remaining remaining_after following _ a b p q
-
-  pub decides_once : (search : Search) (row : ℕ) (s : State) (line : LogicalLine) (remaining_after following : Option ℕ) (a b : Result Bool Fault)
-      → Decides search row s line remaining_after a
+  -- A line has one question, and its condition one list of tokens.
+  decisions_once : {search : Search} {row : ℕ} {s : State} {line : LogicalLine} {meter_after following : Meter} {a b : Result Bool Fault}
+      → Decides search row s line meter_after a
       → Decides search row s line following b
-      → (a ≡ b) × (remaining_after ≡ following)
-  decides_once search row s line remaining_after following a b p q =
-      decides_unless_once search row (unmatched_quote line.tokens) line.directive s line.tokens remaining_after following a b p q
+      → (a ≡ b) × (meter_after ≡ following)
+  decisions_once {s = s} {meter_after = r} {following = t} {a = a} {b = b} (Decides.unmatched {f = f} q x) (Decides.unmatched {f = g} q' y) =
+      let same : f ≡ g = cc in
+      free_once s.meter r t (Err f) a b x (y.0, y.1 ∙ ap (λ (z : Fault). Err z) (sym same))
+  decisions_once (Decides.unmatched q x) (Decides.tests_name q' n y) = absurd (cc)
+  decisions_once (Decides.unmatched q x) (Decides.names_no_header q' v e y) = absurd (cc)
+  decisions_once (Decides.unmatched q x) (Decides.evaluates q' v e y) = absurd (cc)
+  decisions_once (Decides.tests_name q n x) (Decides.unmatched q' y) = absurd (cc)
+  decisions_once {s = s} {line = line} {meter_after = r} {following = t} {a = a} {b = b} (Decides.tests_name {wanted = v} q n x) (Decides.tests_name {wanted = w} q' n' y) =
+      let both : Some (Defined v) ≡ Some (Defined w) = sym n ∙ n' in
+      let same : v ≡ w = cc in
+      free_once s.meter r t _ a b x (y.0, y.1 ∙ ap (λ (z : Bool). by_name z s.macros line.tokens (one_identifier (operands line.tokens))) (sym same))
+  decisions_once (Decides.tests_name {wanted = w} q n x) (Decides.names_no_header q' v e y) = let differs : Some (Defined w) ≡ Some Value = sym n ∙ v in absurd (cc)
+  decisions_once (Decides.tests_name {wanted = w} q n x) (Decides.evaluates q' v e y) = let differs : Some (Defined w) ≡ Some Value = sym n ∙ v in absurd (cc)
+  decisions_once (Decides.names_no_header q v e x) (Decides.unmatched q' y) = absurd (cc)
+  decisions_once (Decides.names_no_header q v e x) (Decides.tests_name {wanted = w} q' n y) = let differs : Some (Defined w) ≡ Some Value = sym n ∙ v in absurd (cc)
+  decisions_once {s = s} {meter_after = r} {following = t} {a = a} {b = b} (Decides.names_no_header {f = f} q v e x) (Decides.names_no_header {f = g} q' v' e' y) =
+      let both : Err f ≡ Err g = sym e ∙ e' in
+      let same : f ≡ g = cc in
+      free_once s.meter r t (Err f) a b x (y.0, y.1 ∙ ap (λ (z : Fault). Err z) (sym same))
+  decisions_once (Decides.names_no_header {f = f} q v e x) (Decides.evaluates {tokens = ts} q' v' e' y) = let differs : Err f ≡ Ok ts = sym e ∙ e' in absurd (cc)
+  decisions_once (Decides.evaluates q v e x) (Decides.unmatched q' y) = absurd (cc)
+  decisions_once (Decides.evaluates q v e x) (Decides.tests_name {wanted = w} q' n y) = let differs : Some (Defined w) ≡ Some Value = sym n ∙ v in absurd (cc)
+  decisions_once (Decides.evaluates {tokens = ts} q v e x) (Decides.names_no_header {f = f} q' v' e' y) = let differs : Ok ts ≡ Err f = sym e ∙ e' in absurd (cc)
+  decisions_once {s = s} {line = line} {meter_after = r} {following = t} {a = a} {b = b} (Decides.evaluates {tokens = ts} q v e x) (Decides.evaluates {tokens = us} q' v' e' y) =
+      let both : Ok us ≡ Ok ts = sym e' ∙ e in
+      let same : us ≡ ts = cc in
+      decisions s.macros s.env (hash_place line.tokens) ts s.meter r t a b x (subst (λ (z : List Token). IsCondition s.macros s.env (hash_place line.tokens) z s.meter b t) same y)
+
+  pub decides_once : (search : Search) (row : ℕ) (s : State) (line : LogicalLine) (meter_after following : Meter) (a b : Result Bool Fault)
+      → Decides search row s line meter_after a
+      → Decides search row s line following b
+      → (a ≡ b) × (meter_after ≡ following)
+  decides_once search row s line meter_after following a b p q = decisions_once p q

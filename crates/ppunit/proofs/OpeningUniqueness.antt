@@ -33,24 +33,24 @@ module _ (readings : OneReading) (trees : OneTree) (context : Context) where
 
   pub at_over : {depth row : ℕ} {directory : Option ℕ} {at : Place} {s : State} {m : Progress}
       → depth ≤ depth_limit
-      → is_exhausted s.remaining ≡ true
+      → is_exhausted s.meter ≡ true
       → OpensFile context depth at s row directory m
       → stopped s (fault 35 at []) ≡ m
   at_over fits e (OpensFile.too_deep d) = absurd (omega arith)
   at_over fits e (OpensFile.exhausted f spent) = refl
-  at_over {s = s} fits e (OpensFile.not_read_again f some known) = absurd (one_way (is_exhausted s.remaining) e some)
-  at_over {s = s} fits e (OpensFile.not_readable f some new is) = absurd (one_way (is_exhausted s.remaining) e some)
-  at_over {s = s} fits e (OpensFile.content_fault f some new is reads) = absurd (one_way (is_exhausted s.remaining) e some)
-  at_over {s = s} fits e (OpensFile.read f some new is reads tree here) = absurd (one_way (is_exhausted s.remaining) e some)
+  at_over {s = s} fits e (OpensFile.not_read_again f some known) = absurd (one_way (is_exhausted s.meter) e some)
+  at_over {s = s} fits e (OpensFile.not_readable f some new is) = absurd (one_way (is_exhausted s.meter) e some)
+  at_over {s = s} fits e (OpensFile.content_fault f some new is reads) = absurd (one_way (is_exhausted s.meter) e some)
+  at_over {s = s} fits e (OpensFile.read f some new is reads tree here) = absurd (one_way (is_exhausted s.meter) e some)
 
   pub at_known : {depth row : ℕ} {directory : Option ℕ} {at : Place} {s : State} {m : Progress}
       → depth ≤ depth_limit
-      → is_exhausted s.remaining ≡ false
+      → is_exhausted s.meter ≡ false
       → has_row row s.once ≡ true
       → OpensFile context depth at s row directory m
       → running (with_dependency (with_one_spent s) row) ≡ m
   at_known fits some e (OpensFile.too_deep d) = absurd (omega arith)
-  at_known {s = s} fits some e (OpensFile.exhausted f spent) = absurd (one_way (is_exhausted s.remaining) spent some)
+  at_known {s = s} fits some e (OpensFile.exhausted f spent) = absurd (one_way (is_exhausted s.meter) spent some)
   at_known fits some e (OpensFile.not_read_again f more known) = refl
   at_known {row = row} {s = s} fits some e (OpensFile.not_readable f more new is) = absurd (one_way (has_row row s.once) e new)
   at_known {row = row} {s = s} fits some e (OpensFile.content_fault f more new is reads) = absurd (one_way (has_row row s.once) e new)
@@ -58,13 +58,13 @@ module _ (readings : OneReading) (trees : OneTree) (context : Context) where
 
   pub at_unreadable : {depth row : ℕ} {directory : Option ℕ} {at : Place} {s : State} {m : Progress}
       → depth ≤ depth_limit
-      → is_exhausted s.remaining ≡ false
+      → is_exhausted s.meter ≡ false
       → has_row row s.once ≡ false
       → file_at context.files row ≡ Some unreadable
       → OpensFile context depth at s row directory m
       → stopped (with_dependency (with_one_spent s) row) (fault 6 at (name_in context.names row)) ≡ m
   at_unreadable fits some new e (OpensFile.too_deep d) = absurd (omega arith)
-  at_unreadable {s = s} fits some new e (OpensFile.exhausted f spent) = absurd (one_way (is_exhausted s.remaining) spent some)
+  at_unreadable {s = s} fits some new e (OpensFile.exhausted f spent) = absurd (one_way (is_exhausted s.meter) spent some)
   at_unreadable {row = row} {s = s} fits some new e (OpensFile.not_read_again f more known) = absurd (one_way (has_row row s.once) known new)
   at_unreadable fits some new e (OpensFile.not_readable f more n is) = refl
   at_unreadable fits some new e (OpensFile.content_fault {bytes = bytes} f more n is reads) =
@@ -92,14 +92,14 @@ module _ (readings : OneReading) (trees : OneTree) (context : Context) where
 
   pub at_reading : {depth row : ℕ} {directory : Option ℕ} {at : Place} {s : State} {m : Progress} (bytes : List ℕ) (x : Result (List LogicalLine) Fault)
       → depth ≤ depth_limit
-      → is_exhausted s.remaining ≡ false
+      → is_exhausted s.meter ≡ false
       → has_row row s.once ≡ false
       → file_at context.files row ≡ Some (readable bytes)
       → Reads context.profile row bytes x
       → OpensFile context depth at s row directory m
       → AfterReading depth at s row directory x m
   at_reading bytes x fits some new e p (OpensFile.too_deep d) = absurd (omega arith)
-  at_reading {s = s} bytes x fits some new e p (OpensFile.exhausted f spent) = absurd (one_way (is_exhausted s.remaining) spent some)
+  at_reading {s = s} bytes x fits some new e p (OpensFile.exhausted f spent) = absurd (one_way (is_exhausted s.meter) spent some)
   at_reading {row = row} {s = s} bytes x fits some new e p (OpensFile.not_read_again f more known) = absurd (one_way (has_row row s.once) known new)
   at_reading bytes x fits some new e p (OpensFile.not_readable f more n is) =
       let differs : Some unreadable ≡ Some (readable bytes) = sym is ∙ e in absurd (cc)
@@ -109,7 +109,10 @@ module _ (readings : OneReading) (trees : OneTree) (context : Context) where
       (OpensFile.read {bytes = c} {lines = lines} {m = m} f more n is reads tree here) =
       subst (λ z. AfterReading depth at s row directory z (leaving s m)) (same_reading row c bytes (Ok lines) x is reads e p) (by_lines tree here)
 
-  pub after_fault : {depth row : ℕ} {directory : Option ℕ} {at : Place} {s : State} {f : Fault} {x : Result (List LogicalLine) Fault} {m : Progress} → Err f ≡ x → AfterReading depth at s row directory x m → stopped (with_dependency (with_one_spent s) row) f ≡ m
+  pub after_fault : {depth row : ℕ} {directory : Option ℕ} {at : Place} {s : State} {f : Fault} {x : Result (List LogicalLine) Fault} {m : Progress}
+      → Err f ≡ x
+      → AfterReading depth at s row directory x m
+      → stopped (with_dependency (with_one_spent s) row) f ≡ m
   after_fault {row = row} {s = s} {f = f} e (by_fault {f = g}) = let same : f ≡ g = cc in ap (λ x. stopped (with_dependency (with_one_spent s) row) x) same
   after_fault e (by_lines tree here) = absurd (cc)
 

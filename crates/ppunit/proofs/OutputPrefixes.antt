@@ -4,19 +4,19 @@ use Rattle.pptext.specs.declared.tokens.Place.{Place}
 use Rattle.pptext.specs.declared.tokens.Token.{Token}
 use Rattle.pptext.specs.declared.tokens.Fault.{Fault}
 use Rattle.pptext.specs.declared.sources.Directive.{Directive}
-use Rattle.pptext.specs.declared.sources.Directive.TheVariants.{Define, Undef, Line, Pragma, Null, Unknown}
 use Rattle.pptext.specs.declared.sources.Profile.{Profile}
 use Rattle.pptext.specs.Lines.{LogicalLine}
 use Rattle.pptext.specs.Tree.{GroupParts, Branches, hash_place}
-use Rattle.ppmacro.specs.Names.{Macros}
 use Rattle.ppexpand.specs.Laws.{IsPrefix}
 use Rattle.ppunit.specs.declared.units.Item.{Item}
 use Rattle.ppunit.specs.Dependencies.{has_row}
-use Rattle.ppunit.specs.States.{State, Context, Progress, emitted, with_dependency, with_once, with_remaining}
+use Rattle.ppunit.specs.States.{State, Context, Progress, emitted, with_dependency, with_once, with_meter}
 use Rattle.ppunit.specs.DirectiveLines.{operands, text_tokens}
-use Rattle.ppunit.specs.LineControl.{Presumed, presumed}
-use Rattle.ppunit.specs.Directives.{EmitsText, ExecutesDirective, with_macros, renumbered_by, is_once, pragma_emitted}
+use Rattle.ppunit.specs.LineControl.{presumed}
+use Rattle.ppunit.specs.Directives.{EmitsText, ExecutesDirective}
 use Rattle.ppunit.specs.Group.{ExecutesGroup, ExecutesBranches, ExecutesControlLine, ExecutesInclude, OpensFile}
+use Rattle.ppunit.specs.code.Effects.{line_effect, HasEffect}
+use Rattle.ppunit.proofs.DirectiveEffects.{effect_of}
 use Rattle.ppunit.specs.declared.units.Item.TheVariants as item
 
 pub same_beginning : {A : Type 0} (xs : List A) → IsPrefix xs xs
@@ -42,34 +42,13 @@ depends s row = (same_beginning s.items, joined (has_row row s.deps))
     joined true = same_beginning s.deps
     joined false = (row ∷ [], refl)
 
-renumbered_before : (s : State) (r : LogicalLine) (f : Option Fault) (p : Option Presumed) → Before s (renumbered_by s r f p).state
-renumbered_before s r (Some f) p = same_state s
-renumbered_before s r None None = same_state s
-renumbered_before s r None (Some p) = same_state s
-
-macros_before : (s : State) (m : Result Macros Fault) → Before s (with_macros s m).state
-macros_before s (Ok m) = same_state s
-macros_before s (Err f) = same_state s
-
-pragma_before : (profile : Profile) (row : ℕ) (s : State) (line : List Token) → Before s (pragma_emitted profile row s line)
-pragma_before profile row s line = noted (is_once profile (operands line))
-  where
-    probe_result : List Item
-    probe_result = item.Pragma (hash_place line) (operands line) ∷ []
-
-    noted : (b : Bool) → Before s (if b then with_once (emitted s probe_result) row else emitted s probe_result)
-    noted true = ((probe_result, refl), same_beginning s.deps)
-    noted false = ((probe_result, refl), same_beginning s.deps)
+effect_before : {profile : Profile} {row : ℕ} {d : Option Directive} {s : State} {line : LogicalLine} {m : Progress} → HasEffect profile row d s line m → Before s m.state
+effect_before {s = s} (HasEffect.immediate {e = e} is gives) = subst (λ x. Before s x.state) (sym gives) ((e.items, refl), same_beginning s.deps)
+effect_before {s = s} {line = line} (HasEffect.expanding x is expands gives) =
+    subst (λ x. Before s x.state) (sym gives) (((line_effect s line x.fault (presumed x.tokens)).items, refl), same_beginning s.deps)
 
 pub control_by_before : (profile : Profile) (row : ℕ) (d : Option Directive) (s : State) (line : LogicalLine) (m : Progress) → ExecutesDirective profile row d s line m → Before s m.state
-control_by_before profile row (Some Null) s line m g = subst (λ x. Before s x.state) (sym g) (same_state s)
-control_by_before profile row (Some Define) s line m g = subst (λ x. Before s x.state) (sym g) (macros_before s _)
-control_by_before profile row (Some Undef) s line m g = subst (λ x. Before s x.state) (sym g) (macros_before s _)
-control_by_before profile row (Some Line) s line m g =
-    subst (λ x. Before s x.state) (sym g.is) (renumbered_before (with_remaining s g.expanded.remaining) line g.expanded.fault (presumed g.expanded.tokens))
-control_by_before profile row (Some Pragma) s line m g = subst (λ x. Before s x.state) (sym g) (pragma_before profile row s line.tokens)
-control_by_before profile row (Some Unknown) s line m g = subst (λ x. Before s x.state) (sym g) (same_state s)
-control_by_before profile row _ s line m g = absurd g
+control_by_before profile row d s line m g = effect_before (effect_of profile row d s line m g)
 
 run_before : (s : State) (tokens : List Token) (m : Progress) → EmitsText s tokens m → Before s m.state
 run_before s tokens m g = subst (λ x. Before s x.state) (sym g.is) ((map item.Token g.expanded.tokens, refl), same_beginning s.deps)

@@ -12,8 +12,8 @@ use Rattle.pptext.specs.declared.sources.Directive.{Directive}
 use Rattle.pptext.specs.declared.sources.Directive.TheVariants.{If}
 use Rattle.pptext.specs.Tree.{role_by, role_of_directive}
 use Rattle.pptext.specs.Guard.{named}
-use Rattle.pptext.specs.Tokens.{is_identifier_kind, is_other_kind, is_unmatched_quote}
-use Rattle.ppunit.specs.Quotes.{quote_fault, unmatched_quote}
+use Rattle.pptext.specs.Tokens.{fault, is_identifier_kind, is_other_kind, is_unmatched_quote}
+use Rattle.ppunit.specs.Quotes.{unmatched_quote}
 
 -- ---- tokens without quotes
 
@@ -61,7 +61,7 @@ AreUnquoted ts = AllByRecursion (λ t. is_unmatched_quote t ≡ false) ts
 
 pub no_quote : (ts : List Token) → AreUnquoted ts → unmatched_quote ts ≡ None
 no_quote [] all = refl
-no_quote (t ∷ ts) all = ap (λ (b : Bool). if b then Some (quote_fault t) else unmatched_quote ts) all.0 ∙ no_quote ts all.1
+no_quote (t ∷ ts) all = ap (λ (b : Bool). if b then Some (fault 7 t.at t.text) else unmatched_quote ts) all.0 ∙ no_quote ts all.1
 
 pub named_unquoted : (t : Token) (text : List ℕ) → named t text ≡ true → is_quote text ≡ false → is_unmatched_quote t ≡ false
 named_unquoted t text e f = text_unquoted t text (named_is t text e) f

@@ -4,7 +4,8 @@ use Rattle.pptext.specs.declared.tokens.Fault.{Fault}
 use Rattle.pptext.specs.declared.sources.Directive.TheVariants.{Else}
 use Rattle.pptext.specs.Lines.{LogicalLine}
 use Rattle.pptext.specs.Tree.{GroupParts, Done, TextLines, Control, Section, Branches, End, Branch}
-use Rattle.ppunit.specs.States.{State, Context, Progress, running, stopped, with_remaining, search_of}
+use Rattle.ppexpand.specs.declared.meter.Meter.{Meter}
+use Rattle.ppunit.specs.States.{State, Context, Progress, running, stopped, with_meter, search_of}
 use Rattle.ppunit.specs.DirectiveLines.{text_tokens}
 use Rattle.ppunit.specs.Conditions.{Decides}
 use Rattle.ppunit.specs.Directives.{EmitsText}
@@ -31,19 +32,21 @@ module _ (expansions : OneExpansion) (decisions : OneDecision) (context : Contex
   at_stop ExecutesGroup.already_stopped = refl
 
   pub data AfterSection (depth row : ℕ) (s : State) (line : LogicalLine) (ps : GroupParts) (bs : Branches) (qs : GroupParts) : Progress → Type 0 where
-    is_taken : {remaining_after : Option ℕ} {m end : Progress}
-        → Decides (search_of context) row s line remaining_after (Ok true)
-        → ExecutesGroup context depth row (running (with_remaining s remaining_after)) ps m
+    is_taken : {meter_after : Meter} {m end : Progress}
+        → Decides (search_of context) row s line meter_after (Ok true)
+        → ExecutesGroup context depth row (running (with_meter s meter_after)) ps m
         → ExecutesGroup context depth row m qs end
         → AfterSection depth row s line ps bs qs end
-    is_skipped : {remaining_after : Option ℕ} {m end : Progress}
-        → Decides (search_of context) row s line remaining_after (Ok false)
-        → ExecutesBranches context depth row (with_remaining s remaining_after) bs m
+    is_skipped : {meter_after : Meter} {m end : Progress}
+        → Decides (search_of context) row s line meter_after (Ok false)
+        → ExecutesBranches context depth row (with_meter s meter_after) bs m
         → ExecutesGroup context depth row m qs end
         → AfterSection depth row s line ps bs qs end
-    is_refused : {remaining_after : Option ℕ} {f : Fault} → Decides (search_of context) row s line remaining_after (Err f) → AfterSection depth row s line ps bs qs (stopped (with_remaining s remaining_after) f)
+    is_refused : {meter_after : Meter} {f : Fault} → Decides (search_of context) row s line meter_after (Err f) → AfterSection depth row s line ps bs qs (stopped (with_meter s meter_after) f)
 
-  pub at_section : {depth row : ℕ} {s : State} {line : LogicalLine} {ps qs : GroupParts} {bs : Branches} {end : Progress} → ExecutesGroup context depth row (running s) (Section line ps bs qs) end → AfterSection depth row s line ps bs qs end
+  pub at_section : {depth row : ℕ} {s : State} {line : LogicalLine} {ps qs : GroupParts} {bs : Branches} {end : Progress}
+      → ExecutesGroup context depth row (running s) (Section line ps bs qs) end
+      → AfterSection depth row s line ps bs qs end
   at_section (ExecutesGroup.taken decides here rest) = is_taken decides here rest
   at_section (ExecutesGroup.skipped decides here rest) = is_skipped decides here rest
   at_section (ExecutesGroup.condition_fault decides) = is_refused decides
@@ -53,20 +56,20 @@ module _ (expansions : OneExpansion) (decisions : OneDecision) (context : Contex
 
   pub data AfterBranch (depth row : ℕ) (s : State) (line : LogicalLine) (ps : GroupParts) (bs : Branches) : Progress → Type 0 where
     is_else : {m : Progress} → line.directive ≡ Some Else → ExecutesGroup context depth row (running s) ps m → AfterBranch depth row s line ps bs m
-    is_elif : {remaining_after : Option ℕ} {m : Progress}
+    is_elif : {meter_after : Meter} {m : Progress}
         → line.directive ≢ Some Else
-        → Decides (search_of context) row s line remaining_after (Ok true)
-        → ExecutesGroup context depth row (running (with_remaining s remaining_after)) ps m
+        → Decides (search_of context) row s line meter_after (Ok true)
+        → ExecutesGroup context depth row (running (with_meter s meter_after)) ps m
         → AfterBranch depth row s line ps bs m
-    is_passed : {remaining_after : Option ℕ} {m : Progress}
+    is_passed : {meter_after : Meter} {m : Progress}
         → line.directive ≢ Some Else
-        → Decides (search_of context) row s line remaining_after (Ok false)
-        → ExecutesBranches context depth row (with_remaining s remaining_after) bs m
+        → Decides (search_of context) row s line meter_after (Ok false)
+        → ExecutesBranches context depth row (with_meter s meter_after) bs m
         → AfterBranch depth row s line ps bs m
-    is_faulty : {remaining_after : Option ℕ} {f : Fault}
+    is_faulty : {meter_after : Meter} {f : Fault}
         → line.directive ≢ Some Else
-        → Decides (search_of context) row s line remaining_after (Err f)
-        → AfterBranch depth row s line ps bs (stopped (with_remaining s remaining_after) f)
+        → Decides (search_of context) row s line meter_after (Err f)
+        → AfterBranch depth row s line ps bs (stopped (with_meter s meter_after) f)
 
   pub at_branch : {depth row : ℕ} {s : State} {line : LogicalLine} {ps : GroupParts} {bs : Branches} {m : Progress} → ExecutesBranches context depth row s (Branch line ps bs) m → AfterBranch depth row s line ps bs m
   at_branch (ExecutesBranches.else_group is here) = is_else is here
@@ -82,78 +85,85 @@ module _ (expansions : OneExpansion) (decisions : OneDecision) (context : Contex
   abbrev SameBranches : ℕ → ℕ → State → Branches → Progress → Type 0
   SameBranches depth row s bs y = (z : Progress) → ExecutesBranches context depth row s bs z → y ≡ z
 
-  -- Equal decisions of a line leave equal remaining budgets.
-  taken_again : (depth row : ℕ) (s : State) (line : LogicalLine) (ps : GroupParts) (remaining_after following : Option ℕ) (decision : Result Bool Fault) (z : Progress)
-      → Decides (search_of context) row s line remaining_after decision
+  -- Equal decisions of a line leave equal meters.
+  taken_again : (depth row : ℕ) (s : State) (line : LogicalLine) (ps : GroupParts) (meter_after following : Meter) (decision : Result Bool Fault) (z : Progress)
+      → Decides (search_of context) row s line meter_after decision
       → Decides (search_of context) row s line following decision
-      → ExecutesGroup context depth row (running (with_remaining s following)) ps z
-      → ExecutesGroup context depth row (running (with_remaining s remaining_after)) ps z
-  taken_again depth row s line ps remaining_after following decision z decides decides' here =
-      let remainders = sym (decides_once expansions decisions (search_of context) row s line remaining_after following decision decision decides decides').1 in
-      subst (λ (x : Option ℕ). ExecutesGroup context depth row (running (with_remaining s x)) ps z) remainders here
+      → ExecutesGroup context depth row (running (with_meter s following)) ps z
+      → ExecutesGroup context depth row (running (with_meter s meter_after)) ps z
+  taken_again depth row s line ps meter_after following decision z decides decides' here =
+      let remainders = sym (decides_once expansions decisions (search_of context) row s line meter_after following decision decision decides decides').1 in
+      subst (λ (x : Meter). ExecutesGroup context depth row (running (with_meter s x)) ps z) remainders here
 
-  skipped_again : (depth row : ℕ) (s : State) (line : LogicalLine) (bs : Branches) (remaining_after following : Option ℕ) (decision : Result Bool Fault) (z : Progress)
-      → Decides (search_of context) row s line remaining_after decision
+  skipped_again : (depth row : ℕ) (s : State) (line : LogicalLine) (bs : Branches) (meter_after following : Meter) (decision : Result Bool Fault) (z : Progress)
+      → Decides (search_of context) row s line meter_after decision
       → Decides (search_of context) row s line following decision
-      → ExecutesBranches context depth row (with_remaining s following) bs z
-      → ExecutesBranches context depth row (with_remaining s remaining_after) bs z
-  skipped_again depth row s line bs remaining_after following decision z decides decides' here =
-      let remainders = sym (decides_once expansions decisions (search_of context) row s line remaining_after following decision decision decides decides').1 in
-      subst (λ (x : Option ℕ). ExecutesBranches context depth row (with_remaining s x) bs z) remainders here
+      → ExecutesBranches context depth row (with_meter s following) bs z
+      → ExecutesBranches context depth row (with_meter s meter_after) bs z
+  skipped_again depth row s line bs meter_after following decision z decides decides' here =
+      let remainders = sym (decides_once expansions decisions (search_of context) row s line meter_after following decision decision decides decides').1 in
+      subst (λ (x : Meter). ExecutesBranches context depth row (with_meter s x) bs z) remainders here
 
-  -- Equal faults with equal remaining budgets stop with equal outcomes.
-  pub stopped_again : {A : Type 0} (s : State) (remaining_after following : Option ℕ) (f g : Fault) → ◌≡◌ {A = Result A Fault} (Err f) (Err g) → remaining_after ≡ following → stopped (with_remaining s remaining_after) f ≡ stopped (with_remaining s following) g
-  stopped_again s remaining_after following f g faults remainders = let same : f ≡ g = cc in λ i. stopped (with_remaining s (remainders i)) (same i)
+  -- Equal faults with equal meters stop with equal outcomes.
+  pub stopped_again : {A : Type 0} (s : State) (meter_after following : Meter) (f g : Fault)
+      → ◌≡◌ {A = Result A Fault} (Err f) (Err g)
+      → meter_after ≡ following
+      → stopped (with_meter s meter_after) f ≡ stopped (with_meter s following) g
+  stopped_again s meter_after following f g faults remainders = let same : f ≡ g = cc in λ i. stopped (with_meter s (remainders i)) (same i)
 
-  refused_again : (row : ℕ) (s : State) (line : LogicalLine) (remaining_after following : Option ℕ) (f g : Fault)
-      → Decides (search_of context) row s line remaining_after (Err f)
+  refused_again : (row : ℕ) (s : State) (line : LogicalLine) (meter_after following : Meter) (f g : Fault)
+      → Decides (search_of context) row s line meter_after (Err f)
       → Decides (search_of context) row s line following (Err g)
-      → stopped (with_remaining s remaining_after) f ≡ stopped (with_remaining s following) g
-  refused_again row s line remaining_after following f g decides decides' =
-      let one = decides_once expansions decisions (search_of context) row s line remaining_after following (Err f) (Err g) decides decides' in
-      stopped_again {A = Bool} s remaining_after following f g one.0 one.1
+      → stopped (with_meter s meter_after) f ≡ stopped (with_meter s following) g
+  refused_again row s line meter_after following f g decides decides' =
+      let one = decides_once expansions decisions (search_of context) row s line meter_after following (Err f) (Err g) decides decides' in
+      stopped_again {A = Bool} s meter_after following f g one.0 one.1
 
-  same_decision : (row : ℕ) (s : State) (line : LogicalLine) (remaining_after following : Option ℕ) (a b : Result Bool Fault) → Decides (search_of context) row s line remaining_after a → Decides (search_of context) row s line following b → a ≡ b
-  same_decision row s line remaining_after following a b p q = (decides_once expansions decisions (search_of context) row s line remaining_after following a b p q).0
+  same_decision : (row : ℕ) (s : State) (line : LogicalLine) (meter_after following : Meter) (a b : Result Bool Fault)
+      → Decides (search_of context) row s line meter_after a
+      → Decides (search_of context) row s line following b
+      → a ≡ b
+  same_decision row s line meter_after following a b p q = (decides_once expansions decisions (search_of context) row s line meter_after following a b p q).0
 
-  pub after_taken : {depth row : ℕ} {s : State} {line : LogicalLine} {ps qs : GroupParts} {bs : Branches} {remaining_after : Option ℕ} {m y : Progress}
-      → Decides (search_of context) row s line remaining_after (Ok true)
-      → SameGroup depth row (running (with_remaining s remaining_after)) ps m
+  pub after_taken : {depth row : ℕ} {s : State} {line : LogicalLine} {ps qs : GroupParts} {bs : Branches} {meter_after : Meter} {m y : Progress}
+      → Decides (search_of context) row s line meter_after (Ok true)
+      → SameGroup depth row (running (with_meter s meter_after)) ps m
       → SameGroup depth row m qs y
       → (z : Progress)
       → AfterSection depth row s line ps bs qs z
       → y ≡ z
-  after_taken {depth = depth} {row = row} {s = s} {line = line} {ps = ps} {qs = qs} {remaining_after = remaining_after} decides here rest z (is_taken {remaining_after = following} {m = n} decides' here' rest') =
-      rest z (subst (λ x. ExecutesGroup context depth row x qs z) (sym (here n (taken_again depth row s line ps remaining_after following (Ok true) n decides decides' here'))) rest')
-  after_taken {row = row} {s = s} {line = line} {remaining_after = remaining_after} decides here rest z (is_skipped {remaining_after = following} decides' here' rest') =
-      let differs : Ok true ≡ Ok false = same_decision row s line remaining_after following (Ok true) (Ok false) decides decides' in absurd (cc)
-  after_taken {row = row} {s = s} {line = line} {remaining_after = remaining_after} decides here rest z (is_refused {remaining_after = following} {f = f} decides') =
-      let differs : Ok true ≡ Err f = same_decision row s line remaining_after following (Ok true) (Err f) decides decides' in absurd (cc)
+  after_taken {depth = depth} {row = row} {s = s} {line = line} {ps = ps} {qs = qs} {meter_after = meter_after} decides here rest z (is_taken {meter_after = following} {m = n} decides' here' rest') =
+      rest z (subst (λ x. ExecutesGroup context depth row x qs z) (sym (here n (taken_again depth row s line ps meter_after following (Ok true) n decides decides' here'))) rest')
+  after_taken {row = row} {s = s} {line = line} {meter_after = meter_after} decides here rest z (is_skipped {meter_after = following} decides' here' rest') =
+      let differs : Ok true ≡ Ok false = same_decision row s line meter_after following (Ok true) (Ok false) decides decides' in absurd (cc)
+  after_taken {row = row} {s = s} {line = line} {meter_after = meter_after} decides here rest z (is_refused {meter_after = following} {f = f} decides') =
+      let differs : Ok true ≡ Err f = same_decision row s line meter_after following (Ok true) (Err f) decides decides' in absurd (cc)
 
-  pub after_skipped : {depth row : ℕ} {s : State} {line : LogicalLine} {ps qs : GroupParts} {bs : Branches} {remaining_after : Option ℕ} {m y : Progress}
-      → Decides (search_of context) row s line remaining_after (Ok false)
-      → SameBranches depth row (with_remaining s remaining_after) bs m
+  pub after_skipped : {depth row : ℕ} {s : State} {line : LogicalLine} {ps qs : GroupParts} {bs : Branches} {meter_after : Meter} {m y : Progress}
+      → Decides (search_of context) row s line meter_after (Ok false)
+      → SameBranches depth row (with_meter s meter_after) bs m
       → SameGroup depth row m qs y
       → (z : Progress)
       → AfterSection depth row s line ps bs qs z
       → y ≡ z
-  after_skipped {row = row} {s = s} {line = line} {remaining_after = remaining_after} decides here rest z (is_taken {remaining_after = following} decides' here' rest') =
-      let differs : Ok false ≡ Ok true = same_decision row s line remaining_after following (Ok false) (Ok true) decides decides' in absurd (cc)
-  after_skipped {depth = depth} {row = row} {s = s} {line = line} {qs = qs} {bs = bs} {remaining_after = remaining_after} decides here rest z (is_skipped {remaining_after = following} {m = n} decides' here' rest') =
-      rest z (subst (λ x. ExecutesGroup context depth row x qs z) (sym (here n (skipped_again depth row s line bs remaining_after following (Ok false) n decides decides' here'))) rest')
-  after_skipped {row = row} {s = s} {line = line} {remaining_after = remaining_after} decides here rest z (is_refused {remaining_after = following} {f = f} decides') =
-      let differs : Ok false ≡ Err f = same_decision row s line remaining_after following (Ok false) (Err f) decides decides' in absurd (cc)
+  after_skipped {row = row} {s = s} {line = line} {meter_after = meter_after} decides here rest z (is_taken {meter_after = following} decides' here' rest') =
+      let differs : Ok false ≡ Ok true = same_decision row s line meter_after following (Ok false) (Ok true) decides decides' in absurd (cc)
+  after_skipped {depth = depth} {row = row} {s = s} {line = line} {qs = qs} {bs = bs} {meter_after = meter_after} decides here rest z (is_skipped {meter_after = following} {m = n} decides' here' rest') =
+      rest z (subst (λ x. ExecutesGroup context depth row x qs z) (sym (here n (skipped_again depth row s line bs meter_after following (Ok false) n decides decides' here'))) rest')
+  after_skipped {row = row} {s = s} {line = line} {meter_after = meter_after} decides here rest z (is_refused {meter_after = following} {f = f} decides') =
+      let differs : Ok false ≡ Err f = same_decision row s line meter_after following (Ok false) (Err f) decides decides' in absurd (cc)
 
-  pub after_refused : {depth row : ℕ} {s : State} {line : LogicalLine} {ps qs : GroupParts} {bs : Branches} {remaining_after : Option ℕ} {f : Fault}
-      → Decides (search_of context) row s line remaining_after (Err f)
+  pub after_refused : {depth row : ℕ} {s : State} {line : LogicalLine} {ps qs : GroupParts} {bs : Branches} {meter_after : Meter} {f : Fault}
+      → Decides (search_of context) row s line meter_after (Err f)
       → (z : Progress)
       → AfterSection depth row s line ps bs qs z
-      → stopped (with_remaining s remaining_after) f ≡ z
-  after_refused {row = row} {s = s} {line = line} {remaining_after = remaining_after} {f = f} decides z (is_taken {remaining_after = following} decides' here' rest') =
-      let differs : Err f ≡ Ok true = same_decision row s line remaining_after following (Err f) (Ok true) decides decides' in absurd (cc)
-  after_refused {row = row} {s = s} {line = line} {remaining_after = remaining_after} {f = f} decides z (is_skipped {remaining_after = following} decides' here' rest') =
-      let differs : Err f ≡ Ok false = same_decision row s line remaining_after following (Err f) (Ok false) decides decides' in absurd (cc)
-  after_refused {row = row} {s = s} {line = line} {remaining_after = remaining_after} {f = f} decides z (is_refused {remaining_after = following} {f = g} decides') = refused_again row s line remaining_after following f g decides decides'
+      → stopped (with_meter s meter_after) f ≡ z
+  after_refused {row = row} {s = s} {line = line} {meter_after = meter_after} {f = f} decides z (is_taken {meter_after = following} decides' here' rest') =
+      let differs : Err f ≡ Ok true = same_decision row s line meter_after following (Err f) (Ok true) decides decides' in absurd (cc)
+  after_refused {row = row} {s = s} {line = line} {meter_after = meter_after} {f = f} decides z (is_skipped {meter_after = following} decides' here' rest') =
+      let differs : Err f ≡ Ok false = same_decision row s line meter_after following (Err f) (Ok false) decides decides' in absurd (cc)
+  after_refused {row = row} {s = s} {line = line} {meter_after = meter_after} {f = f} decides z (is_refused {meter_after = following} {f = g} decides') =
+      refused_again row s line meter_after following f g decides decides'
 
   not_both : (line : LogicalLine) → line.directive ≡ Some Else → line.directive ≢ Some Else → ⊥
   not_both line e f = f e
@@ -169,46 +179,46 @@ module _ (expansions : OneExpansion) (decisions : OneDecision) (context : Contex
   after_else {line = line} is here z (is_passed is' decides rest) = absurd (not_both line is is')
   after_else {line = line} is here z (is_faulty is' decides) = absurd (not_both line is is')
 
-  pub after_elif : {depth row : ℕ} {s : State} {line : LogicalLine} {ps : GroupParts} {bs : Branches} {remaining_after : Option ℕ} {y : Progress}
+  pub after_elif : {depth row : ℕ} {s : State} {line : LogicalLine} {ps : GroupParts} {bs : Branches} {meter_after : Meter} {y : Progress}
       → line.directive ≢ Some Else
-      → Decides (search_of context) row s line remaining_after (Ok true)
-      → SameGroup depth row (running (with_remaining s remaining_after)) ps y
+      → Decides (search_of context) row s line meter_after (Ok true)
+      → SameGroup depth row (running (with_meter s meter_after)) ps y
       → (z : Progress)
       → AfterBranch depth row s line ps bs z
       → y ≡ z
   after_elif {line = line} is decides here z (is_else is' here') = absurd (not_both line is' is)
-  after_elif {depth = depth} {row = row} {s = s} {line = line} {ps = ps} {remaining_after = remaining_after} is decides here z (is_elif {remaining_after = following} is' decides' here') =
-      here z (taken_again depth row s line ps remaining_after following (Ok true) z decides decides' here')
-  after_elif {row = row} {s = s} {line = line} {remaining_after = remaining_after} is decides here z (is_passed {remaining_after = following} is' decides' rest) =
-      let differs : Ok true ≡ Ok false = same_decision row s line remaining_after following (Ok true) (Ok false) decides decides' in absurd (cc)
-  after_elif {row = row} {s = s} {line = line} {remaining_after = remaining_after} is decides here z (is_faulty {remaining_after = following} {f = f} is' decides') =
-      let differs : Ok true ≡ Err f = same_decision row s line remaining_after following (Ok true) (Err f) decides decides' in absurd (cc)
+  after_elif {depth = depth} {row = row} {s = s} {line = line} {ps = ps} {meter_after = meter_after} is decides here z (is_elif {meter_after = following} is' decides' here') =
+      here z (taken_again depth row s line ps meter_after following (Ok true) z decides decides' here')
+  after_elif {row = row} {s = s} {line = line} {meter_after = meter_after} is decides here z (is_passed {meter_after = following} is' decides' rest) =
+      let differs : Ok true ≡ Ok false = same_decision row s line meter_after following (Ok true) (Ok false) decides decides' in absurd (cc)
+  after_elif {row = row} {s = s} {line = line} {meter_after = meter_after} is decides here z (is_faulty {meter_after = following} {f = f} is' decides') =
+      let differs : Ok true ≡ Err f = same_decision row s line meter_after following (Ok true) (Err f) decides decides' in absurd (cc)
 
-  pub after_passed : {depth row : ℕ} {s : State} {line : LogicalLine} {ps : GroupParts} {bs : Branches} {remaining_after : Option ℕ} {y : Progress}
+  pub after_passed : {depth row : ℕ} {s : State} {line : LogicalLine} {ps : GroupParts} {bs : Branches} {meter_after : Meter} {y : Progress}
       → line.directive ≢ Some Else
-      → Decides (search_of context) row s line remaining_after (Ok false)
-      → SameBranches depth row (with_remaining s remaining_after) bs y
+      → Decides (search_of context) row s line meter_after (Ok false)
+      → SameBranches depth row (with_meter s meter_after) bs y
       → (z : Progress)
       → AfterBranch depth row s line ps bs z
       → y ≡ z
   after_passed {line = line} is decides rest z (is_else is' here') = absurd (not_both line is' is)
-  after_passed {row = row} {s = s} {line = line} {remaining_after = remaining_after} is decides rest z (is_elif {remaining_after = following} is' decides' here') =
-      let differs : Ok false ≡ Ok true = same_decision row s line remaining_after following (Ok false) (Ok true) decides decides' in absurd (cc)
-  after_passed {depth = depth} {row = row} {s = s} {line = line} {bs = bs} {remaining_after = remaining_after} is decides rest z (is_passed {remaining_after = following} is' decides' rest') =
-      rest z (skipped_again depth row s line bs remaining_after following (Ok false) z decides decides' rest')
-  after_passed {row = row} {s = s} {line = line} {remaining_after = remaining_after} is decides rest z (is_faulty {remaining_after = following} {f = f} is' decides') =
-      let differs : Ok false ≡ Err f = same_decision row s line remaining_after following (Ok false) (Err f) decides decides' in absurd (cc)
+  after_passed {row = row} {s = s} {line = line} {meter_after = meter_after} is decides rest z (is_elif {meter_after = following} is' decides' here') =
+      let differs : Ok false ≡ Ok true = same_decision row s line meter_after following (Ok false) (Ok true) decides decides' in absurd (cc)
+  after_passed {depth = depth} {row = row} {s = s} {line = line} {bs = bs} {meter_after = meter_after} is decides rest z (is_passed {meter_after = following} is' decides' rest') =
+      rest z (skipped_again depth row s line bs meter_after following (Ok false) z decides decides' rest')
+  after_passed {row = row} {s = s} {line = line} {meter_after = meter_after} is decides rest z (is_faulty {meter_after = following} {f = f} is' decides') =
+      let differs : Ok false ≡ Err f = same_decision row s line meter_after following (Ok false) (Err f) decides decides' in absurd (cc)
 
-  pub after_faulty : {depth row : ℕ} {s : State} {line : LogicalLine} {ps : GroupParts} {bs : Branches} {remaining_after : Option ℕ} {f : Fault}
+  pub after_faulty : {depth row : ℕ} {s : State} {line : LogicalLine} {ps : GroupParts} {bs : Branches} {meter_after : Meter} {f : Fault}
       → line.directive ≢ Some Else
-      → Decides (search_of context) row s line remaining_after (Err f)
+      → Decides (search_of context) row s line meter_after (Err f)
       → (z : Progress)
       → AfterBranch depth row s line ps bs z
-      → stopped (with_remaining s remaining_after) f ≡ z
+      → stopped (with_meter s meter_after) f ≡ z
   after_faulty {line = line} is decides z (is_else is' here') = absurd (not_both line is' is)
-  after_faulty {row = row} {s = s} {line = line} {remaining_after = remaining_after} {f = f} is decides z (is_elif {remaining_after = following} is' decides' here') =
-      let differs : Err f ≡ Ok true = same_decision row s line remaining_after following (Err f) (Ok true) decides decides' in absurd (cc)
-  after_faulty {row = row} {s = s} {line = line} {remaining_after = remaining_after} {f = f} is decides z (is_passed {remaining_after = following} is' decides' rest) =
-      let differs : Err f ≡ Ok false = same_decision row s line remaining_after following (Err f) (Ok false) decides decides' in absurd (cc)
-  after_faulty {row = row} {s = s} {line = line} {remaining_after = remaining_after} {f = f} is decides z (is_faulty {remaining_after = following} {f = g} is' decides') =
-      refused_again row s line remaining_after following f g decides decides'
+  after_faulty {row = row} {s = s} {line = line} {meter_after = meter_after} {f = f} is decides z (is_elif {meter_after = following} is' decides' here') =
+      let differs : Err f ≡ Ok true = same_decision row s line meter_after following (Err f) (Ok true) decides decides' in absurd (cc)
+  after_faulty {row = row} {s = s} {line = line} {meter_after = meter_after} {f = f} is decides z (is_passed {meter_after = following} is' decides' rest) =
+      let differs : Err f ≡ Ok false = same_decision row s line meter_after following (Err f) (Ok false) decides decides' in absurd (cc)
+  after_faulty {row = row} {s = s} {line = line} {meter_after = meter_after} {f = f} is decides z (is_faulty {meter_after = following} {f = g} is' decides') =
+      refused_again row s line meter_after following f g decides decides'

@@ -1,45 +1,157 @@
--- Groups and units have the same effect with any sufficient budget, and leave the rest of the budget.
-use Rattle.std.proofs.Common.{◌≡◌, ℕ, zero, suc, ◌+◌, List, [], true, false, Option, Some, None, Ok, Err, refl, sym, subst, arith}
+-- Lines, groups and units have the same effect with any sufficient budget, and leave the rest of the budget.
+use Rattle.std.proofs.Common.{◌≡◌, ℕ, zero, suc, ◌+◌, List, [], ◌∷◌, Bool, true, false, Option, Some, None, Result, Ok, Err, refl, ap, ◌∙◌, subst, arith, if◌then◌else◌, sym}
 use Rattle.pptext.specs.declared.tokens.Place.{Place}
+use Rattle.pptext.specs.declared.tokens.Token.{Token}
+use Rattle.pptext.specs.declared.tokens.Fault.{Fault}
+use Rattle.pptext.specs.declared.sources.Directive.{Directive}
+use Rattle.pptext.specs.declared.sources.Profile.{Profile}
 use Rattle.pptext.specs.Lines.{LogicalLine}
-use Rattle.pptext.specs.Tree.{GroupParts, Branches, Done, End}
+use Rattle.pptext.specs.Tree.{hash_place, GroupParts, Branches, Done, End}
+use Rattle.ppexpand.specs.Expansion.{count_expansion}
+use Rattle.ppexpand.specs.Budget.{with_budget, is_exhausted, is_used_up}
+use Rattle.ppexpand.proofs.BudgetLemmas.{Covers, larger, covers_rest, expansion_enough, without, covers_less}
+use Rattle.ppexpr.proofs.ConditionBudgets.{condition_enough}
+use Rattle.ppunit.specs.States.{State, Progress, with_meter, Search, Context, running, stopped, search_of}
+use Rattle.ppunit.specs.DirectiveLines.{operands, text_tokens}
+use Rattle.ppunit.specs.LineControl.{presumed}
+use Rattle.ppunit.specs.Including.{IncludeName, begins_with_header}
+use Rattle.ppunit.specs.Conditions.{Decides}
+use Rattle.ppunit.specs.Directives.{EmitsText, NamesHeaderBy, NamesHeader, ExecutesDirective}
+use Rattle.ppunit.specs.Counts.{count_decides, count_names_header_by, count_names_header, count_control_by, count_group, count_branches, count_control, count_includes, count_opening}
+use Rattle.ppunit.proofs.BudgetSums.{asks_spends, decides_spends, run_spends, group_spends, branches_spend, control_spends, defines_spends}
+use Rattle.ppunit.specs.code.Effects.{affected, HasEffect}
+use Rattle.ppunit.proofs.DirectiveEffects.{effect_of, executes, count_effect, same_count, effect_of_any_meter, line_of_any_meter}
 use Rattle.pptext.specs.Tokens.{fault}
-use Rattle.ppexpand.proofs.BudgetLemmas.{Covers, without, covers_less, covers_rest}
-use Rattle.ppunit.specs.States.{State, Context, Progress, running, stopped, with_remaining, search_of}
-use Rattle.ppunit.specs.DirectiveLines.{text_tokens}
+use Rattle.ppexpand.specs.declared.meter.Meter.{Meter}
 use Rattle.ppunit.specs.Group.{ExecutesGroup, ExecutesBranches, ExecutesControlLine, ExecutesInclude, OpensFile}
-use Rattle.ppunit.specs.Counts.{count_group, count_branches, count_control, count_includes, count_opening}
 use Rattle.ppunit.specs.Unit.{Defines, unread, processed, Translates, definitions_fault, translated, count_defines, count_translates}
-use Rattle.ppunit.proofs.BudgetSums.{group_spends, branches_spend, control_spends, defines_spends}
-use Rattle.ppunit.proofs.SufficientLineBudgets.{holding, run_enough, asks_enough, decides_enough, control_by_enough, asks_rest, decides_rest, run_rest, covered}
+
+-- ---- a line has the same effect with any sufficient budget, and leaves the rest of the budget
+
+-- the state with a budget of n
+abbrev pub budgeted : State → ℕ → State
+budgeted s n = with_meter s (with_budget (Some n) s.meter)
+
+-- the same outcome with a budget of n
+abbrev pub holding : ℕ → Progress → Progress
+holding n r = record r { state = budgeted r.state n }
+
+same_rest : (n b : ℕ) (meter meter_after : Meter) → n ≡ b → meter_after ≡ meter → with_budget (Some n) meter_after ≡ with_budget (Some b) meter
+same_rest n b meter meter_after e f = λ i. with_budget (Some (e i)) (f i)
+
+pub run_enough : (s : State) (tokens : List Token) (m : Progress) (b : ℕ) → Covers s.meter.remaining b
+    → (g : EmitsText s tokens m) (n : ℕ)
+    → b ≡ count_expansion g.expands + n
+    → EmitsText (budgeted s b) tokens (holding n m)
+run_enough s tokens m b is g n sum = record {
+  expanded = record g.expanded { meter = with_budget (Some n) g.expanded.meter };
+  expands = expansion_enough s.macros s.env b is g.expands n sum;
+  is = ap (holding n) g.is;
+}
+
+asks_by_enough : (header : Bool) (s : State) (line : List Token) (meter_after : Meter) (include_name : Result IncludeName Fault) (b : ℕ) → Covers s.meter.remaining b
+    → (g : NamesHeaderBy header s line meter_after include_name) (n : ℕ)
+    → b ≡ count_names_header_by header s line meter_after include_name g + n
+    → NamesHeaderBy header (budgeted s b) line (with_budget (Some n) meter_after) include_name
+asks_by_enough true s line meter_after include_name b is g n sum = (same_rest n b s.meter meter_after (omega arith) g.0, g.1)
+asks_by_enough false s line meter_after include_name b is g n sum = record {
+  expanded = record g.expanded { meter = with_budget (Some n) g.expanded.meter };
+  expands = expansion_enough s.macros s.env b is g.expands n sum;
+  leaves = ap (with_budget (Some n)) g.leaves;
+  is = g.is;
+}
+
+pub asks_enough : (s : State) (line : List Token) (meter_after : Meter) (include_name : Result IncludeName Fault) (b : ℕ) → Covers s.meter.remaining b
+    → (g : NamesHeader s line meter_after include_name) (n : ℕ)
+    → b ≡ count_names_header s line meter_after include_name g + n
+    → NamesHeader (budgeted s b) line (with_budget (Some n) meter_after) include_name
+asks_enough s line meter_after include_name b is g n sum = asks_by_enough (begins_with_header (operands line)) s line meter_after include_name b is g n sum
+
+pub decides_enough : {search : Search} {row : ℕ} {s : State} {line : LogicalLine} {meter_after : Meter} {taken : Result Bool Fault} (b : ℕ) → Covers s.meter.remaining b
+    → (g : Decides search row s line meter_after taken) (n : ℕ)
+    → b ≡ count_decides g + n
+    → Decides search row (budgeted s b) line (with_budget (Some n) meter_after) taken
+decides_enough {s = s} {meter_after = meter_after} b is (Decides.unmatched q x) n sum = Decides.unmatched q (same_rest n b s.meter meter_after (omega arith) x.0, x.1)
+decides_enough {s = s} {meter_after = meter_after} b is (Decides.tests_name q m x) n sum = Decides.tests_name q m (same_rest n b s.meter meter_after (omega arith) x.0, x.1)
+decides_enough {s = s} {meter_after = meter_after} b is (Decides.names_no_header q v e x) n sum = Decides.names_no_header q v e (same_rest n b s.meter meter_after (omega arith) x.0, x.1)
+decides_enough b is (Decides.evaluates q v e x) n sum = Decides.evaluates q v e (condition_enough b is x n sum)
+
+effect_enough : (profile : Profile) (row : ℕ) (d : Option Directive) (s : State) (line : LogicalLine) (m : Progress) (b : ℕ) → Covers s.meter.remaining b
+    → (e : HasEffect profile row d s line m) (n : ℕ)
+    → b ≡ count_effect e + n
+    → HasEffect profile row d (budgeted s b) line (holding n m)
+effect_enough profile row d s line m b is (HasEffect.immediate {e = e} does gives) n sum =
+    let same : n ≡ b = omega arith in
+    HasEffect.immediate (effect_of_any_meter profile row d s line (with_budget (Some b) s.meter) ∙ does) (ap (holding n) gives ∙ ap (λ x. affected (budgeted s x) e) same)
+effect_enough profile row d s line m b is (HasEffect.expanding x does expands gives) n sum =
+    HasEffect.expanding (record x { meter = with_budget (Some n) x.meter }) does (expansion_enough s.macros s.env b is expands n sum)
+    (ap (holding n) gives ∙ ap (affected (with_meter s (with_budget (Some n) x.meter))) (line_of_any_meter s line x.fault (presumed x.tokens) (with_budget (Some b) s.meter)))
+
+pub control_by_enough : (profile : Profile) (row : ℕ) (d : Option Directive) (s : State) (line : LogicalLine) (m : Progress) (b : ℕ) → Covers s.meter.remaining b
+    → (g : ExecutesDirective profile row d s line m) (n : ℕ)
+    → b ≡ count_control_by profile row d s line m g + n
+    → ExecutesDirective profile row d (budgeted s b) line (holding n m)
+control_by_enough profile row d s line m b is g n sum =
+    executes profile row d (budgeted s b) line (holding n m)
+    (effect_enough profile row d s line m b is (effect_of profile row d s line m g) n (sum ∙ ap (λ k. k + n) (same_count profile row d s line m g)))
+
+-- If the budget covers the count of a line and m more, the remaining budget covers m.
+pub asks_rest : (s : State) (line : List Token) (meter_after : Meter) (include_name : Result IncludeName Fault) (b m : ℕ) → Covers s.meter.remaining b
+    → (g : NamesHeader s line meter_after include_name)
+    → b ≡ count_names_header s line meter_after include_name g + m
+    → Covers meter_after.remaining m
+asks_rest s line meter_after include_name b m is g sum =
+    covers_rest meter_after.remaining (count_names_header s line meter_after include_name g) m is (asks_spends s line meter_after include_name g) sum
+
+pub decides_rest : {search : Search} {row : ℕ} {s : State} {line : LogicalLine} {meter_after : Meter} {taken : Result Bool Fault} (b m : ℕ) → Covers s.meter.remaining b
+    → (g : Decides search row s line meter_after taken)
+    → b ≡ count_decides g + m
+    → Covers meter_after.remaining m
+decides_rest {meter_after = meter_after} b m is g sum = covers_rest meter_after.remaining (count_decides g) m is (decides_spends g) sum
+
+pub run_rest : (s : State) (tokens : List Token) (r : Progress) (b m : ℕ) → Covers s.meter.remaining b
+    → (g : EmitsText s tokens r)
+    → b ≡ count_expansion g.expands + m
+    → Covers r.state.meter.remaining m
+run_rest s tokens r b m is g sum = covers_rest r.state.meter.remaining (count_expansion g.expands) m is (run_spends s tokens r g) sum
+
+covered_budget : (budget : Option ℕ) (b : ℕ) → Covers budget (suc b) → is_used_up budget ≡ true → ⊥
+covered_budget None b is e = absurd (cc)
+covered_budget (Some zero) b (larger low) e = absurd (omega arith)
+covered_budget (Some (suc n)) b is e = absurd (cc)
+
+pub covered : (meter : Meter) (b : ℕ) → Covers meter.remaining (suc b) → is_exhausted meter ≡ true → ⊥
+covered meter b is e = covered_budget meter.remaining b is e
+
+-- ---- groups and units have the same effect with any sufficient budget, and leave the rest of the budget
 
 module _ (context : Context) where
-  pub group_rest : {depth row : ℕ} {r : Progress} {ps : GroupParts} {end : Progress} (b m : ℕ) → Covers r.state.remaining b
+  pub group_rest : {depth row : ℕ} {r : Progress} {ps : GroupParts} {end : Progress} (b m : ℕ) → Covers r.state.meter.remaining b
       → (d : ExecutesGroup context depth row r ps end)
       → b ≡ count_group d + m
-      → Covers end.state.remaining m
-  group_rest {end = end} b m is d sum = covers_rest end.state.remaining (count_group d) m is (group_spends context d) sum
+      → Covers end.state.meter.remaining m
+  group_rest {end = end} b m is d sum = covers_rest end.state.meter.remaining (count_group d) m is (group_spends context d) sum
 
-  pub branches_rest : {depth row : ℕ} {s : State} {bs : Branches} {r : Progress} (b m : ℕ) → Covers s.remaining b
+  pub branches_rest : {depth row : ℕ} {s : State} {bs : Branches} {r : Progress} (b m : ℕ) → Covers s.meter.remaining b
       → (d : ExecutesBranches context depth row s bs r)
       → b ≡ count_branches d + m
-      → Covers r.state.remaining m
-  branches_rest {r = r} b m is d sum = covers_rest r.state.remaining (count_branches d) m is (branches_spend context d) sum
+      → Covers r.state.meter.remaining m
+  branches_rest {r = r} b m is d sum = covers_rest r.state.meter.remaining (count_branches d) m is (branches_spend context d) sum
 
-  pub control_rest : {depth row : ℕ} {s : State} {line : LogicalLine} {r : Progress} (b m : ℕ) → Covers s.remaining b
+  pub control_rest : {depth row : ℕ} {s : State} {line : LogicalLine} {r : Progress} (b m : ℕ) → Covers s.meter.remaining b
       → (d : ExecutesControlLine context depth row s line r)
       → b ≡ count_control d + m
-      → Covers r.state.remaining m
-  control_rest {r = r} b m is d sum = covers_rest r.state.remaining (count_control d) m is (control_spends context d) sum
+      → Covers r.state.meter.remaining m
+  control_rest {r = r} b m is d sum = covers_rest r.state.meter.remaining (count_control d) m is (control_spends context d) sum
 
-  pub defines_rest : {defines : List (List ℕ)} {s : State} {r : Progress} (b m : ℕ) → Covers s.remaining b
+  pub defines_rest : {defines : List (List ℕ)} {s : State} {r : Progress} (b m : ℕ) → Covers s.meter.remaining b
       → (d : Defines context defines s r)
       → b ≡ count_defines d + m
-      → Covers r.state.remaining m
-  defines_rest {r = r} b m is d sum = covers_rest r.state.remaining (count_defines d) m is (defines_spends context d) sum
+      → Covers r.state.meter.remaining m
+  defines_rest {r = r} b m is d sum = covers_rest r.state.meter.remaining (count_defines d) m is (defines_spends context d) sum
 
   mutual
-    pub group_enough : {depth row : ℕ} {r : Progress} {ps : GroupParts} {end : Progress} (b : ℕ) → Covers r.state.remaining b
+    pub group_enough : {depth row : ℕ} {r : Progress} {ps : GroupParts} {end : Progress} (b : ℕ) → Covers r.state.meter.remaining b
         → (d : ExecutesGroup context depth row r ps end) (n : ℕ)
         → b ≡ count_group d + n
         → ExecutesGroup context depth row (holding b r) ps (holding n end)
@@ -55,115 +167,115 @@ module _ (context : Context) where
     group_enough b is (ExecutesGroup.control here rest) n sum =
         let k = count_group rest in
         ExecutesGroup.control (control_enough b is here (k + n) (omega arith)) (group_enough (k + n) (control_rest b (k + n) is here (omega arith)) rest n refl)
-    group_enough {row = row} b is (ExecutesGroup.taken {s = s} {line = line} {remaining_after = remaining_after} decides here rest) n sum =
+    group_enough b is (ExecutesGroup.taken decides here rest) n sum =
         let j = count_group here in
         let k = count_group rest in
-        let remaining = decides_rest (search_of context) row s line remaining_after (Ok true) b (j + (k + n)) is decides (omega arith) in
-        ExecutesGroup.taken (decides_enough (search_of context) row s line remaining_after (Ok true) b is decides (j + (k + n)) (omega arith)) (group_enough (j + (k + n)) remaining here (k + n) refl) (group_enough (k + n) (group_rest (j + (k + n)) (k + n) remaining here refl) rest n refl)
-    group_enough {row = row} b is (ExecutesGroup.skipped {s = s} {line = line} {remaining_after = remaining_after} decides here rest) n sum =
+        let covers = decides_rest b (j + (k + n)) is decides (omega arith) in
+        ExecutesGroup.taken (decides_enough b is decides (j + (k + n)) (omega arith)) (group_enough (j + (k + n)) covers here (k + n) refl) (group_enough (k + n) (group_rest (j + (k + n)) (k + n) covers here refl) rest n refl)
+    group_enough b is (ExecutesGroup.skipped decides here rest) n sum =
         let j = count_branches here in
         let k = count_group rest in
-        let remaining = decides_rest (search_of context) row s line remaining_after (Ok false) b (j + (k + n)) is decides (omega arith) in
-        ExecutesGroup.skipped (decides_enough (search_of context) row s line remaining_after (Ok false) b is decides (j + (k + n)) (omega arith))
-        (branches_enough (j + (k + n)) remaining here (k + n) refl) (group_enough (k + n) (branches_rest (j + (k + n)) (k + n) remaining here refl) rest n refl)
-    group_enough {row = row} b is (ExecutesGroup.condition_fault {s = s} {line = line} {remaining_after = remaining_after} {f = f} decides) n sum = ExecutesGroup.condition_fault (decides_enough (search_of context) row s line remaining_after (Err f) b is decides n sum)
+        let covers = decides_rest b (j + (k + n)) is decides (omega arith) in
+        ExecutesGroup.skipped (decides_enough b is decides (j + (k + n)) (omega arith))
+        (branches_enough (j + (k + n)) covers here (k + n) refl) (group_enough (k + n) (branches_rest (j + (k + n)) (k + n) covers here refl) rest n refl)
+    group_enough b is (ExecutesGroup.condition_fault decides) n sum = ExecutesGroup.condition_fault (decides_enough b is decides n sum)
 
-    pub branches_enough : {depth row : ℕ} {s : State} {bs : Branches} {m : Progress} (b : ℕ) → Covers s.remaining b
+    pub branches_enough : {depth row : ℕ} {s : State} {bs : Branches} {m : Progress} (b : ℕ) → Covers s.meter.remaining b
         → (d : ExecutesBranches context depth row s bs m) (n : ℕ)
         → b ≡ count_branches d + n
-        → ExecutesBranches context depth row (with_remaining s (Some b)) bs (holding n m)
+        → ExecutesBranches context depth row (budgeted s b) bs (holding n m)
     branches_enough {depth} {row} b is (ExecutesBranches.no_branch_taken {s = s} {line = line}) n sum =
         let same : b ≡ n = omega arith in
-        subst (λ x. ExecutesBranches context depth row (with_remaining s (Some b)) (End line) (holding x (running s))) same ExecutesBranches.no_branch_taken
+        subst (λ x. ExecutesBranches context depth row (budgeted s b) (End line) (holding x (running s))) same ExecutesBranches.no_branch_taken
     branches_enough b is (ExecutesBranches.else_group e here) n sum = ExecutesBranches.else_group e (group_enough b is here n sum)
-    branches_enough {row = row} b is (ExecutesBranches.branch_taken {s = s} {line = line} {remaining_after = remaining_after} e decides here) n sum =
+    branches_enough b is (ExecutesBranches.branch_taken e decides here) n sum =
         let j = count_group here in
-        ExecutesBranches.branch_taken e (decides_enough (search_of context) row s line remaining_after (Ok true) b is decides (j + n) (omega arith)) (group_enough (j + n) (decides_rest (search_of context) row s line remaining_after (Ok true) b (j + n) is decides (omega arith)) here n refl)
-    branches_enough {row = row} b is (ExecutesBranches.branch_skipped {s = s} {line = line} {remaining_after = remaining_after} e decides rest) n sum =
+        ExecutesBranches.branch_taken e (decides_enough b is decides (j + n) (omega arith)) (group_enough (j + n) (decides_rest b (j + n) is decides (omega arith)) here n refl)
+    branches_enough b is (ExecutesBranches.branch_skipped e decides rest) n sum =
         let j = count_branches rest in
-        ExecutesBranches.branch_skipped e (decides_enough (search_of context) row s line remaining_after (Ok false) b is decides (j + n) (omega arith)) (branches_enough (j + n) (decides_rest (search_of context) row s line remaining_after (Ok false) b (j + n) is decides (omega arith)) rest n refl)
-    branches_enough {row = row} b is (ExecutesBranches.branch_condition_fault {s = s} {line = line} {remaining_after = remaining_after} {f = f} e decides) n sum =
-        ExecutesBranches.branch_condition_fault e (decides_enough (search_of context) row s line remaining_after (Err f) b is decides n sum)
+        ExecutesBranches.branch_skipped e (decides_enough b is decides (j + n) (omega arith)) (branches_enough (j + n) (decides_rest b (j + n) is decides (omega arith)) rest n refl)
+    branches_enough b is (ExecutesBranches.branch_condition_fault e decides) n sum =
+        ExecutesBranches.branch_condition_fault e (decides_enough b is decides n sum)
 
-    pub control_enough : {depth row : ℕ} {s : State} {line : LogicalLine} {m : Progress} (b : ℕ) → Covers s.remaining b
+    pub control_enough : {depth row : ℕ} {s : State} {line : LogicalLine} {m : Progress} (b : ℕ) → Covers s.meter.remaining b
         → (d : ExecutesControlLine context depth row s line m) (n : ℕ)
         → b ≡ count_control d + n
-        → ExecutesControlLine context depth row (with_remaining s (Some b)) line (holding n m)
+        → ExecutesControlLine context depth row (budgeted s b) line (holding n m)
     control_enough {depth} {row} {s} {line} {m} b is (ExecutesControlLine.error e) n sum =
         let same : b ≡ n = omega arith in
-        subst (λ x. ExecutesControlLine context depth row (with_remaining s (Some b)) line (holding x m)) same (ExecutesControlLine.error e)
+        subst (λ x. ExecutesControlLine context depth row (budgeted s b) line (holding x m)) same (ExecutesControlLine.error e)
     control_enough {depth} {row} {s} {line} {m} b is (ExecutesControlLine.ignored e) n sum =
         let same : b ≡ n = omega arith in
-        subst (λ x. ExecutesControlLine context depth row (with_remaining s (Some b)) line (holding x m)) same (ExecutesControlLine.ignored e)
+        subst (λ x. ExecutesControlLine context depth row (budgeted s b) line (holding x m)) same (ExecutesControlLine.ignored e)
     control_enough {depth} {row} {s} {line} {m} b is (ExecutesControlLine.quote_fault e q) n sum =
         let same : b ≡ n = omega arith in
-        subst (λ x. ExecutesControlLine context depth row (with_remaining s (Some b)) line (holding x m)) same (ExecutesControlLine.quote_fault e q)
+        subst (λ x. ExecutesControlLine context depth row (budgeted s b) line (holding x m)) same (ExecutesControlLine.quote_fault e q)
     control_enough {row = row} b is (ExecutesControlLine.executed {s = s} {line = line} {m = m} q does) n sum =
         ExecutesControlLine.executed q (control_by_enough context.profile row line.directive s line m b is does n sum)
     control_enough b is (ExecutesControlLine.include e q here) n sum = ExecutesControlLine.include e q (includes_enough b is here n sum)
 
-    includes_enough : {depth row : ℕ} {following : Option ℕ} {s : State} {line : LogicalLine} {m : Progress} (b : ℕ) → Covers s.remaining b
+    includes_enough : {depth row : ℕ} {following : Option ℕ} {s : State} {line : LogicalLine} {m : Progress} (b : ℕ) → Covers s.meter.remaining b
         → (d : ExecutesInclude context depth row following s line m) (n : ℕ)
         → b ≡ count_includes d + n
-        → ExecutesInclude context depth row following (with_remaining s (Some b)) line (holding n m)
-    includes_enough b is (ExecutesInclude.operand_fault {s = s} {line = line} {remaining_after = remaining_after} {f = f} asks) n sum =
-        ExecutesInclude.operand_fault (asks_enough s line.tokens remaining_after (Err f) b is asks n sum)
-    includes_enough b is (ExecutesInclude.missing {s = s} {line = line} {remaining_after = remaining_after} a asks finds) n sum =
-        ExecutesInclude.missing a (asks_enough s line.tokens remaining_after (Ok a) b is asks n sum) finds
-    includes_enough b is (ExecutesInclude.included {s = s} {line = line} {remaining_after = remaining_after} a found asks finds opens) n sum =
+        → ExecutesInclude context depth row following (budgeted s b) line (holding n m)
+    includes_enough b is (ExecutesInclude.operand_fault {s = s} {line = line} {meter_after = meter_after} {f = f} asks) n sum =
+        ExecutesInclude.operand_fault (asks_enough s line.tokens meter_after (Err f) b is asks n sum)
+    includes_enough b is (ExecutesInclude.missing {s = s} {line = line} {meter_after = meter_after} a asks finds) n sum =
+        ExecutesInclude.missing a (asks_enough s line.tokens meter_after (Ok a) b is asks n sum) finds
+    includes_enough b is (ExecutesInclude.included {s = s} {line = line} {meter_after = meter_after} a found asks finds opens) n sum =
         let j = count_opening opens in
-        ExecutesInclude.included a found (asks_enough s line.tokens remaining_after (Ok a) b is asks (j + n) (omega arith)) finds
-        (opened_enough (j + n) (asks_rest s line.tokens remaining_after (Ok a) b (j + n) is asks (omega arith)) opens n refl)
+        ExecutesInclude.included a found (asks_enough s line.tokens meter_after (Ok a) b is asks (j + n) (omega arith)) finds
+        (opened_enough (j + n) (asks_rest s line.tokens meter_after (Ok a) b (j + n) is asks (omega arith)) opens n refl)
 
-    pub opened_enough : {depth row : ℕ} {directory : Option ℕ} {at : Place} {s : State} {m : Progress} (b : ℕ) → Covers s.remaining b
+    pub opened_enough : {depth row : ℕ} {directory : Option ℕ} {at : Place} {s : State} {m : Progress} (b : ℕ) → Covers s.meter.remaining b
         → (d : OpensFile context depth at s row directory m) (n : ℕ)
         → b ≡ count_opening d + n
-        → OpensFile context depth at (with_remaining s (Some b)) row directory (holding n m)
+        → OpensFile context depth at (budgeted s b) row directory (holding n m)
     opened_enough {depth} {row} {directory} {at} {s} {m} b is (OpensFile.too_deep deep) n sum =
         let same : b ≡ n = omega arith in
-        subst (λ x. OpensFile context depth at (with_remaining s (Some b)) row directory (holding x m)) same (OpensFile.too_deep deep)
+        subst (λ x. OpensFile context depth at (budgeted s b) row directory (holding x m)) same (OpensFile.too_deep deep)
     opened_enough {depth} {row} {directory} {at} {s} zero is (OpensFile.exhausted fits spent) n sum =
         let same : 0 ≡ n = omega arith in
-        subst (λ x. OpensFile context depth at (with_remaining s (Some 0)) row directory (holding x (stopped s (fault 35 at [])))) same (OpensFile.exhausted fits refl)
-    opened_enough (suc b) is (OpensFile.exhausted {s = s} fits spent) n sum = absurd (covered s.remaining b is spent)
+        subst (λ x. OpensFile context depth at (budgeted s 0) row directory (holding x (stopped s (fault 35 at [])))) same (OpensFile.exhausted fits refl)
+    opened_enough (suc b) is (OpensFile.exhausted {s = s} fits spent) n sum = absurd (covered s.meter b is spent)
     opened_enough zero is (OpensFile.not_read_again fits more once) n sum = absurd (omega arith)
     opened_enough {depth} {row} {directory} {at} {s} {m} (suc b) is (OpensFile.not_read_again fits more once) n sum =
         let same : b ≡ n = omega arith in
-        subst (λ x. OpensFile context depth at (with_remaining s (Some (suc b))) row directory (holding x m)) same (OpensFile.not_read_again fits refl once)
+        subst (λ x. OpensFile context depth at (budgeted s (suc b)) row directory (holding x m)) same (OpensFile.not_read_again fits refl once)
     opened_enough zero is (OpensFile.not_readable fits more once file) n sum = absurd (omega arith)
     opened_enough {depth} {row} {directory} {at} {s} {m} (suc b) is (OpensFile.not_readable fits more once file) n sum =
         let same : b ≡ n = omega arith in
-        subst (λ x. OpensFile context depth at (with_remaining s (Some (suc b))) row directory (holding x m)) same (OpensFile.not_readable fits refl once file)
+        subst (λ x. OpensFile context depth at (budgeted s (suc b)) row directory (holding x m)) same (OpensFile.not_readable fits refl once file)
     opened_enough zero is (OpensFile.content_fault fits more once file reads) n sum = absurd (omega arith)
     opened_enough {depth} {row} {directory} {at} {s} {m} (suc b) is (OpensFile.content_fault fits more once file reads) n sum =
         let same : b ≡ n = omega arith in
-        subst (λ x. OpensFile context depth at (with_remaining s (Some (suc b))) row directory (holding x m)) same (OpensFile.content_fault fits refl once file reads)
+        subst (λ x. OpensFile context depth at (budgeted s (suc b)) row directory (holding x m)) same (OpensFile.content_fault fits refl once file reads)
     opened_enough zero is (OpensFile.read fits more once file reads tree here) n sum = absurd (omega arith)
-    opened_enough (suc b) is (OpensFile.read {s = s} fits more once file reads tree here) n sum =
+    opened_enough (suc b) is (OpensFile.read fits more once file reads tree here) n sum =
         OpensFile.read fits refl once file reads tree (group_enough b (covers_less is) here n (omega arith))
 
-  pub defines_enough : {defines : List (List ℕ)} {s : State} {m : Progress} (b : ℕ) → Covers s.remaining b
+  pub defines_enough : {defines : List (List ℕ)} {s : State} {m : Progress} (b : ℕ) → Covers s.meter.remaining b
       → (d : Defines context defines s m) (n : ℕ)
       → b ≡ count_defines d + n
-      → Defines context defines (with_remaining s (Some b)) (holding n m)
+      → Defines context defines (budgeted s b) (holding n m)
   defines_enough {defines} {s} {m} b is (unread reads) n sum =
       let same : b ≡ n = omega arith in
-      subst (λ x. Defines context defines (with_remaining s (Some b)) (holding x m)) same (unread reads)
+      subst (λ x. Defines context defines (budgeted s b) (holding x m)) same (unread reads)
   defines_enough b is (processed reads tree here) n sum = processed reads tree (group_enough b is here n sum)
 
   -- With a sufficient budget, the outcome of a unit is unchanged, and the rest of the budget remains.
-  pub unit_suffices : {defines : List (List ℕ)} {row : ℕ} {s : State} {m : Progress} (b : ℕ) → Covers s.remaining b
+  pub unit_suffices : {defines : List (List ℕ)} {row : ℕ} {s : State} {m : Progress} (b : ℕ) → Covers s.meter.remaining b
       → (d : Translates context defines row s m) (n : ℕ)
       → b ≡ count_translates d + n
-      → Translates context defines row (with_remaining s (Some b)) (holding n m)
+      → Translates context defines row (budgeted s b) (holding n m)
   unit_suffices b is (definitions_fault here) n sum = definitions_fault (defines_enough b is here n sum)
   unit_suffices b is (translated here opens) n sum =
       let j = count_opening opens in
       translated (defines_enough b is here (j + n) (omega arith)) (opened_enough (j + n) (defines_rest b (j + n) is here (omega arith)) opens n refl)
 
   -- A unit without a budget has the same outcome with a sufficient budget.
-  pub unit_enough : {defines : List (List ℕ)} {row : ℕ} {s : State} {m : Progress} → s.remaining ≡ None
+  pub unit_enough : {defines : List (List ℕ)} {row : ℕ} {s : State} {m : Progress} → s.meter.remaining ≡ None
       → (d : Translates context defines row s m) (b n : ℕ)
       → b ≡ count_translates d + n
-      → Translates context defines row (with_remaining s (Some b)) (holding n m)
-  unit_enough is d b n sum = unit_suffices b (subst (λ remaining. Covers remaining b) (sym is) without) d n sum
+      → Translates context defines row (budgeted s b) (holding n m)
+  unit_enough is d b n sum = unit_suffices b (subst (λ budget. Covers budget b) (sym is) without) d n sum

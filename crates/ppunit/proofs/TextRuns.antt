@@ -1,18 +1,57 @@
--- A walk over a text run.
-use Rattle.std.proofs.Common.{◌≡◌, ◌≢◌, ℕ, ◌+◌, ◌-◌, ◌<◌, List, [], ◌∷◌, ◌++◌, length, take, drop, refl, sym, ap, ◌∙◌, subst, arith, Option, None, Some}
+-- A walk over a text run, and the end of a text run. A run without tokens, for example of blank lines, emits nothing.
+use Rattle.std.proofs.Common.{◌≡◌, ℕ, List, [], ◌∷◌, length, nat_eq, Option, None, Some, refl, append-nil, sym, true, zero, suc, arith, ◌≢◌, ◌+◌, ◌-◌, ◌<◌, ◌++◌, take, drop, ap, ◌∙◌, subst, ◌≤◌, add-one, Bool, false, if◌then◌else◌}
+use Rattle.std.proofs.lemmas.Bool.{eqb-true}
+use Rattle.pptext.specs.declared.tokens.Token.{Token}
+use Rattle.ppmacro.specs.Names.{Macros}
+use Rattle.ppexpand.specs.declared.env.Env.{Env}
+use Rattle.ppexpand.specs.Budget.{is_exhausted, refused}
+use Rattle.ppexpand.specs.ExpansionStep.{Done, expansion_step}
+use Rattle.ppexpand.specs.Expansion.{stops_with, done, step_in_budget}
+use Rattle.ppunit.specs.States.{State, Context, running}
+use Rattle.ppunit.specs.Directives.{EmitsText}
 use Rattle.std.proofs.lemmas.List.{take_at}
 use Rattle.std.specs.List.{AllByRecursion}
 use Rattle.pptext.specs.declared.tokens.Fault.{Fault}
 use Rattle.pptext.specs.Lines.{LogicalLine}
 use Rattle.pptext.specs.Tree.{GroupParts, Done, TextLines, Control, Section, End, Branch, part_lines, branch_lines, BeginsTextLines, AreGroupParts, role, role_by}
-use Rattle.ppunit.specs.States.{State, Context, running}
+use Rattle.ppexpand.specs.declared.meter.Meter.{Meter}
 use Rattle.ppunit.specs.Group.{ExecutesGroup}
-use Rattle.ppunit.specs.Directives.{EmitsText}
 use Rattle.ppunit.specs.DirectiveLines.{text_tokens}
 use Rattle.ppshelf.specs.Files.{Files}
 use Rattle.ppunit.specs.code.Walk.{line_at, EnclosingSections, lines_to_end, AreEnclosingSections, HasPartsAt, Advances, IsTextLine, StartsWithoutTextLine}
 use Rattle.ppunit.proofs.FirstLineCases.{lay_run, text_directive, branches_differ, First, text, control, opening, ending}
 use Rattle.ppunit.proofs.WalkSteps.{ends_front, ends_stop, AdvancesFrom, advances, first_at, run_result}
+use Rattle.ppunit.proofs.IndexedLines.{at_index, from_index}
+
+-- ---- a text run without tokens, for example of blank lines, emits nothing
+
+done_anyway : (exhausted : Bool) → (if exhausted then refused [] Done else Done) ≡ Done
+done_anyway true = refl
+done_anyway false = refl
+
+-- With any meter, an empty list is expanded.
+pub none_next : (macros : Macros) (env : Env) (meter : Meter) → step_in_budget macros env meter [] ≡ Done
+unfolding expansion_step
+none_next macros env meter = done_anyway (is_exhausted meter)
+
+without_tokens : (s : State) → EmitsText s [] (record { state = s; fault = None })
+without_tokens s = record {
+  expanded = record { tokens = []; fault = None; meter = s.meter };
+  expands = record {
+    outcome = stops_with s.meter None;
+    expands = (0, done (none_next s.macros s.env s.meter));
+    emitted = refl;
+    fault_is = refl;
+    meter_is = refl;
+  };
+  is = λ i. record { state = record s { items = sym (append-nil s.items) i }; fault = None };
+}
+
+pub empty_run : (s : State) (ts : List Token) → nat_eq (length ts) 0 ≡ true → EmitsText s ts (record { state = s; fault = None })
+empty_run s [] h = without_tokens s
+empty_run s (t ∷ ts) h = absurd (omega (arith, eqb-true (suc (length ts)) 0 h))
+
+-- ---- a walk over a text run
 
 text_lines : (rs : List LogicalLine) → AllByRecursion (λ r. role r ≡ role_by None) rs → AllByRecursion IsTextLine rs
 text_lines [] all = tt
@@ -34,7 +73,8 @@ behind_run (Section r ps cs rs) [] are outer alone = let is = are.0 in no_text r
 behind_run (Section r ps cs rs) ((bs, qs) ∷ k) are outer alone = let is = are.0 in no_text r (λ h. cc)
 
 abbrev pub RunOf : List LogicalLine → ℕ → ℕ → Type 0
-RunOf lines index end = (front rest : List LogicalLine) → drop index lines ≡ front ++ rest → AllByRecursion IsTextLine front → StartsWithoutTextLine rest → (end ≡ index + length front) × (drop end lines ≡ rest)
+RunOf lines index end =
+    (front rest : List LogicalLine) → drop index lines ≡ front ++ rest → AllByRecursion IsTextLine front → StartsWithoutTextLine rest → (end ≡ index + length front) × (drop end lines ≡ rest)
 
 pub run_tokens_are : (lines front rest : List LogicalLine) (index end : ℕ) → drop index lines ≡ front ++ rest → end ≡ index + length front → take (end - index) (drop index lines) ≡ front
 run_tokens_are lines front rest index end e is =
@@ -83,3 +123,64 @@ run_advances context files depth row lines index end s t f within is run gives =
     let b = run_by context files depth row lines index end s t f ps k (ap role_by is) (first_at lines index ps k within stands) stands run gives in
     let are = subst AreGroupParts b.2 stands.parts in
     subst (λ (z : GroupParts). AdvancesFrom context files depth row lines s t (run_result end f) z k) (sym b.2) (run_on context files depth row lines index end s t f b.0 b.1 k are.3 stands.outer b.3 b.4))
+
+-- ---- the end of a text run
+
+-- loop invariant: the lines from `start` up to `end` are lines of the text run
+pub record RunSoFar (lines : List LogicalLine) (start end : ℕ) : Type 0 where
+  pub within : end ≤ length lines
+  pub from : start ≤ end
+  pub so_far : (front rest : List LogicalLine)
+      → drop start lines ≡ front ++ rest
+      → AllByRecursion IsTextLine front
+      → StartsWithoutTextLine rest
+      → (more : List LogicalLine) × (drop end lines ≡ more ++ rest) × AllByRecursion IsTextLine more × (start + length front ≡ end + length more)
+
+pub run_start : (lines : List LogicalLine) (start : ℕ) → start ≤ length lines → RunSoFar lines start start
+run_start lines start within = record { within = within; from = omega arith; so_far = λ front rest e all is. (front, e, all, refl) }
+
+run_one : (lines : List LogicalLine) (end goal : ℕ) (more rest : List LogicalLine)
+    → end < length lines
+    → IsTextLine (line_at lines end)
+    → drop end lines ≡ more ++ rest
+    → AllByRecursion IsTextLine more
+    → StartsWithoutTextLine rest
+    → goal ≡ end + length more
+    → (less : List LogicalLine) × (drop (end + 1) lines ≡ less ++ rest) × AllByRecursion IsTextLine less × (goal ≡ end + 1 + length less)
+run_one lines end goal [] [] within is e all ends sum = let there = sym (from_index lines end within) ∙ e in absurd (cc)
+run_one lines end goal [] (r ∷ rest) within is e all ends sum =
+    let h = at_index lines end r rest e in
+    absurd (ends (subst IsTextLine h.here is))
+run_one lines end goal (r ∷ more) rest within is e all ends sum =
+    let h = at_index lines end r (more ++ rest) e in
+    (more, rw add-one h.following, all.1, omega arith)
+
+pub run_more : (lines : List LogicalLine) (start end : ℕ) → end < length lines → IsTextLine (line_at lines end) → RunSoFar lines start end → RunSoFar lines start (end + 1)
+run_more lines start end within is sofar = record {
+  within = omega arith;
+  from = omega (arith, sofar.from);
+  so_far = λ front rest e all ends. let f = sofar.so_far front rest e all ends in run_one lines end (start + length front) f.0 rest within is f.1 f.2 ends f.3;
+}
+
+run_over : (lines : List LogicalLine) (end goal : ℕ) (more rest : List LogicalLine)
+    → (end < length lines → ¬ IsTextLine (line_at lines end))
+    → drop end lines ≡ more ++ rest
+    → AllByRecursion IsTextLine more
+    → goal ≡ end + length more
+    → (end ≡ goal) × (drop end lines ≡ rest)
+run_over lines end goal [] rest over e all sum = (omega arith, e)
+run_over lines end goal (r ∷ more) rest over e all sum =
+    let h = at_index lines end r (more ++ rest) e in
+    absurd (over h.within (subst IsTextLine (sym h.here) all.0))
+
+pub run_done : (lines : List LogicalLine) (start end : ℕ)
+    → RunSoFar lines start end
+    → (end < length lines → ¬ IsTextLine (line_at lines end))
+    → (front rest : List LogicalLine)
+    → drop start lines ≡ front ++ rest
+    → AllByRecursion IsTextLine front
+    → StartsWithoutTextLine rest
+    → (end ≡ start + length front) × (drop end lines ≡ rest)
+run_done lines start end sofar over front rest e all ends =
+    let f = sofar.so_far front rest e all ends in
+    run_over lines end (start + length front) f.0 rest over f.1 f.2 f.3

@@ -6,7 +6,7 @@ use Rattle.pptext.specs.declared.tokens.Token.{Token}
 use Rattle.pptext.specs.declared.tokens.Fault.{Fault}
 use Rattle.pptext.specs.declared.sources.Profile.{Profile}
 use Rattle.pptext.specs.declared.sources.Directive.{Directive}
-use Rattle.pptext.specs.declared.sources.Directive.TheVariants.{Else, Define, Undef, Line, Pragma, Null, Unknown}
+use Rattle.pptext.specs.declared.sources.Directive.TheVariants.{Else, Line}
 use Rattle.pptext.specs.declared.directives.Question.{Question}
 use Rattle.pptext.specs.declared.directives.Question.TheVariants.{Defined, Value}
 use Rattle.pptext.specs.declared.directives.Class.{Class}
@@ -17,9 +17,9 @@ use Rattle.pptext.specs.Sources.{Reads, IsSource}
 use Rattle.pptext.specs.Tokens.{fault}
 use Rattle.pptext.specs.Tree.{hash_place, ControlLine, Opens, Elses, role, role_in, role_by, GroupParts, Done, TextLines, Control, Section, Branches, End, Branch, AreGroupParts, AreBranches, Tree, group_fault}
 use Rattle.ppmacro.specs.Names.{Macros}
-use Rattle.ppmacro.specs.Define.{after_define, after_undef}
+use Rattle.ppexpand.specs.declared.meter.Meter.{Meter}
 use Rattle.ppexpand.specs.declared.env.Env.{Env}
-use Rattle.ppexpand.specs.declared.expansion.Expanded.{Expanded}
+use Rattle.ppexpand.specs.Expansion.{Expansion}
 use Rattle.ppexpand.specs.Expansion.{IsExpansion}
 use Rattle.ppexpand.specs.Budget.{is_exhausted}
 use Rattle.ppexpr.specs.Conditions.{IsCondition}
@@ -31,25 +31,27 @@ use Rattle.ppshelf.proofs.SearchResults.{first_within}
 use Rattle.ppunit.proofs.FirstLineCases.{else_directive, not_else}
 use Rattle.ppunit.specs.Dependencies.{has_row}
 use Rattle.ppunit.specs.declared.units.Item.TheVariants as item
-use Rattle.ppunit.specs.States.{State, Search, Context, search_of, Progress, running, stopped, output, emitted, with_remaining, with_dependency, entering, leaving, with_one_spent}
-use Rattle.ppunit.specs.DirectiveLines.{operands, line_fault, named_fault, one_identifier, text_tokens}
+use Rattle.ppunit.specs.States.{State, Search, Context, search_of, Progress, running, stopped, output, emitted, with_meter, with_dependency, entering, leaving, with_one_spent}
+use Rattle.ppunit.specs.DirectiveLines.{operands, line_fault, one_identifier, text_tokens}
 use Rattle.ppunit.specs.Quotes.{unmatched_quote}
 use Rattle.ppunit.specs.LineControl.{presumed}
 use Rattle.ppunit.specs.Including.{IncludeName, begins_with_header, name_of_header, name_or, name_of_expansion_or, if_possible_name}
 use Rattle.ppunit.specs.Probing.{condition_tokens}
-use Rattle.ppunit.specs.Conditions.{Decides, DecidesFreely, DecidesOf, DecidesBy, DecidesUnless, by_name}
-use Rattle.ppunit.specs.Directives.{EmitsText, SetsLine, renumbered_by, with_macros, pragma_emitted, ExecutesDirective, NamesHeader, NamesHeaderBy, candidates_for, FindsFile, message, checks_quotes}
+use Rattle.ppunit.specs.Conditions.{Decides, by_name}
+use Rattle.ppunit.specs.Directives.{EmitsText, ExecutesDirective, NamesHeader, NamesHeaderBy, candidates_for, FindsFile, message, checks_quotes}
+use Rattle.ppunit.specs.code.Effects.{Effect, affected, immediate_effect, line_effect, HasEffect}
+use Rattle.ppunit.proofs.DirectiveEffects.{executes, control_has_effect}
 use Rattle.ppunit.specs.Group.{depth_limit, ExecutesGroup, ExecutesBranches, ExecutesControlLine, ExecutesInclude, OpensFile}
 use Rattle.ppunit.specs.Laws.{KnowsAll, HasSomeValue}
 use Rattle.ppunit.specs.Unit.{Defines, unread, processed, Translates, definitions_fault, translated, command_file, command_text, first_place, context_of_unit, initial_state}
 
 abbrev pub SomeExpansion : Type 0
-SomeExpansion = (macros : Macros) (env : Env) (remaining : Option ℕ) (tokens : List Token) → (e : Expanded) × IsExpansion macros env remaining tokens e
+SomeExpansion = (macros : Macros) (env : Env) (meter : Meter) (tokens : List Token) → (e : Expansion) × IsExpansion macros env meter tokens e
 
 abbrev pub SomeDecision : Type 0
 SomeDecision =
-    (macros : Macros) (env : Env) (at : Place) (tokens : List Token) (remaining : Option ℕ)
-    → (c : Result Bool Fault) × (remaining_after : Option ℕ) × IsCondition macros env at tokens remaining c remaining_after
+    (macros : Macros) (env : Env) (at : Place) (tokens : List Token) (meter : Meter)
+    → (c : Result Bool Fault) × (meter_after : Meter) × IsCondition macros env at tokens meter c meter_after
 
 abbrev pub SomeReading : Type 0
 SomeReading = (profile : Profile) (file : ℕ) (bytes : List ℕ) → (r : Result (List LogicalLine) Fault) × Reads profile file bytes r
@@ -86,56 +88,58 @@ elif_conditional (Some d) e = elif_asks (class_of d) e
 module _ (expansions : SomeExpansion) (decisions : SomeDecision) where
   some_run : (s : State) (tokens : List Token) → (m : Progress) × EmitsText s tokens m
   some_run s tokens =
-      let e = expansions s.macros s.env s.remaining tokens in
-      (record { state = emitted (with_remaining s e.0.remaining) (map item.Token e.0.tokens); fault = e.0.fault }, record { expanded = e.0; expands = e.1; is = refl })
+      let e = expansions s.macros s.env s.meter tokens in
+      (record { state = emitted (with_meter s e.0.meter) (map item.Token e.0.tokens); fault = e.0.fault }, record { expanded = e.0; expands = e.1; is = refl })
 
-  some_renumbering : (s : State) (line : LogicalLine) → (m : Progress) × SetsLine s line m
-  some_renumbering s line =
-      let e = expansions s.macros s.env s.remaining (operands line.tokens) in
-      (renumbered_by (with_remaining s e.0.remaining) line e.0.fault (presumed e.0.tokens), record { expanded = e.0; expands = e.1; is = refl })
-
-  asks_by : (header : Bool) (s : State) (line : List Token) → (include_name : Result IncludeName Fault) × (remaining_after : Option ℕ) × NamesHeaderBy header s line remaining_after include_name
-  asks_by true s line = (name_or (line_fault 30 line []) (if_possible_name (name_of_header (operands line))), s.remaining, (refl, refl))
+  asks_by : (header : Bool) (s : State) (line : List Token) → (include_name : Result IncludeName Fault) × (meter_after : Meter) × NamesHeaderBy header s line meter_after include_name
+  asks_by true s line = (name_or (line_fault 30 line []) (if_possible_name (name_of_header (operands line))), s.meter, (refl, refl))
   asks_by false s line =
-      let e = expansions s.macros s.env s.remaining (operands line) in
-      (name_of_expansion_or (line_fault 30 line []) e.0.fault e.0.tokens, e.0.remaining, record { expanded = e.0; expands = e.1; leaves = refl; is = refl })
+      let e = expansions s.macros s.env s.meter (operands line) in
+      (name_of_expansion_or (line_fault 30 line []) e.0.fault e.0.tokens, e.0.meter, record { expanded = e.0; expands = e.1; leaves = refl; is = refl })
 
-  some_asking : (s : State) (line : List Token) → (include_name : Result IncludeName Fault) × (remaining_after : Option ℕ) × NamesHeader s line remaining_after include_name
+  some_asking : (s : State) (line : List Token) → (include_name : Result IncludeName Fault) × (meter_after : Meter) × NamesHeader s line meter_after include_name
   some_asking s line = asks_by (begins_with_header (operands line)) s line
 
-  decides_freely : (s : State) (decision : Result Bool Fault) → (taken : Result Bool Fault) × (remaining_after : Option ℕ) × DecidesFreely s decision remaining_after taken
-  decides_freely s decision = (decision, s.remaining, (refl, refl))
+  -- a decision, with the budget that is left
+  abbrev SomeDecided : Search → ℕ → State → LogicalLine → Type 0
+  SomeDecided search row s line = (taken : Result Bool Fault) × (meter_after : Meter) × Decides search row s line meter_after taken
 
-  decides_of : (tokens : Result (List Token) Fault) (s : State) (at : Place) → (taken : Result Bool Fault) × (remaining_after : Option ℕ) × DecidesOf tokens s at remaining_after taken
-  decides_of (Err f) s at = decides_freely s (Err f)
-  decides_of (Ok tokens) s at = decisions s.macros s.env at tokens s.remaining
+  evaluated : (search : Search) (row : ℕ) (s : State) (line : LogicalLine) (tokens : Result (List Token) Fault)
+      → unmatched_quote line.tokens ≡ None
+      → question_by line.directive ≡ Some Value
+      → condition_tokens search row line.tokens ≡ tokens
+      → SomeDecided search row s line
+  evaluated search row s line (Err f) q v e = (Err f, s.meter, Decides.names_no_header q v e (refl, refl))
+  evaluated search row s line (Ok tokens) q v e =
+      let c = decisions s.macros s.env (hash_place line.tokens) tokens s.meter in
+      (c.0, c.1, Decides.evaluates q v e c.2)
 
-  decides_by : (search : Search) (row : ℕ) (q : Option Question) (s : State) (line : List Token)
-      → IsSome q
-      → (taken : Result Bool Fault) × (remaining_after : Option ℕ) × DecidesBy search row q s line remaining_after taken
-  decides_by search row (Some Value) s line has = decides_of (condition_tokens search row line) s (hash_place line)
-  decides_by search row (Some (Defined wanted)) s line has = decides_freely s (by_name wanted s.macros line (one_identifier (operands line)))
-  decides_by search row None s line has = absurd (cc)
+  asked : (search : Search) (row : ℕ) (s : State) (line : LogicalLine) (question : Option Question)
+      → unmatched_quote line.tokens ≡ None
+      → question_by line.directive ≡ question
+      → IsSome question
+      → SomeDecided search row s line
+  asked search row s line (Some Value) q v has = evaluated search row s line (condition_tokens search row line.tokens) q v refl
+  asked search row s line (Some (Defined wanted)) q n has =
+      (by_name wanted s.macros line.tokens (one_identifier (operands line.tokens)), s.meter, Decides.tests_name q n (refl, refl))
+  asked search row s line None q v has = absurd (cc)
 
-  decides_unless : (search : Search) (row : ℕ) (q : Option Fault) (d : Option Directive) (s : State) (line : List Token)
-      → HasCondition d
-      → (taken : Result Bool Fault) × (remaining_after : Option ℕ) × DecidesUnless search row q d s line remaining_after taken
-  decides_unless search row None d s line has = decides_by search row (question_by d) s line has
-  decides_unless search row (Some f) d s line has = decides_freely s (Err f)
+  deciding : (search : Search) (row : ℕ) (s : State) (line : LogicalLine) (quote : Option Fault) → unmatched_quote line.tokens ≡ quote → HasCondition line.directive → SomeDecided search row s line
+  deciding search row s line None q has = asked search row s line (question_by line.directive) q refl has
+  deciding search row s line (Some f) q has = (Err f, s.meter, Decides.unmatched q (refl, refl))
 
-  some_deciding : (search : Search) (row : ℕ) (s : State) (line : LogicalLine)
-      → HasCondition line.directive
-      → (taken : Result Bool Fault) × (remaining_after : Option ℕ) × Decides search row s line remaining_after taken
-  some_deciding search row s line has = decides_unless search row (unmatched_quote line.tokens) line.directive s line.tokens has
+  some_deciding : (search : Search) (row : ℕ) (s : State) (line : LogicalLine) → HasCondition line.directive → SomeDecided search row s line
+  some_deciding search row s line has = deciding search row s line (unmatched_quote line.tokens) refl has
 
   control_gives : (profile : Profile) (row : ℕ) (d : Directive) → class_of d ≡ class.Control → (s : State) (line : LogicalLine) → (m : Progress) × ExecutesDirective profile row (Some d) s line m
-  control_gives profile row Define e s line = (with_macros s (after_define profile s.macros (hash_place line.tokens) (operands line.tokens)), refl)
-  control_gives profile row Undef e s line = (with_macros s (after_undef profile s.macros (hash_place line.tokens) (operands line.tokens)), refl)
-  control_gives profile row Line e s line = some_renumbering s line
-  control_gives profile row Pragma e s line = (running (pragma_emitted profile row s line.tokens), refl)
-  control_gives profile row Null e s line = (running s, refl)
-  control_gives profile row Unknown e s line = (stopped s (named_fault 8 line.tokens), refl)
-  control_gives profile row d e s line = absurd (cc)
+  control_gives profile row d is s line = gives (control_has_effect profile row d s line is)
+    where
+      gives : ((e : Effect) × (immediate_effect profile row (Some d) s line ≡ Some e)) ⊎ (Some d ≡ Some Line) → (m : Progress) × ExecutesDirective profile row (Some d) s line m
+      gives (inl (e, does)) = (affected s e, executes profile row (Some d) s line (affected s e) (HasEffect.immediate does refl))
+      gives (inr line_is) =
+          let x = expansions s.macros s.env s.meter (operands line.tokens) in
+          let m = affected (with_meter s x.0.meter) (line_effect s line x.0.fault (presumed x.0.tokens)) in
+          (m, executes profile row (Some d) s line m (HasEffect.expanding x.0 line_is x.1 refl))
 
   data Sort (profile : Profile) (row : ℕ) (d : Option Directive) : Type 0 where
     refuses : class_by d ≡ Some class.Error → Sort profile row d
@@ -162,25 +166,25 @@ module _ (expansions : SomeExpansion) (decisions : SomeDecision) where
         → (m : Progress) × OpensFile context depth at s row directory m
 
     module _ (depth : ℕ) (deeper : SomeOpened (suc depth)) where
-      finding : (row : ℕ) (from : Option ℕ) (s : State) (line : LogicalLine) (remaining_after : Option ℕ) (a : IncludeName)
-          → NamesHeader s line.tokens remaining_after (Ok a)
+      finding : (row : ℕ) (from : Option ℕ) (s : State) (line : LogicalLine) (meter_after : Meter) (a : IncludeName)
+          → NamesHeader s line.tokens meter_after (Ok a)
           → (found : Option (ℕ × ℕ))
           → FindsFile context row from a found
           → (m : Progress) × ExecutesInclude context depth row from s line m
-      finding row from s line remaining_after a asking None finds =
-          (stopped (with_remaining s remaining_after) (line_fault 31 line.tokens a.name), ExecutesInclude.missing a asking finds)
-      finding row from s line remaining_after a asking (Some found) finds =
+      finding row from s line meter_after a asking None finds =
+          (stopped (with_meter s meter_after) (line_fault 31 line.tokens a.name), ExecutesInclude.missing a asking finds)
+      finding row from s line meter_after a asking (Some found) finds =
           let within : found.0 < length context.names = first_within context.names (candidates_for context row from a) (Some found) finds in
-          let o = deeper (hash_place line.tokens) (with_remaining s remaining_after) found.0 (Some found.1) within in
+          let o = deeper (hash_place line.tokens) (with_meter s meter_after) found.0 (Some found.1) within in
           (o.0, ExecutesInclude.included a found asking finds o.1)
 
-      including : (row : ℕ) (from : Option ℕ) (s : State) (line : LogicalLine) (remaining_after : Option ℕ) (include_name : Result IncludeName Fault)
-          → NamesHeader s line.tokens remaining_after include_name
+      including : (row : ℕ) (from : Option ℕ) (s : State) (line : LogicalLine) (meter_after : Meter) (include_name : Result IncludeName Fault)
+          → NamesHeader s line.tokens meter_after include_name
           → (m : Progress) × ExecutesInclude context depth row from s line m
-      including row from s line remaining_after (Err f) asking = (stopped (with_remaining s remaining_after) f, ExecutesInclude.operand_fault asking)
-      including row from s line remaining_after (Ok a) asking =
+      including row from s line meter_after (Err f) asking = (stopped (with_meter s meter_after) f, ExecutesInclude.operand_fault asking)
+      including row from s line meter_after (Ok a) asking =
           let r = rows context.names (candidates_for context row from a) in
-          finding row from s line remaining_after a asking r.0 r.1
+          finding row from s line meter_after a asking r.0 r.1
 
       some_include : (row : ℕ) (from : Option ℕ) (s : State) (line : LogicalLine) → (m : Progress) × ExecutesInclude context depth row from s line m
       some_include row from s line = let a = some_asking s line.tokens in including row from s line a.1 a.0 a.2
@@ -225,31 +229,31 @@ module _ (expansions : SomeExpansion) (decisions : SomeDecision) where
           let g = goes_on row ps rest m.0 in
           (g.0, ExecutesGroup.control m.1 g.1)
 
-      at_section : (row : ℕ) (s : State) (line : LogicalLine) (ps qs : GroupParts) (bs : Branches) (taken : Result Bool Fault) (remaining_after : Option ℕ)
-          → Decides (search_of context) row s line remaining_after taken
+      at_section : (row : ℕ) (s : State) (line : LogicalLine) (ps qs : GroupParts) (bs : Branches) (taken : Result Bool Fault) (meter_after : Meter)
+          → Decides (search_of context) row s line meter_after taken
           → ((t : State) → SomeGroup row (running t) ps)
           → ((t : State) → SomeBranched row t bs)
           → ((t : State) → SomeGroup row (running t) qs)
           → SomeGroup row (running s) (Section line ps bs qs)
-      at_section row s line ps qs bs (Err f) remaining_after decides here branches rest = (stopped (with_remaining s remaining_after) f, ExecutesGroup.condition_fault decides)
-      at_section row s line ps qs bs (Ok true) remaining_after decides here branches rest =
-          let m = here (with_remaining s remaining_after) in
+      at_section row s line ps qs bs (Err f) meter_after decides here branches rest = (stopped (with_meter s meter_after) f, ExecutesGroup.condition_fault decides)
+      at_section row s line ps qs bs (Ok true) meter_after decides here branches rest =
+          let m = here (with_meter s meter_after) in
           let g = goes_on row qs rest m.0 in
           (g.0, ExecutesGroup.taken decides m.1 g.1)
-      at_section row s line ps qs bs (Ok false) remaining_after decides here branches rest =
-          let m = branches (with_remaining s remaining_after) in
+      at_section row s line ps qs bs (Ok false) meter_after decides here branches rest =
+          let m = branches (with_meter s meter_after) in
           let g = goes_on row qs rest m.0 in
           (g.0, ExecutesGroup.skipped decides m.1 g.1)
 
-      at_elif : (row : ℕ) (s : State) (line : LogicalLine) (ps : GroupParts) (bs : Branches) (taken : Result Bool Fault) (remaining_after : Option ℕ)
+      at_elif : (row : ℕ) (s : State) (line : LogicalLine) (ps : GroupParts) (bs : Branches) (taken : Result Bool Fault) (meter_after : Meter)
           → line.directive ≢ Some Else
-          → Decides (search_of context) row s line remaining_after taken
+          → Decides (search_of context) row s line meter_after taken
           → ((t : State) → SomeGroup row (running t) ps)
           → ((t : State) → SomeBranched row t bs)
           → SomeBranched row s (Branch line ps bs)
-      at_elif row s line ps bs (Err f) remaining_after is decides here more = (stopped (with_remaining s remaining_after) f, ExecutesBranches.branch_condition_fault is decides)
-      at_elif row s line ps bs (Ok true) remaining_after is decides here more = let m = here (with_remaining s remaining_after) in (m.0, ExecutesBranches.branch_taken is decides m.1)
-      at_elif row s line ps bs (Ok false) remaining_after is decides here more = let m = more (with_remaining s remaining_after) in (m.0, ExecutesBranches.branch_skipped is decides m.1)
+      at_elif row s line ps bs (Err f) meter_after is decides here more = (stopped (with_meter s meter_after) f, ExecutesBranches.branch_condition_fault is decides)
+      at_elif row s line ps bs (Ok true) meter_after is decides here more = let m = here (with_meter s meter_after) in (m.0, ExecutesBranches.branch_taken is decides m.1)
+      at_elif row s line ps bs (Ok false) meter_after is decides here more = let m = more (with_meter s meter_after) in (m.0, ExecutesBranches.branch_skipped is decides m.1)
 
       at_branch : (row : ℕ) (s : State) (line : LogicalLine) (ps : GroupParts) (bs : Branches) (final : Bool)
           → role line ≡ Elses final
@@ -291,7 +295,7 @@ module _ (expansions : SomeExpansion) (decisions : SomeDecision) where
 
       reading_file : (at : Place) (s : State) (row : ℕ) (directory : Option ℕ) (bytes : List ℕ)
           → depth ≤ depth_limit
-          → is_exhausted s.remaining ≡ false
+          → is_exhausted s.meter ≡ false
           → has_row row s.once ≡ false
           → file_at context.files row ≡ Some (readable bytes)
           → (r : Result (List LogicalLine) Fault)
@@ -305,7 +309,7 @@ module _ (expansions : SomeExpansion) (decisions : SomeDecision) where
 
       at_content : (at : Place) (s : State) (row : ℕ) (directory : Option ℕ)
           → depth ≤ depth_limit
-          → is_exhausted s.remaining ≡ false
+          → is_exhausted s.meter ≡ false
           → has_row row s.once ≡ false
           → (c : Option Content)
           → file_at context.files row ≡ c
@@ -320,20 +324,25 @@ module _ (expansions : SomeExpansion) (decisions : SomeDecision) where
 
       at_once : (at : Place) (s : State) (row : ℕ) (directory : Option ℕ) → row < length context.names
           → depth ≤ depth_limit
-          → is_exhausted s.remaining ≡ false
+          → is_exhausted s.meter ≡ false
           → (b : Bool)
           → has_row row s.once ≡ b
           → (m : Progress) × OpensFile context depth at s row directory m
       at_once at s row directory within fits some true e = (running (with_dependency (with_one_spent s) row), OpensFile.not_read_again fits some e)
       at_once at s row directory within fits some false e = at_content at s row directory fits some e (file_at context.files row) refl (known row within)
 
-      at_budget : (at : Place) (s : State) (row : ℕ) (directory : Option ℕ) → row < length context.names → depth ≤ depth_limit → (b : Bool) → is_exhausted s.remaining ≡ b → (m : Progress) × OpensFile context depth at s row directory m
+      at_budget : (at : Place) (s : State) (row : ℕ) (directory : Option ℕ)
+          → row < length context.names
+          → depth ≤ depth_limit
+          → (b : Bool)
+          → is_exhausted s.meter ≡ b
+          → (m : Progress) × OpensFile context depth at s row directory m
       at_budget at s row directory within fits true e = (stopped s (fault 35 at []), OpensFile.exhausted fits e)
       at_budget at s row directory within fits false e = at_once at s row directory within fits e (has_row row s.once) refl
 
       at_depth : (at : Place) (s : State) (row : ℕ) (directory : Option ℕ) → row < length context.names → (depth_limit < depth) ⊎ (depth ≤ depth_limit) → (m : Progress) × OpensFile context depth at s row directory m
       at_depth at s row directory within (inl deep) = (stopped s (fault 32 at (name_in context.names row)), OpensFile.too_deep deep)
-      at_depth at s row directory within (inr fits) = at_budget at s row directory within fits (is_exhausted s.remaining) refl
+      at_depth at s row directory within (inr fits) = at_budget at s row directory within fits (is_exhausted s.meter) refl
 
       some_opened : SomeOpened depth
       some_opened at s row directory within = at_depth at s row directory within (cases_lt depth_limit depth)
@@ -355,7 +364,11 @@ module _ (expansions : SomeExpansion) (decisions : SomeDecision) where
         let g = some_group 0 deeper_ones t.0 t.1.each command_file s in
         (g.0, processed reads t.1 g.1)
 
-    after_defines : (defines : List (List ℕ)) (row : ℕ) → row < length context.names → (s t : State) (f : Option Fault) → Defines context defines s (record { state = t; fault = f }) → (m : Progress) × Translates context defines row s m
+    after_defines : (defines : List (List ℕ)) (row : ℕ)
+        → row < length context.names
+        → (s t : State) (f : Option Fault)
+        → Defines context defines s (record { state = t; fault = f })
+        → (m : Progress) × Translates context defines row s m
     after_defines defines row within s t (Some f) d = (stopped t f, definitions_fault d)
     after_defines defines row within s t None d = let o = opening 201 0 (omega arith) (first_place row) t row None within in (o.0, translated d o.1)
 

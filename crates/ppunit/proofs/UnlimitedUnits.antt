@@ -1,68 +1,223 @@
--- Without a budget no unit ends in fault 35.
-use Rattle.std.proofs.Common.{◌≡◌, ◌≢◌, ℕ, List, true, false, Option, Some, None, Ok, sym, ap, ◌∙◌, subst, arith}
+-- Without a budget no line and no unit ends in fault 35.
+use Rattle.std.proofs.Common.{◌≡◌, ◌≢◌, ℕ, List, [], ◌∷◌, Bool, true, false, Option, Some, None, Result, Ok, Err, refl, sym, subst, arith, if◌then◌else◌, ap, ◌∙◌}
 use Rattle.pptext.specs.declared.tokens.Place.{Place}
+use Rattle.pptext.specs.declared.tokens.Token.{Token}
 use Rattle.pptext.specs.declared.tokens.Fault.{Fault}
-use Rattle.pptext.specs.Lines.{LogicalLine}
-use Rattle.pptext.specs.Tree.{GroupParts, Branches}
-use Rattle.ppexpand.specs.Budget.{spend_one, is_exhausted}
-use Rattle.ppunit.specs.States.{State, Context, Progress, search_of}
-use Rattle.ppunit.specs.DirectiveLines.{text_tokens}
+use Rattle.pptext.specs.declared.sources.Directive.{Directive}
+use Rattle.pptext.specs.declared.sources.Profile.{Profile}
+use Rattle.pptext.specs.Lines.{LogicalLine, lines_of}
+use Rattle.pptext.specs.Sources.{IsFaultOf}
+use Rattle.pptext.specs.Tree.{Role, Elses, Closes, role, Open, after_line, fault_at_end, fault_or, group_fault, GroupParts, Branches, hash_place}
+use Rattle.pptext.specs.Profiles.{is_gnu}
+use Rattle.pptext.specs.Tokens.{is_unmatched_quote, fault}
+use Rattle.ppmacro.specs.Names.{Macros}
+use Rattle.ppexpand.specs.declared.meter.Meter.{Meter}
+use Rattle.ppexpand.specs.declared.env.Env.{Env}
+use Rattle.ppexpand.specs.Expansion.{Expansion}
+use Rattle.ppexpand.specs.Expansion.{IsExpansion, count_expansion}
+use Rattle.ppexpand.proofs.BudgetFaults.{expansion_never_refused}
+use Rattle.ppexpr.proofs.ConditionBudgets.{IsOther as IsOtherOr, condition_never_refused}
+use Rattle.ppunit.specs.States.{State, Context, Progress, Search, search_of}
+use Rattle.ppunit.specs.DirectiveLines.{operands, line_fault, one_identifier, text_tokens}
+use Rattle.ppunit.specs.Quotes.{unmatched_quote}
+use Rattle.ppunit.specs.Including.{IncludeName, begins_with_header, name_of_header, name_of_expansion, if_possible_name, name_or, name_of_expansion_or}
+use Rattle.ppunit.specs.Probing.{probed, tokens_or, condition_tokens}
+use Rattle.ppunit.specs.Conditions.{by_name, Decides}
+use Rattle.ppunit.specs.Directives.{EmitsText, NamesHeaderBy, NamesHeader, ExecutesDirective}
 use Rattle.ppunit.specs.Group.{ExecutesGroup, ExecutesBranches, ExecutesControlLine, ExecutesInclude, OpensFile}
-use Rattle.ppunit.specs.Unit.{context_of_unit, Defines, unread, processed, Translates, definitions_fault, translated}
+use Rattle.ppunit.specs.Unit.{count_defines, Defines, context_of_unit, unread, processed, Translates, definitions_fault, translated}
+use Rattle.ppunit.specs.Counts.{count_decides, count_names_header, count_group, count_branches, count_control}
+use Rattle.ppunit.proofs.DirectiveEffects.{IsOther, effect_of, effect_other}
+use Rattle.ppunit.proofs.BudgetSums.{still_none, asks_spends, decides_spends, run_spends, group_spends, branches_spend, control_spends, defines_spends}
+use Rattle.ppexpand.specs.Budget.{is_exhausted, is_used_up, one_less}
 use Rattle.ppunit.specs.Capped.{OnlyBudgetsRefuse}
-use Rattle.ppunit.proofs.UnlimitedLines.{asks_none, decides_none, run_none, group_none, branches_none, control_none, defines_none, IsOther, reads_other, run_other, quote_other, decides_other, asks_other, control_by_other}
 
-never_spent : (remaining : Option ℕ) → remaining ≡ None → is_exhausted remaining ≡ true → ⊥
-never_spent None is e = cc
-never_spent (Some n) is e = absurd (cc)
+-- ---- without a budget no line ends in fault 35
+
+-- ---- without a budget, there is none afterwards
+
+pub asks_none : (s : State) (line : List Token) (meter_after : Meter) (include_name : Result IncludeName Fault) → s.meter.remaining ≡ None → NamesHeader s line meter_after include_name → meter_after.remaining ≡ None
+asks_none s line meter_after include_name is g = still_none (count_names_header s line meter_after include_name g) is (asks_spends s line meter_after include_name g)
+
+pub decides_none : {search : Search} {row : ℕ} {s : State} {line : LogicalLine} {meter_after : Meter} {taken : Result Bool Fault}
+    → s.meter.remaining ≡ None
+    → Decides search row s line meter_after taken
+    → meter_after.remaining ≡ None
+decides_none is g = still_none (count_decides g) is (decides_spends g)
+
+pub run_none : (s : State) (tokens : List Token) (m : Progress) → s.meter.remaining ≡ None → EmitsText s tokens m → m.state.meter.remaining ≡ None
+run_none s tokens m is g = still_none (count_expansion g.expands) is (run_spends s tokens m g)
+
+module _ (context : Context) where
+  pub group_none : {depth row : ℕ} {r : Progress} {ps : GroupParts} {end : Progress} → r.state.meter.remaining ≡ None → ExecutesGroup context depth row r ps end → end.state.meter.remaining ≡ None
+  group_none is d = still_none (count_group d) is (group_spends context d)
+
+  pub branches_none : {depth row : ℕ} {s : State} {bs : Branches} {m : Progress} → s.meter.remaining ≡ None → ExecutesBranches context depth row s bs m → m.state.meter.remaining ≡ None
+  branches_none is d = still_none (count_branches d) is (branches_spend context d)
+
+  pub control_none : {depth row : ℕ} {s : State} {line : LogicalLine} {m : Progress} → s.meter.remaining ≡ None → ExecutesControlLine context depth row s line m → m.state.meter.remaining ≡ None
+  control_none is d = still_none (count_control d) is (control_spends context d)
+
+  pub defines_none : {defines : List (List ℕ)} {s : State} {m : Progress} → s.meter.remaining ≡ None → Defines context defines s m → m.state.meter.remaining ≡ None
+  defines_none is d = still_none (count_defines d) is (defines_spends context d)
+
+each_other : (o : Option Fault) → ((f : Fault) → o ≡ Some f → f.number ≢ 35) → IsOther o
+each_other None h = tt
+each_other (Some f) h = h f refl
+
+-- ---- reading a file: faults 1 to 5
+
+abbrev IsOtherNumber : Option ℕ → Type 0
+IsOtherNumber None = Unit {0}
+IsOtherNumber (Some n) = n ≢ 35
+
+role_other : (a : Role) (r : LogicalLine) (os : List Open) → IsOtherNumber (after_line a r os).0
+role_other (Elses final) r [] = λ e. absurd (omega arith)
+role_other (Elses final) r ((o, true) ∷ os) = λ e. absurd (omega arith)
+role_other (Elses final) r ((o, false) ∷ os) = tt
+role_other Closes r [] = λ e. absurd (omega arith)
+role_other Closes r (o ∷ os) = tt
+role_other a r os = tt
+
+end_other : (os : List Open) → IsOther (fault_at_end os)
+end_other [] = tt
+end_other (o ∷ os) = λ e. absurd (omega arith)
+
+or_other : (r : LogicalLine) (n : Option ℕ) (later : Option Fault) → IsOtherNumber n → IsOther later → IsOther (fault_or r n later)
+or_other r None later h k = k
+or_other r (Some n) later h k = h
+
+groups_other : (os : List Open) (lines : List LogicalLine) → IsOther (group_fault os lines)
+groups_other os [] = end_other os
+groups_other os (r ∷ rs) = or_other r (after_line (role r) r os).0 _ (role_other (role r) r os) (groups_other (after_line (role r) r os).1 rs)
+
+pub reads_other : {profile : Profile} {file : ℕ} {bytes : List ℕ} {f : Fault} → IsFaultOf profile file bytes f → f.number ≢ 35
+reads_other (IsFaultOf.spliced_end e) = λ h. absurd (omega arith)
+reads_other (IsFaultOf.open_comment e u) = λ h. absurd (omega arith)
+reads_other {profile} (IsFaultOf.bad_groups {lexemes = lexemes} e c g) = subst IsOther g (groups_other [] (lines_of profile lexemes))
+
+-- ---- macro replacement: the faults of expansion
+
+expansion_other : {macros : Macros} {env : Env} {meter : Meter} {tokens : List Token} {e : Expansion} → meter.remaining ≡ None → IsExpansion macros env meter tokens e → IsOther e.fault
+expansion_other {macros} {env} {e = e} is x = each_other e.fault (λ f content_fault. expansion_never_refused macros env is x content_fault)
+
+pub run_other : (s : State) (tokens : List Token) (m : Progress) → s.meter.remaining ≡ None → EmitsText s tokens m → IsOther m.fault
+run_other s tokens m is g = subst (λ r. IsOther r.fault) (sym g.is) (expansion_other is g.expands)
+
+-- ---- lines: faults 7, 30 and those of conditions
+
+pub quote_other : (ts : List Token) → IsOther (unmatched_quote ts)
+quote_other [] = tt
+quote_other (t ∷ ts) = chosen (is_unmatched_quote t) (quote_other ts)
+  where
+    chosen : (b : Bool) → IsOther (unmatched_quote ts) → IsOther (if b then Some (fault 7 t.at t.text) else unmatched_quote ts)
+    chosen true h = λ e. absurd (omega arith)
+    chosen false h = h
+
+by_name_other : (wanted : Bool) (macros : Macros) (line : List Token) (name : Option (List ℕ)) → IsOtherOr (by_name wanted macros line name)
+by_name_other wanted macros line None = λ e. absurd (omega arith)
+by_name_other wanted macros line (Some name) = tt
+
+by_name_decides : (wanted : Bool) (macros : Macros) (line : List Token) (name : Option (List ℕ)) (f : Fault) → Err f ≡ by_name wanted macros line name → f.number ≢ 35
+by_name_decides wanted macros line name f e = subst IsOtherOr (sym e) (by_name_other wanted macros line name)
+
+tokens_or_other : (f : Fault) (tokens : Option (List Token)) → f.number ≢ 35 → IsOtherOr (tokens_or f tokens)
+tokens_or_other f None h = h
+tokens_or_other f (Some ts) h = tt
+
+condition_tokens_other : (search : Search) (row : ℕ) (line : List Token) → IsOtherOr (condition_tokens search row line)
+condition_tokens_other search row line = chosen (is_gnu search.profile)
+  where
+    chosen : (b : Bool) → IsOtherOr (if b then tokens_or (line_fault 30 line []) (probed search row (operands line)) else Ok (operands line))
+    chosen true = tokens_or_other (line_fault 30 line []) (probed search row (operands line)) (λ e. absurd (omega arith))
+    chosen false = tt
+
+-- the fault of the result of a line, whose alternatives are not 35
+of_result : {A : Type 0} {f : Fault} (r : Result A Fault) → r ≡ Err f → IsOtherOr r → f.number ≢ 35
+of_result r is h = subst IsOtherOr is h
+
+pub decides_other : {search : Search} {row : ℕ} {s : State} {line : LogicalLine} {meter_after : Meter} {f : Fault} → s.meter.remaining ≡ None → Decides search row s line meter_after (Err f) → f.number ≢ 35
+decides_other {line = line} is (Decides.unmatched {f = g} q x) = of_result (Err g) (sym x.1) (subst IsOther q (quote_other line.tokens))
+decides_other {s = s} {line = line} {f = f} is (Decides.tests_name {wanted = wanted} q n x) = by_name_decides wanted s.macros line.tokens (one_identifier (operands line.tokens)) f x.1
+decides_other {search = search} {row = row} {line = line} is (Decides.names_no_header {f = g} q v e x) = of_result (Err g) (sym x.1) (subst IsOtherOr e (condition_tokens_other search row line.tokens))
+decides_other is (Decides.evaluates q v e x) = condition_never_refused is x
+
+asked_or_other : (f : Fault) (a : Option IncludeName) → f.number ≢ 35 → IsOtherOr (name_or f a)
+asked_or_other f None h = h
+asked_or_other f (Some a) h = tt
+
+asked_behind_other : (f : Fault) (o : Option Fault) (ts : List Token) → f.number ≢ 35 → IsOther o → IsOtherOr (name_of_expansion_or f o ts)
+asked_behind_other f (Some g) ts h k = k
+asked_behind_other f None ts h k = asked_or_other f (if_possible_name (name_of_expansion ts)) h
+
+asks_by_other : (header : Bool) (s : State) (line : List Token) (meter_after : Meter) (f : Fault) → s.meter.remaining ≡ None → NamesHeaderBy header s line meter_after (Err f) → f.number ≢ 35
+asks_by_other true s line meter_after f is g = subst IsOtherOr (sym g.1) (asked_or_other (line_fault 30 line []) (if_possible_name (name_of_header (operands line))) (λ e. absurd (omega arith)))
+asks_by_other false s line meter_after f is g =
+    subst IsOtherOr (sym g.is) (asked_behind_other (line_fault 30 line []) g.expanded.fault g.expanded.tokens (λ e. absurd (omega arith)) (expansion_other is g.expands))
+
+pub asks_other : (s : State) (line : List Token) (meter_after : Meter) (f : Fault) → s.meter.remaining ≡ None → NamesHeader s line meter_after (Err f) → f.number ≢ 35
+asks_other s line meter_after f is g = asks_by_other (begins_with_header (operands line)) s line meter_after f is g
+
+pub control_by_other : (profile : Profile) (row : ℕ) (d : Option Directive) (s : State) (line : LogicalLine) (m : Progress) → s.meter.remaining ≡ None → ExecutesDirective profile row d s line m → IsOther m.fault
+control_by_other profile row d s line m is g = effect_other (λ x expands. expansion_other is expands) (effect_of profile row d s line m g)
+
+-- ---- without a budget no unit ends in fault 35
+
+never_used_up : (budget : Option ℕ) → budget ≡ None → is_used_up budget ≡ true → ⊥
+never_used_up None is e = cc
+never_used_up (Some n) is e = absurd (cc)
+
+never_spent : (meter : Meter) → meter.remaining ≡ None → is_exhausted meter ≡ true → ⊥
+never_spent meter is e = never_used_up meter.remaining is e
 
 module _ (context : Context) where
   mutual
-    group_other : {depth row : ℕ} {r : Progress} {ps : GroupParts} {end : Progress} → r.state.remaining ≡ None → IsOther r.fault → ExecutesGroup context depth row r ps end → IsOther end.fault
+    group_other : {depth row : ℕ} {r : Progress} {ps : GroupParts} {end : Progress} → r.state.meter.remaining ≡ None → IsOther r.fault → ExecutesGroup context depth row r ps end → IsOther end.fault
     group_other is h ExecutesGroup.already_stopped = h
     group_other is h ExecutesGroup.no_parts = tt
     group_other is h (ExecutesGroup.text_lines {s = s} {lines = lines} {m = m} gives rest) = group_other (run_none s (text_tokens lines) m is gives) (run_other s (text_tokens lines) m is gives) rest
     group_other is h (ExecutesGroup.control here rest) = group_other (control_none context is here) (control_other is here) rest
-    group_other {row = row} is h (ExecutesGroup.taken {s = s} {line = line} {remaining_after = remaining_after} decides here rest) =
-        let remaining = decides_none (search_of context) row s line remaining_after (Ok true) is decides in
-        group_other (group_none context remaining here) (group_other remaining tt here) rest
-    group_other {row = row} is h (ExecutesGroup.skipped {s = s} {line = line} {remaining_after = remaining_after} decides here rest) =
-        let remaining = decides_none (search_of context) row s line remaining_after (Ok false) is decides in
-        group_other (branches_none context remaining here) (branches_other remaining here) rest
-    group_other {row = row} is h (ExecutesGroup.condition_fault {s = s} {line = line} {remaining_after = remaining_after} {f = f} decides) = decides_other (search_of context) row s line remaining_after f is decides
+    group_other is h (ExecutesGroup.taken decides here rest) =
+        let covers = decides_none is decides in
+        group_other (group_none context covers here) (group_other covers tt here) rest
+    group_other is h (ExecutesGroup.skipped decides here rest) =
+        let covers = decides_none is decides in
+        group_other (branches_none context covers here) (branches_other covers here) rest
+    group_other is h (ExecutesGroup.condition_fault decides) = decides_other is decides
 
-    branches_other : {depth row : ℕ} {s : State} {bs : Branches} {m : Progress} → s.remaining ≡ None → ExecutesBranches context depth row s bs m → IsOther m.fault
+    branches_other : {depth row : ℕ} {s : State} {bs : Branches} {m : Progress} → s.meter.remaining ≡ None → ExecutesBranches context depth row s bs m → IsOther m.fault
     branches_other is ExecutesBranches.no_branch_taken = tt
     branches_other is (ExecutesBranches.else_group e here) = group_other is tt here
-    branches_other {row = row} is (ExecutesBranches.branch_taken {s = s} {line = line} {remaining_after = remaining_after} e decides here) = group_other (decides_none (search_of context) row s line remaining_after (Ok true) is decides) tt here
-    branches_other {row = row} is (ExecutesBranches.branch_skipped {s = s} {line = line} {remaining_after = remaining_after} e decides rest) = branches_other (decides_none (search_of context) row s line remaining_after (Ok false) is decides) rest
-    branches_other {row = row} is (ExecutesBranches.branch_condition_fault {s = s} {line = line} {remaining_after = remaining_after} {f = f} e decides) = decides_other (search_of context) row s line remaining_after f is decides
+    branches_other is (ExecutesBranches.branch_taken e decides here) = group_other (decides_none is decides) tt here
+    branches_other is (ExecutesBranches.branch_skipped e decides rest) = branches_other (decides_none is decides) rest
+    branches_other is (ExecutesBranches.branch_condition_fault e decides) = decides_other is decides
 
-    control_other : {depth row : ℕ} {s : State} {line : LogicalLine} {m : Progress} → s.remaining ≡ None → ExecutesControlLine context depth row s line m → IsOther m.fault
+    control_other : {depth row : ℕ} {s : State} {line : LogicalLine} {m : Progress} → s.meter.remaining ≡ None → ExecutesControlLine context depth row s line m → IsOther m.fault
     control_other is (ExecutesControlLine.error e) = λ h. absurd (omega arith)
     control_other is (ExecutesControlLine.ignored e) = tt
     control_other is (ExecutesControlLine.quote_fault {line = line} e q) = subst IsOther q (quote_other line.tokens)
     control_other {row = row} is (ExecutesControlLine.executed {s = s} {line = line} {m = m} q does) = control_by_other context.profile row line.directive s line m is does
     control_other is (ExecutesControlLine.include e q here) = includes_other is here
 
-    includes_other : {depth row : ℕ} {following : Option ℕ} {s : State} {line : LogicalLine} {m : Progress} → s.remaining ≡ None → ExecutesInclude context depth row following s line m → IsOther m.fault
-    includes_other is (ExecutesInclude.operand_fault {s = s} {line = line} {remaining_after = remaining_after} {f = f} asks) = asks_other s line.tokens remaining_after f is asks
+    includes_other : {depth row : ℕ} {following : Option ℕ} {s : State} {line : LogicalLine} {m : Progress} → s.meter.remaining ≡ None → ExecutesInclude context depth row following s line m → IsOther m.fault
+    includes_other is (ExecutesInclude.operand_fault {s = s} {line = line} {meter_after = meter_after} {f = f} asks) = asks_other s line.tokens meter_after f is asks
     includes_other is (ExecutesInclude.missing a asks finds) = λ h. absurd (omega arith)
-    includes_other is (ExecutesInclude.included {s = s} {line = line} {remaining_after = remaining_after} a found asks finds opens) = opened_other (asks_none s line.tokens remaining_after (Ok a) is asks) opens
+    includes_other is (ExecutesInclude.included {s = s} {line = line} {meter_after = meter_after} a found asks finds opens) =
+        opened_other (asks_none s line.tokens meter_after (Ok a) is asks) opens
 
-    opened_other : {depth row : ℕ} {directory : Option ℕ} {at : Place} {s : State} {m : Progress} → s.remaining ≡ None → OpensFile context depth at s row directory m → IsOther m.fault
+    opened_other : {depth row : ℕ} {directory : Option ℕ} {at : Place} {s : State} {m : Progress} → s.meter.remaining ≡ None → OpensFile context depth at s row directory m → IsOther m.fault
     opened_other is (OpensFile.too_deep deep) = λ e. absurd (omega arith)
-    opened_other is (OpensFile.exhausted {s = s} fits spent) = absurd (never_spent s.remaining is spent)
+    opened_other is (OpensFile.exhausted {s = s} fits spent) = absurd (never_spent s.meter is spent)
     opened_other is (OpensFile.not_read_again fits more once) = tt
     opened_other is (OpensFile.not_readable fits more once file) = λ e. absurd (omega arith)
     opened_other is (OpensFile.content_fault fits more once file reads) = reads_other reads
-    opened_other is (OpensFile.read fits more once file reads tree here) = group_other (ap spend_one is) tt here
+    opened_other is (OpensFile.read fits more once file reads tree here) = group_other (ap one_less is) tt here
 
-  defines_other : {defines : List (List ℕ)} {s : State} {m : Progress} → s.remaining ≡ None → Defines context defines s m → IsOther m.fault
+  defines_other : {defines : List (List ℕ)} {s : State} {m : Progress} → s.meter.remaining ≡ None → Defines context defines s m → IsOther m.fault
   defines_other is (unread reads) = reads_other reads
   defines_other is (processed reads tree here) = group_other is tt here
 
-  unit_other : {defines : List (List ℕ)} {row : ℕ} {s : State} {m : Progress} → s.remaining ≡ None → Translates context defines row s m → IsOther m.fault
+  unit_other : {defines : List (List ℕ)} {row : ℕ} {s : State} {m : Progress} → s.meter.remaining ≡ None → Translates context defines row s m → IsOther m.fault
   unit_other is (definitions_fault here) = defines_other is here
   unit_other is (translated here opens) = opened_other (defines_none context is here) opens
 

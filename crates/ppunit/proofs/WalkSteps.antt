@@ -24,7 +24,11 @@ pub ends_stop : (context : Context) (depth row : ℕ) (m : Progress) (s : State)
 ends_stop context depth row m s f ps [] g = g
 ends_stop context depth row m s f ps ((bs, qs) ∷ k) g = (stopped s f, g, ends_stop context depth row (stopped s f) s f qs k ExecutesGroup.already_stopped)
 
-pub stands_behind : (lines : List LogicalLine) (index : ℕ) (r : LogicalLine) (ps : GroupParts) (k : EnclosingSections) → drop index lines ≡ r ∷ lines_to_end ps k → AreGroupParts ps → AreEnclosingSections k → HasPartsAt lines (index + 1) ps k
+pub stands_behind : (lines : List LogicalLine) (index : ℕ) (r : LogicalLine) (ps : GroupParts) (k : EnclosingSections)
+    → drop index lines ≡ r ∷ lines_to_end ps k
+    → AreGroupParts ps
+    → AreEnclosingSections k
+    → HasPartsAt lines (index + 1) ps k
 stands_behind lines index r ps k e are outer = record { rest = rw add-one (at_index lines index r (lines_to_end ps k) e).following; parts = are; outer = outer }
 
 -- ---- one step

@@ -17,7 +17,7 @@ HasFault number out = (f : Fault) × (out.fault ≡ Some f) × (f.number ≡ num
 -- The value `out` of a unit with the budget b, compared with the whole: its value without a budget, which takes the
 -- given number of replacements and opened files. Items and dependencies are prefixes. `out` is the whole exactly if the
 -- whole takes at most b; otherwise its fault is 35.
-pub record IsCapped (b replaced_and_opened : ℕ) (whole out : UnitOut) : Type 0 where
+pub record CapsUnit (b replaced_and_opened : ℕ) (whole out : UnitOut) : Type 0 where
   pub items : IsPrefix out.items whole.items
   pub deps : IsPrefix out.deps whole.deps
   pub exactly : (out ≡ whole) ↔ (replaced_and_opened ≤ b)
@@ -39,7 +39,7 @@ IsInBudget names files setting unit out = (p : IsUnit names files setting unit o
 pub record HasWhole (b : ℕ) (names : List (List ℕ)) (files : Files) (setting : Setting) (unit : UnitOfList) (out : UnitOut) : Type 0 where
   pub whole : UnitOut
   pub value : IsUnit names files (unlimited setting) unit whole
-  pub capped : IsCapped b (count value) whole out
+  pub capped : CapsUnit b (count value) whole out
 
 -- Over these files and any larger set: `out` is what the budget leaves of each value that the unit has without a
 -- budget; and if each file is known, the unit has such a value.
@@ -48,7 +48,7 @@ pub record IsCappedOver (names : List (List ℕ)) (files : Files) (setting : Set
       → setting.budget ≡ Some b
       → Extends more files
       → (p : IsUnit names more (unlimited setting) unit whole)
-      → IsCapped b (count p) whole out
+      → CapsUnit b (count p) whole out
   pub some : (b : ℕ) (more : Files)
       → setting.budget ≡ Some b
       → Extends more files

@@ -1,18 +1,16 @@
 -- Whether a line of an if-section takes the group after it (6.10.1).
-use Rattle.std.specs.Prelude.{◌≡◌, ℕ, Bool, List, Option, None, Some, IsSome, Result, Ok, Err}
+use Rattle.std.specs.Prelude.{◌≡◌, ℕ, Bool, List, Option, None, Some, Result, Ok, Err}
 use Rattle.std.specs.Option.{is_some}
 use Rattle.std.specs.FinMap as table
-use Rattle.pptext.specs.declared.tokens.Place.{Place}
 use Rattle.pptext.specs.declared.tokens.Token.{Token}
 use Rattle.pptext.specs.declared.tokens.Fault.{Fault}
-use Rattle.pptext.specs.declared.sources.Directive.{Directive}
-use Rattle.pptext.specs.declared.directives.Question.{Question}
 use Rattle.pptext.specs.declared.directives.Question.TheVariants.{Defined, Value}
-use Rattle.pptext.specs.Classes.{question_of, question_by}
+use Rattle.pptext.specs.Classes.{question_by}
 use Rattle.pptext.specs.Lines.{LogicalLine}
 use Rattle.pptext.specs.Tree.{hash_place}
 use Rattle.ppmacro.specs.Names.{Macros}
 use Rattle.ppmacro.specs.Define.{same_bool}
+use Rattle.ppexpand.specs.declared.meter.Meter.{Meter}
 use Rattle.ppexpr.specs.Conditions.{IsCondition}
 use Rattle.ppunit.specs.States.{Search, State}
 use Rattle.ppunit.specs.DirectiveLines.{operands, named_fault, one_identifier}
@@ -30,28 +28,30 @@ by_name wanted macros line None = Err (named_fault 9 line)
 by_name wanted macros line (Some name) = Ok (same_bool wanted (is_macro_name macros name))
 
 -- the decision spends nothing from the budget
-abbrev pub DecidesFreely : State → Result Bool Fault → Option ℕ → Result Bool Fault → Type 0
-DecidesFreely s decision remaining_after taken = (remaining_after ≡ s.remaining) × (taken ≡ decision)
+abbrev pub DecidesFreely : State → Result Bool Fault → Meter → Result Bool Fault → Type 0
+DecidesFreely s decision meter_after taken = (meter_after ≡ s.meter) × (taken ≡ decision)
 
--- the value of a condition of these tokens, or the fault of the step before it, which spends nothing
-abbrev pub DecidesOf : Result (List Token) Fault → State → Place → Option ℕ → Result Bool Fault → Type 0
-DecidesOf (Err f) s at remaining_after taken = DecidesFreely s (Err f) remaining_after taken
-DecidesOf (Ok tokens) s at remaining_after taken = IsCondition s.macros s.env at tokens s.remaining taken remaining_after
-
--- the decision of a line without unmatched quotes in the file at index `row`: by its condition or by its name
-abbrev pub DecidesBy : Search → ℕ → Option Question → State → List Token → Option ℕ → Result Bool Fault → Type 0
-DecidesBy search row (Some Value) s line remaining_after taken = DecidesOf (condition_tokens search row line) s (hash_place line) remaining_after taken
-DecidesBy search row (Some (Defined wanted)) s line remaining_after taken = DecidesFreely s (by_name wanted s.macros line (one_identifier (operands line))) remaining_after taken
-DecidesBy search row None s line remaining_after taken = ⊥
-
-abbrev pub DecidesUnless : Search → ℕ → Option Fault → Option Directive → State → List Token → Option ℕ → Result Bool Fault → Type 0
-DecidesUnless search row (Some f) d s line remaining_after taken = DecidesFreely s (Err f) remaining_after taken
-DecidesUnless search row None d s line remaining_after taken = DecidesBy search row (question_by d) s line remaining_after taken
-
--- whether the group after a line is taken, or the line's fault, and the remaining budget
-abbrev pub Decides : Search → ℕ → State → LogicalLine → Option ℕ → Result Bool Fault → Type 0
-Decides search row s line remaining_after taken = DecidesUnless search row (unmatched_quote line.tokens) line.directive s line.tokens remaining_after taken
-
--- the directives whose lines decide whether the group after them is taken
-abbrev pub IsConditional : Directive → Type 0
-IsConditional d = IsSome (question_of d)
+-- Whether the group after a line of the file at index `row` is taken, or the line's fault, and the meter after it. The
+-- line has an unmatched quote, or it asks for a name, or the tokens of its condition have a fault, or it has a condition.
+pub data Decides (search : Search) (row : ℕ) (s : State) (line : LogicalLine) (meter_after : Meter) (taken : Result Bool Fault) : Type 0 where
+  unmatched : {f : Fault}
+      → unmatched_quote line.tokens ≡ Some f
+      → DecidesFreely s (Err f) meter_after taken
+      → Decides search row s line meter_after taken
+  tests_name : {wanted : Bool}
+      → unmatched_quote line.tokens ≡ None
+      → question_by line.directive ≡ Some (Defined wanted)
+      → DecidesFreely s (by_name wanted s.macros line.tokens (one_identifier (operands line.tokens))) meter_after taken
+      → Decides search row s line meter_after taken
+  names_no_header : {f : Fault}
+      → unmatched_quote line.tokens ≡ None
+      → question_by line.directive ≡ Some Value
+      → condition_tokens search row line.tokens ≡ Err f
+      → DecidesFreely s (Err f) meter_after taken
+      → Decides search row s line meter_after taken
+  evaluates : {tokens : List Token}
+      → unmatched_quote line.tokens ≡ None
+      → question_by line.directive ≡ Some Value
+      → condition_tokens search row line.tokens ≡ Ok tokens
+      → IsCondition s.macros s.env (hash_place line.tokens) tokens s.meter taken meter_after
+      → Decides search row s line meter_after taken

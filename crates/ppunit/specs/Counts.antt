@@ -1,63 +1,42 @@
--- The work of phase 4: its macro replacements (6.10.3), and its attempts to open a file (6.10.2) that isn't too deep.
+-- The work of phase 4: its macro replacements (6.10.3), and its openings of files (6.10.2). An opening that is too deep, or
+-- that the budget refuses, doesn't count; one of a file that can't be read or isn't read again does.
 use Rattle.std.specs.Prelude.{ℕ, suc, ◌+◌, List, Bool, true, false, Option, None, Some, Result, Ok, Err}
 use Rattle.pptext.specs.declared.tokens.Place.{Place}
 use Rattle.pptext.specs.declared.tokens.Token.{Token}
 use Rattle.pptext.specs.declared.tokens.Fault.{Fault}
 use Rattle.pptext.specs.declared.sources.Directive.{Directive}
 use Rattle.pptext.specs.declared.sources.Directive.TheVariants.{Line}
-use Rattle.pptext.specs.declared.directives.Question.{Question}
-use Rattle.pptext.specs.declared.directives.Question.TheVariants.{Value}
-use Rattle.pptext.specs.Classes.{question_by}
 use Rattle.pptext.specs.declared.sources.Profile.{Profile}
 use Rattle.pptext.specs.Lines.{LogicalLine}
-use Rattle.pptext.specs.Tree.{hash_place, GroupParts, Branches}
+use Rattle.pptext.specs.Tree.{GroupParts, Branches}
+use Rattle.ppexpand.specs.declared.meter.Meter.{Meter}
 use Rattle.ppexpand.specs.Expansion.{count_expansion}
 use Rattle.ppexpr.specs.Conditions.{count_condition}
-use Rattle.ppunit.specs.States.{Search, search_of, State, Context, Progress}
+use Rattle.ppunit.specs.States.{Search, State, Context, Progress}
 use Rattle.ppunit.specs.DirectiveLines.{operands}
-use Rattle.ppunit.specs.Quotes.{unmatched_quote}
-use Rattle.ppunit.specs.Probing.{condition_tokens}
 use Rattle.ppunit.specs.Including.{IncludeName, begins_with_header}
-use Rattle.ppunit.specs.Conditions.{DecidesOf, DecidesBy, DecidesUnless, Decides}
+use Rattle.ppunit.specs.Conditions.{Decides}
 use Rattle.ppunit.specs.Directives.{NamesHeaderBy, NamesHeader, ExecutesDirective}
 use Rattle.ppunit.specs.Group.{ExecutesGroup, ExecutesBranches, ExecutesControlLine, ExecutesInclude, OpensFile}
 
 -- ---- lines: the replacements in their operands
 
-abbrev pub count_decides_of : (tokens : Result (List Token) Fault) (s : State) (at : Place) (remaining_after : Option ℕ) (taken : Result Bool Fault)
-    → DecidesOf tokens s at remaining_after taken
+abbrev pub count_decides : {search : Search} {row : ℕ} {s : State} {line : LogicalLine} {meter_after : Meter} {taken : Result Bool Fault}
+    → Decides search row s line meter_after taken
     → ℕ
-count_decides_of (Err f) s at remaining_after taken h = 0
-count_decides_of (Ok tokens) s at remaining_after taken h = count_condition h
+count_decides (Decides.unmatched quote freely) = 0
+count_decides (Decides.tests_name quote question freely) = 0
+count_decides (Decides.names_no_header quote question tokens freely) = 0
+count_decides (Decides.evaluates quote question tokens condition) = count_condition condition
 
-abbrev pub count_decides_by : (search : Search) (row : ℕ) (q : Option Question) (s : State) (line : List Token) (remaining_after : Option ℕ)
-    (taken : Result Bool Fault)
-    → DecidesBy search row q s line remaining_after taken
+abbrev pub count_names_header_by : (header : Bool) (s : State) (line : List Token) (meter_after : Meter) (include_name : Result IncludeName Fault)
+    → NamesHeaderBy header s line meter_after include_name
     → ℕ
-count_decides_by search row (Some Value) s line remaining_after taken h = count_decides_of (condition_tokens search row line) s (hash_place line) remaining_after taken h
-count_decides_by search row _ s line remaining_after taken h = 0
+count_names_header_by true s line meter_after include_name h = 0
+count_names_header_by false s line meter_after include_name h = count_expansion h.expands
 
-abbrev pub count_decides_unless : (search : Search) (row : ℕ) (quote : Option Fault) (d : Option Directive) (s : State) (line : List Token)
-    (remaining_after : Option ℕ) (taken : Result Bool Fault)
-    → DecidesUnless search row quote d s line remaining_after taken
-    → ℕ
-count_decides_unless search row (Some f) d s line remaining_after taken h = 0
-count_decides_unless search row None d s line remaining_after taken h = count_decides_by search row (question_by d) s line remaining_after taken h
-
-abbrev pub count_decides : (search : Search) (row : ℕ) (s : State) (line : LogicalLine) (remaining_after : Option ℕ) (taken : Result Bool Fault)
-    → Decides search row s line remaining_after taken
-    → ℕ
-count_decides search row s line remaining_after taken h =
-    count_decides_unless search row (unmatched_quote line.tokens) line.directive s line.tokens remaining_after taken h
-
-abbrev pub count_names_header_by : (header : Bool) (s : State) (line : List Token) (remaining_after : Option ℕ) (include_name : Result IncludeName Fault)
-    → NamesHeaderBy header s line remaining_after include_name
-    → ℕ
-count_names_header_by true s line remaining_after include_name h = 0
-count_names_header_by false s line remaining_after include_name h = count_expansion h.expands
-
-abbrev pub count_names_header : (s : State) (line : List Token) (remaining_after : Option ℕ) (include_name : Result IncludeName Fault) → NamesHeader s line remaining_after include_name → ℕ
-count_names_header s line remaining_after include_name h = count_names_header_by (begins_with_header (operands line)) s line remaining_after include_name h
+abbrev pub count_names_header : (s : State) (line : List Token) (meter_after : Meter) (include_name : Result IncludeName Fault) → NamesHeader s line meter_after include_name → ℕ
+count_names_header s line meter_after include_name h = count_names_header_by (begins_with_header (operands line)) s line meter_after include_name h
 
 abbrev pub count_control_by : (profile : Profile) (row : ℕ) (d : Option Directive) (s : State) (line : LogicalLine) (m : Progress)
     → ExecutesDirective profile row d s line m
@@ -73,22 +52,22 @@ abbrev mutual
   count_group ExecutesGroup.no_parts = 0
   count_group (ExecutesGroup.text_lines emits rest) = count_expansion emits.expands + count_group rest
   count_group (ExecutesGroup.control here rest) = count_control here + count_group rest
-  count_group {context} {depth} {row} (ExecutesGroup.taken {s = s} {line = line} {remaining_after = remaining_after} decides here rest) =
-      count_decides (search_of context) row s line remaining_after (Ok true) decides + (count_group here + count_group rest)
-  count_group {context} {depth} {row} (ExecutesGroup.skipped {s = s} {line = line} {remaining_after = remaining_after} decides here rest) =
-      count_decides (search_of context) row s line remaining_after (Ok false) decides + (count_branches here + count_group rest)
-  count_group {context} {depth} {row} (ExecutesGroup.condition_fault {s = s} {line = line} {remaining_after = remaining_after} {f = f} decides) = count_decides (search_of context) row s line remaining_after (Err f) decides
+  count_group {context} {depth} {row} (ExecutesGroup.taken decides here rest) =
+      count_decides decides + (count_group here + count_group rest)
+  count_group {context} {depth} {row} (ExecutesGroup.skipped decides here rest) =
+      count_decides decides + (count_branches here + count_group rest)
+  count_group {context} {depth} {row} (ExecutesGroup.condition_fault decides) = count_decides decides
 
   pub count_branches : {context : Context} {depth row : ℕ} {s : State} {bs : Branches} {m : Progress}
       → ExecutesBranches context depth row s bs m
       → ℕ
   count_branches ExecutesBranches.no_branch_taken = 0
   count_branches (ExecutesBranches.else_group is here) = count_group here
-  count_branches {context} {depth} {row} (ExecutesBranches.branch_taken {s = s} {line = line} {remaining_after = remaining_after} is decides here) =
-      count_decides (search_of context) row s line remaining_after (Ok true) decides + count_group here
-  count_branches {context} {depth} {row} (ExecutesBranches.branch_skipped {s = s} {line = line} {remaining_after = remaining_after} is decides rest) =
-      count_decides (search_of context) row s line remaining_after (Ok false) decides + count_branches rest
-  count_branches {context} {depth} {row} (ExecutesBranches.branch_condition_fault {s = s} {line = line} {remaining_after = remaining_after} {f = f} is decides) = count_decides (search_of context) row s line remaining_after (Err f) decides
+  count_branches {context} {depth} {row} (ExecutesBranches.branch_taken is decides here) =
+      count_decides decides + count_group here
+  count_branches {context} {depth} {row} (ExecutesBranches.branch_skipped is decides rest) =
+      count_decides decides + count_branches rest
+  count_branches {context} {depth} {row} (ExecutesBranches.branch_condition_fault is decides) = count_decides decides
 
   pub count_control : {context : Context} {depth row : ℕ} {s : State} {line : LogicalLine} {m : Progress}
       → ExecutesControlLine context depth row s line m
@@ -103,10 +82,10 @@ abbrev mutual
   pub count_includes : {context : Context} {depth row : ℕ} {previous_directory : Option ℕ} {s : State} {line : LogicalLine} {m : Progress}
       → ExecutesInclude context depth row previous_directory s line m
       → ℕ
-  count_includes (ExecutesInclude.operand_fault {s = s} {line = line} {remaining_after = remaining_after} {f = f} names) = count_names_header s line.tokens remaining_after (Err f) names
-  count_includes (ExecutesInclude.missing {s = s} {line = line} {remaining_after = remaining_after} a names finds) = count_names_header s line.tokens remaining_after (Ok a) names
-  count_includes (ExecutesInclude.included {s = s} {line = line} {remaining_after = remaining_after} a found names finds opens) =
-      count_names_header s line.tokens remaining_after (Ok a) names + count_opening opens
+  count_includes (ExecutesInclude.operand_fault {s = s} {line = line} {meter_after = meter_after} {f = f} names) = count_names_header s line.tokens meter_after (Err f) names
+  count_includes (ExecutesInclude.missing {s = s} {line = line} {meter_after = meter_after} a names finds) = count_names_header s line.tokens meter_after (Ok a) names
+  count_includes (ExecutesInclude.included {s = s} {line = line} {meter_after = meter_after} a found names finds opens) =
+      count_names_header s line.tokens meter_after (Ok a) names + count_opening opens
 
   pub count_opening : {context : Context} {depth row : ℕ} {directory : Option ℕ} {at : Place} {s : State} {m : Progress}
       → OpensFile context depth at s row directory m

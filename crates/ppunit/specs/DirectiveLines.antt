@@ -2,14 +2,9 @@
 use Rattle.std.specs.Prelude.{ℕ, List, [], ◌∷◌, ◌++◌, if◌then◌else◌, Option, None, Some, drop, flat_map}
 use Rattle.pptext.specs.declared.tokens.Token.{Token}
 use Rattle.pptext.specs.declared.tokens.Fault.{Fault}
-use Rattle.pptext.specs.declared.sources.Directive.{Directive}
 use Rattle.pptext.specs.Lines.{LogicalLine}
 use Rattle.pptext.specs.Tree.{hash_place, name_of}
 use Rattle.pptext.specs.Tokens.{is_identifier, fault}
-
--- a line of these tokens with this directive
-abbrev pub directed : Directive → List Token → ℕ → LogicalLine
-directed d tokens number = record { tokens = tokens; number = number; directive = Some d }
 
 -- the tokens after the directive's name
 abbrev pub operands : List Token → List Token

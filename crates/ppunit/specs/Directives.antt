@@ -9,27 +9,27 @@ use Rattle.pptext.specs.declared.sources.Profile.{Profile}
 use Rattle.pptext.specs.declared.sources.Directive.TheVariants.{Define, Undef, Line, Pragma, Null, Unknown}
 use Rattle.pptext.specs.declared.directives.Class.{Class}
 use Rattle.pptext.specs.declared.directives.Class.TheVariants as class
-use Rattle.pptext.specs.Classes.{class_of}
 use Rattle.pptext.specs.Profiles.{has_later}
 use Rattle.pptext.specs.Lines.{LogicalLine}
 use Rattle.pptext.specs.Tree.{hash_place}
 use Rattle.ppmacro.specs.Names.{Macros}
 use Rattle.ppmacro.specs.Define.{after_define, after_undef}
-use Rattle.ppexpand.specs.declared.expansion.Expanded.{Expanded}
+use Rattle.ppexpand.specs.declared.meter.Meter.{Meter}
+use Rattle.ppexpand.specs.Expansion.{Expansion}
 use Rattle.ppexpand.specs.Expansion.{IsExpansion}
 use Rattle.ppshelf.specs.Names.{name_in}
 use Rattle.ppshelf.specs.Search.{Candidate, candidates, candidates_after, IsFirstRow}
 use Rattle.ppunit.specs.declared.units.Item.TheVariants as item
-use Rattle.ppunit.specs.States.{State, Context, Progress, running, stopped, emitted, with_once, with_remaining}
+use Rattle.ppunit.specs.States.{State, Context, Progress, running, stopped, emitted, with_once, with_meter}
 use Rattle.ppunit.specs.DirectiveLines.{operands, line_fault, named_fault, spaced}
 use Rattle.ppunit.specs.LineControl.{Presumed, presumed, renumbered}
 use Rattle.ppunit.specs.Including.{IncludeName, begins_with_header, name_of_header, name_or, name_of_expansion_or, if_possible_name}
 
 -- consecutive text lines emit their expansion (6.10.3), up to its first fault
 pub record EmitsText (s : State) (tokens : List Token) (r : Progress) : Type 0 where
-  pub expanded : Expanded
-  pub expands : IsExpansion s.macros s.env s.remaining tokens expanded
-  pub is : r ≡ record { state = emitted (with_remaining s expanded.remaining) (map item.Token expanded.tokens); fault = expanded.fault }
+  pub expanded : Expansion
+  pub expands : IsExpansion s.macros s.env s.meter tokens expanded
+  pub is : r ≡ record { state = emitted (with_meter s expanded.meter) (map item.Token expanded.tokens); fault = expanded.fault }
 
 -- ---- `#define`, `#undef`
 
@@ -52,28 +52,28 @@ renumbered_by s line None None = stopped s (line_fault 33 line.tokens [])
 renumbered_by s line None (Some p) = running (renumbered s line p)
 
 pub record SetsLine (s : State) (line : LogicalLine) (progress : Progress) : Type 0 where
-  pub expanded : Expanded
-  pub expands : IsExpansion s.macros s.env s.remaining (operands line.tokens) expanded
-  pub is : progress ≡ renumbered_by (with_remaining s expanded.remaining) line expanded.fault (presumed expanded.tokens)
+  pub expanded : Expansion
+  pub expands : IsExpansion s.macros s.env s.meter (operands line.tokens) expanded
+  pub is : progress ≡ renumbered_by (with_meter s expanded.meter) line expanded.fault (presumed expanded.tokens)
 
 -- ---- `#include` (6.10.2)
 
 -- if no header name is after `include`: the header that the operands name once their macros are replaced, and the
--- remaining budget
-pub record NamesHeaderByExpansion (s : State) (line : List Token) (remaining_after : Option ℕ) (include_name : Result IncludeName Fault) : Type 0 where
-  pub expanded : Expanded
-  pub expands : IsExpansion s.macros s.env s.remaining (operands line) expanded
-  pub leaves : remaining_after ≡ expanded.remaining
+-- meter after it
+pub record NamesHeaderByExpansion (s : State) (line : List Token) (meter_after : Meter) (include_name : Result IncludeName Fault) : Type 0 where
+  pub expanded : Expansion
+  pub expands : IsExpansion s.macros s.env s.meter (operands line) expanded
+  pub leaves : meter_after ≡ expanded.meter
   pub is : include_name ≡ name_of_expansion_or (line_fault 30 line []) expanded.fault expanded.tokens
 
--- the header that an include line names, or its fault, and the remaining budget; the flag says whether a header name is
+-- the header that an include line names, or its fault, and the meter after it; the flag says whether a header name is
 -- after `include`
-abbrev pub NamesHeaderBy : Bool → State → List Token → Option ℕ → Result IncludeName Fault → Type 0
-NamesHeaderBy true s line remaining_after include_name = (remaining_after ≡ s.remaining) × (include_name ≡ name_or (line_fault 30 line []) (if_possible_name (name_of_header (operands line))))
-NamesHeaderBy false s line remaining_after include_name = NamesHeaderByExpansion s line remaining_after include_name
+abbrev pub NamesHeaderBy : Bool → State → List Token → Meter → Result IncludeName Fault → Type 0
+NamesHeaderBy true s line meter_after include_name = (meter_after ≡ s.meter) × (include_name ≡ name_or (line_fault 30 line []) (if_possible_name (name_of_header (operands line))))
+NamesHeaderBy false s line meter_after include_name = NamesHeaderByExpansion s line meter_after include_name
 
-abbrev pub NamesHeader : State → List Token → Option ℕ → Result IncludeName Fault → Type 0
-NamesHeader s line remaining_after include_name = NamesHeaderBy (begins_with_header (operands line)) s line remaining_after include_name
+abbrev pub NamesHeader : State → List Token → Meter → Result IncludeName Fault → Type 0
+NamesHeader s line meter_after include_name = NamesHeaderBy (begins_with_header (operands line)) s line meter_after include_name
 
 -- the candidates for a header in the file at index `from`; with the number of a directory, only those in the
 -- directories after it (gcc's manual, "Wrapper Headers")
@@ -118,7 +118,3 @@ ExecutesDirective profile row (Some Line) s line progress = SetsLine s line prog
 ExecutesDirective profile row (Some Pragma) s line progress = progress ≡ running (pragma_emitted profile row s line.tokens)
 ExecutesDirective profile row (Some Unknown) s line progress = progress ≡ stopped s (named_fault 8 line.tokens)
 ExecutesDirective _ _ _ s line progress = ⊥
-
--- the control lines that open no file, except `#error` and those without effect
-abbrev pub IsControl : Directive → Type 0
-IsControl d = class_of d ≡ class.Control

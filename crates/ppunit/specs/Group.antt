@@ -10,12 +10,13 @@ use Rattle.pptext.specs.Lines.{LogicalLine}
 use Rattle.pptext.specs.Sources.{Reads}
 use Rattle.pptext.specs.Tokens.{fault}
 use Rattle.pptext.specs.Tree.{hash_place, GroupParts, Done, TextLines, Control, Section, Branches, End, Branch, Tree}
+use Rattle.ppexpand.specs.declared.meter.Meter.{Meter}
 use Rattle.ppexpand.specs.Budget.{is_exhausted}
 use Rattle.ppshelf.specs.Content.{unreadable, readable}
 use Rattle.ppshelf.specs.Files.{file_at}
 use Rattle.ppshelf.specs.Names.{name_in}
 use Rattle.ppunit.specs.Dependencies.{has_row}
-use Rattle.ppunit.specs.States.{State, Context, search_of, Progress, running, stopped, with_dependency, entering, leaving, with_remaining, with_one_spent}
+use Rattle.ppunit.specs.States.{State, Context, search_of, Progress, running, stopped, with_dependency, entering, leaving, with_meter, with_one_spent}
 use Rattle.ppunit.specs.DirectiveLines.{operands, line_fault, text_tokens}
 use Rattle.ppunit.specs.Quotes.{unmatched_quote}
 use Rattle.ppunit.specs.Conditions.{Decides}
@@ -39,19 +40,19 @@ mutual
         → ExecutesControlLine context depth row s line m
         → ExecutesGroup context depth row m ps end
         → ExecutesGroup context depth row (running s) (Control line ps) end
-    taken : {depth row : ℕ} {s : State} {line : LogicalLine} {ps qs : GroupParts} {bs : Branches} {remaining_after : Option ℕ} {m end : Progress}
-        → Decides (search_of context) row s line remaining_after (Ok true)
-        → ExecutesGroup context depth row (running (with_remaining s remaining_after)) ps m
+    taken : {depth row : ℕ} {s : State} {line : LogicalLine} {ps qs : GroupParts} {bs : Branches} {meter_after : Meter} {m end : Progress}
+        → Decides (search_of context) row s line meter_after (Ok true)
+        → ExecutesGroup context depth row (running (with_meter s meter_after)) ps m
         → ExecutesGroup context depth row m qs end
         → ExecutesGroup context depth row (running s) (Section line ps bs qs) end
-    skipped : {depth row : ℕ} {s : State} {line : LogicalLine} {ps qs : GroupParts} {bs : Branches} {remaining_after : Option ℕ} {m end : Progress}
-        → Decides (search_of context) row s line remaining_after (Ok false)
-        → ExecutesBranches context depth row (with_remaining s remaining_after) bs m
+    skipped : {depth row : ℕ} {s : State} {line : LogicalLine} {ps qs : GroupParts} {bs : Branches} {meter_after : Meter} {m end : Progress}
+        → Decides (search_of context) row s line meter_after (Ok false)
+        → ExecutesBranches context depth row (with_meter s meter_after) bs m
         → ExecutesGroup context depth row m qs end
         → ExecutesGroup context depth row (running s) (Section line ps bs qs) end
-    condition_fault : {depth row : ℕ} {s : State} {line : LogicalLine} {ps qs : GroupParts} {bs : Branches} {remaining_after : Option ℕ} {f : Fault}
-        → Decides (search_of context) row s line remaining_after (Err f)
-        → ExecutesGroup context depth row (running s) (Section line ps bs qs) (stopped (with_remaining s remaining_after) f)
+    condition_fault : {depth row : ℕ} {s : State} {line : LogicalLine} {ps qs : GroupParts} {bs : Branches} {meter_after : Meter} {f : Fault}
+        → Decides (search_of context) row s line meter_after (Err f)
+        → ExecutesGroup context depth row (running s) (Section line ps bs qs) (stopped (with_meter s meter_after) f)
 
   -- the branches of an if-section, up to the first that is taken (6.10.1)
   pub data ExecutesBranches (context : Context) : ℕ → ℕ → State → Branches → Progress → Type 0 where
@@ -60,20 +61,20 @@ mutual
         → line.directive ≡ Some Else
         → ExecutesGroup context depth row (running s) ps m
         → ExecutesBranches context depth row s (Branch line ps bs) m
-    branch_taken : {depth row : ℕ} {s : State} {line : LogicalLine} {ps : GroupParts} {bs : Branches} {remaining_after : Option ℕ} {m : Progress}
+    branch_taken : {depth row : ℕ} {s : State} {line : LogicalLine} {ps : GroupParts} {bs : Branches} {meter_after : Meter} {m : Progress}
         → line.directive ≢ Some Else
-        → Decides (search_of context) row s line remaining_after (Ok true)
-        → ExecutesGroup context depth row (running (with_remaining s remaining_after)) ps m
+        → Decides (search_of context) row s line meter_after (Ok true)
+        → ExecutesGroup context depth row (running (with_meter s meter_after)) ps m
         → ExecutesBranches context depth row s (Branch line ps bs) m
-    branch_skipped : {depth row : ℕ} {s : State} {line : LogicalLine} {ps : GroupParts} {bs : Branches} {remaining_after : Option ℕ} {m : Progress}
+    branch_skipped : {depth row : ℕ} {s : State} {line : LogicalLine} {ps : GroupParts} {bs : Branches} {meter_after : Meter} {m : Progress}
         → line.directive ≢ Some Else
-        → Decides (search_of context) row s line remaining_after (Ok false)
-        → ExecutesBranches context depth row (with_remaining s remaining_after) bs m
+        → Decides (search_of context) row s line meter_after (Ok false)
+        → ExecutesBranches context depth row (with_meter s meter_after) bs m
         → ExecutesBranches context depth row s (Branch line ps bs) m
-    branch_condition_fault : {depth row : ℕ} {s : State} {line : LogicalLine} {ps : GroupParts} {bs : Branches} {remaining_after : Option ℕ} {f : Fault}
+    branch_condition_fault : {depth row : ℕ} {s : State} {line : LogicalLine} {ps : GroupParts} {bs : Branches} {meter_after : Meter} {f : Fault}
         → line.directive ≢ Some Else
-        → Decides (search_of context) row s line remaining_after (Err f)
-        → ExecutesBranches context depth row s (Branch line ps bs) (stopped (with_remaining s remaining_after) f)
+        → Decides (search_of context) row s line meter_after (Err f)
+        → ExecutesBranches context depth row s (Branch line ps bs) (stopped (with_meter s meter_after) f)
 
   -- A control line. `#include_next` searches the directories after the one in which the file of this line was found. All of
   -- them are searched if that file was found next to its includer. In the main file it searches as `#include` does.
@@ -99,21 +100,21 @@ mutual
         → ExecutesControlLine context depth row s line m
 
   -- An include line without unmatched quotes (6.10.2). Its operands name no header or their expansion has a fault, or no file
-  -- is found for the header, or the file that is found is opened one level deeper. The search begins after the directory
-  -- with the number `previous_directory`, or at the first directory if that is `None`. `found` is the index of the file and
+  -- is found for the header, or the file that is found is opened one level deeper. Only the directories after the one with
+  -- the number `previous_directory` are searched; if that is `None`, the search is that of `#include`. `found` is the index of the file and
   -- the number of its directory.
   pub data ExecutesInclude (context : Context) : ℕ → ℕ → Option ℕ → State → LogicalLine → Progress → Type 0 where
-    operand_fault : {depth row : ℕ} {previous_directory : Option ℕ} {s : State} {line : LogicalLine} {remaining_after : Option ℕ} {f : Fault}
-        → NamesHeader s line.tokens remaining_after (Err f)
-        → ExecutesInclude context depth row previous_directory s line (stopped (with_remaining s remaining_after) f)
-    missing : {depth row : ℕ} {previous_directory : Option ℕ} {s : State} {line : LogicalLine} {remaining_after : Option ℕ} (a : IncludeName)
-        → NamesHeader s line.tokens remaining_after (Ok a)
+    operand_fault : {depth row : ℕ} {previous_directory : Option ℕ} {s : State} {line : LogicalLine} {meter_after : Meter} {f : Fault}
+        → NamesHeader s line.tokens meter_after (Err f)
+        → ExecutesInclude context depth row previous_directory s line (stopped (with_meter s meter_after) f)
+    missing : {depth row : ℕ} {previous_directory : Option ℕ} {s : State} {line : LogicalLine} {meter_after : Meter} (a : IncludeName)
+        → NamesHeader s line.tokens meter_after (Ok a)
         → FindsFile context row previous_directory a None
-        → ExecutesInclude context depth row previous_directory s line (stopped (with_remaining s remaining_after) (line_fault 31 line.tokens a.name))
-    included : {depth row : ℕ} {previous_directory : Option ℕ} {s : State} {line : LogicalLine} {remaining_after : Option ℕ} (a : IncludeName) (found : ℕ × ℕ) {m : Progress}
-        → NamesHeader s line.tokens remaining_after (Ok a)
+        → ExecutesInclude context depth row previous_directory s line (stopped (with_meter s meter_after) (line_fault 31 line.tokens a.name))
+    included : {depth row : ℕ} {previous_directory : Option ℕ} {s : State} {line : LogicalLine} {meter_after : Meter} (a : IncludeName) (found : ℕ × ℕ) {m : Progress}
+        → NamesHeader s line.tokens meter_after (Ok a)
         → FindsFile context row previous_directory a (Some found)
-        → OpensFile context (suc depth) (hash_place line.tokens) (with_remaining s remaining_after) found.0 (Some found.1) m
+        → OpensFile context (suc depth) (hash_place line.tokens) (with_meter s meter_after) found.0 (Some found.1) m
         → ExecutesInclude context depth row previous_directory s line m
 
   -- Opening the file at index `row`. `at` is the location of the `#` of the include line, or 1:1 of the main file.
@@ -126,29 +127,29 @@ mutual
         → OpensFile context depth at s row directory (stopped s (fault 32 at (name_in context.names row)))
     exhausted : {depth row : ℕ} {directory : Option ℕ} {at : Place} {s : State}
         → depth ≤ depth_limit
-        → is_exhausted s.remaining ≡ true
+        → is_exhausted s.meter ≡ true
         → OpensFile context depth at s row directory (stopped s (fault 35 at []))
     not_read_again : {depth row : ℕ} {directory : Option ℕ} {at : Place} {s : State}
         → depth ≤ depth_limit
-        → is_exhausted s.remaining ≡ false
+        → is_exhausted s.meter ≡ false
         → has_row row s.once ≡ true
         → OpensFile context depth at s row directory (running (with_dependency (with_one_spent s) row))
     not_readable : {depth row : ℕ} {directory : Option ℕ} {at : Place} {s : State}
         → depth ≤ depth_limit
-        → is_exhausted s.remaining ≡ false
+        → is_exhausted s.meter ≡ false
         → has_row row s.once ≡ false
         → file_at context.files row ≡ Some unreadable
         → OpensFile context depth at s row directory (stopped (with_dependency (with_one_spent s) row) (fault 6 at (name_in context.names row)))
     content_fault : {depth row : ℕ} {directory : Option ℕ} {at : Place} {s : State} {bytes : List ℕ} {f : Fault}
         → depth ≤ depth_limit
-        → is_exhausted s.remaining ≡ false
+        → is_exhausted s.meter ≡ false
         → has_row row s.once ≡ false
         → file_at context.files row ≡ Some (readable bytes)
         → Reads context.profile row bytes (Err f)
         → OpensFile context depth at s row directory (stopped (with_dependency (with_one_spent s) row) f)
     read : {depth row : ℕ} {directory : Option ℕ} {at : Place} {s : State} {bytes : List ℕ} {lines : List LogicalLine} {parts : GroupParts} {m : Progress}
         → depth ≤ depth_limit
-        → is_exhausted s.remaining ≡ false
+        → is_exhausted s.meter ≡ false
         → has_row row s.once ≡ false
         → file_at context.files row ≡ Some (readable bytes)
         → Reads context.profile row bytes (Ok lines)

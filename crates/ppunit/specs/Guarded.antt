@@ -23,7 +23,7 @@ GuardsLeaveOut =
     → Reads context.profile row bytes (Ok lines)
     → GuardedBy lines x
     → is_macro_name s.macros x ≡ true
-    → is_exhausted s.remaining ≡ false
+    → is_exhausted s.meter ≡ false
     → (d : OpensFile context depth at s row directory (running (with_dependency (with_one_spent s) row))) × (count_opening d ≡ 1)
 
 -- if file names are also distinct, opening such a file has no other outcome
@@ -37,10 +37,6 @@ GuardsOnlyLeaveOut =
     → Reads context.profile row bytes (Ok lines)
     → GuardedBy lines x
     → is_macro_name s.macros x ≡ true
-    → is_exhausted s.remaining ≡ false
+    → is_exhausted s.meter ≡ false
     → OpensFile context depth at s row directory end
     → end ≡ running (with_dependency (with_one_spent s) row)
-
--- the lines are one if-section under a guard, and the guard is defined
-abbrev pub IsLeftOut : State → List LogicalLine → Type 0
-IsLeftOut s lines = (x : List ℕ) × GuardedBy lines x × (is_macro_name s.macros x ≡ true)

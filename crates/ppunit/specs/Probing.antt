@@ -1,5 +1,5 @@
 -- `__has_include` in the operands of `#if` and `#elif` (gcc's manual, "__has_include"): a step before the condition.
-use Rattle.std.specs.Prelude.{ℕ, Bool, false, ◌&&◌, List, [], ◌∷◌, ◌++◌, drop, codes, if◌then◌else◌, Option, None, Some, Result, Ok, Err}
+use Rattle.std.specs.Prelude.{ℕ, zero, suc, Bool, ◌&&◌, false, List, [], ◌∷◌, drop, take, position, codes, if◌then◌else◌, Option, None, Some, Result, Ok, Err}
 use Rattle.std.specs.List.{list_any}
 use Rattle.std.specs.Str.{bytes_eq}
 use Rattle.pptext.specs.declared.tokens.Token.{Token}
@@ -38,28 +38,39 @@ abbrev pub probe_result : Search → ℕ → Token → Option IncludeName → Op
 probe_result search row name None = None
 probe_result search row name (Some a) = Some (number_for name (has_file search row a))
 
--- a token before others, if there are both
-abbrev pub before : Option Token → Option (List Token) → Option (List Token)
-before None ts = None
-before (Some t) None = None
-before (Some t) (Some ts) = Some (t ∷ ts)
+-- the index of the first `)`
+abbrev pub closing : List Token → Option ℕ
+closing ts = position (λ t. is_punct (codes ")") t) ts
 
--- an `__has_include` whose `)` isn't reached, and the tokens after it so far, with the `(`
-pub record PendingProbe : Type 0 where
-  pub name : Token
-  pub following : List Token
+-- The number for an `__has_include` and the tokens after it, from the `(` to the first `)`, which is at this index. None if
+-- there is no `)` or the tokens between them name no header.
+abbrev pub operator_number : Search → ℕ → Token → List Token → Option ℕ → Option Token
+operator_number search row name following None = None
+operator_number search row name following (Some close) = probe_result search row name (if_possible_name (name_of_expansion (drop 1 (take close following))))
+
+-- how many tokens the parentheses have
+abbrev pub parenthesized : Option ℕ → ℕ
+parenthesized None = 0
+parenthesized (Some close) = suc close
+
+-- a token and the tokens after it, if there are both
+abbrev pub first_and_rest : Option Token → Option (List Token) → Option (List Token)
+first_and_rest None ts = None
+first_and_rest (Some t) None = None
+first_and_rest (Some t) (Some ts) = Some (t ∷ ts)
+
+-- the tokens after the next `passed`, probed
+abbrev pub probed_after : Search → ℕ → ℕ → List Token → Option (List Token)
+probed_after search row passed [] = Some []
+probed_after search row (suc passed) (t ∷ ts) = probed_after search row passed ts
+probed_after search row zero (t ∷ ts) =
+    if opens ts && is_has_include t then first_and_rest (operator_number search row t ts (closing ts)) (probed_after search row (parenthesized (closing ts)) ts)
+    else first_and_rest (Some t) (probed_after search row zero ts)
 
 -- the tokens with a number for each `__has_include` before a `(`, up to the first `)`; none if one has no `)` or names
 -- no header
-abbrev pub probed : Search → ℕ → Option PendingProbe → List Token → Option (List Token)
-probed search row None [] = Some []
-probed search row (Some b) [] = None
-probed search row None (t ∷ ts) =
-    if opens ts && is_has_include t then probed search row (Some (record { name = t; following = [] })) ts
-    else before (Some t) (probed search row None ts)
-probed search row (Some b) (t ∷ ts) =
-    if is_punct (codes ")") t then before (probe_result search row b.name (if_possible_name (name_of_expansion (drop 1 b.following)))) (probed search row None ts)
-    else probed search row (Some (record { name = b.name; following = b.following ++ t ∷ [] })) ts
+abbrev pub probed : Search → ℕ → List Token → Option (List Token)
+probed search row ts = probed_after search row 0 ts
 
 abbrev pub tokens_or : Fault → Option (List Token) → Result (List Token) Fault
 tokens_or f None = Err f
@@ -68,4 +79,4 @@ tokens_or f (Some ts) = Ok ts
 -- the tokens of a line's condition, or fault 30
 abbrev pub condition_tokens : Search → ℕ → List Token → Result (List Token) Fault
 condition_tokens search row line =
-    if is_gnu search.profile then tokens_or (line_fault 30 line []) (probed search row None (operands line)) else Ok (operands line)
+    if is_gnu search.profile then tokens_or (line_fault 30 line []) (probed search row (operands line)) else Ok (operands line)

@@ -4,10 +4,7 @@ use Rattle.pptext.specs.declared.tokens.Token.{Token}
 use Rattle.pptext.specs.declared.tokens.Fault.{Fault}
 use Rattle.pptext.specs.Tokens.{is_unmatched_quote, fault}
 
-abbrev pub quote_fault : Token → Fault
-quote_fault t = fault 7 t.at t.text
-
 -- the fault of the first unmatched quote
 abbrev pub unmatched_quote : List Token → Option Fault
 unmatched_quote [] = None
-unmatched_quote (t ∷ ts) = if is_unmatched_quote t then Some (quote_fault t) else unmatched_quote ts
+unmatched_quote (t ∷ ts) = if is_unmatched_quote t then Some (fault 7 t.at t.text) else unmatched_quote ts

@@ -5,19 +5,14 @@ use Rattle.pptext.specs.declared.sources.Profile.{Profile}
 use Rattle.ppmacro.specs.Substitution.{escaped}
 use Rattle.ppmacro.specs.Names.{Macros}
 use Rattle.ppexpand.specs.declared.env.Env.{Env}
+use Rattle.ppexpand.specs.declared.meter.Meter.{Meter}
 use Rattle.ppexpand.specs.Budget.{spend_one}
-use Rattle.ppshelf.specs.Files.{Files, ShelfView}
+use Rattle.ppshelf.specs.Files.{Files}
 use Rattle.ppshelf.specs.Names.{name_in}
 use Rattle.ppunit.specs.Dependencies.{with_row}
 use Rattle.ppunit.specs.declared.states.FileContext.{FileContext}
 use Rattle.ppunit.specs.declared.units.Item.{Item}
 use Rattle.ppunit.specs.declared.units.UnitOut.{UnitOut}
-
--- a unit's file table, and the directories that are searched, the unit's before the setting's
-pub record UnitContext : Type 0 where
-  pub shelf : ShelfView
-  pub unit_directories : List (List ℕ)
-  pub setting_directories : List (List ℕ)
 
 -- the context of a unit, which stays constant: the names of all files, their profile, their known contents, and the directories
 -- that are searched, the unit's before the setting's
@@ -44,27 +39,6 @@ search_of context =
       setting_directories = context.setting_directories;
     }
 
--- the search of a unit
-abbrev pub search_in_unit : UnitContext → Search
-search_in_unit unit_context =
-    record {
-      names = unit_context.shelf.names;
-      profile = unit_context.shelf.profile;
-      unit_directories = unit_context.unit_directories;
-      setting_directories = unit_context.setting_directories;
-    }
-
--- the context of a unit over these contents
-abbrev pub context_over : UnitContext → Files → Context
-context_over unit_context files =
-    record {
-      names = unit_context.shelf.names;
-      profile = unit_context.shelf.profile;
-      files = files;
-      unit_directories = unit_context.unit_directories;
-      setting_directories = unit_context.setting_directories;
-    }
-
 -- the state of phase 4
 pub record State : Type 0 where
   pub macros : Macros
@@ -74,8 +48,8 @@ pub record State : Type 0 where
   pub deps : List ℕ
   -- those of them that are not read again
   pub once : List ℕ
-  -- the remaining budget
-  pub remaining : Option ℕ
+  -- the meter of its expansions and opened files, which has the remaining budget
+  pub meter : Meter
   -- the values of the predefined names
   pub env : Env
   -- the number of the directory in which the current file was found; the main file has none
@@ -111,13 +85,13 @@ with_dependency s row = record s { deps = with_row row s.deps }
 abbrev pub with_once : State → ℕ → State
 with_once s row = record s { once = with_row row s.once }
 
--- the state with this remaining budget
-abbrev pub with_remaining : State → Option ℕ → State
-with_remaining s remaining = record s { remaining = remaining }
+-- the state with this meter
+abbrev pub with_meter : State → Meter → State
+with_meter s meter = record s { meter = meter }
 
 -- the state in which one is taken from the budget, for an opened file
 abbrev pub with_one_spent : State → State
-with_one_spent s = with_remaining s (spend_one s.remaining)
+with_one_spent s = with_meter s (spend_one s.meter)
 
 -- the output of a unit
 abbrev pub output : Progress → UnitOut

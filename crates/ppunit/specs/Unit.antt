@@ -7,6 +7,7 @@ use Rattle.pptext.specs.Lines.{LogicalLine}
 use Rattle.pptext.specs.Sources.{Reads}
 use Rattle.pptext.specs.Tree.{GroupParts, Tree}
 use Rattle.ppmacro.specs.Predefined.{predefined}
+use Rattle.ppexpand.specs.Budget.{new_meter}
 use Rattle.ppshelf.specs.Files.{Files}
 pub use Rattle.ppunit.specs.CommandFile.{CommandMacros, command_file, command_line, command_text}
 use Rattle.ppunit.specs.declared.units.Unit.{Unit as UnitOfList}
@@ -24,7 +25,7 @@ initial_state setting =
       items = [];
       deps = [];
       once = [];
-      remaining = setting.budget;
+      meter = new_meter setting.budget;
       env = record
           { name = []; shift = pos 0; date = setting.date; time = setting.time };
       directory = None;

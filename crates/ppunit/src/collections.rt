@@ -7,8 +7,8 @@ ghost use Rattle.ppunit.specs.Dependencies.{has_row, with_row};
 use crate::units::Item;
 use indexmap::IndexSet;
 use ppexpand::TokenRope;
-use pptext::{Place, Token, Tokens};
-use std::alloc::{AllocError, Global};
+use pptext::{Memory, Place, Token, Tokens};
+use std::alloc::Global;
 use std::marker::Model;
 
 /// A set of file indices in insertion order. Its model is their list.
@@ -43,12 +43,12 @@ impl Rows {
     }
 
     /// Inserts an index, unless the set has it. Fails if an allocation fails.
-    pub fn join(&mut self, row: usize) -> Result<(), AllocError>
+    pub fn join(&mut self, row: usize) -> Result<(), Memory>
         ensures { OnOk result (self.new ≡ with_row row self.old) }
     {
         match self.rows.insert(row) {
             Ok(_) => Ok(()),
-            Err(_) => Err(AllocError),
+            Err(_) => Err(Memory),
         }
     }
 
@@ -111,7 +111,7 @@ impl<'a> Items<'a> {
     }
 
     /// Copies the items into one vector. Fails if an allocation fails.
-    pub fn to_vec(&self, alloc: Global) -> Result<Vec<Item>, AllocError>
+    pub fn to_vec(&self, alloc: Global) -> Result<Vec<Item>, Memory>
         ensures { IfOk result (λ v. v.items ≡ self.now) }
     {
         let mut items = Vec::new(alloc);
@@ -122,7 +122,7 @@ impl<'a> Items<'a> {
     }
 
     /// Appends a pragma.
-    pub(crate) fn push_pragma(&mut self, at: Place, tokens: &'a [Token]) -> Result<(), AllocError>
+    pub(crate) fn push_pragma(&mut self, at: Place, tokens: &'a [Token]) -> Result<(), Memory>
         ensures { OnOk result (self.new ≡ self.old ++ item.Pragma at tokens.now ∷ []) }
     {
         self.chunks.push(Chunk::Pragma(at, tokens))?;
@@ -130,7 +130,7 @@ impl<'a> Items<'a> {
     }
 
     /// Appends tokens.
-    pub(crate) fn extend(&mut self, rope: TokenRope<'a>) -> Result<(), AllocError>
+    pub(crate) fn extend(&mut self, rope: TokenRope<'a>) -> Result<(), Memory>
         ensures { OnOk result (self.new ≡ self.old ++ map item.Token rope.entry) }
     {
         self.chunks.push(Chunk::Tokens(rope))?;
@@ -139,7 +139,7 @@ impl<'a> Items<'a> {
 }
 
 /// Appends copies of a chunk's items.
-fn copy_chunk(alloc: Global, items: &mut Vec<Item>, chunk: &Chunk) -> Result<(), AllocError>
+fn copy_chunk(alloc: Global, items: &mut Vec<Item>, chunk: &Chunk) -> Result<(), Memory>
     ensures { OnOk result (items.new.items ≡ items.old.items ++ chunk_items chunk.now) }
 {
     match chunk {
@@ -153,7 +153,7 @@ fn copy_chunk(alloc: Global, items: &mut Vec<Item>, chunk: &Chunk) -> Result<(),
 }
 
 /// Appends tokens.
-fn push_tokens(items: &mut Vec<Item>, tokens: Vec<Token>) -> Result<(), AllocError>
+fn push_tokens(items: &mut Vec<Item>, tokens: Vec<Token>) -> Result<(), Memory>
     ensures { OnOk result (items.new.items ≡ items.old.items ++ map item.Token tokens.items) }
 {
     for token in tokens {

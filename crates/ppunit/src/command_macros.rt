@@ -5,8 +5,8 @@ ghost use Rattle.ppshelf.specs.Content.{longest};
 ghost use Rattle.ppunit.specs.Unit.{command_file, command_text, command_line};
 
 use ppshelf::MAX_ROWS;
-use pptext::{Fault, Memory, OwnedTexts, Profile, Source, read_source, split_memory};
-use std::alloc::{AllocError, Global};
+use pptext::{Error, Fault, Memory, OwnedTexts, Profile, Source, read_source};
+use std::alloc::Global;
 use std::fmt;
 use std::marker::Model;
 
@@ -47,7 +47,11 @@ impl CommandMacros {
         ensures { IfOk result (λ d. d ≡ record { texts = texts; profile = profile }) }
     {
         let text = command_text(alloc, &texts)?;
-        let lines = split_memory(read_source(alloc, text.as_slice(), COMMAND_FILE, profile))?;
+        let lines = match read_source(alloc, text.as_slice(), COMMAND_FILE, profile) {
+            Ok(source) => Ok(source),
+            Err(Error::Fault(fault)) => Err(fault.into_fault()),
+            Err(Error::Memory) => return Err(Memory),
+        };
         Ok(CommandMacros {
             texts,
             profile,
@@ -78,7 +82,7 @@ impl CommandMacros {
 }
 
 /// Appends the line of a definition.
-fn push_definition(text: &mut Vec<u8>, definition: &str) -> Result<(), AllocError>
+fn push_definition(text: &mut Vec<u8>, definition: &str) -> Result<(), Memory>
     ensures { OnOk result (text.new.items ≡ text.old.items ++ command_line definition.now) }
 {
     text.extend_from_slice(b"#define ")?;
@@ -88,7 +92,7 @@ fn push_definition(text: &mut Vec<u8>, definition: &str) -> Result<(), AllocErro
 }
 
 /// Returns the bytes of the file that holds the definitions: a line for each.
-fn command_text(alloc: Global, defines: &OwnedTexts) -> Result<Vec<u8>, AllocError>
+fn command_text(alloc: Global, defines: &OwnedTexts) -> Result<Vec<u8>, Memory>
     ensures { IfOk result (λ text. text.items ≡ command_text defines.now) }
 {
     let mut text = Vec::new(alloc);

@@ -6,8 +6,10 @@ ghost use Rattle.pptext.specs.Tree.{hash_place};
 ghost use Rattle.ppexpr.specs.Conditions.{IsCondition};
 ghost use Rattle.ppunit.specs.Conditions as spec;
 ghost use Rattle.ppunit.specs.DirectiveLines as spec_lines;
+ghost use Rattle.ppunit.specs.code.Lines.{directed, DecidesOf, IsConditional};
 ghost use Rattle.ppunit.specs.Probing.{condition_tokens};
-ghost use Rattle.ppunit.specs.States.{search_in_unit, with_remaining};
+ghost use Rattle.ppunit.specs.States.{with_meter};
+ghost use Rattle.ppunit.specs.code.Contexts.{search_in_unit};
 
 use crate::directive_line::{DirectiveTokens, line_fault, one_identifier, refuse_unmatched_quote};
 use crate::open_file::UnitContext;
@@ -16,11 +18,11 @@ use crate::states::State;
 use ppexpr::evaluate;
 use ppmacro::Table;
 use ppshelf::Disk;
-use pptext::{Directive, Error, Fault, Place, Question, Token};
+use pptext::{Directive, Error, Place, Question, Token};
 use std::alloc::Global;
 
 /// Decides whether the group after a line of the file at index `row` is taken. Fails with the line's fault: 7, 9, 30,
-/// or a fault of its condition. Changes nothing in `state` but the remaining budget.
+/// or a fault of its condition. Changes nothing in `state` but the meter.
 pub(crate) fn decide<D: Disk>(
     context: &UnitContext<'_, '_, D>,
     state: &mut State,
@@ -29,16 +31,18 @@ pub(crate) fn decide<D: Disk>(
     line: &DirectiveTokens<'_>,
 ) -> Result<bool, Error>
     requires rows { 0 < length context.now.shelf.names }
-    requires condition { spec.IsConditional directive }
-    ensures rest { state.new ≡ with_remaining state.old state.new.remaining }
+    requires condition { IsConditional directive }
+    ensures rest { state.new ≡ with_meter state.old state.new.meter }
     ensures decides { UnlessOutOfMemory result (λ taken.
         (number : ℕ)
-        → spec.Decides (search_in_unit context.now) row state.old (spec_lines.directed directive line.now number) state.new.remaining taken) }
+        → spec.Decides (search_in_unit context.now) row state.old (directed directive line.now number) state.new.meter taken) }
 {
-    refuse_unmatched_quote(line)?;
+    refuse_unmatched_quote(context.alloc, line)?;
     match directive.question() {
+        Some(Question::Value) => by_condition(context, state, row, line),
         Some(Question::Defined(wanted)) => by_name(context.alloc, wanted, &state.macros, line),
-        _ => by_condition(context, state, row, line),
+        // The line of a conditional directive asks for one of them.
+        None => Ok(true),
     }
 }
 
@@ -52,7 +56,7 @@ fn by_name(
     ensures { UnlessOutOfMemory result (λ taken. taken ≡ spec.by_name wanted macros.now.macros line.now (spec_lines.one_identifier (spec_lines.operands line.now))) }
 {
     let Some(name) = one_identifier(line.operands()) else {
-        return Err(Error::Fault(line_fault(alloc, 9, line, line.name())?));
+        return Err(line_fault(alloc, 9, line, line.name()));
     };
     Ok(macros.get(name).is_some() == wanted)
 }
@@ -65,9 +69,9 @@ fn by_condition<D: Disk>(
     line: &DirectiveTokens<'_>,
 ) -> Result<bool, Error>
     requires { 0 < length context.now.shelf.names }
-    ensures rest { state.new ≡ with_remaining state.old state.new.remaining }
+    ensures rest { state.new ≡ with_meter state.old state.new.meter }
     ensures is { UnlessOutOfMemory result (λ taken.
-        spec.DecidesOf (condition_tokens (search_in_unit context.now) row line.now) state.old (hash_place line.now) state.new.remaining taken) }
+        DecidesOf (condition_tokens (search_in_unit context.now) row line.now) state.old (hash_place line.now) state.new.meter taken) }
 {
     let at = line.hash_place();
     let operands = line.operands();
@@ -76,25 +80,23 @@ fn by_condition<D: Disk>(
         return value(context.alloc, state, at, operands);
     }
     let Some(tokens) = probe(context, row, operands)? else {
-        return Err(Error::Fault(Fault::bare(30, at)));
+        return Err(Error::bare(context.alloc, 30, at));
     };
     value(context.alloc, state, at, tokens.as_slice())
 }
 
-/// Evaluates a condition, and spends its replacements from the budget.
+/// Evaluates a condition with the meter of the unit.
 fn value(alloc: Global, state: &mut State, at: Place, tokens: &[Token]) -> Result<bool, Error>
-    ensures rest { state.new ≡ with_remaining state.old state.new.remaining }
+    ensures rest { state.new ≡ with_meter state.old state.new.meter }
     ensures is { UnlessOutOfMemory result (λ taken.
-        IsCondition state.old.macros state.old.env at tokens.now state.old.remaining taken state.new.remaining) }
+        IsCondition state.old.macros state.old.env at tokens.now state.old.meter taken state.new.meter) }
 {
-    let (taken, remaining) = evaluate(
+    evaluate(
         alloc,
         &state.macros,
-        &state.env,
-        state.remaining,
+        &state.file_context.env,
+        &mut state.meter,
         at,
         tokens,
-    )?;
-    state.remaining = remaining;
-    taken.map_err(Error::Fault)
+    )
 }

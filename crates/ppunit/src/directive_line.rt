@@ -2,14 +2,14 @@
 ghost use Rattle.std.specs.Prelude.{◌≡◌, ◌<◌, ◌++◌, length, IfOk, OnOk};
 ghost use Rattle.std.specs.Option.{option_copied};
 ghost use Rattle.std.specs.Result.{result_err};
-ghost use Rattle.pptext.specs.Errors.{UnlessOutOfMemory};
+ghost use Rattle.pptext.specs.Errors.{Raises, UnlessOutOfMemory};
 ghost use Rattle.pptext.specs.Tree.{hash_place, name_of};
 ghost use Rattle.ppmacro.specs.Substitution.{spelled_space};
 ghost use Rattle.ppunit.specs.DirectiveLines as spec;
 ghost use Rattle.ppunit.specs.Quotes as quotes;
 
-use pptext::{Directive, Error, Fault, Place, Token};
-use std::alloc::{AllocError, Global};
+use pptext::{Directive, Error, Memory, Place, Token};
+use std::alloc::Global;
 use std::marker::Model;
 
 /// The tokens of a directive line. There is at least one: the first is the `#`. Its model is the list of the tokens.
@@ -76,7 +76,7 @@ pub(crate) struct DirectiveLine<'x> {
 }
 
 /// Appends a space if the token has leading white space and isn't the first.
-pub(crate) fn push_space(text: &mut Vec<u8>, token: &Token, first: bool) -> Result<(), AllocError>
+pub(crate) fn push_space(text: &mut Vec<u8>, token: &Token, first: bool) -> Result<(), Memory>
     ensures { OnOk result (text.new.items ≡ text.old.items ++ spelled_space first token.now) }
 {
     if token.space && !first {
@@ -85,16 +85,16 @@ pub(crate) fn push_space(text: &mut Vec<u8>, token: &Token, first: bool) -> Resu
     Ok(())
 }
 
-/// Returns a fault located at the line's `#`.
+/// Returns the error of a fault located at the line's `#`, or `Memory` if an allocation fails.
 pub(crate) fn line_fault(
     alloc: Global,
     number: u8,
     line: &DirectiveTokens<'_>,
     text: &[u8],
-) -> Result<Fault, AllocError>
-    ensures { IfOk result (λ f. f ≡ spec.line_fault number line.now text.now) }
+) -> Error
+    ensures { Raises result (spec.line_fault number line.now text.now) }
 {
-    Fault::new(alloc, number, line.hash_place(), text)
+    Error::new(alloc, number, line.hash_place(), text)
 }
 
 /// Returns the identifier if it is the only token.
@@ -108,12 +108,12 @@ pub(crate) fn one_identifier(tokens: &[Token]) -> Option<&[u8]>
 }
 
 /// Fails with fault 7 at the first unmatched quote (6.4p3), if there is one.
-pub(crate) fn refuse_unmatched_quote(line: &DirectiveTokens<'_>) -> Result<(), Error>
+pub(crate) fn refuse_unmatched_quote(alloc: Global, line: &DirectiveTokens<'_>) -> Result<(), Error>
     ensures { UnlessOutOfMemory result (λ r. result_err r ≡ quotes.unmatched_quote line.now) }
 {
     for token in line.tokens {
         if token.is_unmatched_quote() {
-            return Err(Error::Fault(Fault::of_token(7, token.at, token)?));
+            return Err(Error::of_token(alloc, 7, token.at, token));
         }
     }
     Ok(())

@@ -1,11 +1,10 @@
 //! Control lines that open no file (6.10.3 to 6.10.7), and text lines.
 ghost use Rattle.std.specs.Prelude.{◌≡◌, IfOk, Some, true};
 ghost use Rattle.std.specs.Result.{result_err};
-ghost use Rattle.pptext.specs.Errors.{UnlessOutOfMemory};
+ghost use Rattle.pptext.specs.Errors.{Raises, UnlessOutOfMemory};
 ghost use Rattle.ppunit.specs.Directives as spec;
 ghost use Rattle.ppunit.specs.DirectiveLines as spec_lines;
-ghost use Rattle.pptext.specs.Tree.{hash_place};
-ghost use Rattle.ppmacro.specs.Define.{after_define, after_undef};
+ghost use Rattle.ppunit.specs.code.Lines.{directed, IsControl};
 ghost use Rattle.ppunit.specs.States.{running};
 
 use crate::directive_line::{DirectiveLine, DirectiveTokens, line_fault, push_space};
@@ -13,8 +12,8 @@ use crate::line_control::renumber;
 use crate::states::State;
 use ppexpand::expand;
 use ppmacro::{define, undef};
-use pptext::{Directive, Error, Fault, Profile, Token};
-use std::alloc::{AllocError, Global};
+use pptext::{Directive, Error, Memory, Profile, Token};
+use std::alloc::Global;
 
 /// Emits the expansion of consecutive text lines, up to its first fault (6.10.3).
 pub(crate) fn emit_text<'x>(
@@ -28,8 +27,13 @@ pub(crate) fn emit_text<'x>(
     if tokens.is_empty() {
         return Ok(());
     }
-    let expanded = expand(alloc, &state.macros, &state.env, state.remaining, tokens)?;
-    state.remaining = expanded.remaining;
+    let expanded = expand(
+        alloc,
+        &state.macros,
+        &state.file_context.env,
+        &mut state.meter,
+        tokens,
+    )?;
     state.items.extend(expanded.tokens)?;
     match expanded.fault {
         None => Ok(()),
@@ -39,8 +43,8 @@ pub(crate) fn emit_text<'x>(
 
 /// Returns the message of `#error` (6.10.5): the tokens, with one space where a token other than the first has leading
 /// white space.
-#[tactic(auto, using(crate::proofs::Messages::message_is))]
-fn message(alloc: Global, tokens: &[Token]) -> Result<Vec<u8>, AllocError>
+#[tactic(auto, using(crate::proofs::OperandTexts::message_is))]
+fn message(alloc: Global, tokens: &[Token]) -> Result<Vec<u8>, Memory>
     ensures { IfOk result (λ m. m.items ≡ spec.message tokens.now) }
 {
     let mut text = Vec::new(alloc);
@@ -54,11 +58,13 @@ fn message(alloc: Global, tokens: &[Token]) -> Result<Vec<u8>, AllocError>
 }
 
 /// Returns fault 34, with the message of an `#error` line.
-pub(crate) fn error(alloc: Global, line: &DirectiveTokens<'_>) -> Result<Fault, AllocError>
-    ensures { IfOk result (λ f. f ≡ spec_lines.line_fault 34 line.now (spec.message (spec_lines.operands line.now))) }
+pub(crate) fn error(alloc: Global, line: &DirectiveTokens<'_>) -> Error
+    ensures { Raises result (spec_lines.line_fault 34 line.now (spec.message (spec_lines.operands line.now))) }
 {
-    let text = message(alloc, line.operands())?;
-    line_fault(alloc, 34, line, text.as_slice())
+    match message(alloc, line.operands()) {
+        Ok(text) => line_fault(alloc, 34, line, text.as_slice()),
+        Err(_) => Error::Memory,
+    }
 }
 
 /// Returns whether the tokens after `#pragma` are `once`, in a profile that has it: a pragma with an
@@ -89,63 +95,11 @@ fn pragma<'x>(
     Ok(())
 }
 
-/// Stops a unit with a fault.
-#[inline(never)]
-fn stopped(fault: Fault) -> Result<(), Error>
-    ensures { UnlessOutOfMemory result (λ r. result_err r ≡ Some fault) }
-{
-    Err(Error::Fault(fault))
-}
-
-/// Executes a `#define` line (6.10.3).
-fn define_by<'x>(
-    alloc: Global,
-    state: &mut State<'x>,
-    profile: Profile,
-    line: &DirectiveTokens<'x>,
-) -> Result<(), Error>
-    ensures { UnlessOutOfMemory result (λ r.
-        record { state = state.new; fault = result_err r } ≡ spec.with_macros state.old (after_define profile state.old.macros (hash_place line.now) (spec_lines.operands line.now))) }
-{
-    match define(
-        alloc,
-        &mut state.macros,
-        profile,
-        line.hash_place(),
-        line.operands(),
-    )? {
-        Ok(()) => Ok(()),
-        Err(fault) => stopped(fault),
-    }
-}
-
-/// Executes an `#undef` line (6.10.3.5).
-fn undef_by<'x>(
-    alloc: Global,
-    state: &mut State<'x>,
-    profile: Profile,
-    line: &DirectiveTokens<'x>,
-) -> Result<(), Error>
-    ensures { UnlessOutOfMemory result (λ r.
-        record { state = state.new; fault = result_err r } ≡ spec.with_macros state.old (after_undef profile state.old.macros (hash_place line.now) (spec_lines.operands line.now))) }
-{
-    match undef(
-        alloc,
-        &mut state.macros,
-        profile,
-        line.hash_place(),
-        line.operands(),
-    )? {
-        Ok(()) => Ok(()),
-        Err(fault) => stopped(fault),
-    }
-}
-
 /// Stops a unit with fault 8, with the name of an unknown directive.
 fn unknown(alloc: Global, line: &DirectiveTokens<'_>) -> Result<(), Error>
     ensures { UnlessOutOfMemory result (λ r. result_err r ≡ Some (spec_lines.named_fault 8 line.now)) }
 {
-    stopped(line_fault(alloc, 8, line, line.name())?)
+    Err(line_fault(alloc, 8, line, line.name()))
 }
 
 /// Executes a control line without unmatched quotes, whatever its directive.
@@ -156,14 +110,16 @@ fn control_any<'x>(
     profile: Profile,
     line: DirectiveLine<'x>,
 ) -> Result<(), Error>
-    requires { spec.IsControl line.directive }
+    requires { IsControl line.directive }
     ensures { UnlessOutOfMemory result (λ r.
-        spec.ExecutesDirective profile line.entry.row (Some line.entry.directive) state.old (spec_lines.directed line.entry.directive line.entry.tokens line.entry.number)
+        spec.ExecutesDirective profile line.entry.row (Some line.entry.directive) state.old (directed line.entry.directive line.entry.tokens line.entry.number)
         (record { state = state.new; fault = result_err r })) }
 {
+    let at = line.tokens.hash_place();
+    let operands = line.tokens.operands();
     match line.directive {
-        Directive::Define => define_by(alloc, state, profile, &line.tokens),
-        Directive::Undef => undef_by(alloc, state, profile, &line.tokens),
+        Directive::Define => define(alloc, &mut state.macros, profile, at, operands),
+        Directive::Undef => undef(alloc, &mut state.macros, profile, at, operands),
         Directive::Line => renumber(alloc, state, &line.tokens, line.number),
         Directive::Pragma => pragma(state, profile, line.row, &line.tokens),
         Directive::Unknown => unknown(alloc, &line.tokens),
@@ -178,14 +134,20 @@ pub(crate) fn control<'x>(
     profile: Profile,
     line: DirectiveLine<'x>,
 ) -> Result<(), Error>
-    requires { spec.IsControl line.directive }
+    requires { IsControl line.directive }
     ensures { UnlessOutOfMemory result (λ r.
-        spec.ExecutesDirective profile line.entry.row (Some line.entry.directive) state.old (spec_lines.directed line.entry.directive line.entry.tokens line.entry.number)
+        spec.ExecutesDirective profile line.entry.row (Some line.entry.directive) state.old (directed line.entry.directive line.entry.tokens line.entry.number)
         (record { state = state.new; fault = result_err r })) }
 {
     // Most control lines define a macro.
     if line.directive == Directive::Define {
-        return define_by(alloc, state, profile, &line.tokens);
+        return define(
+            alloc,
+            &mut state.macros,
+            profile,
+            line.tokens.hash_place(),
+            line.tokens.operands(),
+        );
     }
     control_any(alloc, state, profile, line)
 }

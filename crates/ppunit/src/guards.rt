@@ -1,6 +1,7 @@
 //! Skips files whose include guard is defined (6.10.1).
 ghost use Rattle.std.specs.Prelude.{◌↔◌, IsTrue};
-ghost use Rattle.ppunit.specs.Guarded.{IsLeftOut, GuardsLeaveOut, GuardsOnlyLeaveOut};
+ghost use Rattle.ppunit.specs.Guarded.{GuardsLeaveOut, GuardsOnlyLeaveOut};
+ghost use Rattle.ppunit.specs.code.Opening.{IsLeftOut};
 
 use crate::states::State;
 use ppexpand::one_expansion;

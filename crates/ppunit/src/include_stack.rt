@@ -4,7 +4,8 @@ ghost use Rattle.ppunit.specs.code.Walk.{next_file, next_suspended, contexts_res
 
 use crate::open_file::{Entered, OpenFile};
 use crate::states::{FileContext, State};
-use std::alloc::{AllocError, Global};
+use pptext::Memory;
+use std::alloc::Global;
 use std::marker::Model;
 
 /// A suspended file, which includes the next file on the stack or the file that is being processed, and its context.
@@ -60,7 +61,7 @@ impl<'a> Stack<'a> {
         &mut self,
         file: OpenFile<'a>,
         entered: Entered<'a>,
-    ) -> Result<OpenFile<'a>, AllocError>
+    ) -> Result<OpenFile<'a>, Memory>
         ensures file { IfOk result (λ next. next ≡ next_file file.entry (Some entered.entry)) }
         ensures suspended { OnOk result (self.new ≡ next_suspended file.entry (Some entered.entry) self.old) }
     {

@@ -1,19 +1,26 @@
 //! The header that an `#include` line names (6.10.2).
+//!
+//! A header name right after `include` is a token of its own kind, since phase 3 knows the directive. Otherwise the
+//! operands are expanded, and then a string literal or the tokens between `<` and `>` name the header. Those tokens are
+//! joined by their spellings, with one space where a token has leading white space.
+//!
+//! `__has_include` reads the same two forms without expansion: `name_of_tokens` is for it. A name that no file can have,
+//! an empty one or one that begins with `/`, is fault 30 in a line, and no header in a condition.
 ghost use Rattle.std.specs.Prelude.{◌≡◌, ◌∷◌, IfOk, [], true};
 ghost use Rattle.std.specs.Option.{option_map};
 ghost use Rattle.pptext.specs.Errors.{UnlessOutOfMemory};
 ghost use Rattle.ppunit.specs.DirectiveLines.{line_fault};
 ghost use Rattle.ppunit.specs.Including as spec;
 ghost use Rattle.ppunit.specs.Directives.{NamesHeader, NamesHeaderByExpansion};
-ghost use Rattle.ppunit.specs.States.{with_remaining};
+ghost use Rattle.ppunit.specs.States.{with_meter};
 
 use crate::directive_line::{DirectiveTokens, line_fault, push_space};
 use crate::line_control::is_plain_string;
 use crate::operand_expansion::expand_operands;
 use crate::states::State;
 use ppshelf::Form;
-use pptext::{Error, Kind, Spelling, Token};
-use std::alloc::{AllocError, Global};
+use pptext::{Error, Kind, Memory, Spelling, Token};
+use std::alloc::Global;
 use std::marker::Model;
 
 /// The form and the name of a header.
@@ -42,7 +49,7 @@ fn inner(text: &[u8]) -> &[u8]
 }
 
 /// Returns a header of this form whose name is a copy of `name`.
-fn copy_include_name(alloc: Global, form: Form, name: &[u8]) -> Result<IncludeName, AllocError>
+fn copy_include_name(alloc: Global, form: Form, name: &[u8]) -> Result<IncludeName, Memory>
     ensures { IfOk result (λ a. a ≡ record { form = form; name = name.now }) }
 {
     Ok(IncludeName {
@@ -63,7 +70,7 @@ fn form_of(text: &[u8]) -> Form
 }
 
 /// Returns the header that a single header name token names.
-fn name_of_header(alloc: Global, tokens: &[Token]) -> Result<Option<IncludeName>, AllocError>
+fn name_of_header(alloc: Global, tokens: &[Token]) -> Result<Option<IncludeName>, Memory>
     ensures { IfOk result (λ a. a ≡ spec.name_of_header tokens.now) }
 {
     let [header] = tokens else {
@@ -74,7 +81,7 @@ fn name_of_header(alloc: Global, tokens: &[Token]) -> Result<Option<IncludeName>
 }
 
 /// Returns the spelling of the tokens before the first `>`, or nothing if there is no `>` or if tokens follow it.
-fn angle_name(alloc: Global, tokens: &[Token]) -> Result<Option<Vec<u8>>, AllocError>
+fn angle_name(alloc: Global, tokens: &[Token]) -> Result<Option<Vec<u8>>, Memory>
     ensures { IfOk result (λ n. option_map (λ v. v.items) n ≡ spec.angle_name tokens.now) }
 {
     let mut name = Vec::new(alloc);
@@ -93,7 +100,7 @@ fn angle_name(alloc: Global, tokens: &[Token]) -> Result<Option<Vec<u8>>, AllocE
 }
 
 /// Returns the header that a single string literal names after macro replacement.
-fn name_of_string(alloc: Global, only: &Token) -> Result<Option<IncludeName>, AllocError>
+fn name_of_string(alloc: Global, only: &Token) -> Result<Option<IncludeName>, Memory>
     ensures { IfOk result (λ a. a ≡ spec.name_of_expansion (only.now ∷ [])) }
 {
     if !is_plain_string(only) {
@@ -103,7 +110,7 @@ fn name_of_string(alloc: Global, only: &Token) -> Result<Option<IncludeName>, Al
 }
 
 /// Returns the header that the tokens after `<` name.
-fn name_of_angle(alloc: Global, tokens: &[Token]) -> Result<Option<IncludeName>, AllocError>
+fn name_of_angle(alloc: Global, tokens: &[Token]) -> Result<Option<IncludeName>, Memory>
     ensures { IfOk result (λ a. a ≡ spec.name_of_angle_form (spec.angle_name tokens.now)) }
 {
     let Some(name) = angle_name(alloc, tokens)? else {
@@ -116,7 +123,7 @@ fn name_of_angle(alloc: Global, tokens: &[Token]) -> Result<Option<IncludeName>,
 }
 
 /// Returns the header that the operands name after macro replacement.
-fn name_of_expansion(alloc: Global, tokens: &[Token]) -> Result<Option<IncludeName>, AllocError>
+fn name_of_expansion(alloc: Global, tokens: &[Token]) -> Result<Option<IncludeName>, Memory>
     ensures { IfOk result (λ a. a ≡ spec.name_of_expansion tokens.now) }
 {
     match tokens {
@@ -136,7 +143,7 @@ fn name_or_fault(
 {
     match include_name {
         Some(include_name) if !is_impossible_name(include_name.name.as_bytes()) => Ok(include_name),
-        _ => Err(Error::Fault(line_fault(alloc, 30, line, b"")?)),
+        _ => Err(line_fault(alloc, 30, line, b"")),
     }
 }
 
@@ -160,10 +167,7 @@ fn if_possible_name(include_name: Option<IncludeName>) -> Option<IncludeName>
 }
 
 /// Returns the header that the tokens name without macro replacement, unless no file can have its name.
-pub(crate) fn name_of_tokens(
-    alloc: Global,
-    tokens: &[Token],
-) -> Result<Option<IncludeName>, AllocError>
+pub(crate) fn name_of_tokens(alloc: Global, tokens: &[Token]) -> Result<Option<IncludeName>, Memory>
     ensures { IfOk result (λ a. a ≡ spec.if_possible_name (spec.name_of_expansion tokens.now)) }
 {
     Ok(if_possible_name(name_of_expansion(alloc, tokens)?))
@@ -187,22 +191,22 @@ fn expand_include_name<'x>(
     state: &mut State<'x>,
     line: &DirectiveTokens<'x>,
 ) -> Result<IncludeName, Error>
-    ensures rest { state.new ≡ with_remaining state.old state.new.remaining }
-    ensures names { UnlessOutOfMemory result (λ include_name. NamesHeaderByExpansion state.old line.now state.new.remaining include_name) }
+    ensures rest { state.new ≡ with_meter state.old state.new.meter }
+    ensures names { UnlessOutOfMemory result (λ include_name. NamesHeaderByExpansion state.old line.now state.new.meter include_name) }
 {
     let tokens = expand_operands(alloc, state, line.operands())?;
     name_of_expansion_or(alloc, line, tokens.as_slice())
 }
 
 /// Returns the header that an include line without unmatched quotes names. Fails with a fault of macro replacement, or
-/// fault 30. Changes nothing in `state` but the remaining budget.
+/// fault 30. Changes nothing in `state` but the meter.
 pub(crate) fn read_include_name<'x>(
     alloc: Global,
     state: &mut State<'x>,
     line: &DirectiveTokens<'x>,
 ) -> Result<IncludeName, Error>
-    ensures rest { state.new ≡ with_remaining state.old state.new.remaining }
-    ensures names { UnlessOutOfMemory result (λ include_name. NamesHeader state.old line.now state.new.remaining include_name) }
+    ensures rest { state.new ≡ with_meter state.old state.new.meter }
+    ensures names { UnlessOutOfMemory result (λ include_name. NamesHeader state.old line.now state.new.meter include_name) }
 {
     let rest = line.operands();
     if let Some(first) = rest.first() {

@@ -7,8 +7,8 @@ ghost use Rattle.ppunit.specs.BorrowedItems.{ref_item, slice_items};
 use crate::collections::{Chunk, Items};
 use crate::units::Item;
 use ppexpand::{RopeSlices, SliceIter, TokenRef, TokenSlice};
-use pptext::{Place, Token, Tokens};
-use std::alloc::{AllocError, Global};
+use pptext::{Memory, Place, Token, Tokens};
+use std::alloc::Global;
 use std::marker::Model;
 
 /// A borrowed item: a token, or the location and the tokens of a pragma (6.10.6).
@@ -20,7 +20,7 @@ pub enum ItemRef<'r, 'a> {
 
 impl<'r, 'a> ItemRef<'r, 'a> {
     /// Copies the item. Fails only if an allocation fails.
-    pub fn to_item(&self, alloc: Global) -> Result<Item, AllocError>
+    pub fn to_item(&self, alloc: Global) -> Result<Item, Memory>
         ensures { IfOk result (λ i. i ≡ ref_item self.now) }
     {
         match self {

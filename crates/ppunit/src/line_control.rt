@@ -5,7 +5,8 @@ ghost use Rattle.std.specs.Result.{result_err};
 ghost use Rattle.pptext.specs.Errors.{UnlessOutOfMemory};
 ghost use Rattle.pptext.specs.declared.sources.Directive.TheVariants.{Line};
 ghost use Rattle.ppunit.specs.LineControl as spec;
-ghost use Rattle.ppunit.specs.DirectiveLines.{directed, line_fault};
+ghost use Rattle.ppunit.specs.DirectiveLines.{line_fault};
+ghost use Rattle.ppunit.specs.code.Lines.{directed};
 ghost use Rattle.ppunit.specs.Directives.{SetsLine};
 
 use crate::directive_line::{DirectiveTokens, line_fault};
@@ -13,8 +14,8 @@ use crate::operand_expansion::expand_operands;
 use crate::states::State;
 use crate::well_formed::is_digit;
 use ppexpand::Env;
-use pptext::{Error, Kind, Spelling, Token};
-use std::alloc::{AllocError, Global};
+use pptext::{Error, Kind, Memory, Spelling, Token};
+use std::alloc::Global;
 use std::marker::Model;
 
 /// The largest number that `#line` may give (6.10.4p3).
@@ -66,7 +67,7 @@ fn line_number(token: &Token) -> Option<u32>
 }
 
 /// Returns the operands of `#line` after macro replacement: a number, or a number and a string literal.
-fn presumed_by(tokens: &[Token]) -> Result<Option<Presumed>, AllocError>
+fn presumed_by(tokens: &[Token]) -> Result<Option<Presumed>, Memory>
     ensures { IfOk result (λ p. p ≡ spec.presumed tokens.now) }
 {
     let (number, name) = match tokens {
@@ -99,7 +100,7 @@ fn presumed_or_fault(
 {
     match presumed_by(tokens)? {
         Some(presumed) => Ok(presumed),
-        None => Err(Error::Fault(line_fault(alloc, 33, line, b"")?)),
+        None => Err(line_fault(alloc, 33, line, b"")),
     }
 }
 
@@ -123,6 +124,6 @@ pub(crate) fn renumber<'x>(
 {
     let tokens = expand_operands(alloc, state, line.operands())?;
     let presumed = presumed_or_fault(alloc, line, tokens.as_slice())?;
-    set_presumed(&mut state.env, presumed, physical);
+    set_presumed(&mut state.file_context.env, presumed, physical);
     Ok(())
 }

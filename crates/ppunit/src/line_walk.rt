@@ -1,5 +1,13 @@
 //! Walks over the lines of a file in the order of execution: the groups that are taken and no others (6.10.1). The
 //! lines of an included file come before the line after its include line.
+//!
+//! A walk is one loop with a stack of suspended files, not a recursion: an include depth of 200 would cost a thread 200
+//! frames. The lines of a file stay a flat list, in which each branch line has the index of the next one (`next_branch`).
+//! So a group that isn't taken is skipped in steps from branch line to branch line, whatever is nested in it.
+//!
+//! The specification speaks of group trees, and the walk of line indices. `specs/code/Walk` relates them: a line index
+//! stands for the parts that are left and the if-sections around them (`HasPartsAt`), and each step promises that all
+//! that is reached from the next line is reached from this one (`Advances`).
 ghost use Rattle.std.specs.Prelude.{◌≡◌, ◌<◌, ◌≤◌, ◌+◌, ℕ, suc, Bool, true, false, if◌then◌else◌, None, Some, IfOk};
 ghost use Rattle.std.specs.Prelude.{List, ◌++◌, drop, length};
 ghost use Rattle.std.specs.List.{AllByRecursion};
@@ -11,8 +19,9 @@ ghost use Rattle.pptext.specs.Classes.{opens_section, ends_group};
 ghost use Rattle.pptext.specs.declared.sources.Directive.{Directive};
 ghost use Rattle.ppshelf.specs.Files.{Files};
 ghost use Rattle.ppunit.specs.Group.{ExecutesControlLine, ExecutesInclude};
-ghost use Rattle.ppunit.specs.States.{Context, Progress, context_over, search_in_unit, with_remaining};
-ghost use Rattle.ppunit.specs.DirectiveLines.{directed};
+ghost use Rattle.ppunit.specs.States.{Context, Progress, with_meter};
+ghost use Rattle.ppunit.specs.code.Contexts.{context_over, search_in_unit};
+ghost use Rattle.ppunit.specs.code.Lines.{directed};
 ghost use Rattle.ppunit.specs.code.Preprocessor.{KeepsContext};
 ghost use Rattle.ppunit.specs.code.Walk.{line_at, IsTextLine, StartsWithoutTextLine, EnclosingSections, BranchesAt, TakesBranch, FindsBranch, Advances, Leads, Steps, Walks};
 
@@ -51,7 +60,7 @@ fn text_end(source: &Source, start: usize) -> usize
 }
 
 /// Returns whether the group after the branch line at `index` is taken, in the file at index `row`. Returns true at
-/// `#else` and `#endif`. Changes nothing in `state` but the remaining budget.
+/// `#else` and `#endif`. Changes nothing in `state` but the meter.
 fn takes_branch<D: Disk>(
     context: &UnitContext<'_, '_, D>,
     state: &mut State,
@@ -61,8 +70,8 @@ fn takes_branch<D: Disk>(
 ) -> Result<bool, Error>
     requires rows { 0 < length context.now.shelf.names }
     requires index { index < length source.now }
-    ensures rest { state.new ≡ with_remaining state.old state.new.remaining }
-    ensures takes_branch { UnlessOutOfMemory result (λ taken. TakesBranch (search_in_unit context.now) row state.old (line_at source.now index) state.new.remaining taken) }
+    ensures rest { state.new ≡ with_meter state.old state.new.meter }
+    ensures takes_branch { UnlessOutOfMemory result (λ taken. TakesBranch (search_in_unit context.now) row state.old (line_at source.now index) state.new.meter taken) }
 {
     let Some(directive) = line(source, index).directive else {
         return Ok(true);
@@ -158,12 +167,16 @@ fn execute_text_lines<'x>(
     Ok(end)
 }
 
-/// For `#include_next`, returns the number of the directory in which the current file was found: the search begins after it.
-/// Otherwise returns `None`: the search begins at the first directory.
+/// For `#include_next`, returns the number of the directory in which the current file was found: only the directories
+/// after it are searched. For `#include`, and in the main file, returns `None`.
 fn previous_directory(include_next: bool, state: &State) -> Option<usize>
     ensures { result ≡ (if include_next then state.now.directory else None) }
 {
-    if include_next { state.directory } else { None }
+    if include_next {
+        state.file_context.directory
+    } else {
+        None
+    }
 }
 
 /// Where execution continues: in the file `entered`, if there is one, and after it at the line at `index` of the current
@@ -194,8 +207,8 @@ fn in_same_file<'a>(index: usize) -> NextLine<'a>
 }
 
 impl<'x, 'a: 'x, D: Disk> Preprocessor<'_, 'x, 'a, D> {
-    /// Executes an include line: opens the file that it names, one level deeper. The search begins after the directory
-    /// `from.directory`, or at the first if there is none.
+    /// Executes an include line: opens the file that it names, one level deeper. If `from` has a directory number, only
+    /// the directories after that one are searched.
     fn include(
         &mut self,
         depth: u32,
@@ -214,7 +227,7 @@ impl<'x, 'a: 'x, D: Disk> Preprocessor<'_, 'x, 'a, D> {
         let include_name = read_include_name(context.alloc, &mut self.state, tokens)?;
         let Some((row, directory)) = resolve_in(context, from, &include_name)? else {
             let name = include_name.name.as_bytes();
-            return Err(Error::Fault(line_fault(context.alloc, 31, tokens, name)?));
+            return Err(line_fault(context.alloc, 31, tokens, name));
         };
         let opening = LocatedFile {
             row,
@@ -240,16 +253,16 @@ impl<'x, 'a: 'x, D: Disk> Preprocessor<'_, 'x, 'a, D> {
     {
         let context = self.context;
         match line.directive.class() {
-            Class::Error => Err(Error::Fault(error(context.alloc, &line.tokens)?)),
+            Class::Error => Err(error(context.alloc, &line.tokens)),
             Class::Ignored => Ok(None),
             Class::Includes(include_next) => {
-                refuse_unmatched_quote(&line.tokens)?;
+                refuse_unmatched_quote(context.alloc, &line.tokens)?;
                 let row = line.row;
                 let directory = previous_directory(include_next, &self.state);
                 self.include(depth, LocatedFile { row, directory }, &line.tokens)
             }
             _ => {
-                refuse_unmatched_quote(&line.tokens)?;
+                refuse_unmatched_quote(context.alloc, &line.tokens)?;
                 control(context.alloc, &mut self.state, context.profile(), line)?;
                 Ok(None)
             }

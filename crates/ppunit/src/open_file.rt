@@ -1,4 +1,12 @@
 //! Opens files (6.10.2): dependencies, contents, and the predefined names in a file.
+//!
+//! Opening has an order that a unit's value depends on: the depth and the budget are checked first, then the file becomes
+//! a dependency, then `#pragma once` is asked, and only then is its content looked up. So a file that isn't read again
+//! needs no content, and one that can't be read is a dependency too. A file whose include guard is defined is read and
+//! then skipped as a whole: its lines would only be stepped over.
+//!
+//! A file is opened here and walked in `line_walk`: `open` returns the file and the context that is restored after it,
+//! so that no function calls itself for an included file.
 ghost use Rattle.std.specs.Prelude.{◌≡◌, ◌<◌, ◌^◌, pos, length, IfOk, OnOk, IfErr, IfSome};
 ghost use Rattle.std.specs.Result.{result_err};
 ghost use Rattle.pptext.specs.Errors.{UnlessOutOfMemory};
@@ -9,7 +17,8 @@ ghost use Rattle.ppunit.specs.Directives.{FindsFile};
 ghost use Rattle.ppunit.specs.Group.{OpensFile};
 ghost use Rattle.ppunit.specs.code.Preprocessor.{KeepsContext};
 ghost use Rattle.ppunit.specs.code.Opening.{SpendsOpening, HasLines, HasFault, Begins};
-ghost use Rattle.ppunit.specs.States.{Progress, with_dependency, literal, context_over};
+ghost use Rattle.ppunit.specs.States.{Progress, with_dependency, literal};
+ghost use Rattle.ppunit.specs.code.Contexts.{context_over};
 ghost use Rattle.ppunit.specs.code.Walk.{Leads};
 
 use crate::guards::is_left_out;
@@ -18,9 +27,9 @@ use crate::line_access::line_count;
 use crate::preprocessor::Preprocessor;
 use crate::states::{FileContext, State, literal};
 use ppexpand::Env;
-use ppshelf::{Directories, Disk, Form, Shelf, resolve, resolve_next};
-use pptext::{Error, Fault, Memory, Place, Profile, Source};
-use std::alloc::{AllocError, Global};
+use ppshelf::{Directories, Disk, Shelf, resolve, resolve_next};
+use pptext::{Error, Memory, Place, Profile, Source};
+use std::alloc::Global;
 use std::marker::Model;
 
 /// The largest depth of an included file: the unit's file has depth 0, and an included file is one deeper than its
@@ -37,7 +46,7 @@ pub(crate) struct UnitContext<'a, 'b, D: Disk> {
 }
 
 impl<'a, 'b, D: Disk> Model for UnitContext<'a, 'b, D> {
-    ghost use Rattle.ppunit.specs.States.{UnitContext};
+    ghost use Rattle.ppunit.specs.code.Contexts.{UnitContext};
 
     ghost Value = { UnitContext };
 
@@ -160,7 +169,7 @@ pub(crate) struct LocatedFile {
 }
 
 /// Returns the predefined names at the beginning of a file.
-fn file_env(alloc: Global, outer: &Env, name: &str) -> Result<Env, AllocError>
+fn file_env(alloc: Global, outer: &Env, name: &str) -> Result<Env, Memory>
     ensures { IfOk result (λ e. e ≡ record outer.now { name = literal name.now; shift = pos 0 }) }
 {
     Ok(Env {
@@ -173,7 +182,8 @@ fn file_env(alloc: Global, outer: &Env, name: &str) -> Result<Env, AllocError>
 
 /// Returns the index of the file that an include line in the file `from` names, and the number of the directory in
 /// which it is found. If `from` has a directory number, only the directories after that one are searched. The file of a
-/// unit's definitions isn't in the file table, and has no files next to it.
+/// unit's definitions isn't in the file table, and has no files next to it: all directories are searched, from number 1
+/// on.
 pub(crate) fn resolve_in<D: Disk>(
     context: &UnitContext<'_, '_, D>,
     from: LocatedFile,
@@ -199,7 +209,7 @@ pub(crate) fn resolve_in<D: Disk>(
             directories,
         );
     }
-    resolve(context.alloc, shelf, 0, Form::Angle, name, directories)
+    resolve_next(context.alloc, shelf, 0, name, directories)
 }
 
 /// Spends one opening from the budget, if the file at index `row` may be opened at this depth. Fault 32 if it is too
@@ -216,17 +226,17 @@ fn spend_opening<D: Disk>(
 {
     if depth > DEEPEST {
         let name = context.shelf().name(row);
-        return Err(Error::Fault(Fault::new(context.alloc, 32, at, name.as_bytes())?));
+        return Err(Error::new(context.alloc, 32, at, name.as_bytes()));
     }
     if state.is_exhausted() {
-        return Err(Error::Fault(Fault::bare(35, at)));
+        return Err(Error::bare(context.alloc, 35, at));
     }
     state.spend();
     Ok(())
 }
 
 /// Adds the file at index `row` to the dependencies. Returns whether it is marked by `#pragma once`.
-fn record_dependency(state: &mut State, row: usize) -> Result<bool, AllocError>
+fn record_dependency(state: &mut State, row: usize) -> Result<bool, Memory>
     ensures joins { OnOk result (state.new ≡ with_dependency state.old row) }
     ensures is_once { IfOk result (λ is_once. is_once ≡ has_row row state.old.once) }
 {
@@ -243,13 +253,13 @@ fn begin<'a>(
     opening: LocatedFile,
     name: &str,
     source: &'a Source,
-) -> Result<Option<Entered<'a>>, AllocError>
+) -> Result<Option<Entered<'a>>, Memory>
     ensures { IfOk result (λ entered. Begins name.now opening.row opening.directory source.now state.old state.new entered) }
 {
     if is_left_out(state, source) {
         return Ok(None);
     }
-    let env = file_env(alloc, &state.env, name)?;
+    let env = file_env(alloc, &state.file_context.env, name)?;
     let directory = opening.directory;
     let outer = state.enter(FileContext { env, directory });
     let file = OpenFile::new(opening.row, source);
@@ -267,15 +277,13 @@ impl<'a, D: Disk> Preprocessor<'_, '_, 'a, D> {
     {
         let context = self.context;
         let shelf = context.shelf();
-        let Ok(loaded) = shelf.look(self.pass, row, context.disk) else {
-            return Err(Error::Memory);
-        };
+        let loaded = shelf.look(self.pass, row, context.disk)?;
         match loaded.lines() {
             Some(Ok(source)) => Ok(source),
-            Some(Err(fault)) => Err(Error::Fault(fault.clone()?)),
+            Some(Err(fault)) => Err(Error::of(context.alloc, fault.clone()?)),
             None => {
                 let name = shelf.name(row).as_bytes();
-                Err(Error::Fault(Fault::new(context.alloc, 6, at, name)?))
+                Err(Error::new(context.alloc, 6, at, name))
             }
         }
     }

@@ -2,7 +2,7 @@
 ghost use Rattle.std.specs.Prelude.{◌≡◌};
 ghost use Rattle.pptext.specs.Errors.{UnlessOutOfMemory};
 ghost use Rattle.ppunit.specs.code.OperandExpansion.{ExpandsOperands};
-ghost use Rattle.ppunit.specs.States.{with_remaining};
+ghost use Rattle.ppunit.specs.States.{with_meter};
 
 use crate::states::State;
 use ppexpand::{Expanded, expand};
@@ -10,21 +10,22 @@ use pptext::{Error, Token, Tokens};
 use std::alloc::Global;
 
 /// Returns a copy of the expansion of the operands, or the fault of the expansion. Changes nothing in `state` but the
-/// remaining budget.
+/// meter.
 pub(crate) fn expand_operands<'x>(
     alloc: Global,
     state: &mut State<'x>,
     operands: &'x [Token],
 ) -> Result<Tokens, Error>
-    ensures rest { state.new ≡ with_remaining state.old state.new.remaining }
-    ensures replaces { UnlessOutOfMemory result (λ r. ExpandsOperands state.old operands.now state.new.remaining r) }
+    ensures rest { state.new ≡ with_meter state.old state.new.meter }
+    ensures replaces { UnlessOutOfMemory result (λ r. ExpandsOperands state.old operands.now state.new.meter r) }
 {
-    let Expanded {
-        tokens,
-        fault,
-        remaining,
-    } = expand(alloc, &state.macros, &state.env, state.remaining, operands)?;
-    state.remaining = remaining;
+    let Expanded { tokens, fault } = expand(
+        alloc,
+        &state.macros,
+        &state.file_context.env,
+        &mut state.meter,
+        operands,
+    )?;
     if let Some(fault) = fault {
         return Err(Error::Fault(fault));
     }

@@ -1,10 +1,18 @@
 //! Preprocesses a unit: its definitions, and then its file.
+//!
+//! The methods of `Preprocessor` end with the first fault as an `Err`, so that `?` stops the unit; its state stays in the
+//! preprocessor, since the output has what was emitted before the fault. `run_unit` takes the state out, and there alone
+//! is the fault of a unit told apart from a lack of memory, which has no output.
+//!
+//! Definitions are lines of `#define` in a file of their own, whose lines `CommandMacros` reads once for all calls: they
+//! are walked like any file, and the rules for definitions stand once.
 ghost use Rattle.std.specs.Prelude.{◌≡◌, ◌<◌, IfOk, Ok, Option, None, All, length};
 ghost use Rattle.std.specs.Result.{result_err};
 ghost use Rattle.pptext.specs.Errors.{UnlessOutOfMemory};
 ghost use Rattle.pptext.specs.declared.tokens.Fault.{Fault};
 ghost use Rattle.ppshelf.specs.Files.{Files, Extends, Agree, AllPermitted};
-ghost use Rattle.ppunit.specs.States.{Progress, context_over, output};
+ghost use Rattle.ppunit.specs.States.{Progress, output};
+ghost use Rattle.ppunit.specs.code.Contexts.{context_over};
 ghost use Rattle.ppunit.specs.Group.{OpensFile};
 ghost use Rattle.ppunit.specs.Unit.{IsUnit, IsUnitOf, Translates, initial_state, first_place};
 ghost use Rattle.ppunit.specs.Capped.{IsInBudget, IsCappedOver};
@@ -19,7 +27,7 @@ use crate::preprocessor::Preprocessor;
 use crate::states::State;
 use crate::units::{Setting, Unit, UnitOut};
 use ppshelf::{Directories, Disk, Pass, Shelf};
-use pptext::{Error, Fault, Memory, Place, split_memory, tree_unless_fault};
+use pptext::{Error, Fault, Memory, Place, tree_unless_fault};
 use std::alloc::Global;
 
 impl<'x, 'a: 'x, D: Disk> Preprocessor<'_, 'x, 'a, D> {
@@ -33,7 +41,7 @@ impl<'x, 'a: 'x, D: Disk> Preprocessor<'_, 'x, 'a, D> {
     {
         let source = match defines.lines() {
             Ok(source) => source,
-            Err(fault) => return Err(Error::Fault(fault.clone()?)),
+            Err(fault) => return Err(Error::of(self.context.alloc, fault.clone()?)),
         };
         tree_unless_fault();
         let file = OpenFile::new(COMMAND_FILE as usize, source);
@@ -90,8 +98,11 @@ impl<'x, 'a: 'x, D: Disk> Preprocessor<'_, 'x, 'a, D> {
             Translates (context_over self.old.context.now self.new.pass.now.files) unit.now.defines.texts unit.now.file self.old.state
             (record { state = self.new.state; fault = fault })) }
     {
-        let translated = self.translate(&unit.defines, unit.file);
-        Ok(split_memory(translated)?.err())
+        match self.translate(&unit.defines, unit.file) {
+            Ok(()) => Ok(None),
+            Err(Error::Fault(fault)) => Ok(Some(fault.into_fault())),
+            Err(Error::Memory) => Err(Memory),
+        }
     }
 }
 
@@ -124,11 +135,10 @@ fn into_output<'x>(
     let State {
         macros: _,
         once: _,
-        remaining: _,
+        meter: _,
         items,
         deps,
-        env: _,
-        directory: _,
+        file_context: _,
     } = state;
     unit_out(items, deps, outcome)
 }
@@ -170,10 +180,11 @@ fn run_unit<'x, 'a: 'x, D: Disk>(
 /// Executes translation phases 1 to 4 of a unit: its definitions, and then its file with all that it includes (5.1.1.2,
 /// 6.10).
 ///
-/// The output is the value of the unit over the files that the pass has observed when the call returns: those that `fill` put into the shelf, and
-/// those that the disk returned. With a budget the unit's replacements and opened files total at most the budget, and
+/// The output is the value of the unit over the files that the pass has observed when the call returns: those that `fill`
+/// put into the shelf, and those that the disk returned. With a budget the unit's replacements and opened files total at most the budget, and
 /// its value is a prefix of the value without one: the whole of it exactly if the budget suffices, and otherwise ending
-/// in fault 35. Fails only if an allocation fails; the pass then has at least what it had observed before.
+/// in fault 35. Fails only if an allocation fails or the disk returns `Memory`; the pass then has at least what it had
+/// observed before.
 pub fn preprocess<'x, 'a: 'x, D: Disk>(
     alloc: Global,
     shelf: &'a Shelf<D>,

@@ -1,18 +1,17 @@
 //! Evaluates `__has_include` in the operands of `#if` and `#elif` (gcc's manual, "__has_include").
-ghost use Rattle.std.specs.Prelude.{◌≡◌, ◌<◌, ◌&&◌, drop, length, position, codes, None, IfOk, IfSome};
+ghost use Rattle.std.specs.Prelude.{◌≡◌, ◌<◌, ◌&&◌, drop, length, IfOk, IfSome};
 ghost use Rattle.std.specs.List.{list_any};
 ghost use Rattle.std.specs.Option.{option_map};
 ghost use Rattle.pptext.specs.Profiles.{is_gnu};
-ghost use Rattle.pptext.specs.Tokens.{is_punct};
 ghost use Rattle.ppunit.specs.Including.{name_of_expansion, if_possible_name};
 ghost use Rattle.ppunit.specs.Probing as spec;
-ghost use Rattle.ppunit.specs.States.{search_in_unit};
+ghost use Rattle.ppunit.specs.code.Contexts.{search_in_unit};
 
 use crate::including::{IncludeName, name_of_tokens};
 use crate::open_file::{LocatedFile, UnitContext, resolve_in};
 use ppshelf::Disk;
 use pptext::{Kind, Memory, Profile, Spelling, Token};
-use std::alloc::{AllocError, Global};
+use std::alloc::Global;
 
 /// Returns whether the token is the name `__has_include`.
 fn is_has_include(token: &Token) -> bool
@@ -54,7 +53,7 @@ fn begins_operator(token: &Token, following: &[Token]) -> bool
 
 /// Returns the index of the first `)`.
 fn close(tokens: &[Token]) -> Option<usize>
-    ensures index { result ≡ position (λ t. is_punct (codes ")") t) tokens.now }
+    ensures index { result ≡ spec.closing tokens.now }
     ensures within { IfSome result (λ index. index < length tokens.now) }
 {
     tokens.iter().position(|token| token.is_punct(b")"))
@@ -88,7 +87,7 @@ fn has_file<D: Disk>(
 }
 
 /// Returns the number that replaces `__has_include` and its parentheses: 1 if a file is found, and 0 otherwise.
-fn number_for(alloc: Global, name: &Token, found: bool) -> Result<Token, AllocError>
+fn number_for(alloc: Global, name: &Token, found: bool) -> Result<Token, Memory>
     ensures { IfOk result (λ t. t ≡ spec.number_for name.now found) }
 {
     let digit = if found {
@@ -130,7 +129,7 @@ pub(crate) fn probe<D: Disk>(
     operands: &[Token],
 ) -> Result<Option<Vec<Token>>, Memory>
     requires { 0 < length context.now.shelf.names }
-    ensures { IfOk result (λ tokens. option_map (λ v. v.items) tokens ≡ spec.probed (search_in_unit context.now) row None operands.now) }
+    ensures { IfOk result (λ tokens. option_map (λ v. v.items) tokens ≡ spec.probed (search_in_unit context.now) row operands.now) }
 {
     let mut probed = Vec::new(context.alloc);
     let mut rest = operands;

@@ -7,10 +7,10 @@ ghost use Rattle.ppunit.specs.declared.units.Item.TheVariants as item;
 
 use crate::collections::{Items, Rows};
 use crate::units::Setting;
-use ppexpand::{Env, is_exhausted, spend_one};
+use ppexpand::{Env, Meter};
 use ppmacro::{Table, push_escaped};
 use pptext::{Hashing, Memory, Place, Spelling, Token};
-use std::alloc::{AllocError, Global};
+use std::alloc::Global;
 use std::marker::Model;
 use std::mem::replace;
 
@@ -23,7 +23,7 @@ pub(crate) struct FileContext {
 }
 
 /// The state of phase 4: the macros, the items that were emitted, the indices of the opened files in the order of their
-/// first opening, those of them that are marked by `#pragma once`, the remaining budget, and the context of the file
+/// first opening, those of them that are marked by `#pragma once`, the meter of the unit, and the context of the file
 /// that is being processed.
 #[derive(Drop)]
 pub(crate) struct State<'x> {
@@ -31,9 +31,8 @@ pub(crate) struct State<'x> {
     pub items: Items<'x>,
     pub deps: Rows,
     pub once: Rows,
-    pub remaining: Option<u64>,
-    pub env: Env,
-    pub directory: Option<usize>,
+    pub meter: Meter,
+    pub file_context: FileContext,
 }
 
 impl<'x> Model for State<'x> {
@@ -56,9 +55,9 @@ impl<'x> Model for State<'x> {
       items = s.items;
       deps = s.deps;
       once = s.once;
-      remaining = s.remaining;
-      env = s.env;
-      directory = s.directory;
+      meter = s.meter;
+      env = s.file_context.env;
+      directory = s.file_context.directory;
     } };
 }
 
@@ -73,21 +72,23 @@ impl<'x> State<'x> {
     {
         let macros = Table::with_hasher(alloc, hashing)?;
         let env = initial_env(alloc, setting)?;
-        Ok(State::initial(alloc, macros, setting.budget, env))
+        Ok(State::initial(alloc, macros, Meter::new(setting.budget), env))
     }
 
     /// Creates a state with no items and no opened files.
-    fn initial(alloc: Global, macros: Table<'x>, remaining: Option<u64>, env: Env) -> State<'x>
-        ensures { result ≡ record { macros = macros.entry.macros; items = []; deps = []; once = []; remaining = remaining; env = env; directory = None } }
+    fn initial(alloc: Global, macros: Table<'x>, meter: Meter, env: Env) -> State<'x>
+        ensures { result ≡ record { macros = macros.entry.macros; items = []; deps = []; once = []; meter = meter; env = env; directory = None } }
     {
         State {
             macros,
             items: Items::new(alloc),
             deps: Rows::new(alloc),
             once: Rows::new(alloc),
-            remaining,
-            env,
-            directory: None,
+            meter,
+            file_context: FileContext {
+                env,
+                directory: None,
+            },
         }
     }
 
@@ -96,22 +97,18 @@ impl<'x> State<'x> {
         ensures outer { result ≡ file_context self.old }
         ensures inner { self.new ≡ in_file_context inner self.old }
     {
-        FileContext {
-            env: replace(&mut self.env, inner.env),
-            directory: replace(&mut self.directory, inner.directory),
-        }
+        replace(&mut self.file_context, inner)
     }
 
     /// Returns to a file with the context `outer`.
     pub(crate) fn restore_context(&mut self, outer: FileContext)
         ensures { self.new ≡ in_file_context outer self.old }
     {
-        self.env = outer.env;
-        self.directory = outer.directory;
+        self.file_context = outer;
     }
 
     /// Emits a pragma.
-    pub(crate) fn emit_pragma(&mut self, at: Place, tokens: &'x [Token]) -> Result<(), AllocError>
+    pub(crate) fn emit_pragma(&mut self, at: Place, tokens: &'x [Token]) -> Result<(), Memory>
         ensures { OnOk result (self.new ≡ emitted self.old (item.Pragma at tokens.now ∷ [])) }
     {
         self.items.push_pragma(at, tokens)
@@ -119,27 +116,27 @@ impl<'x> State<'x> {
 
     /// Returns whether there is a budget and it is exhausted.
     pub(crate) fn is_exhausted(&self) -> bool
-        ensures { result ≡ is_exhausted self.now.remaining }
+        ensures { result ≡ is_exhausted self.now.meter }
     {
-        is_exhausted(self.remaining)
+        self.meter.is_exhausted()
     }
 
     /// Spends one of the budget for an opened file.
     pub(crate) fn spend(&mut self)
         ensures { self.new ≡ with_one_spent self.old }
     {
-        self.remaining = spend_one(self.remaining);
+        self.meter = self.meter.spend_one();
     }
 
     /// Adds the file at index `row` to the dependencies, unless it is one.
-    pub(crate) fn add_dependency(&mut self, row: usize) -> Result<(), AllocError>
+    pub(crate) fn add_dependency(&mut self, row: usize) -> Result<(), Memory>
         ensures { OnOk result (self.new ≡ with_dependency self.old row) }
     {
         self.deps.join(row)
     }
 
     /// Marks the file at index `row` as one that isn't read again.
-    pub(crate) fn mark_once(&mut self, row: usize) -> Result<(), AllocError>
+    pub(crate) fn mark_once(&mut self, row: usize) -> Result<(), Memory>
         ensures { OnOk result (self.new ≡ with_once self.old row) }
     {
         self.once.join(row)
@@ -147,7 +144,7 @@ impl<'x> State<'x> {
 }
 
 /// Returns the predefined names before any file is entered.
-fn initial_env(alloc: Global, setting: &Setting) -> Result<Env, AllocError>
+fn initial_env(alloc: Global, setting: &Setting) -> Result<Env, Memory>
     ensures { IfOk result (λ e. e ≡ (initial_state setting.now).env) }
 {
     let date = to_spelling(alloc, setting.date.as_str())?;
@@ -161,14 +158,14 @@ fn initial_env(alloc: Global, setting: &Setting) -> Result<Env, AllocError>
 }
 
 /// Copies a text into a spelling.
-fn to_spelling(alloc: Global, text: &str) -> Result<Spelling, AllocError>
+fn to_spelling(alloc: Global, text: &str) -> Result<Spelling, Memory>
     ensures { IfOk result (λ s. s ≡ text.now) }
 {
     Spelling::from_slice(alloc, text.as_bytes())
 }
 
 /// Returns a name as a string literal: between `"`, with `\` before each `"` and `\`.
-pub(crate) fn literal(alloc: Global, name: &str) -> Result<Spelling, AllocError>
+pub(crate) fn literal(alloc: Global, name: &str) -> Result<Spelling, Memory>
     ensures { IfOk result (λ s. s ≡ literal name.now) }
 {
     let mut text = Vec::new(alloc);

@@ -11,7 +11,8 @@ use Rattle.ppshelf.specs.Names.{name_in}
 use Rattle.ppunit.specs.declared.states.FileContext.{FileContext}
 use Rattle.ppunit.specs.States.{State, file_context, with_one_spent, literal}
 use Rattle.ppunit.specs.Group.{depth_limit}
-use Rattle.ppunit.specs.Guarded.{IsLeftOut}
+use Rattle.ppunit.specs.Conditions.{is_macro_name}
+use Rattle.pptext.specs.Guard.{GuardedBy}
 
 -- a file that is being processed: its index in the file table, its lines, and the index of the next line
 pub record OpenFile : Type 0 where
@@ -27,11 +28,11 @@ pub record Entered : Type 0 where
 -- why a file of this name isn't opened: it is too deep, or else the budget is exhausted
 abbrev pub IsRefusedOpening : ℕ → Place → List ℕ → State → Fault → Type 0
 IsRefusedOpening depth at name s f =
-    ((depth_limit < depth) × (f ≡ fault 32 at name)) ⊎ ((depth ≤ depth_limit) × (is_exhausted s.remaining ≡ true) × (f ≡ fault 35 at []))
+    ((depth_limit < depth) × (f ≡ fault 32 at name)) ⊎ ((depth ≤ depth_limit) × (is_exhausted s.meter ≡ true) × (f ≡ fault 35 at []))
 
 -- one opening is spent from the budget, unless there is such a fault, which changes nothing
 abbrev pub SpendsOpening : ℕ → Place → List ℕ → State → State → Option Fault → Type 0
-SpendsOpening depth at name s t None = (depth ≤ depth_limit) × (is_exhausted s.remaining ≡ false) × (t ≡ with_one_spent s)
+SpendsOpening depth at name s t None = (depth ≤ depth_limit) × (is_exhausted s.meter ≡ false) × (t ≡ with_one_spent s)
 SpendsOpening depth at name s t (Some f) = (t ≡ s) × IsRefusedOpening depth at name s f
 
 -- the file at index `row` has these lines
@@ -43,6 +44,10 @@ abbrev pub HasFault : ShelfView → Files → ℕ → Place → Fault → Type 0
 HasFault shelf files row at f =
     ((file_at files row ≡ Some unreadable) × (f ≡ fault 6 at (name_in shelf.names row)))
     ⊎ ((content : Content) × (file_at files row ≡ Some content) × IsRead shelf.profile row content (Err f))
+
+-- the lines are one if-section under a guard, and the guard is defined
+abbrev pub IsLeftOut : State → List LogicalLine → Type 0
+IsLeftOut s lines = (x : List ℕ) × GuardedBy lines x × (is_macro_name s.macros x ≡ true)
 
 -- A file of this name and these lines is skipped, which changes nothing; or it is entered, and the predefined names and
 -- the directory number are its own.

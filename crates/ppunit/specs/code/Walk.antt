@@ -8,6 +8,7 @@ use Rattle.pptext.specs.Lines.{LogicalLine}
 use Rattle.pptext.specs.Sources.{next_branch}
 use Rattle.pptext.specs.Tree.{GroupParts, Branches, part_lines, branch_lines, AreGroupParts, AreBranches, Tree, role, branch_after}
 use Rattle.pptext.specs.Classes.{begins_elif_group}
+use Rattle.ppexpand.specs.declared.meter.Meter.{Meter}
 use Rattle.ppshelf.specs.Files.{Files, Extends}
 use Rattle.ppunit.specs.declared.states.FileContext.{FileContext}
 use Rattle.ppunit.specs.States.{Search, State, in_file_context, Context, search_of, Progress, running, stopped}
@@ -156,17 +157,17 @@ pub record BranchesAt (lines : List LogicalLine) (index : ℕ) (ps : GroupParts)
   pub outer : AreEnclosingSections ((bs, qs) ∷ k)
 
 -- whether processing continues after a branch line or `#endif` of the file at index `row`, or the line's fault, and the
--- remaining budget; a condition decides if the line has one
-abbrev pub ContinuesIf : Search → ℕ → Bool → State → LogicalLine → Option ℕ → Result Bool Fault → Type 0
-ContinuesIf search row true s line remaining_after taken = Decides search row s line remaining_after taken
-ContinuesIf search row false s line remaining_after taken = DecidesFreely s (Ok true) remaining_after taken
+-- meter after it; a condition decides if the line has one
+abbrev pub ContinuesIf : Search → ℕ → Bool → State → LogicalLine → Meter → Result Bool Fault → Type 0
+ContinuesIf search row true s line meter_after taken = Decides search row s line meter_after taken
+ContinuesIf search row false s line meter_after taken = DecidesFreely s (Ok true) meter_after taken
 
-abbrev pub ContinuesBy : Search → ℕ → Option Directive → State → LogicalLine → Option ℕ → Result Bool Fault → Type 0
-ContinuesBy search row None s line remaining_after taken = ContinuesIf search row false s line remaining_after taken
-ContinuesBy search row (Some d) s line remaining_after taken = ContinuesIf search row (begins_elif_group d) s line remaining_after taken
+abbrev pub ContinuesBy : Search → ℕ → Option Directive → State → LogicalLine → Meter → Result Bool Fault → Type 0
+ContinuesBy search row None s line meter_after taken = ContinuesIf search row false s line meter_after taken
+ContinuesBy search row (Some d) s line meter_after taken = ContinuesIf search row (begins_elif_group d) s line meter_after taken
 
-abbrev pub TakesBranch : Search → ℕ → State → LogicalLine → Option ℕ → Result Bool Fault → Type 0
-TakesBranch search row s line remaining_after taken = ContinuesBy search row line.directive s line remaining_after taken
+abbrev pub TakesBranch : Search → ℕ → State → LogicalLine → Meter → Result Bool Fault → Type 0
+TakesBranch search row s line meter_after taken = ContinuesBy search row line.directive s line meter_after taken
 
 -- the line at which processing continues after a group that isn't taken, and the state then
 abbrev pub FindsBranch : Search → ℕ → List LogicalLine → State → State → Branches → GroupParts → EnclosingSections → Result ℕ Fault → Type 0

@@ -1,4 +1,4 @@
-use Rattle.ppunit.specs.States.{search_in_unit}
+use Rattle.ppunit.specs.code.Contexts.{search_in_unit}
 use Rattle.ppunit.proofs.LineDecisions.{decides_unprobed, decides_probed}
 use Rattle.ppunit.proofs.UnitValue.{on_settled}
 use Rattle.ppunit.proofs.conditions.by_condition.Goals as goal
@@ -7,7 +7,7 @@ pub returns-then-not-needs_probing-clause-is : goal.returns-then-not-needs_probi
 returns-then-not-needs_probing-clause-is g c =
     on_settled c.value.result
     (λ taken. decides_unprobed (search_in_unit c.args.context.now) c.args.row c.args.state.now c.args.line.now c.operands-operands.result.now
-    c.profile.result c.hash_place-at.result c.value.new.state.remaining taken c.profile.ensures c.operands-operands.ensures c.hash_place-at.ensures
+    c.profile.result c.hash_place-at.result c.value.new.state.meter taken c.profile.ensures c.operands-operands.ensures c.hash_place-at.ensures
     c.if-not-needs_probing.ensures)
     c.value.ensures.is
 
@@ -18,6 +18,6 @@ pub returns-clause-is : goal.returns-clause-is
 returns-clause-is g c =
     on_settled c.value-2.result
     (λ taken. decides_probed (search_in_unit c.args.context.now) c.args.row c.args.state.now c.args.line.now c.operands-operands.result.now
-    c.in-Some.tokens.items c.profile.result c.hash_place-at.result c.value-2.new.state.remaining taken c.profile.ensures c.operands-operands.ensures
+    c.in-Some.tokens.items c.profile.result c.hash_place-at.result c.value-2.new.state.meter taken c.profile.ensures c.operands-operands.ensures
     c.hash_place-at.ensures c.if-not-needs_probing.ensures (rw c.in-Some.is at c.in_ok-tokens.ensures))
     (rw c.as_slice.ensures.value at c.value-2.ensures.is)

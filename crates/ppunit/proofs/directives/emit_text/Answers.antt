@@ -1,5 +1,5 @@
 use Rattle.std.proofs.Common.{sym, ◌∙◌}
-use Rattle.ppunit.proofs.EmptyRuns.{empty_run}
+use Rattle.ppunit.proofs.TextRuns.{empty_run}
 use Rattle.ppunit.proofs.directives.emit_text.Goals as goal
 
 -- src/directives.rt:27:9

@@ -1,6 +1,6 @@
 use Rattle.std.proofs.Common.{◌≡◌, ◌++◌, drop}
 use Rattle.ppunit.specs.Directives as spec
-use Rattle.ppunit.proofs.Messages.{probe_result}
+use Rattle.ppunit.proofs.OperandTexts.{probe_result}
 use Rattle.ppunit.proofs.directives.message.Given as goal
 
 abbrev pub invariant-loop-token : goal.invariant-loop-token

@@ -1,7 +1,7 @@
 use Rattle.std.proofs.Common.{arith, ◌≡◌, ◌∙◌, sym, ℕ, Vec, Global, true, None}
 use Rattle.std.proofs.lemmas.Grind.{common_steps}
 use Rattle.std.specs.Option.{option_map}
-use Rattle.ppunit.proofs.Messages.{named, named_angle, named_more}
+use Rattle.ppunit.proofs.OperandTexts.{named, named_angle, named_more}
 use Rattle.ppunit.proofs.including.angle_name.Goals as goal
 
 pub returns-then-is_punct : goal.returns-then-is_punct

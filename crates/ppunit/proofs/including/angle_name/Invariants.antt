@@ -1,6 +1,6 @@
 use Rattle.std.proofs.Common.{◌≡◌, ◌==◌, drop, true}
 use Rattle.ppunit.specs.Including as spec
-use Rattle.ppunit.proofs.Messages.{named}
+use Rattle.ppunit.proofs.OperandTexts.{named}
 use Rattle.ppunit.proofs.including.angle_name.Given as goal
 
 abbrev pub invariant-loop-index : goal.invariant-loop-index

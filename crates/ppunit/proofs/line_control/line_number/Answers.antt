@@ -1,7 +1,7 @@
 use Rattle.std.proofs.lemmas.Grind.{common_steps}
 use Rattle.std.proofs.Common.{◌≡◌, ◌+◌, ◌*◌, true, get_or, subst, sym, ap, ◌∙◌, arith}
 use Rattle.pptext.specs.Spellings.{is_digit}
-use Rattle.ppunit.proofs.LineNumberDigits.{Reads, reads_digit, reads_on}
+use Rattle.ppunit.proofs.OperandTexts.{Reads, reads_digit, reads_on}
 use Rattle.ppunit.proofs.line_control.line_number.Goals as goal
 use Rattle.ppunit.proofs.line_control.line_number.Goals.{then-number-le-MAX_LINE_NUMBER, else-number-le-MAX_LINE_NUMBER}
 

@@ -1,4 +1,4 @@
-use Rattle.ppunit.proofs.LineNumberDigits.{Reads}
+use Rattle.ppunit.proofs.OperandTexts.{Reads}
 use Rattle.ppunit.proofs.line_control.line_number.Given as goal
 
 abbrev pub invariant-loop-byte : goal.invariant-loop-byte

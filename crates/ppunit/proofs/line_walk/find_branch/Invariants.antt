@@ -1,6 +1,6 @@
 use Rattle.std.proofs.Common.{◌-◌, length}
-use Rattle.ppunit.specs.States.{search_in_unit}
-use Rattle.ppunit.proofs.BranchSearch.{BranchSoFar}
+use Rattle.ppunit.specs.code.Contexts.{search_in_unit}
+use Rattle.ppunit.proofs.SectionWalks.{BranchSoFar}
 use Rattle.ppunit.proofs.line_walk.find_branch.Given as goal
 
 abbrev pub invariant-loop-next : goal.invariant-loop-next

@@ -1,5 +1,5 @@
 use Rattle.std.proofs.Common.{◌-◌, length}
-use Rattle.ppunit.proofs.SectionEnds.{SectionSoFar}
+use Rattle.ppunit.proofs.SectionWalks.{SectionSoFar}
 use Rattle.ppunit.proofs.line_walk.section_end.Given as goal
 
 abbrev pub invariant-loop-next : goal.invariant-loop-next

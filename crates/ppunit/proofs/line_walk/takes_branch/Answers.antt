@@ -1,5 +1,5 @@
 use Rattle.std.proofs.Common.{sym, ◌∙◌}
-use Rattle.ppunit.specs.States.{search_in_unit}
+use Rattle.ppunit.specs.code.Contexts.{search_in_unit}
 use Rattle.ppunit.specs.code.Walk.{line_at}
 use Rattle.ppunit.proofs.LineDecisions.{enters_asked}
 use Rattle.ppunit.proofs.UnitValue.{on_settled}
@@ -9,6 +9,6 @@ pub returns-clause-takes_branch : goal.returns-clause-takes_branch
 returns-clause-takes_branch g c =
     on_settled c.decide.result
     (λ taken. enters_asked (search_in_unit c.args.context.now) c.args.row c.args.state.now (line_at c.args.source.now c.args.index) c.in-Some.directive c.tokens_at.result
-    c.decide.new.state.remaining taken (sym c.line.ensures.directive ∙ c.in-Some.is) c.tokens_at.ensures.tokens
+    c.decide.new.state.meter taken (sym c.line.ensures.directive ∙ c.in-Some.is) c.tokens_at.ensures.tokens
     (sym c.begins_elif_group.ensures ∙ c.if-not-begins_elif_group.false))
     c.decide.ensures.decides

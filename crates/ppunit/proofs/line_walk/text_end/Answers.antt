@@ -1,6 +1,6 @@
 use Rattle.std.proofs.Common.{◌∙◌, sym, arith}
 use Rattle.ppunit.specs.code.Walk.{line_at, IsTextLine}
-use Rattle.ppunit.proofs.RunEnd.{run_start, run_more, run_done}
+use Rattle.ppunit.proofs.TextRuns.{run_start, run_more, run_done}
 use Rattle.ppexpand.proofs.SkippedTokens.{none_by}
 use Rattle.ppunit.proofs.OptionCases.{some_not}
 use Rattle.ppunit.proofs.line_walk.text_end.Goals as goal

@@ -1,5 +1,5 @@
 use Rattle.std.proofs.Common.{◌-◌, length}
-use Rattle.ppunit.proofs.RunEnd.{RunSoFar}
+use Rattle.ppunit.proofs.TextRuns.{RunSoFar}
 use Rattle.ppunit.proofs.line_walk.text_end.Given as goal
 
 abbrev pub invariant-loop-end : goal.invariant-loop-end

@@ -1,7 +1,8 @@
 use Rattle.std.proofs.Common.{◌≡◌, ◌∙◌, ap, subst}
 use Rattle.std.proofs.lemmas.Result.{IfOk-weaker}
 use Rattle.ppshelf.specs.Files.{Agree, ShelfView}
-use Rattle.ppunit.specs.States.{UnitContext, Progress, context_over, output}
+use Rattle.ppunit.specs.States.{Progress, output}
+use Rattle.ppunit.specs.code.Contexts.{UnitContext, context_over}
 use Rattle.ppunit.specs.Unit.{IsUnit, Translates, initial_state}
 use Rattle.ppunit.proofs.UnitValue.{whole_unit}
 use Rattle.ppunit.proofs.DependencyIndices.{unit_within}

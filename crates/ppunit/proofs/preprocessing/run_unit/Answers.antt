@@ -3,7 +3,8 @@ use Rattle.std.proofs.lemmas.Result.{IfOk-weaker}
 use Rattle.pptext.specs.declared.tokens.Fault.{Fault}
 use Rattle.pptext.specs.declared.tokens.Memory.{Memory}
 use Rattle.ppshelf.specs.Files.{Files, Extends}
-use Rattle.ppunit.specs.States.{State, Progress, context_over, output}
+use Rattle.ppunit.specs.States.{State, Progress, output}
+use Rattle.ppunit.specs.code.Contexts.{context_over}
 use Rattle.ppunit.specs.Unit.{Translates, initial_state}
 use Rattle.ppunit.proofs.preprocessing.run_unit.Goals as goal
 

@@ -1,5 +1,5 @@
 use Rattle.std.proofs.Common.{length}
-use Rattle.ppunit.specs.States.{search_in_unit}
+use Rattle.ppunit.specs.code.Contexts.{search_in_unit}
 use Rattle.ppunit.proofs.HasIncludeNumbers.{Probes}
 use Rattle.ppunit.proofs.probing.probe.Given as goal
 

@@ -1,6 +1,6 @@
 use Rattle.std.proofs.Common.{◌≡◌, rules}
 use Rattle.std.specs.Result.{result_err}
-use Rattle.ppunit.specs.States.{context_over}
+use Rattle.ppunit.specs.code.Contexts.{context_over}
 use Rattle.ppunit.proofs.UnitValue.{defines_walked, defines_unread, on_settled}
 use Rattle.ppunit.proofs.preprocessor.Preprocessor.define_all.Goals as goal
 

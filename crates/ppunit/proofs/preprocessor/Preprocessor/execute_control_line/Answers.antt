@@ -4,12 +4,12 @@ use Rattle.pptext.specs.declared.directives.Class.TheVariants as class
 use Rattle.pptext.specs.declared.tokens.Fault.{Fault}
 use Rattle.pptext.specs.Classes.{class_of}
 use Rattle.pptext.proofs.ErrorReturns.{stopped}
-use Rattle.ppunit.specs.States.{context_over}
-use Rattle.ppunit.specs.DirectiveLines.{directed}
+use Rattle.ppunit.specs.code.Contexts.{context_over}
+use Rattle.ppunit.specs.code.Lines.{directed}
 use Rattle.ppunit.specs.Directives.{checks_quotes}
 use Rattle.ppunit.specs.Group.{ExecutesControlLine}
-use Rattle.ppunit.proofs.ControlLineSteps.{other_control, leads_include}
-use Rattle.ppunit.proofs.ControlClasses.{other_is_control, other_looks}
+use Rattle.ppunit.proofs.ControlLines.{other_control, leads_include}
+use Rattle.ppunit.proofs.DirectiveEffects.{other_is_control, other_looks}
 use Rattle.ppunit.proofs.UnitValue.{on_settled}
 use Rattle.ppunit.proofs.preprocessor.Preprocessor.execute_control_line.Goals as goal
 

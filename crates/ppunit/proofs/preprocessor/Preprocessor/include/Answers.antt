@@ -1,13 +1,15 @@
 use Rattle.std.proofs.Common.{◌≡◌, ℕ, suc, ◌+◌, List, Some, sym, ap, ◌∙◌, subst, arith}
 use Rattle.pptext.specs.declared.tokens.Fault.{Fault}
 use Rattle.pptext.proofs.ErrorReturns.{stopped}
-use Rattle.ppunit.specs.States.{State, with_remaining, context_over}
-use Rattle.ppunit.specs.DirectiveLines.{directed, line_fault}
+use Rattle.ppunit.specs.States.{State, with_meter}
+use Rattle.ppunit.specs.code.Contexts.{context_over}
+use Rattle.ppunit.specs.DirectiveLines.{line_fault}
+use Rattle.ppunit.specs.code.Lines.{directed}
 use Rattle.ppunit.specs.Including.{IncludeName}
 use Rattle.ppunit.specs.Directives.{FindsFile}
 use Rattle.ppunit.specs.Group.{ExecutesInclude}
 use Rattle.ppunit.proofs.OptionCases.{none_of}
-use Rattle.ppunit.proofs.ControlLineSteps.{leads_included}
+use Rattle.ppunit.proofs.ControlLines.{leads_included}
 use Rattle.ppunit.proofs.UnitValue.{on_settled}
 use Rattle.ppunit.proofs.preprocessor.Preprocessor.include.Goals as goal
 
@@ -32,7 +34,7 @@ returns-in_default-clause-includes g c directive number more grows =
     subst (λ (z : State). ExecutesInclude context c.args.depth c.args.from.row c.args.from.directory c.args.self.now.state line
     (record { state = z; fault = Some c.in_ok-line_fault.field-0 })) (sym c.in_ok-include_name.ensures.rest)
     (subst (λ (z : Fault). ExecutesInclude context c.args.depth c.args.from.row c.args.from.directory c.args.self.now.state line
-    (record { state = with_remaining c.args.self.now.state c.read_include_name.new.state.remaining; fault = Some z })) (sym same) missing)
+    (record { state = with_meter c.args.self.now.state c.read_include_name.new.state.meter; fault = Some z })) (sym same) missing)
 
 pub returns-clause-includes : goal.returns-clause-includes
 returns-clause-includes g c =
@@ -41,7 +43,7 @@ returns-clause-includes g c =
     on_settled c.open.result
     (λ r leads directive number. leads_included (context_over c.args.self.now.context.now) c.open.new.self.pass.now.files c.args.depth (c.args.depth + 1)
     c.args.from.row c.args.from.directory (c.in-Some.row, c.in-Some.directory) c.hash_place.result (directed directive c.args.tokens.now number)
-    c.args.self.now.state c.open.new.self.state c.read_include_name.new.state.remaining c.in_ok-include_name.include_name r deeper c.hash_place.ensures c.in_ok-include_name.ensures.names
+    c.args.self.now.state c.open.new.self.state c.read_include_name.new.state.meter c.in_ok-include_name.include_name r deeper c.hash_place.ensures c.in_ok-include_name.ensures.names
     (λ more. subst (FindsFile (context_over c.args.self.now.context.now more) c.args.from.row c.args.from.directory c.in_ok-include_name.include_name) c.in-Some.is
     (c.in_ok-row.ensures.finds more))
     leads)

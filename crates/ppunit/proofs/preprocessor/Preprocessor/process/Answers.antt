@@ -1,7 +1,8 @@
 use Rattle.std.proofs.Common.{Option, None, Some, Ok, sym, ap, ◌∙◌, subst}
 use Rattle.std.specs.Result.{result_err}
 use Rattle.pptext.proofs.ErrorReturns.{stopped}
-use Rattle.ppunit.specs.States.{State, context_over}
+use Rattle.ppunit.specs.States.{State}
+use Rattle.ppunit.specs.code.Contexts.{context_over}
 use Rattle.ppunit.specs.code.Opening.{Entered}
 use Rattle.ppunit.specs.Group.{OpensFile}
 use Rattle.ppunit.specs.Unit.{first_place}

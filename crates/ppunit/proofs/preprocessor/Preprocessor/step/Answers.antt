@@ -1,8 +1,8 @@
 use Rattle.std.proofs.Common.{sym, ◌∙◌}
 use Rattle.pptext.proofs.ErrorReturns.{stopped}
-use Rattle.ppunit.specs.States.{context_over}
-use Rattle.ppunit.proofs.SectionEnds.{end_advances}
-use Rattle.ppunit.proofs.ControlLineSteps.{steps_line, steps_control, stops_control}
+use Rattle.ppunit.specs.code.Contexts.{context_over}
+use Rattle.ppunit.proofs.SectionWalks.{end_advances}
+use Rattle.ppunit.proofs.ControlLines.{steps_line, steps_control, stops_control}
 use Rattle.ppunit.proofs.OptionCases.{none_of}
 use Rattle.ppunit.proofs.preprocessor.Preprocessor.step.Goals as goal
 

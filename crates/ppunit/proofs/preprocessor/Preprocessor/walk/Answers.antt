@@ -1,9 +1,10 @@
 use Rattle.std.proofs.Common.{◌≡◌, ◌<◌, ◌≤◌, List, [], ◌∷◌, length, Err, refl, sym, ap, subst, arith}
 use Rattle.pptext.proofs.ErrorReturns.{stopped as halted}
-use Rattle.ppunit.specs.States.{State, stopped, context_over}
+use Rattle.ppunit.specs.States.{State, stopped}
+use Rattle.ppunit.specs.code.Contexts.{context_over}
 use Rattle.ppunit.specs.code.Opening.{OpenFile}
 use Rattle.ppunit.specs.code.Walk.{SuspendedFile, Walks}
-use Rattle.ppunit.proofs.CallSequences.{continues_on}
+use Rattle.ppunit.proofs.FileWalk.{continues_on}
 use Rattle.ppunit.proofs.FileStack.{StackSoFar, stack_start, stack_next, next_depth, stack_leaves, stack_stops, stack_done}
 use Rattle.ppunit.proofs.RemainingWork.{work, work_next, work_leaving}
 use Rattle.ppunit.proofs.preprocessor.Preprocessor.walk.Goals as goal

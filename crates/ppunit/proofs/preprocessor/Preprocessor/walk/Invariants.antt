@@ -1,5 +1,5 @@
 use Rattle.std.proofs.Common.{◌≤◌, length}
-use Rattle.ppunit.specs.States.{context_over}
+use Rattle.ppunit.specs.code.Contexts.{context_over}
 use Rattle.ppunit.specs.code.Preprocessor.{KeepsContext}
 use Rattle.ppunit.proofs.FileStack.{StackSoFar}
 use Rattle.ppunit.proofs.RemainingWork.{work}

@@ -1,0 +1,226 @@
+-- A control line that opens no file and isn't `#error` has an effect. Only this file splits on the directives of these
+-- lines: the other lemmas cite what it says of effects.
+use Rattle.std.proofs.Common.{◌≡◌, ◌≢◌, ℕ, ◌+◌, ◌≤◌, ◌⊎◌, inl, inr, List, [], ◌∷◌, ◌++◌, Bool, true, false, Option, Some, None, Result, Ok, Err, refl, sym, ap, ◌∙◌, subst, arith, append-nil, if◌then◌else◌}
+use Rattle.pptext.specs.declared.tokens.Token.{Token}
+use Rattle.pptext.specs.declared.tokens.Fault.{Fault}
+use Rattle.pptext.specs.declared.sources.Directive.{Directive}
+use Rattle.pptext.specs.declared.sources.Directive.TheVariants.{Define, Undef, Line, Pragma, Null, Unknown}
+use Rattle.pptext.specs.declared.sources.Profile.{Profile}
+use Rattle.pptext.specs.declared.directives.Class.{Class}
+use Rattle.pptext.specs.declared.directives.Class.TheVariants as class
+use Rattle.pptext.specs.Classes.{class_by, class_of, opens, ends}
+use Rattle.pptext.specs.Lines.{LogicalLine}
+use Rattle.pptext.specs.Tree.{hash_place}
+use Rattle.ppmacro.specs.Names.{Macros}
+use Rattle.std.specs.Result.{result_err}
+use Rattle.ppmacro.specs.Define.{after_define, after_undef, Leaves}
+use Rattle.ppmacro.proofs.FaultNumbers.{define_number, undef_number}
+use Rattle.ppexpand.specs.declared.meter.Meter.{Meter}
+use Rattle.ppexpand.specs.declared.env.Env.{Env}
+use Rattle.ppexpand.specs.Expansion.{Expansion}
+use Rattle.ppexpand.specs.Expansion.{IsExpansion, count_expansion}
+use Rattle.ppunit.specs.declared.units.Item.TheVariants as item
+use Rattle.ppunit.specs.Dependencies.{with_row}
+use Rattle.ppunit.specs.States.{State, Progress, running, stopped, emitted, with_once, with_meter}
+use Rattle.ppunit.specs.DirectiveLines.{operands, line_fault, named_fault}
+use Rattle.ppunit.specs.LineControl.{Presumed, presumed, renumbered}
+use Rattle.ppunit.specs.Directives.{ExecutesDirective, SetsLine, with_macros, renumbered_by, is_once, pragma_emitted, checks_quotes}
+use Rattle.ppunit.specs.Counts.{count_control_by}
+use Rattle.ppunit.specs.code.Effects.{Effect, affected, no_effect, only_fault, macros_effect, pragma_effect, immediate_effect, line_effect, HasEffect}
+
+-- ---- the outcome of each effect
+
+-- a line that emits nothing
+nothing_emitted : (s : State) (macros : Macros) (env : Env) (f : Option Fault)
+    → affected s (record { macros = macros; items = []; once = s.once; env = env; fault = f }) ≡ record { state = record s { macros = macros; env = env }; fault = f }
+nothing_emitted s macros env f = ap (λ items. record { state = record s { macros = macros; items = items; env = env }; fault = f }) (append-nil s.items)
+
+of_macros : (s : State) (r : Result Macros Fault) → affected s (macros_effect s r) ≡ with_macros s r
+of_macros s (Ok macros) = nothing_emitted s macros s.env None
+of_macros s (Err f) = nothing_emitted s s.macros s.env (Some f)
+
+of_pragma : (profile : Profile) (row : ℕ) (s : State) (line : List Token) → affected s (pragma_effect profile row s line) ≡ running (pragma_emitted profile row s line)
+of_pragma profile row s line = noted (is_once profile (operands line))
+  where
+    t : State
+    t = emitted s (item.Pragma (hash_place line) (operands line) ∷ [])
+
+    noted : (b : Bool) → running (record t { once = if b then with_row row s.once else s.once }) ≡ running (if b then with_once t row else t)
+    noted true = refl
+    noted false = refl
+
+of_line : (s : State) (line : LogicalLine) (f : Option Fault) (p : Option Presumed) (meter : Meter)
+    → affected (with_meter s meter) (line_effect s line f p) ≡ renumbered_by (with_meter s meter) line f p
+of_line s line (Some f) p meter = nothing_emitted (with_meter s meter) s.macros s.env (Some f)
+of_line s line None None meter = nothing_emitted (with_meter s meter) s.macros s.env (Some (line_fault 33 line.tokens []))
+of_line s line None (Some p) meter = nothing_emitted (with_meter s meter) s.macros (renumbered s line p).env None
+
+-- what `#define` and `#undef` leave in the table
+pub leaves_macros : (s : State) (new : Macros) (r : Result (Unit {0}) Fault) (a : Result Macros Fault) → Leaves s.macros new r a → record { state = record s { macros = new }; fault = result_err r } ≡ with_macros s a
+leaves_macros s new (Ok u) a is = ap (with_macros s) (sym is)
+leaves_macros s new (Err f) a (is, same) = ap (λ (m : Macros). record { state = record s { macros = m }; fault = Some f }) same ∙ ap (with_macros s) (sym is)
+
+-- ---- executing a line is having its effect
+
+same_effect : (a b : Effect) → Some a ≡ Some b → a ≡ b
+same_effect a b e = cc
+
+no_immediate : (e : Effect) → None ≡ Some e → ⊥
+no_immediate e is = absurd (cc)
+
+pub effect_of : (profile : Profile) (row : ℕ) (d : Option Directive) (s : State) (line : LogicalLine) (m : Progress) → ExecutesDirective profile row d s line m → HasEffect profile row d s line m
+effect_of profile row (Some Null) s line m g = HasEffect.immediate refl (g ∙ sym (nothing_emitted s s.macros s.env None))
+effect_of profile row (Some Define) s line m g = HasEffect.immediate refl (g ∙ sym (of_macros s (after_define profile s.macros (hash_place line.tokens) (operands line.tokens))))
+effect_of profile row (Some Undef) s line m g = HasEffect.immediate refl (g ∙ sym (of_macros s (after_undef profile s.macros (hash_place line.tokens) (operands line.tokens))))
+effect_of profile row (Some Line) s line m g =
+    HasEffect.expanding g.expanded refl g.expands (g.is ∙ sym (of_line s line g.expanded.fault (presumed g.expanded.tokens) g.expanded.meter))
+effect_of profile row (Some Pragma) s line m g = HasEffect.immediate refl (g ∙ sym (of_pragma profile row s line.tokens))
+effect_of profile row (Some Unknown) s line m g = HasEffect.immediate refl (g ∙ sym (nothing_emitted s s.macros s.env (Some (named_fault 8 line.tokens))))
+effect_of profile row d s line m g = absurd g
+
+executes_at_once : (profile : Profile) (row : ℕ) (d : Option Directive) (s : State) (line : LogicalLine) (e : Effect)
+    → immediate_effect profile row d s line ≡ Some e
+    → ExecutesDirective profile row d s line (affected s e)
+executes_at_once profile row (Some Null) s line e is = ap (affected s) (sym (same_effect (no_effect s) e is)) ∙ nothing_emitted s s.macros s.env None
+executes_at_once profile row (Some Define) s line e is =
+    let r = after_define profile s.macros (hash_place line.tokens) (operands line.tokens) in
+    ap (affected s) (sym (same_effect (macros_effect s r) e is)) ∙ of_macros s r
+executes_at_once profile row (Some Undef) s line e is =
+    let r = after_undef profile s.macros (hash_place line.tokens) (operands line.tokens) in
+    ap (affected s) (sym (same_effect (macros_effect s r) e is)) ∙ of_macros s r
+executes_at_once profile row (Some Pragma) s line e is =
+    ap (affected s) (sym (same_effect (pragma_effect profile row s line.tokens) e is)) ∙ of_pragma profile row s line.tokens
+executes_at_once profile row (Some Unknown) s line e is =
+    let f = named_fault 8 line.tokens in
+    ap (affected s) (sym (same_effect (only_fault s f) e is)) ∙ nothing_emitted s s.macros s.env (Some f)
+executes_at_once profile row d s line e is = absurd (no_immediate e is)
+
+pub executes : (profile : Profile) (row : ℕ) (d : Option Directive) (s : State) (line : LogicalLine) (m : Progress) → HasEffect profile row d s line m → ExecutesDirective profile row d s line m
+executes profile row d s line m (HasEffect.immediate {e = e} is gives) = subst (ExecutesDirective profile row d s line) (sym gives) (executes_at_once profile row d s line e is)
+executes profile row d s line m (HasEffect.expanding x is expands gives) =
+    let sets : SetsLine s line m = record { expanded = x; expands = expands; is = gives ∙ of_line s line x.fault (presumed x.tokens) x.meter } in
+    subst (λ (z : Option Directive). ExecutesDirective profile row z s line m) (sym is) sets
+
+-- the replacements in its operands
+abbrev pub count_effect : {profile : Profile} {row : ℕ} {d : Option Directive} {s : State} {line : LogicalLine} {m : Progress} → HasEffect profile row d s line m → ℕ
+count_effect (HasEffect.immediate is gives) = 0
+count_effect (HasEffect.expanding x is expands gives) = count_expansion expands
+
+pub same_count : (profile : Profile) (row : ℕ) (d : Option Directive) (s : State) (line : LogicalLine) (m : Progress) (g : ExecutesDirective profile row d s line m)
+    → count_control_by profile row d s line m g ≡ count_effect (effect_of profile row d s line m g)
+unfolding effect_of
+same_count profile row (Some Null) s line m g = refl
+same_count profile row (Some Define) s line m g = refl
+same_count profile row (Some Undef) s line m g = refl
+same_count profile row (Some Line) s line m g = refl
+same_count profile row (Some Pragma) s line m g = refl
+same_count profile row (Some Unknown) s line m g = refl
+same_count profile row d s line m g = absurd g
+
+-- ---- facts of effects
+
+-- An effect does not depend on the meter.
+pub effect_of_any_meter : (profile : Profile) (row : ℕ) (d : Option Directive) (s : State) (line : LogicalLine) (n : Meter) → immediate_effect profile row d (with_meter s n) line ≡ immediate_effect profile row d s line
+effect_of_any_meter profile row (Some Null) s line n = refl
+effect_of_any_meter profile row (Some Define) s line n = refl
+effect_of_any_meter profile row (Some Undef) s line n = refl
+effect_of_any_meter profile row (Some Pragma) s line n = refl
+effect_of_any_meter profile row (Some Unknown) s line n = refl
+effect_of_any_meter profile row d s line n = refl
+
+pub line_of_any_meter : (s : State) (line : LogicalLine) (f : Option Fault) (p : Option Presumed) (n : Meter) → line_effect s line f p ≡ line_effect (with_meter s n) line f p
+line_of_any_meter s line (Some f) p n = refl
+line_of_any_meter s line None None n = refl
+line_of_any_meter s line None (Some p) n = refl
+
+-- A fault alone leaves the state as it is.
+pub fault_affects : (s : State) (f : Fault) → affected s (only_fault s f) ≡ stopped s f
+fault_affects s f = nothing_emitted s s.macros s.env (Some f)
+
+-- The lines with an effect are those of the class `Control`.
+pub control_has_effect : (profile : Profile) (row : ℕ) (d : Directive) (s : State) (line : LogicalLine) → class_of d ≡ class.Control
+    → ((e : Effect) × (immediate_effect profile row (Some d) s line ≡ Some e)) ⊎ (Some d ≡ Some Line)
+control_has_effect profile row Null s line is = inl (no_effect s, refl)
+control_has_effect profile row Define s line is = inl (macros_effect s (after_define profile s.macros (hash_place line.tokens) (operands line.tokens)), refl)
+control_has_effect profile row Undef s line is = inl (macros_effect s (after_undef profile s.macros (hash_place line.tokens) (operands line.tokens)), refl)
+control_has_effect profile row Line s line is = inr refl
+control_has_effect profile row Pragma s line is = inl (pragma_effect profile row s line.tokens, refl)
+control_has_effect profile row Unknown s line is = inl (only_fault s (named_fault 8 line.tokens), refl)
+control_has_effect profile row d s line is = absurd (cc)
+
+immediate_class : (profile : Profile) (row : ℕ) (d : Option Directive) (s : State) (line : LogicalLine) (e : Effect) → immediate_effect profile row d s line ≡ Some e → class_by d ≡ Some class.Control
+immediate_class profile row (Some Null) s line e is = refl
+immediate_class profile row (Some Define) s line e is = refl
+immediate_class profile row (Some Undef) s line e is = refl
+immediate_class profile row (Some Pragma) s line e is = refl
+immediate_class profile row (Some Unknown) s line e is = refl
+immediate_class profile row d s line e is = absurd (no_immediate e is)
+
+effect_class : {profile : Profile} {row : ℕ} {d : Option Directive} {s : State} {line : LogicalLine} {m : Progress} → HasEffect profile row d s line m → class_by d ≡ Some class.Control
+effect_class {profile} {row} {d} {s} {line} (HasEffect.immediate {e = e} is gives) = immediate_class profile row d s line e is
+effect_class (HasEffect.expanding x is expands gives) = ap class_by is
+
+pub control_class : (profile : Profile) (row : ℕ) (d : Option Directive) (s : State) (line : LogicalLine) (m : Progress) → ExecutesDirective profile row d s line m → class_by d ≡ Some class.Control
+control_class profile row d s line m g = effect_class (effect_of profile row d s line m g)
+
+-- `#line` has no immediate effect.
+pub line_is_not_immediate : (profile : Profile) (row : ℕ) (d : Option Directive) (s : State) (line : LogicalLine) (e : Effect) → d ≡ Some Line → immediate_effect profile row d s line ≡ Some e → ⊥
+line_is_not_immediate profile row d s line e is gives =
+    let none : None ≡ Some e = subst (λ (z : Option Directive). immediate_effect profile row z s line ≡ Some e) is gives in
+    absurd (cc)
+
+-- the fault is not 35, if there is one
+abbrev pub IsOther : Option Fault → Type 0
+IsOther None = Unit {0}
+IsOther (Some f) = f.number ≢ 35
+
+-- `#define` and `#undef` have faults 9 to 16.
+macros_other : (s : State) (r : Result Macros Fault) → ((f : Fault) → r ≡ Err f → f.number ≤ 16) → IsOther (macros_effect s r).fault
+macros_other s (Ok macros) h = tt
+macros_other s (Err f) h = let most : f.number ≤ 16 = h f refl in λ e. absurd (omega arith)
+
+immediate_effect_other : (profile : Profile) (row : ℕ) (d : Option Directive) (s : State) (line : LogicalLine) (e : Effect) → immediate_effect profile row d s line ≡ Some e → IsOther e.fault
+immediate_effect_other profile row (Some Null) s line e is = subst (λ (z : Effect). IsOther z.fault) (same_effect (no_effect s) e is) tt
+immediate_effect_other profile row (Some Define) s line e is =
+    let r = after_define profile s.macros (hash_place line.tokens) (operands line.tokens) in
+    subst (λ (z : Effect). IsOther z.fault) (same_effect (macros_effect s r) e is)
+    (macros_other s r (define_number profile s.macros (hash_place line.tokens) (operands line.tokens)))
+immediate_effect_other profile row (Some Undef) s line e is =
+    let r = after_undef profile s.macros (hash_place line.tokens) (operands line.tokens) in
+    subst (λ (z : Effect). IsOther z.fault) (same_effect (macros_effect s r) e is)
+    (macros_other s r (undef_number profile s.macros (hash_place line.tokens) (operands line.tokens)))
+immediate_effect_other profile row (Some Pragma) s line e is = subst (λ (z : Effect). IsOther z.fault) (same_effect (pragma_effect profile row s line.tokens) e is) tt
+immediate_effect_other profile row (Some Unknown) s line e is =
+    subst (λ (z : Effect). IsOther z.fault) (same_effect (only_fault s (named_fault 8 line.tokens)) e is) (λ n. absurd (omega arith))
+immediate_effect_other profile row d s line e is = absurd (no_immediate e is)
+
+line_effect_other : (s : State) (r : LogicalLine) (o : Option Fault) (p : Option Presumed) → IsOther o → IsOther (line_effect s r o p).fault
+line_effect_other s r (Some f) p h = h
+line_effect_other s r None None h = λ e. absurd (omega arith)
+line_effect_other s r None (Some p) h = tt
+
+-- A line has a fault 35 only if the expansion of its operands has one.
+pub effect_other : {profile : Profile} {row : ℕ} {d : Option Directive} {s : State} {line : LogicalLine} {m : Progress}
+    → ((x : Expansion) → IsExpansion s.macros s.env s.meter (operands line.tokens) x → IsOther x.fault)
+    → HasEffect profile row d s line m
+    → IsOther m.fault
+effect_other {profile} {row} {d} {s} {line} expansions (HasEffect.immediate {e = e} is gives) = subst (λ (r : Progress). IsOther r.fault) (sym gives) (immediate_effect_other profile row d s line e is)
+effect_other {s = s} {line = line} expansions (HasEffect.expanding x is expands gives) =
+    subst (λ (r : Progress). IsOther r.fault) (sym gives) (line_effect_other s line x.fault (presumed x.tokens) (expansions x expands))
+
+-- ---- classes of directives
+
+pub other_is_control : (c : Class) → opens c ≡ false → ends c ≡ false → c ≢ class.Error → c ≢ class.Ignored → ((next : Bool) → c ≢ class.Includes next) → c ≡ class.Control
+other_is_control (class.Opens q) o e error ignored include = absurd (cc)
+other_is_control (class.Elifs q) o e error ignored include = absurd (cc)
+other_is_control class.Else o e error ignored include = absurd (cc)
+other_is_control class.Endif o e error ignored include = absurd (cc)
+other_is_control (class.Includes next) o e error ignored include = absurd (include next refl)
+other_is_control class.Error o e error ignored include = absurd (error refl)
+other_is_control class.Ignored o e error ignored include = absurd (ignored refl)
+other_is_control class.Control o e error ignored include = refl
+
+pub other_looks : (c : Class) → c ≢ class.Error → c ≢ class.Ignored → checks_quotes (Some c) ≡ true
+other_looks class.Error error ignored = absurd (error refl)
+other_looks class.Ignored error ignored = absurd (ignored refl)
+other_looks c error ignored = refl

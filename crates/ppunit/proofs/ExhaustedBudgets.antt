@@ -1,0 +1,330 @@
+-- If their budget is too small, lines, groups and units stop with fault 35, after a prefix of their full output.
+use Rattle.std.proofs.Common.{◌≡◌, ℕ, ◌<◌, List, [], ◌++◌, map, Bool, true, false, Option, Some, None, Result, Ok, Err, refl, sym, ap, ◌∙◌, subst, arith, append_assoc, append-nil, zero, suc, ◌+◌, ◌-◌, ◌≤◌}
+use Rattle.std.proofs.lemmas.List.{map-append}
+use Rattle.pptext.specs.declared.tokens.Place.{Place}
+use Rattle.pptext.specs.declared.tokens.Token.{Token}
+use Rattle.pptext.specs.declared.tokens.Fault.{Fault}
+use Rattle.pptext.specs.declared.sources.Directive.{Directive}
+use Rattle.pptext.specs.declared.sources.Profile.{Profile}
+use Rattle.pptext.specs.Lines.{LogicalLine}
+use Rattle.pptext.specs.Tree.{hash_place, GroupParts, Branches}
+use Rattle.ppexpand.specs.Budget.{with_budget}
+use Rattle.ppexpand.specs.Expansion.{count_expansion}
+use Rattle.ppexpand.proofs.BudgetLemmas.{StopsEarly, Covers, expansion_short, covers_less}
+use Rattle.ppexpr.proofs.ConditionBudgets.{condition_short}
+use Rattle.ppunit.specs.declared.units.Item.{Item}
+use Rattle.ppunit.specs.States.{State, Progress, stopped, emitted, with_meter, Search, file_context, in_file_context, Context, with_dependency, with_one_spent, search_of}
+use Rattle.ppunit.specs.DirectiveLines.{operands, line_fault, text_tokens}
+use Rattle.ppunit.specs.LineControl.{presumed}
+use Rattle.ppunit.specs.Including.{IncludeName, begins_with_header, name_of_expansion_or}
+use Rattle.ppunit.specs.Conditions.{Decides}
+use Rattle.ppunit.specs.Directives.{EmitsText, NamesHeaderBy, NamesHeader, ExecutesDirective}
+use Rattle.ppunit.specs.Counts.{count_decides, count_names_header_by, count_names_header, count_control_by, count_group, count_branches, count_control, count_includes, count_opening}
+use Rattle.ppunit.proofs.OutputPrefixes.{Before, before_then, control_by_before, same_state, depends, group_before, branches_before, opened_before}
+use Rattle.ppunit.specs.code.Effects.{affected, line_effect, HasEffect}
+use Rattle.ppunit.proofs.DirectiveEffects.{effect_of, executes, count_effect, same_count, fault_affects}
+use Rattle.pptext.specs.Tokens.{fault}
+use Rattle.ppexpand.specs.declared.meter.Meter.{Meter}
+use Rattle.ppunit.specs.Group.{depth_limit, ExecutesGroup, ExecutesBranches, ExecutesControlLine, ExecutesInclude, OpensFile}
+use Rattle.ppunit.specs.Unit.{Defines, unread, processed, Translates, definitions_fault, translated, count_defines, count_translates}
+use Rattle.ppunit.proofs.SufficientBudgets.{budgeted, holding, run_enough, asks_enough, asks_rest, decides_enough, decides_rest, run_rest}
+use Rattle.ppunit.proofs.SufficientBudgets.{group_rest, branches_rest, control_rest, defines_rest, group_enough, branches_enough, control_enough, defines_enough}
+use native.Mathlib.Decide.{dec_lt}
+use Rattle.ppunit.specs.declared.units.Item.TheVariants as item
+
+-- ---- if its budget is too small, a line stops with fault 35, after a prefix of its full output
+
+-- a unit stops in state s with fault 35; with a sufficient budget it reaches state t
+pub record Over (s t : State) (f : Fault) : Type 0 where
+  pub number : f.number ≡ 35
+  pub before : Before s t
+
+abbrev pub Stops : State → (State → Fault → Type 0) → Type 0
+Stops t P = (s : State) × (f : Fault) × Over s t f × P s f
+
+pub over_same : (s t : State) (meter : Meter) (f : Fault) → f.number ≡ 35 → Before s t → Over (with_meter s meter) t f
+over_same s t meter f e h = record { number = e; before = h }
+
+pub over_then : (s t u : State) (f : Fault) → Over s t f → Before t u → Over s u f
+over_then s t u f o h = record { number = o.number; before = before_then s t u o.before h }
+
+-- ---- lines
+
+pub run_short : (s : State) (tokens : List Token) (m : Progress) (b : ℕ) → Covers s.meter.remaining b
+    → (g : EmitsText s tokens m)
+    → b < count_expansion g.expands
+    → Stops m.state (λ t f. EmitsText (budgeted s b) tokens (stopped t f))
+run_short s tokens m b is g less =
+    let x : StopsEarly s.macros s.env s.meter b tokens g.expanded = expansion_short s.macros s.env b is g.expands less in
+    let items : List Item = map item.Token x.expansion.tokens in
+    let more : List Item = map item.Token x.begins.0 in
+    let made : map item.Token g.expanded.tokens ≡ items ++ more = ap (λ ts. map item.Token ts) x.begins.1 ∙ map-append item.Token x.expansion.tokens x.begins.0 in
+    let whole : m.state.items ≡ (s.items ++ items) ++ more = ap (λ r. r.state.items) g.is ∙ ap (λ l. s.items ++ l) made ∙ sym (append_assoc s.items items more) in
+    let deps : m.state.deps ≡ s.deps = ap (λ r. r.state.deps) g.is in (
+      emitted (with_meter s x.expansion.meter) items,
+      x.fault,
+      record { number = x.number; before = ((more, whole), ([], deps ∙ sym (append-nil s.deps))) },
+      record { expanded = x.expansion; expands = x.is; is = λ i. record { state = emitted (with_meter s x.expansion.meter) items; fault = (sym x.stopped) i } },
+    )
+
+asks_by_short : (header : Bool) (s : State) (line : List Token) (meter_after : Meter) (include_name : Result IncludeName Fault) (b : ℕ) → Covers s.meter.remaining b
+    → (g : NamesHeaderBy header s line meter_after include_name)
+    → b < count_names_header_by header s line meter_after include_name g
+    → (f : Fault) × (f.number ≡ 35) × (meter : Meter) × NamesHeaderBy header (budgeted s b) line meter (Err f)
+asks_by_short true s line meter_after include_name b is g less = absurd (omega arith)
+asks_by_short false s line meter_after include_name b is g less =
+    let x : StopsEarly s.macros s.env s.meter b (operands line) g.expanded = expansion_short s.macros s.env b is g.expands less in
+    (x.fault, x.number, x.expansion.meter, record { expanded = x.expansion; expands = x.is; leaves = refl; is = λ i. name_of_expansion_or (line_fault 30 line []) ((sym x.stopped) i) x.expansion.tokens })
+
+pub asks_short : (s : State) (line : List Token) (meter_after : Meter) (include_name : Result IncludeName Fault) (b : ℕ) → Covers s.meter.remaining b
+    → (g : NamesHeader s line meter_after include_name)
+    → b < count_names_header s line meter_after include_name g
+    → (f : Fault) × (f.number ≡ 35) × (meter : Meter) × NamesHeader (budgeted s b) line meter (Err f)
+asks_short s line meter_after include_name b is g less = asks_by_short (begins_with_header (operands line)) s line meter_after include_name b is g less
+
+pub decides_short : {search : Search} {row : ℕ} {s : State} {line : LogicalLine} {meter_after : Meter} {taken : Result Bool Fault} (b : ℕ) → Covers s.meter.remaining b
+    → (g : Decides search row s line meter_after taken)
+    → b < count_decides g
+    → (f : Fault) × (f.number ≡ 35) × (meter : Meter) × Decides search row (budgeted s b) line meter (Err f)
+decides_short b is (Decides.unmatched q x) less = absurd (omega arith)
+decides_short b is (Decides.tests_name q n x) less = absurd (omega arith)
+decides_short b is (Decides.names_no_header q v e x) less = absurd (omega arith)
+decides_short b is (Decides.evaluates q v e x) less = let y = condition_short b is x less in (y.fault, y.number, y.meter_after, Decides.evaluates q v e y.is)
+
+effect_short : (profile : Profile) (row : ℕ) (d : Option Directive) (s : State) (line : LogicalLine) (m : Progress) (b : ℕ) → Covers s.meter.remaining b
+    → Before s m.state
+    → (e : HasEffect profile row d s line m)
+    → b < count_effect e
+    → Stops m.state (λ t f. HasEffect profile row d (budgeted s b) line (stopped t f))
+effect_short profile row d s line m b is before (HasEffect.immediate does gives) less = absurd (omega arith)
+effect_short profile row d s line m b is before (HasEffect.expanding x does expands gives) less =
+    let y : StopsEarly s.macros s.env s.meter b (operands line.tokens) x = expansion_short s.macros s.env b is expands less in
+    let u = budgeted s b in
+    let t = with_meter s y.expansion.meter in
+    let outcome : stopped t y.fault ≡ affected t (line_effect u line y.expansion.fault (presumed y.expansion.tokens)) =
+    (sym (fault_affects t y.fault)) ∙ (λ i. affected t (line_effect u line ((sym y.stopped) i) (presumed y.expansion.tokens))) in
+    (t, y.fault, over_same s m.state y.expansion.meter y.fault y.number before, HasEffect.expanding y.expansion does y.is outcome)
+
+pub control_by_short : (profile : Profile) (row : ℕ) (d : Option Directive) (s : State) (line : LogicalLine) (m : Progress) (b : ℕ) → Covers s.meter.remaining b
+    → (g : ExecutesDirective profile row d s line m)
+    → b < count_control_by profile row d s line m g
+    → Stops m.state (λ t f. ExecutesDirective profile row d (budgeted s b) line (stopped t f))
+control_by_short profile row d s line m b is g less =
+    let all : b < count_effect (effect_of profile row d s line m g) = subst (λ n. b < n) (same_count profile row d s line m g) less in
+    let x = effect_short profile row d s line m b is (control_by_before profile row d s line m g) (effect_of profile row d s line m g) all in
+    (x.0, x.1, x.2, executes profile row d (budgeted s b) line (stopped x.0 x.1) x.3)
+
+-- ---- if their budget is too small, groups and units stop with fault 35, after a prefix of their full output
+
+module _ (context : Context) where
+  -- opening a file with an exhausted budget
+  over_here : {depth row : ℕ} {directory : Option ℕ} {at : Place} (s t : State) → depth ≤ depth_limit → Before s t → Stops t (λ u f. OpensFile context depth at (budgeted s 0) row directory (stopped u f))
+  over_here {at = at} s t fits h = (budgeted s 0, fault 35 at [], over_same s t (with_budget (Some 0) s.meter) (fault 35 at []) refl h, OpensFile.exhausted fits refl)
+
+  mutual
+    pub group_short : {depth row : ℕ} {r : Progress} {ps : GroupParts} {end : Progress} (b : ℕ) → Covers r.state.meter.remaining b
+        → (d : ExecutesGroup context depth row r ps end)
+        → b < count_group d
+        → Stops end.state (λ t f. ExecutesGroup context depth row (holding b r) ps (stopped t f))
+    group_short b is ExecutesGroup.already_stopped less = absurd (omega arith)
+    group_short b is ExecutesGroup.no_parts less = absurd (omega arith)
+    group_short {end = end} b is (ExecutesGroup.text_lines {s = s} {lines = lines} {m = m} gives rest) less =
+        let c = count_expansion gives.expands in
+        elim (dec_lt b c) [
+          | yes less ↦
+              (let x = run_short s (text_tokens lines) m b is gives less in
+              (x.0, x.1, over_then x.0 m.state end.state x.1 x.2 (group_before context rest), ExecutesGroup.text_lines x.3 ExecutesGroup.already_stopped))
+          | no not_less ↦
+              (let sum : b ≡ c + (b - c) = omega arith in
+              let covers = run_rest s (text_tokens lines) m b (b - c) is gives sum in
+              let x = group_short (b - c) covers rest (omega arith) in
+              (x.0, x.1, x.2, ExecutesGroup.text_lines {end = stopped x.0 x.1} (run_enough s (text_tokens lines) m b is gives (b - c) sum) x.3))
+        ]
+    group_short {end = end} b is (ExecutesGroup.control {m = m} here rest) less =
+        let c = count_control here in
+        elim (dec_lt b c) [
+          | yes less ↦
+              (let x = control_short b is here less in
+              (x.0, x.1, over_then x.0 m.state end.state x.1 x.2 (group_before context rest), ExecutesGroup.control x.3 ExecutesGroup.already_stopped))
+          | no not_less ↦
+              (let sum : b ≡ c + (b - c) = omega arith in
+              let covers = control_rest context b (b - c) is here sum in
+              let x = group_short (b - c) covers rest (omega arith) in
+              (x.0, x.1, x.2, ExecutesGroup.control {end = stopped x.0 x.1} (control_enough context b is here (b - c) sum) x.3))
+        ]
+    group_short {end = end} b is (ExecutesGroup.taken {s = s} {m = m} decides here rest) less =
+        let c = count_decides decides in
+        let j = count_group here in
+        let k = count_group rest in
+        let one = group_before context here in
+        let two = group_before context rest in
+        elim (dec_lt b c) [
+          | yes less ↦
+              (let x = decides_short b is decides less in
+              (with_meter s x.2, x.0, over_same s end.state x.2 x.0 x.1 (before_then s m.state end.state one two), ExecutesGroup.condition_fault x.3))
+          | no not_less ↦
+              (let sum : b ≡ c + (b - c) = omega arith in
+              let covers = decides_rest b (b - c) is decides sum in
+              elim (dec_lt (b - c) j) [
+                | yes less ↦
+                    (let x = group_short (b - c) covers here less in
+                    (x.0, x.1, over_then x.0 m.state end.state x.1 x.2 two, ExecutesGroup.taken {end = stopped x.0 x.1} (decides_enough b is decides (b - c) sum) x.3 ExecutesGroup.already_stopped))
+                | no not_less2 ↦
+                    (let n = b - c - j in
+                    let sum2 : b - c ≡ j + n = omega arith in
+                    let next = group_rest context (b - c) n covers here sum2 in
+                    let x = group_short n next rest (omega arith) in
+                    (x.0, x.1, x.2, ExecutesGroup.taken {end = stopped x.0 x.1} (decides_enough b is decides (b - c) sum) (group_enough context (b - c) covers here n sum2) x.3))
+              ])
+        ]
+    group_short {end = end} b is (ExecutesGroup.skipped {s = s} {m = m} decides here rest) less =
+        let c = count_decides decides in
+        let j = count_branches here in
+        let k = count_group rest in
+        let one = branches_before context here in
+        let two = group_before context rest in
+        elim (dec_lt b c) [
+          | yes less ↦
+              (let x = decides_short b is decides less in
+              (with_meter s x.2, x.0, over_same s end.state x.2 x.0 x.1 (before_then s m.state end.state one two), ExecutesGroup.condition_fault x.3))
+          | no not_less ↦
+              (let sum : b ≡ c + (b - c) = omega arith in
+              let covers = decides_rest b (b - c) is decides sum in
+              elim (dec_lt (b - c) j) [
+                | yes less ↦
+                    (let x = branches_short (b - c) covers here less in
+                    (x.0, x.1, over_then x.0 m.state end.state x.1 x.2 two, ExecutesGroup.skipped {end = stopped x.0 x.1} (decides_enough b is decides (b - c) sum) x.3 ExecutesGroup.already_stopped))
+                | no not_less2 ↦
+                    (let n = b - c - j in
+                    let sum2 : b - c ≡ j + n = omega arith in
+                    let next = branches_rest context (b - c) n covers here sum2 in
+                    let x = group_short n next rest (omega arith) in
+                    (x.0, x.1, x.2, ExecutesGroup.skipped {end = stopped x.0 x.1} (decides_enough b is decides (b - c) sum) (branches_enough context (b - c) covers here n sum2) x.3))
+              ])
+        ]
+    group_short b is (ExecutesGroup.condition_fault {s = s} {meter_after = meter_after} decides) less =
+        let x = decides_short b is decides less in
+        (with_meter s x.2, x.0, over_same s (with_meter s meter_after) x.2 x.0 x.1 (same_state s), ExecutesGroup.condition_fault x.3)
+
+    branches_short : {depth row : ℕ} {s : State} {bs : Branches} {m : Progress} (b : ℕ) → Covers s.meter.remaining b
+        → (d : ExecutesBranches context depth row s bs m)
+        → b < count_branches d
+        → Stops m.state (λ t f. ExecutesBranches context depth row (budgeted s b) bs (stopped t f))
+    branches_short b is ExecutesBranches.no_branch_taken less = absurd (omega arith)
+    branches_short b is (ExecutesBranches.else_group e here) less =
+        let x = group_short b is here less in
+        (x.0, x.1, x.2, ExecutesBranches.else_group e x.3)
+    branches_short {m = m} b is (ExecutesBranches.branch_taken {s = s} e decides here) less =
+        let c = count_decides decides in
+        elim (dec_lt b c) [
+          | yes less ↦
+              (let x = decides_short b is decides less in
+              (with_meter s x.2, x.0, over_same s m.state x.2 x.0 x.1 (group_before context here), ExecutesBranches.branch_condition_fault e x.3))
+          | no not_less ↦
+              (let sum : b ≡ c + (b - c) = omega arith in
+              let covers = decides_rest b (b - c) is decides sum in
+              let x = group_short (b - c) covers here (omega arith) in
+              (x.0, x.1, x.2, ExecutesBranches.branch_taken {m = stopped x.0 x.1} e (decides_enough b is decides (b - c) sum) x.3))
+        ]
+    branches_short {m = m} b is (ExecutesBranches.branch_skipped {s = s} e decides here) less =
+        let c = count_decides decides in
+        elim (dec_lt b c) [
+          | yes less ↦
+              (let x = decides_short b is decides less in
+              (with_meter s x.2, x.0, over_same s m.state x.2 x.0 x.1 (branches_before context here), ExecutesBranches.branch_condition_fault e x.3))
+          | no not_less ↦
+              (let sum : b ≡ c + (b - c) = omega arith in
+              let covers = decides_rest b (b - c) is decides sum in
+              let x = branches_short (b - c) covers here (omega arith) in
+              (x.0, x.1, x.2, ExecutesBranches.branch_skipped {m = stopped x.0 x.1} e (decides_enough b is decides (b - c) sum) x.3))
+        ]
+    branches_short b is (ExecutesBranches.branch_condition_fault {s = s} {meter_after = meter_after} e decides) less =
+        let x = decides_short b is decides less in
+        (with_meter s x.2, x.0, over_same s (with_meter s meter_after) x.2 x.0 x.1 (same_state s), ExecutesBranches.branch_condition_fault e x.3)
+
+    control_short : {depth row : ℕ} {s : State} {line : LogicalLine} {m : Progress} (b : ℕ) → Covers s.meter.remaining b
+        → (d : ExecutesControlLine context depth row s line m)
+        → b < count_control d
+        → Stops m.state (λ t f. ExecutesControlLine context depth row (budgeted s b) line (stopped t f))
+    control_short b is (ExecutesControlLine.error e) less = absurd (omega arith)
+    control_short b is (ExecutesControlLine.ignored e) less = absurd (omega arith)
+    control_short b is (ExecutesControlLine.quote_fault e q) less = absurd (omega arith)
+    control_short {row = row} b is (ExecutesControlLine.executed {s = s} {line = line} {m = m} q does) less =
+        let x = control_by_short context.profile row line.directive s line m b is does less in
+        (x.0, x.1, x.2, ExecutesControlLine.executed q x.3)
+    control_short b is (ExecutesControlLine.include e q here) less =
+        let x = includes_short b is here less in
+        (x.0, x.1, x.2, ExecutesControlLine.include e q x.3)
+
+    includes_short : {depth row : ℕ} {following : Option ℕ} {s : State} {line : LogicalLine} {m : Progress} (b : ℕ) → Covers s.meter.remaining b
+        → (d : ExecutesInclude context depth row following s line m)
+        → b < count_includes d
+        → Stops m.state (λ t f. ExecutesInclude context depth row following (budgeted s b) line (stopped t f))
+    includes_short b is (ExecutesInclude.operand_fault {s = s} {line = line} {meter_after = meter_after} {f = f} asks) less =
+        let x = asks_short s line.tokens meter_after (Err f) b is asks less in
+        (with_meter s x.2, x.0, over_same s (with_meter s meter_after) x.2 x.0 x.1 (same_state s), ExecutesInclude.operand_fault x.3)
+    includes_short b is (ExecutesInclude.missing {s = s} {line = line} {meter_after = meter_after} a asks finds) less =
+        let x = asks_short s line.tokens meter_after (Ok a) b is asks less in
+        (with_meter s x.2, x.0, over_same s (with_meter s meter_after) x.2 x.0 x.1 (same_state s), ExecutesInclude.operand_fault x.3)
+    includes_short b is (ExecutesInclude.included {s = s} {line = line} {meter_after = meter_after} a found {m = m} asks finds opens) less =
+        let c = count_names_header s line.tokens meter_after (Ok a) asks in
+        elim (dec_lt b c) [
+          | yes less ↦
+              (let x = asks_short s line.tokens meter_after (Ok a) b is asks less in
+              (with_meter s x.2, x.0, over_same s m.state x.2 x.0 x.1 (opened_before context opens), ExecutesInclude.operand_fault x.3))
+          | no not_less ↦
+              (let sum : b ≡ c + (b - c) = omega arith in
+              let covers = asks_rest s line.tokens meter_after (Ok a) b (b - c) is asks sum in
+              let x = opened_short (b - c) covers opens (omega arith) in
+              (x.0, x.1, x.2, ExecutesInclude.included a found {m = stopped x.0 x.1} (asks_enough s line.tokens meter_after (Ok a) b is asks (b - c) sum) finds x.3))
+        ]
+
+    pub opened_short : {depth row : ℕ} {directory : Option ℕ} {at : Place} {s : State} {m : Progress} (b : ℕ) → Covers s.meter.remaining b
+        → (d : OpensFile context depth at s row directory m)
+        → b < count_opening d
+        → Stops m.state (λ t f. OpensFile context depth at (budgeted s b) row directory (stopped t f))
+    opened_short b is (OpensFile.too_deep deep) less = absurd (omega arith)
+    opened_short b is (OpensFile.exhausted fits spent) less = absurd (omega arith)
+    opened_short {depth} {row} {directory} {at} zero is (OpensFile.not_read_again {s = s} fits more once) less =
+        over_here {depth = depth} {row = row} {directory = directory} {at = at} s (with_dependency (with_one_spent s) row) fits (depends s row)
+    opened_short (suc b) is (OpensFile.not_read_again fits more once) less = absurd (omega arith)
+    opened_short {depth} {row} {directory} {at} zero is (OpensFile.not_readable {s = s} fits more once file) less =
+        over_here {depth = depth} {row = row} {directory = directory} {at = at} s (with_dependency (with_one_spent s) row) fits (depends s row)
+    opened_short (suc b) is (OpensFile.not_readable fits more once file) less = absurd (omega arith)
+    opened_short {depth} {row} {directory} {at} zero is (OpensFile.content_fault {s = s} fits more once file reads) less =
+        over_here {depth = depth} {row = row} {directory = directory} {at = at} s (with_dependency (with_one_spent s) row) fits (depends s row)
+    opened_short (suc b) is (OpensFile.content_fault fits more once file reads) less = absurd (omega arith)
+    opened_short {depth} {row} {directory} {at} zero is (OpensFile.read {s = s} {m = m} fits more once file reads tree here) less =
+        over_here {depth = depth} {row = row} {directory = directory} {at = at} s (in_file_context (file_context s) m.state) fits (before_then s (with_dependency s row) m.state (depends s row) (group_before context here))
+    opened_short (suc b) is (OpensFile.read {s = s} fits more once file reads tree here) less =
+        let x = group_short b (covers_less is) here (omega arith) in
+        (in_file_context (file_context s) x.0, x.1, record { number = x.2.number; before = x.2.before }, OpensFile.read fits refl once file reads tree x.3)
+
+  defines_short : {defines : List (List ℕ)} {s : State} {m : Progress} (b : ℕ) → Covers s.meter.remaining b
+      → (d : Defines context defines s m)
+      → b < count_defines d
+      → Stops m.state (λ t f. Defines context defines (budgeted s b) (stopped t f))
+  defines_short b is (unread reads) less = absurd (omega arith)
+  defines_short b is (processed reads tree here) less =
+      let x = group_short b is here less in
+      (x.0, x.1, x.2, processed reads tree x.3)
+
+  pub unit_short : {defines : List (List ℕ)} {row : ℕ} {s : State} {m : Progress} (b : ℕ) → Covers s.meter.remaining b
+      → (d : Translates context defines row s m)
+      → b < count_translates d
+      → Stops m.state (λ t f. Translates context defines row (budgeted s b) (stopped t f))
+  unit_short b is (definitions_fault here) less =
+      let x = defines_short b is here less in
+      (x.0, x.1, x.2, definitions_fault x.3)
+  unit_short {m = m} b is (translated {t = t} here opens) less =
+      let c = count_defines here in
+      elim (dec_lt b c) [
+        | yes less ↦
+            (let x = defines_short b is here less in
+            (x.0, x.1, over_then x.0 t m.state x.1 x.2 (opened_before context opens), definitions_fault x.3))
+        | no not_less ↦
+            (let sum : b ≡ c + (b - c) = omega arith in
+            let covers = defines_rest context b (b - c) is here sum in
+            let x = opened_short (b - c) covers opens (omega arith) in
+            (x.0, x.1, x.2, translated (defines_enough context b is here (b - c) sum) x.3))
+      ]

@@ -1,0 +1,81 @@
+-- The effect of a control line that opens no file and isn't `#error` (6.10.3 to 6.10.7), apart from what it spends of
+-- the budget. Only proofs cite this: each `ExecutesDirective` has such an effect.
+use Rattle.std.specs.Prelude.{◌≡◌, ℕ, List, [], ◌∷◌, ◌++◌, if◌then◌else◌, Option, None, Some, Result, Ok, Err}
+use Rattle.pptext.specs.declared.tokens.Fault.{Fault}
+use Rattle.pptext.specs.declared.tokens.Token.{Token}
+use Rattle.pptext.specs.declared.sources.Directive.{Directive}
+use Rattle.pptext.specs.declared.sources.Directive.TheVariants.{Define, Undef, Line, Pragma, Null, Unknown}
+use Rattle.pptext.specs.declared.sources.Profile.{Profile}
+use Rattle.pptext.specs.Lines.{LogicalLine}
+use Rattle.pptext.specs.Tree.{hash_place}
+use Rattle.ppmacro.specs.Names.{Macros}
+use Rattle.ppmacro.specs.Define.{after_define, after_undef}
+use Rattle.ppexpand.specs.declared.env.Env.{Env}
+use Rattle.ppexpand.specs.Expansion.{Expansion}
+use Rattle.ppexpand.specs.Expansion.{IsExpansion}
+use Rattle.ppunit.specs.declared.units.Item.{Item}
+use Rattle.ppunit.specs.declared.units.Item.TheVariants as item
+use Rattle.ppunit.specs.Dependencies.{with_row}
+use Rattle.ppunit.specs.States.{State, Progress, with_meter}
+use Rattle.ppunit.specs.DirectiveLines.{operands, line_fault, named_fault}
+use Rattle.ppunit.specs.LineControl.{Presumed, presumed, renumbered}
+use Rattle.ppunit.specs.Directives.{is_once}
+
+-- the macros, the files that aren't read again and the predefined names after a line, the items that it emits, and its
+-- fault
+pub record Effect : Type 0 where
+  pub macros : Macros
+  pub items : List Item
+  pub once : List ℕ
+  pub env : Env
+  pub fault : Option Fault
+
+-- the outcome of a line with this effect: the dependencies, the budget and the directory stay
+abbrev pub affected : State → Effect → Progress
+affected s e = record { state = record s { macros = e.macros; items = s.items ++ e.items; once = e.once; env = e.env }; fault = e.fault }
+
+abbrev pub no_effect : State → Effect
+no_effect s = record { macros = s.macros; items = []; once = s.once; env = s.env; fault = None }
+
+abbrev pub only_fault : State → Fault → Effect
+only_fault s f = record { macros = s.macros; items = []; once = s.once; env = s.env; fault = Some f }
+
+-- `#define`, `#undef`
+abbrev pub macros_effect : State → Result Macros Fault → Effect
+macros_effect s (Ok macros) = record { macros = macros; items = []; once = s.once; env = s.env; fault = None }
+macros_effect s (Err f) = only_fault s f
+
+-- `#pragma`
+abbrev pub pragma_effect : Profile → ℕ → State → List Token → Effect
+pragma_effect profile row s line =
+    record {
+      macros = s.macros;
+      items = item.Pragma (hash_place line) (operands line) ∷ [];
+      once = if is_once profile (operands line) then with_row row s.once else s.once;
+      env = s.env;
+      fault = None;
+    }
+
+-- the effect of a line that expands no operands
+abbrev pub immediate_effect : Profile → ℕ → Option Directive → State → LogicalLine → Option Effect
+immediate_effect profile row (Some Null) s line = Some (no_effect s)
+immediate_effect profile row (Some Define) s line = Some (macros_effect s (after_define profile s.macros (hash_place line.tokens) (operands line.tokens)))
+immediate_effect profile row (Some Undef) s line = Some (macros_effect s (after_undef profile s.macros (hash_place line.tokens) (operands line.tokens)))
+immediate_effect profile row (Some Pragma) s line = Some (pragma_effect profile row s line.tokens)
+immediate_effect profile row (Some Unknown) s line = Some (only_fault s (named_fault 8 line.tokens))
+immediate_effect _ _ _ s line = None
+
+-- `#line`, from the fault of the expansion of its operands and what the expansion says
+abbrev pub line_effect : State → LogicalLine → Option Fault → Option Presumed → Effect
+line_effect s line (Some f) p = only_fault s f
+line_effect s line None None = only_fault s (line_fault 33 line.tokens [])
+line_effect s line None (Some p) = record { macros = s.macros; items = []; once = s.once; env = (renumbered s line p).env; fault = None }
+
+-- the outcome is that of an effect: of a line that expands no operands, or of `#line` after the expansion of its operands
+pub data HasEffect (profile : Profile) (row : ℕ) (d : Option Directive) (s : State) (line : LogicalLine) (m : Progress) : Type 0 where
+  immediate : {e : Effect} → immediate_effect profile row d s line ≡ Some e → m ≡ affected s e → HasEffect profile row d s line m
+  expanding : (x : Expansion)
+      → d ≡ Some Line
+      → IsExpansion s.macros s.env s.meter (operands line.tokens) x
+      → m ≡ affected (with_meter s x.meter) (line_effect s line x.fault (presumed x.tokens))
+      → HasEffect profile row d s line m
