@@ -20,7 +20,7 @@ use Rattle.ppshelf.specs.Content.{longest}
 use Rattle.ppshelf.specs.Files.{max_rows}
 use Rattle.ppshelf.specs.Names.{row_among}
 use Rattle.ppshelf.proofs.NameRows.{names_from_test}
-use Rattle.ppserve.specs.Listing.{accepted, refused, json_value, outcome_of, validated, listed, listed_unit, names_of, contents_of, names_hold, sizes_hold}
+use Rattle.ppserve.specs.Listing.{accepted, refused, json_value, verdict_of, validated, listed, listed_unit, names_of, contents_of, names_hold, sizes_hold}
 use Rattle.ppserve.specs.Listing.{are_known, times_hold, lines_hold, directories_hold, profile_holds, profile_of, budget_holds, max_input, IsRunnable}
 use Rattle.ppserve.specs.declared.list.List.{List as CompilationList}
 use Rattle.ppserve.specs.Drafts.{Draft, DraftFile, DraftUnit}
@@ -29,9 +29,9 @@ pub fits_test : (most n : ℕ) → n ≤ most → nat_lt most n ≡ false
 fits_test most n h = grind (arith, nat_tests)
 
 -- If bytes hold a JSON value that has a draft, their outcome is the result of validating the draft.
-pub outcome_of-draft : (inline : Bool) (bytes : List ℕ) (d : Data) (x : Draft) → length bytes ≤ max_input → json_value bytes ≡ Some d → draft inline d ≡ Some x
-    → outcome_of inline bytes ≡ validated inline x
-outcome_of-draft inline bytes d x fits value shape =
+pub verdict_of-draft : (inline : Bool) (bytes : List ℕ) (d : Data) (x : Draft) → length bytes ≤ max_input → json_value bytes ≡ Some d → draft inline d ≡ Some x
+    → verdict_of inline bytes ≡ validated inline x
+verdict_of-draft inline bytes d x fits value shape =
     let small : nat_lt max_input (length bytes) ≡ false = fits_test max_input (length bytes) fits in
     rw (small, value, shape) refl
 

@@ -7,18 +7,18 @@ use Rattle.ppserve.specs.Drafting.{draft}
 use Rattle.ppserve.specs.Drafts.{Draft}
 use Rattle.ppserve.specs.Laws.{HoldsDraft, Applies, too_long, no_json, no_shape, wrong_names, wrong_sizes, unknown_file, wrong_times, wrong_lines, wrong_directories, wrong_profile, wrong_budget}
 use Rattle.ppserve.specs.Laws.{IsLeast, IsAccepted, RefusesByTheLeast, AcceptsTheRest}
-use Rattle.ppserve.specs.Listing.{Outcome, accepted, refused, json_value, outcome_of, validated, listed, names_of, names_hold, sizes_hold, are_known, times_hold, lines_hold}
+use Rattle.ppserve.specs.Listing.{Verdict, accepted, refused, json_value, verdict_of, validated, listed, names_of, names_hold, sizes_hold, are_known, times_hold, lines_hold}
 use Rattle.ppserve.specs.Listing.{directories_hold, profile_holds, budget_holds, max_input}
 use Rattle.ppserve.specs.Shape.{IsDraft}
 use Rattle.ppserve.specs.declared.list.List.{List as CompilationList}
 use Rattle.ppserve.proofs.DraftShape.{decides}
-use Rattle.ppserve.proofs.DraftValidation.{fits_test, outcome_of-draft}
+use Rattle.ppserve.proofs.DraftValidation.{fits_test, verdict_of-draft}
 use Rattle.ppserve.proofs.ReceivedBytes.{too_many}
 
 -- ---- a sequence of tests
 
 -- the refusal with the number of the first failing test, counted from `n`, or `o` if all pass
-abbrev first : List Bool → ℕ → Outcome → Outcome
+abbrev first : List Bool → ℕ → Verdict → Verdict
 first [] n o = o
 first (b ∷ bs) n o = if not b then refused n else first bs (suc n) o
 
@@ -98,11 +98,11 @@ fails_of inline bytes d m fits h (wrong_budget {x = x} k e) =
 -- ---- the outcome of bytes
 
 -- the meaning of an outcome: no refusal applies, or its number is the least that applies
-abbrev Told : Bool → List ℕ → Outcome → Type 0
+abbrev Told : Bool → List ℕ → Verdict → Type 0
 Told inline bytes (accepted list) = IsAccepted inline bytes list
 Told inline bytes (refused number) = IsLeast (Applies inline bytes) number
 
-told_judged : (inline : Bool) (bytes : List ℕ) (d : Draft) (o : Outcome) → length bytes ≤ max_input → HoldsDraft inline bytes d → validated inline d ≡ o → Told inline bytes o
+told_judged : (inline : Bool) (bytes : List ℕ) (d : Draft) (o : Verdict) → length bytes ≤ max_input → HoldsDraft inline bytes d → validated inline d ≡ o → Told inline bytes o
 told_judged inline bytes d (accepted list) fits h e =
     let all = first_taken (tests d) 3 (listed inline d) list e in
     record { draft = d; holds = h; none = λ m a. all.1 m (fails_of inline bytes d m fits h a); is_list = all.0 }
@@ -139,24 +139,24 @@ from_two inline bytes value m fits is (wrong_profile h e) = omega arith
 from_two inline bytes value m fits is (wrong_budget h e) = omega arith
 
 told_value : (inline : Bool) (bytes : List ℕ) (value : Data) (x : Option Draft) → length bytes ≤ max_input → json_value bytes ≡ Some value → draft inline value ≡ x
-    → Told inline bytes (outcome_of inline bytes)
+    → Told inline bytes (verdict_of inline bytes)
 told_value inline bytes value None fits is e =
     let small : nat_lt max_input (length bytes) ≡ false = fits_test max_input (length bytes) fits in
-    let two : outcome_of inline bytes ≡ refused 2 = rw (small, is, e) refl in
+    let two : verdict_of inline bytes ≡ refused 2 = rw (small, is, e) refl in
     let shapeless : (x : Draft) → ¬ IsDraft inline value x = λ x shaped. none-some x (sym e ∙ (decides inline value x).1 shaped) in
     subst (Told inline bytes) (sym two) (record { is_so = no_shape is shapeless; least = λ m a. from_two inline bytes value m fits is a })
 told_value inline bytes value (Some d) fits is e =
     let holds : HoldsDraft inline bytes d = record { value = value; is_json = is; is_shaped = (decides inline value d).0 e } in
-    subst (Told inline bytes) (sym (outcome_of-draft inline bytes value d fits is e)) (told_judged inline bytes d (validated inline d) fits holds refl)
+    subst (Told inline bytes) (sym (verdict_of-draft inline bytes value d fits is e)) (told_judged inline bytes d (validated inline d) fits holds refl)
 
-told_json : (inline : Bool) (bytes : List ℕ) (value : Option Data) → length bytes ≤ max_input → json_value bytes ≡ value → Told inline bytes (outcome_of inline bytes)
+told_json : (inline : Bool) (bytes : List ℕ) (value : Option Data) → length bytes ≤ max_input → json_value bytes ≡ value → Told inline bytes (verdict_of inline bytes)
 told_json inline bytes None fits is =
     let small : nat_lt max_input (length bytes) ≡ false = fits_test max_input (length bytes) fits in
-    let one : outcome_of inline bytes ≡ refused 1 = rw (small, is) refl in
+    let one : verdict_of inline bytes ≡ refused 1 = rw (small, is) refl in
     subst (Told inline bytes) (sym one) (record { is_so = no_json is; least = from_one inline bytes })
 told_json inline bytes (Some value) fits is = told_value inline bytes value (draft inline value) fits is refl
 
-told : (inline : Bool) (bytes : List ℕ) → Told inline bytes (outcome_of inline bytes)
+told : (inline : Bool) (bytes : List ℕ) → Told inline bytes (verdict_of inline bytes)
 told inline bytes =
     elim (cases_lt max_input (length bytes)) [
       | inl many ↦ subst (Told inline bytes) (sym (too_many inline bytes many)) (record { is_so = too_long many; least = from_one inline bytes })
@@ -165,7 +165,7 @@ told inline bytes =
 
 -- ---- the theorems
 
-by_the_least : (inline : Bool) (bytes : List ℕ) (number : ℕ) (o : Outcome) → Told inline bytes o → IsLeast (Applies inline bytes) number → o ≡ refused number
+by_the_least : (inline : Bool) (bytes : List ℕ) (number : ℕ) (o : Verdict) → Told inline bytes o → IsLeast (Applies inline bytes) number → o ≡ refused number
 by_the_least inline bytes number (accepted list) is least = absurd (is.none number least.is_so)
 by_the_least inline bytes number (refused n) is least =
     let low : n ≤ number = is.least number least.is_so in
@@ -176,10 +176,10 @@ by_the_least inline bytes number (refused n) is least =
 pub refuses_by_the_least : RefusesByTheLeast
 refuses_by_the_least inline bytes number = (
   (λ e. subst (Told inline bytes) e (told inline bytes)),
-  (λ least. by_the_least inline bytes number (outcome_of inline bytes) (told inline bytes) least),
+  (λ least. by_the_least inline bytes number (verdict_of inline bytes) (told inline bytes) least),
 )
 
-as_taken : (inline : Bool) (bytes : List ℕ) (list : CompilationList) (o : Outcome) → Told inline bytes o → IsAccepted inline bytes list → o ≡ accepted list
+as_taken : (inline : Bool) (bytes : List ℕ) (list : CompilationList) (o : Verdict) → Told inline bytes o → IsAccepted inline bytes list → o ≡ accepted list
 as_taken inline bytes list (refused n) is taken = absurd (taken.none n is.is_so)
 as_taken inline bytes list (accepted other) is taken =
     let same = one_draft inline bytes is.draft taken.draft is.holds taken.holds in
@@ -188,5 +188,5 @@ as_taken inline bytes list (accepted other) is taken =
 pub takes_the_rest : AcceptsTheRest
 takes_the_rest inline bytes list = (
   (λ e. subst (Told inline bytes) e (told inline bytes)),
-  (λ taken. as_taken inline bytes list (outcome_of inline bytes) (told inline bytes) taken),
+  (λ taken. as_taken inline bytes list (verdict_of inline bytes) (told inline bytes) taken),
 )

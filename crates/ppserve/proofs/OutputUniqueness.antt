@@ -18,13 +18,13 @@ use Rattle.pppool.specs.Laws.{ListGrows, HasSomeValues}
 use Rattle.ppserve.specs.Contents.{AreInList, files_of}
 use Rattle.ppserve.specs.Laws.{wrong_names, too_long, from, OneOutput, OneOutputOfContents, SomeOutput}
 use Rattle.ppserve.specs.Drafts.{Draft}
-use Rattle.ppserve.specs.Listing.{outcome_of, accepted, validated, max_input, names_hold, names_of}
+use Rattle.ppserve.specs.Listing.{verdict_of, accepted, validated, max_input, names_hold, names_of}
 use Rattle.ppserve.specs.Output.{output_text}
 use Rattle.ppserve.specs.Serving.{any_fault, ReadsList, IsOutput}
 use Rattle.ppserve.specs.declared.list.List.{List as CompilationList}
 use Rattle.ppserve.specs.declared.output.Mode.{Mode}
 use Rattle.ppserve.proofs.DraftShape.{decides}
-use Rattle.ppserve.proofs.DraftValidation.{outcome_of-draft, validated-runnable, validated-contents}
+use Rattle.ppserve.proofs.DraftValidation.{verdict_of-draft, validated-runnable, validated-contents}
 use Rattle.ppserve.proofs.ServedOutput.{can_run}
 use Rattle.ppserve.proofs.ReceivedBytes.{decided}
 use Rattle.ppserve.proofs.LeastRefusal.{takes_the_rest}
@@ -86,7 +86,7 @@ true_or true other = refl
 true_or false other = absurd (other refl)
 
 -- The names of an accepted list are in normal form and distinct.
-named : (inline : Bool) (bytes : List ℕ) (list : CompilationList) → outcome_of inline bytes ≡ accepted list → AreNames list.names
+named : (inline : Bool) (bytes : List ℕ) (list : CompilationList) → verdict_of inline bytes ≡ accepted list → AreNames list.names
 named inline bytes list is =
     let taken = (takes_the_rest inline bytes list).0 is in
     let hold : names_hold taken.draft.files ≡ true = true_or (names_hold taken.draft.files) (λ e. taken.none 3 (wrong_names taken.holds e)) in
@@ -144,12 +144,12 @@ knows_contents names contents same row within =
     subst P (sym (get_or-map (λ bytes. Some (readable bytes)) contents row [] None (omega arith))) refl
 
 -- An accepted list comes from a draft that passes all tests.
-validated_as : (inline : Bool) (bytes : List ℕ) (list : CompilationList) → outcome_of inline bytes ≡ accepted list → (d : Draft) × (validated inline d ≡ accepted list)
+validated_as : (inline : Bool) (bytes : List ℕ) (list : CompilationList) → verdict_of inline bytes ≡ accepted list → (d : Draft) × (validated inline d ≡ accepted list)
 validated_as inline bytes list is =
     let taken = (takes_the_rest inline bytes list).0 is in
     let fits : length bytes ≤ max_input = elim (cases_lt max_input (length bytes)) [ inl long ↦ absurd (taken.none 1 (too_long long)) | inr short ↦ short ] in
     let shape = (decides inline taken.holds.value taken.draft).1 taken.holds.is_shaped in
-    (taken.draft, sym (outcome_of-draft inline bytes taken.holds.value taken.draft fits taken.holds.is_json shape) ∙ is)
+    (taken.draft, sym (verdict_of-draft inline bytes taken.holds.value taken.draft fits taken.holds.is_json shape) ∙ is)
 
 pub some_output : HasSomeValues → SomeOutput
 some_output some mode bytes list is =

@@ -5,7 +5,7 @@ use Rattle.ppshelf.specs.Files.{Files, Agree}
 use Rattle.ppserve.specs.Contents.{AreInList}
 use Rattle.ppserve.specs.Drafts.{Draft}
 use Rattle.ppserve.specs.Listing.{json_value, max_input, names_of, names_hold, sizes_hold, are_known, times_hold, lines_hold, directories_hold}
-use Rattle.ppserve.specs.Listing.{profile_holds, budget_holds, listed, outcome_of, accepted, refused}
+use Rattle.ppserve.specs.Listing.{profile_holds, budget_holds, listed, verdict_of, accepted, refused}
 use Rattle.ppserve.specs.Serving.{Stream, Serves, IsOutput}
 use Rattle.ppserve.specs.Shape.{IsDraft}
 use Rattle.ppserve.specs.declared.list.List.{List as CompilationList}
@@ -52,13 +52,13 @@ pub record IsAccepted (inline : Bool) (bytes : List ℕ) (list : CompilationList
 abbrev pub RefusesByTheLeast : Type 0
 RefusesByTheLeast =
     (inline : Bool) (bytes : List ℕ) (number : ℕ)
-    → (outcome_of inline bytes ≡ refused number) ↔ IsLeast (Applies inline bytes) number
+    → (verdict_of inline bytes ≡ refused number) ↔ IsLeast (Applies inline bytes) number
 
 -- Bytes are accepted as a list exactly if no refusal applies.
 abbrev pub AcceptsTheRest : Type 0
 AcceptsTheRest =
     (inline : Bool) (bytes : List ℕ) (list : CompilationList)
-    → (outcome_of inline bytes ≡ accepted list) ↔ IsAccepted inline bytes list
+    → (verdict_of inline bytes ≡ accepted list) ↔ IsAccepted inline bytes list
 
 -- ---- what is printed
 
@@ -95,5 +95,5 @@ pub record HasOutput (Allowed : CompilationList → Files → Type 0) (mode : Mo
 abbrev pub SomeOutput : Type 0
 SomeOutput =
     (mode : Mode) (bytes : List ℕ) (list : CompilationList)
-    → outcome_of true bytes ≡ accepted list
+    → verdict_of true bytes ≡ accepted list
     → HasOutput AreInList mode list

@@ -1,5 +1,5 @@
 -- The list of translation units that bytes hold, or why they are refused.
-use Rattle.std.specs.Prelude.{◌≡◌, ℕ, ◌-◌, ◌^◌, ◌≤◌, ◌&&◌, ◌⊎◌, not, Bool}
+use Rattle.std.specs.Prelude.{◌≡◌, ℕ, ◌-◌, ◌^◌, ◌≤◌, ◌&&◌, not, Bool}
 use Rattle.std.specs.Prelude.{true, false, List, [], All, if◌then◌else◌, nat_lt, nat_le, codes, length, map, Option, Some, None, unwrap_or}
 use Rattle.std.specs.Option.{is_some}
 use Rattle.std.specs.List.{list_all}
@@ -17,18 +17,12 @@ use Rattle.ppunit.specs.declared.units.Setting.{Setting}
 use Rattle.ppunit.specs.declared.units.Unit.{Unit as UnitOfList}
 use Rattle.ppserve.specs.Drafting.{draft}
 use Rattle.ppserve.specs.declared.list.List.{List as CompilationList}
-use Rattle.ppserve.specs.declared.list.ListFault.{ListFault}
-use Rattle.ppserve.specs.declared.list.ListFault.TheVariants.{Bad, Memory}
 use Rattle.ppserve.specs.Drafts.{DraftFile, DraftUnit, DraftBudget, Missing, Integer, Other, DraftSetting, Draft}
 
 -- a list, or the number of its refusal
-pub data Outcome : Type 0 where
-  accepted : CompilationList → Outcome
-  refused : ℕ → Outcome
-
--- an allocation failed, or refusal n for the reason P
-abbrev pub RefusedFor : ℕ → Type 0 → ListFault → Type 0
-RefusedFor n P e = (e ≡ Memory) ⊎ ((e ≡ Bad n) × P)
+pub data Verdict : Type 0 where
+  accepted : CompilationList → Verdict
+  refused : ℕ → Verdict
 
 -- the JSON value that bytes hold
 unfoldable pub json_value : List ℕ → Option Data
@@ -139,36 +133,36 @@ listed inline d = record {
 }
 
 -- the list of a draft with valid texts, or its refusal
-abbrev pub validated_choices : Bool → Draft → Outcome
+abbrev pub validated_choices : Bool → Draft → Verdict
 validated_choices inline d =
     if not (profile_holds d.setting) then refused 9 else (
     if not (budget_holds d.setting) then refused 10 else accepted (listed inline d))
 
 -- the list of a draft whose units have their files, or its refusal
-abbrev pub validated_texts : Bool → Draft → Outcome
+abbrev pub validated_texts : Bool → Draft → Verdict
 validated_texts inline d =
     if not (times_hold d.setting) then refused 6 else (
     if not (lines_hold d.units) then refused 7 else (
     if not (directories_hold d) then refused 8 else validated_choices inline d))
 
 -- the list of a draft, or the least number of a refusal that applies
-abbrev pub validated : Bool → Draft → Outcome
+abbrev pub validated : Bool → Draft → Verdict
 validated inline d =
     if not (names_hold d.files) then refused 3 else (
     if not (sizes_hold d) then refused 4 else (
     if not (are_known (names_of d.files) d.units) then refused 5 else validated_texts inline d))
 
-abbrev shaped : Bool → Option Draft → Outcome
+abbrev shaped : Bool → Option Draft → Verdict
 shaped inline None = refused 2
 shaped inline (Some d) = validated inline d
 
-abbrev parsed : Bool → Option Data → Outcome
+abbrev parsed : Bool → Option Data → Verdict
 parsed inline None = refused 1
 parsed inline (Some d) = shaped inline (draft inline d)
 
 -- the list that bytes hold, or the least number of a refusal that applies
-abbrev pub outcome_of : Bool → List ℕ → Outcome
-outcome_of inline bytes = if nat_lt max_input (length bytes) then refused 1 else parsed inline (json_value bytes)
+abbrev pub verdict_of : Bool → List ℕ → Verdict
+verdict_of inline bytes = if nat_lt max_input (length bytes) then refused 1 else parsed inline (json_value bytes)
 
 -- a list whose units can be preprocessed
 pub record IsRunnable (l : CompilationList) : Type 0 where

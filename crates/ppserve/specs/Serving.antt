@@ -13,7 +13,7 @@ use Rattle.ppserve.specs.declared.output.Mode.{Mode}
 use Rattle.ppserve.specs.declared.serving.RunFault.{RunFault}
 use Rattle.ppserve.specs.declared.serving.RunFault.TheVariants as run_fault
 use Rattle.ppserve.specs.Contents.{AreInList, ArePermitted}
-use Rattle.ppserve.specs.Listing.{max_input, outcome_of, accepted, refused}
+use Rattle.ppserve.specs.Listing.{max_input, verdict_of, accepted, refused}
 use Rattle.ppserve.specs.Output.{output_text}
 
 -- some unit has a fault
@@ -35,7 +35,7 @@ pub record Received (input : Stream) (bytes : List ℕ) : Type 0 where
 pub record ReadsList (inline : Bool) (input : Stream) (list : CompilationList) : Type 0 where
   pub bytes : List ℕ
   pub received : Received input bytes
-  pub is_list : outcome_of inline bytes ≡ accepted list
+  pub is_list : verdict_of inline bytes ≡ accepted list
 
 -- The text is the output of a list in a mode, over some files that `Allowed` allows for the list; and `any` says whether
 -- a unit has a fault.
@@ -69,7 +69,7 @@ pub record ServesPrefix (inline : Bool) (Allowed : CompilationList → Files →
 pub record Refuses (inline : Bool) (input : Stream) (number : ℕ) : Type 0 where
   pub bytes : List ℕ
   pub received : Received input bytes
-  pub is_refused : outcome_of inline bytes ≡ refused number
+  pub is_refused : verdict_of inline bytes ≡ refused number
 
 -- ---- with a disk or without one
 
@@ -95,4 +95,4 @@ abbrev pub KnownBytesDecide : Type 0
 KnownBytesDecide =
     (inline : Bool) (known bytes : List ℕ) (after : Option (List ℕ))
     → Received (record { before = Some known; after = after }) bytes
-    → outcome_of inline bytes ≡ outcome_of inline known
+    → verdict_of inline bytes ≡ verdict_of inline known

@@ -3,5 +3,6 @@ pub mod LinePrefix
 pub mod NeededRetention
 pub mod Printing
 pub mod Records
+pub mod Refusals
 pub mod Rounds
 pub mod Runs

@@ -1,7 +1,8 @@
 //! Reads the list of translation units from JSON.
 ghost use Rattle.std.specs.Prelude.{◌≡◌, ◌≤◌, ℕ, Some, None, IfOk, IfErr, IsErrOf, true, length};
 ghost use Rattle.serde_json.specs.View.{view};
-ghost use Rattle.ppserve.specs.Listing.{RefusedFor, IsRunnable, json_value, outcome_of, validated, accepted, refused, max_input};
+ghost use Rattle.ppserve.specs.code.Refusals.{RefusedFor};
+ghost use Rattle.ppserve.specs.Listing.{IsRunnable, json_value, verdict_of, validated, accepted, refused, max_input};
 ghost use Rattle.ppserve.specs.declared.list.ListFault.TheVariants.{Bad, Memory as OutOfMemory};
 
 mod drafts;
@@ -75,10 +76,10 @@ pub fn read_list(
     inline: bool,
     hashing: Hashing,
 ) -> Result<List, ListFault>
-    ensures ok { IfOk result (λ l. outcome_of inline bytes.now ≡ accepted l) }
+    ensures ok { IfOk result (λ l. verdict_of inline bytes.now ≡ accepted l) }
     ensures runnable { IfOk result (λ l. IsRunnable l) }
     ensures contents { inline ≡ true → IfOk result (λ l. length l.contents ≡ length l.names) }
-    ensures bad { (n : ℕ) → IsErrOf result (Bad n) → outcome_of inline bytes.now ≡ refused n }
+    ensures bad { (n : ℕ) → IsErrOf result (Bad n) → verdict_of inline bytes.now ≡ refused n }
 {
     if bytes.len() > MAX_INPUT {
         return Err(ListFault::Bad(1));
@@ -90,8 +91,8 @@ pub fn read_list(
 /// Reads a draft of the list. The JSON value is freed before the list is validated.
 fn draft_from(alloc: Global, bytes: &[u8], inline: bool) -> Result<Draft, ListFault>
     requires { length bytes.now ≤ max_input }
-    ensures ok { IfOk result (λ d. outcome_of inline bytes.now ≡ validated inline d) }
-    ensures bad { (n : ℕ) → IsErrOf result (Bad n) → outcome_of inline bytes.now ≡ refused n }
+    ensures ok { IfOk result (λ d. verdict_of inline bytes.now ≡ validated inline d) }
+    ensures bad { (n : ℕ) → IsErrOf result (Bad n) → verdict_of inline bytes.now ≡ refused n }
 {
     let value = json_of(alloc, bytes)?;
     draft_of(alloc, &value, inline)

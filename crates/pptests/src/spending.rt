@@ -1,5 +1,5 @@
 //! Tests of spending a budget.
-use ppexpand::{is_exhausted, spend_one};
+use ppexpand::Meter;
 
 #[test]
 fn spends_one(rt: HostRuntime) {
@@ -9,8 +9,9 @@ fn spends_one(rt: HostRuntime) {
         (Some(0), true, Some(0)),
         (None, false, None),
     ] {
+        let meter = Meter::new(remaining);
         assert!(rt;
-            is_exhausted(remaining) == spent && spend_one(remaining) == less,
+            meter.is_exhausted() == spent && meter.spend_one() == Meter::new(less),
             "{remaining:?}"
         );
     }

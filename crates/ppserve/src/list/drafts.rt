@@ -8,7 +8,7 @@
 ghost use Rattle.std.specs.Prelude.{◌≡◌, Some, None, IfOk, IfErr, codes, map, option_and_then, ◌<◌, IfSome};
 ghost use Rattle.serde_json.specs.Find.{as_str};
 ghost use Rattle.serde_json.specs.View.{view, members_view, items_view};
-ghost use Rattle.ppserve.specs.Listing.{RefusedFor};
+ghost use Rattle.ppserve.specs.code.Refusals.{RefusedFor};
 ghost use Rattle.ppserve.specs.Shape as shape;
 ghost use Rattle.ppserve.specs.Drafting as drafting;
 

@@ -11,8 +11,9 @@ ghost use Rattle.ppshelf.specs.Content.{longest};
 ghost use Rattle.ppshelf.specs.Names as shelf_spec;
 ghost use Rattle.ppunit.specs.WellFormed as form;
 ghost use Rattle.ppunit.specs.Unit.{command_text};
+ghost use Rattle.ppserve.specs.code.Refusals.{RefusedFor};
 ghost use Rattle.ppserve.specs.Listing as spec;
-ghost use Rattle.ppserve.specs.Listing.{RefusedFor, validated, validated_texts, validated_choices, accepted, refused};
+ghost use Rattle.ppserve.specs.Listing.{validated, validated_texts, validated_choices, accepted, refused};
 ghost use Rattle.ppserve.specs.declared.list.ListFault.TheVariants.{Bad, Memory as OutOfMemory};
 
 use crate::list::drafts::{Draft, DraftBudget, DraftFile, DraftSetting, DraftUnit, WrittenBudget};

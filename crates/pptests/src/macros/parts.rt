@@ -1,9 +1,9 @@
 //! Tests of the parts of a substitution: synthesized tokens, tokens of a replacement list, and spellings in a literal.
-use super::substitution::{USED, assert_made};
+use super::substitution::{USED, assert_made, hidden};
 use super::{HASH, macro_of, push_spelled, set_of, table_of};
 use crate::defining::source_of;
 use crate::showing::{assert_shown, push_token};
-use ppmacro::{Chain, Hidden, HideSets, Operand, ReplacementList, push_escaped};
+use ppmacro::{Chain, Hidden, HideSets, Operand, ReplacementList, argument_of, push_escaped};
 use pptext::{Kind, Memory, Source, Spelling, Token};
 use std::alloc::{AllocError, Global};
 use std::process::Abort;
@@ -104,5 +104,21 @@ fn escapes_quotes_and_backslashes(rt: HostRuntime) -> Result<(), AllocError> {
     let mut text = Vec::new(rt.alloc());
     push_escaped(&mut text, b"'\"' \"a\\n\"")?;
     assert_shown(&rt, text.as_slice(), "'\\\"' \\\"a\\\\n\\\"");
+    Ok(())
+}
+
+/// Returns the number of tokens in the argument with this index, of one argument with three tokens.
+fn argument_len(alloc: Global, source: &Source, index: usize) -> Result<usize, Memory> {
+    let sets = HideSets::new(alloc)?;
+    let mut given = Vec::new(alloc);
+    given.push(hidden(alloc, &sets, sets.empty(), source.tokens())?)?;
+    Ok(argument_of(given.as_slice(), index).len())
+}
+
+#[test]
+fn an_absent_argument_has_no_tokens(rt: HostRuntime) -> Result<(), Fail> {
+    let source = source_of(&rt, rt.alloc(), b"a + b")?;
+    assert!(rt; argument_len(rt.alloc(), &source, 0)? == 3);
+    assert!(rt; argument_len(rt.alloc(), &source, 1)? == 0);
     Ok(())
 }

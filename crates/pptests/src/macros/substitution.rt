@@ -9,7 +9,7 @@ use crate::defining::{define_valid, source_of};
 use crate::showing::{assert_shown, push_fault, push_fields};
 use ppmacro::{
     ArgumentExpansion, Arguments, Chain, Hidden, HideSets, Macro, MacroName, Pattern, Set, Table,
-    argument_of, decides_each_kind, paste, stringize, substitute, substitute_pattern,
+    decides_each_kind, paste, stringize, substitute, substitute_pattern,
 };
 use pptext::{Error, Memory, Place, Profile, Source, Token};
 use std::alloc::Global;
@@ -27,7 +27,7 @@ pub(super) const USED: Place = Place {
 };
 
 /// Returns tokens, each with this hide set.
-fn hidden<'a>(
+pub(super) fn hidden<'a>(
     alloc: Global,
     sets: &HideSets,
     hide: Set,
@@ -786,20 +786,4 @@ fn pastes_two_tokens(rt: HostRuntime) -> Result<(), Fail> {
     let mut sets = HideSets::new(rt.alloc())?;
     let wanted = "i+ x1 1:1:3 3:40:5, ";
     assert_pasted(&rt, rt.alloc(), &mut sets, source.tokens(), wanted)
-}
-
-/// Returns the number of tokens in the argument with this index, of one argument with three tokens.
-fn argument_len(alloc: Global, source: &Source, index: usize) -> Result<usize, Memory> {
-    let sets = HideSets::new(alloc)?;
-    let mut given = Vec::new(alloc);
-    given.push(hidden(alloc, &sets, sets.empty(), source.tokens())?)?;
-    Ok(argument_of(given.as_slice(), index).len())
-}
-
-#[test]
-fn an_absent_argument_has_no_tokens(rt: HostRuntime) -> Result<(), Fail> {
-    let source = source_of(&rt, rt.alloc(), b"a + b")?;
-    assert!(rt; argument_len(rt.alloc(), &source, 0)? == 3);
-    assert!(rt; argument_len(rt.alloc(), &source, 1)? == 0);
-    Ok(())
 }

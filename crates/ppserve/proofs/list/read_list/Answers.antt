@@ -1,12 +1,12 @@
 use Rattle.std.proofs.Common.{◌≡◌, ◌∙◌}
 use Rattle.std.proofs.lemmas.Result.{IfOk-weaker}
-use Rattle.ppserve.specs.Listing.{outcome_of, validated, accepted}
+use Rattle.ppserve.specs.Listing.{verdict_of, validated, accepted}
 use Rattle.ppserve.proofs.DraftValidation.{validated-runnable, validated-contents}
 use Rattle.ppserve.proofs.list.read_list.Goals as goal
 
 pub returns-clause-ok : goal.returns-clause-ok
 returns-clause-ok c =
-    IfOk-weaker c.validate.result (λ l. validated c.args.inline c.in_ok-draft.draft ≡ accepted l) (λ l. outcome_of c.args.inline c.args.bytes.now ≡ accepted l)
+    IfOk-weaker c.validate.result (λ l. validated c.args.inline c.in_ok-draft.draft ≡ accepted l) (λ l. verdict_of c.args.inline c.args.bytes.now ≡ accepted l)
     (λ l e. c.in_ok-draft.ensures.ok ∙ e) c.validate.ensures.ok
 
 pub returns-clause-bad : goal.returns-clause-bad
