@@ -2,7 +2,7 @@
 //! are in tests/row_tests.py and tests/token_tests.py, which compare the program's output.
 use crate::defining::{directed, env, source_of};
 use crate::showing::assert_shown;
-use ppexpand::{Expanded, TokenRef, TokenRope, TokenSlice, expand};
+use ppexpand::{Expanded, Meter, TokenRef, TokenRope, TokenSlice, expand};
 use ppmacro::{Hidden, Table};
 use pptext::{Memory, Source, Token};
 use std::alloc::{AllocError, Global};
@@ -82,23 +82,23 @@ fn as_text(alloc: Global, expanded: &Expanded) -> Result<Vec<u8>, AllocError> {
 /// the budget.
 type Case = (&'static str, Option<u64>, &'static str, u8, Option<u64>);
 
-/// Asserts the result of an expansion.
+/// Returns the number of the fault of an expansion, or 0.
+fn number_of(expanded: Expanded) -> u8 {
+    match expanded.fault {
+        Some(fault) => fault.into_fault().number,
+        None => 0,
+    }
+}
+
+/// Asserts the tokens of an expansion.
 fn assert_text(
     rt: &impl Abort,
     alloc: Global,
     expanded: &Expanded,
-    (_text, _budget, wanted, number, remaining): Case,
+    wanted: &str,
 ) -> Result<(), AllocError> {
     assert!(rt; yields_all(alloc, &expanded.tokens)?);
     assert_shown(rt, as_text(alloc, expanded)?.as_slice(), wanted);
-    let found = match &expanded.fault {
-        Some(fault) => fault.number,
-        None => 0,
-    };
-    assert!(rt;
-        found == number && expanded.remaining == remaining,
-        "at {wanted}"
-    );
     Ok(())
 }
 
@@ -108,10 +108,16 @@ fn assert_expanded_by(
     alloc: Global,
     table: &Table,
     tokens: &[Token],
-    case: Case,
+    (_text, budget, wanted, number, remaining): Case,
 ) -> Result<(), Memory> {
-    let expanded = expand(alloc, table, &env(0), case.1, tokens)?;
-    Ok(assert_text(rt, alloc, &expanded, case)?)
+    let mut meter = Meter::new(budget);
+    let expanded = expand(alloc, table, &env(0), &mut meter, tokens)?;
+    assert_text(rt, alloc, &expanded, wanted)?;
+    assert!(rt;
+        number_of(expanded) == number && meter.remaining == remaining,
+        "at {wanted}"
+    );
+    Ok(())
 }
 
 /// Asserts the expansion of the lines after a file's last directive.
