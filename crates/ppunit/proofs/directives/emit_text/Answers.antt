@@ -43,7 +43,7 @@ pub returns : goal.returns
 returns c =
     let out : Expansion = record { tokens = c.in_ok-expanded.expanded.tokens; fault = c.in_ok-expanded.expanded.fault; meter = c.expand.new.meter } in
     let expands = subst (λ (s : State). IsExpansion s.macros s.env s.meter c.args.tokens.now out) c.state.view_is c.in_ok-expanded.ensures in
-    elim c.match-expanded-3.branch [
+    elim c.match-expanded-2.branch [
       | in-None w ↦ emits c.args.state.now _ c.args.tokens.now out _ expands ? w.in-None.is w.result-is
       | in-Some w ↦ emits_fault c.args.state.now _ c.args.tokens.now out _ w.in-Some.fault expands ? w.in-Some.is w.result-is
     ]
