@@ -1,4 +1,4 @@
-use Rattle.std.proofs.Common.{◌≡◌, List, map, None, Some, Result, Ok, Err, sym, ◌∙◌, subst}
+use Rattle.std.proofs.Common.{◌≡◌, ap, List, map, None, Some, Result, Ok, Err, sym, ◌∙◌, subst}
 use Rattle.std.specs.Result.{result_err}
 use Rattle.pptext.specs.declared.tokens.Token.{Token}
 use Rattle.pptext.specs.declared.tokens.Fault.{Fault}
@@ -6,6 +6,7 @@ use Rattle.pptext.specs.declared.error.Error.{Error}
 use Rattle.pptext.specs.declared.error.Error.TheVariants.{Fault as Faulted}
 use Rattle.pptext.specs.Errors.{UnlessOutOfMemory}
 use Rattle.ppexpand.specs.Expansion.{Expansion, IsExpansion}
+use Rattle.ppunit.specs.declared.units.Item.{Item}
 use Rattle.ppunit.specs.declared.units.Item.TheVariants as item
 use Rattle.ppunit.specs.States.{State, emitted, with_meter}
 use Rattle.ppunit.specs.Directives.{EmitsText}
@@ -41,9 +42,22 @@ emits_fault s t tokens x r f expands is some e =
 
 pub returns : goal.returns
 returns c =
-    let out : Expansion = record { tokens = c.in_ok-expanded.expanded.tokens; fault = c.in_ok-expanded.expanded.fault; meter = c.expand.new.meter } in
+    let inside = c.state.inside in
+    let meter = c.expand.new.meter in
+    let out : Expansion = record { tokens = c.in_ok-expanded.expanded.tokens; fault = c.in_ok-expanded.expanded.fault; meter = meter } in
     let expands = subst (λ (s : State). IsExpansion s.macros s.env s.meter c.args.tokens.now out) c.state.view_is c.in_ok-expanded.ensures in
+    let after : State = record {
+      macros = inside.macros.macros;
+      items = c.extend.new.self;
+      deps = inside.deps;
+      once = inside.once;
+      meter = meter;
+      env = inside.file_context.env;
+      directory = inside.file_context.directory;
+    } in
+    let is = subst (λ (s : State). after ≡ emitted (with_meter s meter) (map item.Token out.tokens)) c.state.view_is
+    (ap (λ (items : List Item). record after { items = items }) c.in_ok-extend.ensures) in
     elim c.match-expanded-2.branch [
-      | in-None w ↦ emits c.args.state.now _ c.args.tokens.now out _ expands ? w.in-None.is w.result-is
-      | in-Some w ↦ emits_fault c.args.state.now _ c.args.tokens.now out _ w.in-Some.fault expands ? w.in-Some.is w.result-is
+      | in-None w ↦ emits c.args.state.now after c.args.tokens.now out _ expands is w.in-None.is w.result-is
+      | in-Some w ↦ emits_fault c.args.state.now after c.args.tokens.now out _ w.in-Some.fault expands is w.in-Some.is (w.result-is ∙ ap (λ (f : Fault). Err (Faulted f)) w.in-Some.fault-is)
     ]
