@@ -2,7 +2,7 @@
 use Rattle.std.specs.Prelude.{ℕ, pos, List, [], ◌∷◌, ◌++◌, Option, Some, None}
 use Rattle.pptext.specs.declared.tokens.Fault.{Fault}
 use Rattle.pptext.specs.declared.sources.Profile.{Profile}
-use Rattle.ppmacro.specs.Substitution.{escaped}
+use Rattle.ppmacro.specs.Substitution.{escaped_literal}
 use Rattle.ppmacro.specs.Names.{Macros}
 use Rattle.ppexpand.specs.declared.env.Env.{Env}
 use Rattle.ppexpand.specs.declared.meter.Meter.{Meter}
@@ -99,7 +99,7 @@ output r = record { items = r.state.items; deps = r.state.deps; fault = r.fault 
 
 -- a name as a string literal
 abbrev pub literal : List ℕ → List ℕ
-literal name = 34 ∷ (escaped name ++ 34 ∷ [])
+literal name = 34 ∷ (escaped_literal name ++ 34 ∷ [])
 
 -- a file begins with its own name, line numbers and directory number
 abbrev pub entering : Context → State → ℕ → Option ℕ → State

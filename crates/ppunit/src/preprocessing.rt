@@ -39,9 +39,10 @@ impl<'x, 'a: 'x, D: Disk> Preprocessor<'_, 'x, 'a, D> {
             DefinesOver (context_over self.old.context.now) self.new.pass.now.files defines.now.texts self.old.state
             (record { state = self.new.state; fault = result_err r })) }
     {
+        let context = self.context;
         let source = match defines.lines() {
             Ok(source) => source,
-            Err(fault) => return Err(Error::of(self.context.alloc, fault.clone()?)),
+            Err(fault) => return Err(Error::of(context.alloc, fault.clone()?)),
         };
         tree_unless_fault();
         let file = OpenFile::new(COMMAND_FILE as usize, source);

@@ -1,7 +1,7 @@
 use Rattle.std.proofs.Common.{rules, ◌≡◌, Option, Result, IfOk, subst}
 use Rattle.std.proofs.lemmas.Result.{IfOk-weaker}
 use Rattle.pptext.specs.declared.tokens.Fault.{Fault}
-use Rattle.pptext.specs.declared.tokens.Memory.{Memory}
+use Rattle.std.specs.declared.alloc.AllocError.{AllocError as Memory}
 use Rattle.ppshelf.specs.Files.{Files, Extends}
 use Rattle.ppunit.specs.States.{State, Progress, output}
 use Rattle.ppunit.specs.code.Contexts.{context_over}

@@ -1,5 +1,6 @@
 use Rattle.std.proofs.Common.{◌≡◌, rules}
 use Rattle.std.specs.Result.{result_err}
+use Rattle.pptext.proofs.ErrorReturns.{raised}
 use Rattle.ppunit.specs.code.Contexts.{context_over}
 use Rattle.ppunit.proofs.UnitValue.{defines_walked, defines_unread, on_settled}
 use Rattle.ppunit.proofs.preprocessor.Preprocessor.define_all.Goals as goal
@@ -17,4 +18,5 @@ returns-clause-defined g c =
 pub returns-in-Err-clause-defined : goal.returns-in-Err-clause-defined
 returns-in-Err-clause-defined g c =
     let same : c.in_ok-clone-in-Err.field-0 ≡ c.in-Err.fault = search rules in
-    rw same (defines_unread _ c.args.self.now.pass.now.files c.args.defines.now.profile _ _ _ _ (λ more. c.requires.profile) c.in-Err.is c.lines.ensures)
+    raised _ _ _ c.of.ensures
+    (rw same (defines_unread _ c.args.self.now.pass.now.files c.args.defines.now.profile _ _ _ _ (λ more. c.requires.profile) c.in-Err.is c.lines.ensures))

@@ -1,9 +1,8 @@
-use Rattle.std.proofs.Common.{◌≡◌, None, Some, refl, sym, ap, ◌∙◌, subst}
+use Rattle.std.proofs.Common.{◌≡◌, None, Some, refl, sym, ap, ◌∙◌}
 use Rattle.pptext.specs.declared.directives.Class.{Class}
 use Rattle.pptext.specs.declared.directives.Class.TheVariants as class
-use Rattle.pptext.specs.declared.tokens.Fault.{Fault}
 use Rattle.pptext.specs.Classes.{class_of}
-use Rattle.pptext.proofs.ErrorReturns.{stopped}
+use Rattle.pptext.proofs.ErrorReturns.{raised, stopped}
 use Rattle.ppunit.specs.code.Contexts.{context_over}
 use Rattle.ppunit.specs.code.Lines.{directed}
 use Rattle.ppunit.specs.Directives.{checks_quotes}
@@ -13,14 +12,10 @@ use Rattle.ppunit.proofs.DirectiveEffects.{other_is_control, other_looks}
 use Rattle.ppunit.proofs.UnitValue.{on_settled}
 use Rattle.ppunit.proofs.preprocessor.Preprocessor.execute_control_line.Goals as goal
 
-pub returns-in_ok-error-in-Error-clause-control : goal.returns-in_ok-error-in-Error-clause-control
-returns-in_ok-error-in-Error-clause-control g c more grows =
+pub returns-in-Error-clause-control : goal.returns-in-Error-clause-control
+returns-in-Error-clause-control g c =
     let is : class_of c.args.line.directive ≡ class.Error = sym c.class.ensures ∙ c.in-Error.is in
-    let fault = c.in_ok-error-in-Error.ensures in
-    let line = directed c.args.line.directive c.args.line.tokens c.args.line.number in
-    subst (λ (z : Fault). ExecutesControlLine (context_over c.args.self.now.context.now more) c.args.depth c.args.line.row c.args.self.now.state line
-    (record { state = c.args.self.now.state; fault = Some z }))
-    (sym fault) (ExecutesControlLine.error (ap (λ (z : Class). Some z) is))
+    raised _ _ _ c.error.ensures (λ more grows. ExecutesControlLine.error (ap (λ (z : Class). Some z) is))
 
 pub returns-in-Ignored-clause-control : goal.returns-in-Ignored-clause-control
 returns-in-Ignored-clause-control g c more grows =
@@ -30,7 +25,7 @@ returns-in-Ignored-clause-control g c more grows =
 pub returns-in_err-refuse_unmatched_quote-in-Includes-clause-control : goal.returns-in_err-refuse_unmatched_quote-in-Includes-clause-control
 returns-in_err-refuse_unmatched_quote-in-Includes-clause-control g c =
     let is : class_of c.args.line.directive ≡ class.Includes c.in-Includes.include_next = sym c.class.ensures ∙ c.in-Includes.is in
-    stopped _ _ _ _ c.from_residual-in_err-refuse_unmatched_quote-in-Includes.ensures.1 c.in_err-refuse_unmatched_quote-in-Includes.ensures (λ fault quote more grows.
+    stopped _ _ _ _ c.from_residual.ensures.1 c.in_err-refuse_unmatched_quote-in-Includes.ensures (λ fault quote more grows.
     ExecutesControlLine.quote_fault (ap (λ (z : Class). checks_quotes (Some z)) is) (sym quote))
 
 pub returns-in_ok-refuse_unmatched_quote-in-Includes-clause-control : goal.returns-in_ok-refuse_unmatched_quote-in-Includes-clause-control

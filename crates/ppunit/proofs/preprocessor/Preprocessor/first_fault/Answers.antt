@@ -1,8 +1,8 @@
-use Rattle.std.proofs.Common.{sym}
-use Rattle.pptext.proofs.ErrorReturns.{settles}
 use Rattle.ppunit.proofs.preprocessor.Preprocessor.first_fault.Goals as goal
 
-pub returns-clause-translated : goal.returns-clause-translated
-returns-clause-translated g c =
-    let ended = rw (sym c.in_ok-split_memory.ensures) at (settles c.translate-translated.result _ c.translate-translated.ensures.translated) in
-    rw c.err.ensures.value ended
+pub returns-in-Ok-clause-translated : goal.returns-in-Ok-clause-translated
+returns-in-Ok-clause-translated g c = rw c.in-Ok.is at c.translate.ensures.translated
+
+pub returns-in-Err-Fault-clause-translated : goal.returns-in-Err-Fault-clause-translated
+returns-in-Err-Fault-clause-translated g c =
+    rw c.into_fault.ensures (rw c.in-Err-Fault.field-0-is at (rw c.in-Err-Fault.is at c.translate.ensures.translated))

@@ -1,6 +1,6 @@
 use Rattle.std.proofs.Common.{◌≡◌, ℕ, suc, ◌+◌, List, Some, sym, ap, ◌∙◌, subst, arith}
 use Rattle.pptext.specs.declared.tokens.Fault.{Fault}
-use Rattle.pptext.proofs.ErrorReturns.{stopped}
+use Rattle.pptext.proofs.ErrorReturns.{raised, stopped}
 use Rattle.ppunit.specs.States.{State, with_meter}
 use Rattle.ppunit.specs.code.Contexts.{context_over}
 use Rattle.ppunit.specs.DirectiveLines.{line_fault}
@@ -21,20 +21,21 @@ returns-in_err-include_name-clause-includes g c =
     (ExecutesInclude.operand_fault asks))
 
 pub returns-in_default-clause-includes : goal.returns-in_default-clause-includes
-returns-in_default-clause-includes g c directive number more grows =
+returns-in_default-clause-includes g c =
+    let name = c.as_bytes-name.ensures ∙ ap (λ (z : IncludeName). z.name) c.include_name.view_is in
+    let same : line_fault 31 c.args.tokens.now c.as_bytes-name.result.now ≡ line_fault 31 c.args.tokens.now c.in_ok-include_name.include_name.name =
+    ap (λ (z : List ℕ). line_fault 31 c.args.tokens.now z) name in
+    raised _ _ _ c.line_fault.ensures (λ directive number more grows.
     let context = context_over c.args.self.now.context.now more in
     let line = directed directive c.args.tokens.now number in
-    let name = c.as_bytes-name.ensures ∙ ap (λ (z : IncludeName). z.name) c.include_name.view_is in
-    let same : c.in_ok-line_fault.field-0 ≡ line_fault 31 c.args.tokens.now c.in_ok-include_name.include_name.name = c.in_ok-line_fault.ensures
-    ∙ ap (λ (z : List ℕ). line_fault 31 c.args.tokens.now z) name in
     let finds =
     subst (FindsFile context c.args.from.row c.args.from.directory c.in_ok-include_name.include_name) (none_of c.in_ok-row.field-0 c.in_default.not-Some)
     (c.in_ok-row.ensures.finds more) in
     let missing = ExecutesInclude.missing c.in_ok-include_name.include_name c.in_ok-include_name.ensures.names finds in
     subst (λ (z : State). ExecutesInclude context c.args.depth c.args.from.row c.args.from.directory c.args.self.now.state line
-    (record { state = z; fault = Some c.in_ok-line_fault.field-0 })) (sym c.in_ok-include_name.ensures.rest)
+    (record { state = z; fault = Some (line_fault 31 c.args.tokens.now c.as_bytes-name.result.now) })) (sym c.in_ok-include_name.ensures.rest)
     (subst (λ (z : Fault). ExecutesInclude context c.args.depth c.args.from.row c.args.from.directory c.args.self.now.state line
-    (record { state = with_meter c.args.self.now.state c.read_include_name.new.state.meter; fault = Some z })) (sym same) missing)
+    (record { state = with_meter c.args.self.now.state c.read_include_name.new.state.meter; fault = Some z })) (sym same) missing))
 
 pub returns-clause-includes : goal.returns-clause-includes
 returns-clause-includes g c =

@@ -1,0 +1,1 @@
+use Rattle.ppunit.proofs.command_macros.CommandMacros.read.Goals as goal
