@@ -1,1 +1,0 @@
-use Rattle.ppunit.proofs.command_macros.CommandMacros.read.Goals as goal
