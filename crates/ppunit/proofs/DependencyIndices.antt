@@ -1,21 +1,20 @@
 -- The dependencies of a unit are indices of the file table, if the unit's own file is one.
-use Rattle.std.proofs.Common.{◌≡◌, ℕ, ◌<◌, Bool, true, false, List, [], ◌∷◌, ◌++◌, All, length, Option, Some, None, Result, Ok, Err, refl, sym, ap, ◌∙◌, subst, nat_eq, if◌then◌else◌}
+use Rattle.std.proofs.Common.{◌≡◌, ℕ, ◌<◌, Bool, true, false, List, [], ◌∷◌, ◌++◌, All, length, Option, Some, sym, ap, subst, nat_eq, if◌then◌else◌}
 use Rattle.std.specs.List.{list_any}
 use Rattle.std.proofs.lemmas.List.Elements.{All-push, All-nil}
 use Rattle.pptext.specs.declared.tokens.Place.{Place}
 use Rattle.pptext.specs.declared.tokens.Token.{Token}
-use Rattle.pptext.specs.declared.tokens.Fault.{Fault}
 use Rattle.pptext.specs.declared.sources.Profile.{Profile}
 use Rattle.pptext.specs.declared.sources.Directive.{Directive}
 use Rattle.pptext.specs.Lines.{LogicalLine}
-use Rattle.pptext.specs.Tree.{hash_place, GroupParts, Branches}
+use Rattle.pptext.specs.Tree.{GroupParts, Branches}
 use Rattle.ppshelf.specs.Files.{Files}
 use Rattle.ppunit.specs.declared.units.Unit.{Unit as UnitOfList}
 use Rattle.ppunit.specs.declared.units.Setting.{Setting}
 use Rattle.ppunit.specs.declared.units.UnitOut.{UnitOut}
 use Rattle.ppunit.specs.Dependencies.{with_row}
-use Rattle.ppunit.specs.States.{State, Context, Progress, emitted, with_once, with_meter}
-use Rattle.ppunit.specs.DirectiveLines.{operands, text_tokens}
+use Rattle.ppunit.specs.States.{State, Context, Progress}
+use Rattle.ppunit.specs.DirectiveLines.{text_tokens}
 use Rattle.ppunit.specs.Directives.{EmitsText, ExecutesDirective}
 use Rattle.ppunit.specs.Group.{ExecutesGroup, ExecutesBranches, ExecutesControlLine, ExecutesInclude, OpensFile}
 use Rattle.ppunit.specs.Unit.{IsUnit, Defines, unread, processed, Translates, definitions_fault, translated, context_of_unit}

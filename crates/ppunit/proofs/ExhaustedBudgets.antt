@@ -1,5 +1,5 @@
 -- If their budget is too small, lines, groups and units stop with fault 35, after a prefix of their full output.
-use Rattle.std.proofs.Common.{◌≡◌, ℕ, ◌<◌, List, [], ◌++◌, map, Bool, true, false, Option, Some, None, Result, Ok, Err, refl, sym, ap, ◌∙◌, subst, arith, append_assoc, append-nil, zero, suc, ◌+◌, ◌-◌, ◌≤◌}
+use Rattle.std.proofs.Common.{◌≡◌, ℕ, ◌<◌, List, [], ◌++◌, map, Bool, true, false, Option, Some, Result, Ok, Err, refl, sym, ap, ◌∙◌, subst, arith, append_assoc, append-nil, zero, suc, ◌+◌, ◌-◌, ◌≤◌}
 use Rattle.std.proofs.lemmas.List.{map-append}
 use Rattle.pptext.specs.declared.tokens.Place.{Place}
 use Rattle.pptext.specs.declared.tokens.Token.{Token}
@@ -7,13 +7,13 @@ use Rattle.pptext.specs.declared.tokens.Fault.{Fault}
 use Rattle.pptext.specs.declared.sources.Directive.{Directive}
 use Rattle.pptext.specs.declared.sources.Profile.{Profile}
 use Rattle.pptext.specs.Lines.{LogicalLine}
-use Rattle.pptext.specs.Tree.{hash_place, GroupParts, Branches}
+use Rattle.pptext.specs.Tree.{GroupParts, Branches}
 use Rattle.ppexpand.specs.Budget.{with_budget}
 use Rattle.ppexpand.specs.Expansion.{count_expansion}
 use Rattle.ppexpand.proofs.BudgetLemmas.{StopsEarly, Covers, expansion_short, covers_less}
 use Rattle.ppexpr.proofs.ConditionBudgets.{condition_short}
 use Rattle.ppunit.specs.declared.units.Item.{Item}
-use Rattle.ppunit.specs.States.{State, Progress, stopped, emitted, with_meter, Search, file_context, in_file_context, Context, with_dependency, with_one_spent, search_of}
+use Rattle.ppunit.specs.States.{State, Progress, stopped, emitted, with_meter, Search, file_context, in_file_context, Context, with_dependency, with_one_spent}
 use Rattle.ppunit.specs.DirectiveLines.{operands, line_fault, text_tokens}
 use Rattle.ppunit.specs.LineControl.{presumed}
 use Rattle.ppunit.specs.Including.{IncludeName, begins_with_header, name_of_expansion_or}

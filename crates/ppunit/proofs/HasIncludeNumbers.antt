@@ -4,7 +4,6 @@ use Rattle.std.proofs.Common.{length, take, drop, arith, refl, sym, ap, ◌∙�
 use Rattle.std.specs.List.{list_any}
 use Rattle.std.proofs.lemmas.Bool.{or_parts}
 use Rattle.std.proofs.lemmas.Grind.{common_steps}
-use Rattle.std.proofs.lemmas.List.{append-nil}
 use Rattle.pptext.specs.declared.tokens.Token.{Token}
 use Rattle.ppunit.specs.States.{Search}
 use Rattle.ppunit.specs.Including.{name_of_expansion, if_possible_name}

@@ -1,17 +1,15 @@
 -- Phase 4 only appends to the items and the dependencies.
-use Rattle.std.proofs.Common.{ℕ, List, [], ◌∷◌, ◌++◌, map, Bool, true, false, Option, Some, None, Result, Ok, Err, refl, sym, ap, ◌∙◌, subst, append_assoc, append-nil, if◌then◌else◌}
+use Rattle.std.proofs.Common.{ℕ, List, [], ◌∷◌, ◌++◌, map, Bool, true, false, Option, refl, sym, ap, ◌∙◌, subst, append_assoc, append-nil, if◌then◌else◌}
 use Rattle.pptext.specs.declared.tokens.Place.{Place}
 use Rattle.pptext.specs.declared.tokens.Token.{Token}
-use Rattle.pptext.specs.declared.tokens.Fault.{Fault}
 use Rattle.pptext.specs.declared.sources.Directive.{Directive}
 use Rattle.pptext.specs.declared.sources.Profile.{Profile}
 use Rattle.pptext.specs.Lines.{LogicalLine}
-use Rattle.pptext.specs.Tree.{GroupParts, Branches, hash_place}
+use Rattle.pptext.specs.Tree.{GroupParts, Branches}
 use Rattle.ppexpand.specs.Laws.{IsPrefix}
-use Rattle.ppunit.specs.declared.units.Item.{Item}
 use Rattle.ppunit.specs.Dependencies.{has_row}
-use Rattle.ppunit.specs.States.{State, Context, Progress, emitted, with_dependency, with_once, with_meter}
-use Rattle.ppunit.specs.DirectiveLines.{operands, text_tokens}
+use Rattle.ppunit.specs.States.{State, Context, Progress, with_dependency}
+use Rattle.ppunit.specs.DirectiveLines.{text_tokens}
 use Rattle.ppunit.specs.LineControl.{presumed}
 use Rattle.ppunit.specs.Directives.{EmitsText, ExecutesDirective}
 use Rattle.ppunit.specs.Group.{ExecutesGroup, ExecutesBranches, ExecutesControlLine, ExecutesInclude, OpensFile}

@@ -1,5 +1,5 @@
 -- Over the same files an if-section has one outcome, if its groups have one each.
-use Rattle.std.proofs.Common.{◌≡◌, ◌≢◌, ℕ, Bool, true, false, List, Option, Some, Result, Ok, Err, refl, sym, subst}
+use Rattle.std.proofs.Common.{◌≡◌, ◌≢◌, ℕ, Bool, true, false, List, Some, Result, Ok, Err, refl, sym, subst}
 use Rattle.pptext.specs.declared.tokens.Fault.{Fault}
 use Rattle.pptext.specs.declared.sources.Directive.TheVariants.{Else}
 use Rattle.pptext.specs.Lines.{LogicalLine}

@@ -1,17 +1,17 @@
 -- Lines, groups and units have the same effect with any sufficient budget, and leave the rest of the budget.
-use Rattle.std.proofs.Common.{◌≡◌, ℕ, zero, suc, ◌+◌, List, [], ◌∷◌, Bool, true, false, Option, Some, None, Result, Ok, Err, refl, ap, ◌∙◌, subst, arith, if◌then◌else◌, sym}
+use Rattle.std.proofs.Common.{◌≡◌, ℕ, zero, suc, ◌+◌, List, [], Bool, true, false, Option, Some, None, Result, Ok, Err, refl, ap, ◌∙◌, subst, arith, sym}
 use Rattle.pptext.specs.declared.tokens.Place.{Place}
 use Rattle.pptext.specs.declared.tokens.Token.{Token}
 use Rattle.pptext.specs.declared.tokens.Fault.{Fault}
 use Rattle.pptext.specs.declared.sources.Directive.{Directive}
 use Rattle.pptext.specs.declared.sources.Profile.{Profile}
 use Rattle.pptext.specs.Lines.{LogicalLine}
-use Rattle.pptext.specs.Tree.{hash_place, GroupParts, Branches, Done, End}
+use Rattle.pptext.specs.Tree.{GroupParts, Branches, Done, End}
 use Rattle.ppexpand.specs.Expansion.{count_expansion}
 use Rattle.ppexpand.specs.Budget.{with_budget, is_exhausted, is_used_up}
 use Rattle.ppexpand.proofs.BudgetLemmas.{Covers, larger, covers_rest, expansion_enough, without, covers_less}
 use Rattle.ppexpr.proofs.ConditionBudgets.{condition_enough}
-use Rattle.ppunit.specs.States.{State, Progress, with_meter, Search, Context, running, stopped, search_of}
+use Rattle.ppunit.specs.States.{State, Progress, with_meter, Search, Context, running, stopped}
 use Rattle.ppunit.specs.DirectiveLines.{operands, text_tokens}
 use Rattle.ppunit.specs.LineControl.{presumed}
 use Rattle.ppunit.specs.Including.{IncludeName, begins_with_header}

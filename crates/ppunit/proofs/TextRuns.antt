@@ -1,5 +1,5 @@
 -- A walk over a text run, and the end of a text run. A run without tokens, for example of blank lines, emits nothing.
-use Rattle.std.proofs.Common.{◌≡◌, ℕ, List, [], ◌∷◌, length, nat_eq, Option, None, Some, refl, append-nil, sym, true, zero, suc, arith, ◌≢◌, ◌+◌, ◌-◌, ◌<◌, ◌++◌, take, drop, ap, ◌∙◌, subst, ◌≤◌, add-one, Bool, false, if◌then◌else◌}
+use Rattle.std.proofs.Common.{◌≡◌, ℕ, List, [], ◌∷◌, length, nat_eq, Option, None, Some, refl, append-nil, sym, true, suc, arith, ◌≢◌, ◌+◌, ◌-◌, ◌<◌, ◌++◌, take, drop, ap, ◌∙◌, subst, ◌≤◌, add-one, Bool, false, if◌then◌else◌}
 use Rattle.std.proofs.lemmas.Bool.{eqb-true}
 use Rattle.pptext.specs.declared.tokens.Token.{Token}
 use Rattle.ppmacro.specs.Names.{Macros}

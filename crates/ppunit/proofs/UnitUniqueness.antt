@@ -5,7 +5,6 @@ use Rattle.pptext.specs.declared.tokens.Fault.{Fault}
 use Rattle.pptext.specs.Lines.{LogicalLine}
 use Rattle.pptext.specs.Sources.{Reads}
 use Rattle.pptext.specs.Tree.{GroupParts, Branches, Tree}
-use Rattle.ppexpand.specs.declared.meter.Meter.{Meter}
 use Rattle.ppshelf.specs.Names.{AreNames}
 use Rattle.ppunit.specs.States.{State, Context, Progress, running, stopped, leaving, output}
 use Rattle.ppunit.specs.DirectiveLines.{text_tokens}

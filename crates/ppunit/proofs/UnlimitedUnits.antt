@@ -7,7 +7,7 @@ use Rattle.pptext.specs.declared.sources.Directive.{Directive}
 use Rattle.pptext.specs.declared.sources.Profile.{Profile}
 use Rattle.pptext.specs.Lines.{LogicalLine, lines_of}
 use Rattle.pptext.specs.Sources.{IsFaultOf}
-use Rattle.pptext.specs.Tree.{Role, Elses, Closes, role, Open, after_line, fault_at_end, fault_or, group_fault, GroupParts, Branches, hash_place}
+use Rattle.pptext.specs.Tree.{Role, Elses, Closes, role, Open, after_line, fault_at_end, fault_or, group_fault, GroupParts, Branches}
 use Rattle.pptext.specs.Profiles.{is_gnu}
 use Rattle.pptext.specs.Tokens.{is_unmatched_quote, fault}
 use Rattle.ppmacro.specs.Names.{Macros}
@@ -17,7 +17,7 @@ use Rattle.ppexpand.specs.Expansion.{Expansion}
 use Rattle.ppexpand.specs.Expansion.{IsExpansion, count_expansion}
 use Rattle.ppexpand.proofs.BudgetFaults.{expansion_never_refused}
 use Rattle.ppexpr.proofs.ConditionBudgets.{IsOther as IsOtherOr, condition_never_refused}
-use Rattle.ppunit.specs.States.{State, Context, Progress, Search, search_of}
+use Rattle.ppunit.specs.States.{State, Context, Progress, Search}
 use Rattle.ppunit.specs.DirectiveLines.{operands, line_fault, one_identifier, text_tokens}
 use Rattle.ppunit.specs.Quotes.{unmatched_quote}
 use Rattle.ppunit.specs.Including.{IncludeName, begins_with_header, name_of_header, name_of_expansion, if_possible_name, name_or, name_of_expansion_or}

@@ -1,6 +1,6 @@
 -- The work of phase 4: its macro replacements (6.10.3), and its openings of files (6.10.2). An opening that is too deep, or
 -- that the budget refuses, doesn't count; one of a file that can't be read or isn't read again does.
-use Rattle.std.specs.Prelude.{ℕ, suc, ◌+◌, List, Bool, true, false, Option, None, Some, Result, Ok, Err}
+use Rattle.std.specs.Prelude.{ℕ, suc, ◌+◌, List, Bool, true, false, Option, Some, Result, Ok, Err}
 use Rattle.pptext.specs.declared.tokens.Place.{Place}
 use Rattle.pptext.specs.declared.tokens.Token.{Token}
 use Rattle.pptext.specs.declared.tokens.Fault.{Fault}

@@ -1,5 +1,5 @@
 -- Macro replacement in the operands of a directive (6.10.2, 6.10.4). Only contracts of private functions cite this.
-use Rattle.std.specs.Prelude.{◌≡◌, ℕ, List, Option, Result, IfOk}
+use Rattle.std.specs.Prelude.{◌≡◌, List, Result, IfOk}
 use Rattle.std.specs.Result.{result_err}
 use Rattle.pptext.specs.declared.tokens.Token.{Token}
 use Rattle.pptext.specs.declared.tokens.Fault.{Fault}

@@ -1,4 +1,4 @@
-use Rattle.std.proofs.Common.{◌≡◌, ◌∙◌, refl, subst}
+use Rattle.std.proofs.Common.{◌∙◌, refl, subst}
 use Rattle.ppexpand.specs.Expansion.{Expansion, IsExpansion}
 use Rattle.ppunit.specs.States.{State}
 use Rattle.ppunit.proofs.OptionCases.{none_of}
