@@ -23,7 +23,7 @@ impl Model for Workers {
 }
 
 impl Workers {
-    /// Returns this number of workers, if there may be so many.
+    /// Returns this number of workers if it is from 1 to 64.
     pub fn new(count: usize) -> Option<Workers>
         ensures some { IfSome result (λ w. w ≡ count) }
         ensures none { IfNone result ((count < 1) ⊎ (64 < count)) }
