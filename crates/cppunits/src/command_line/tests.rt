@@ -6,38 +6,26 @@ use std::alloc::Global;
 use std::process::Abort;
 use std::test::Fail;
 
-/// A command line, and the mode, the number of workers, the block and the directory that it asks for.
-type Asked = (
-    &'static [&'static str],
-    Mode,
-    usize,
-    usize,
-    Option<&'static str>,
-);
+/// A command line, and the mode, the number of workers, the block and the directory that it asks for, or an empty text.
+type Asked = (&'static [&'static str], Mode, usize, usize, &'static str);
 
 const ASKED: &[Asked] = &[
-    (&["cppunits", "dump"], Mode::Dump, 4, 8, None),
-    (&["cppunits", "deps"], Mode::Deps, 4, 8, None),
+    (&["cppunits", "dump"], Mode::Dump, 4, 8, ""),
+    (&["cppunits", "deps"], Mode::Deps, 4, 8, ""),
     (
         &["cppunits", "--workers", "3", "dump"],
         Mode::Dump,
         3,
         8,
-        None,
+        "",
     ),
-    (
-        &["cppunits", "--block", "3", "dump"],
-        Mode::Dump,
-        4,
-        3,
-        None,
-    ),
+    (&["cppunits", "--block", "3", "dump"], Mode::Dump, 4, 3, ""),
     (
         &["cppunits", "--root", "dump", "deps"],
         Mode::Deps,
         4,
         8,
-        Some("dump"),
+        "dump",
     ),
     (
         &[
@@ -53,21 +41,27 @@ const ASKED: &[Asked] = &[
         Mode::Dump,
         64,
         1024,
-        Some("/"),
+        "/",
     ),
 ];
 
+/// Returns whether a directory is the one that is wanted, or there is none and none is wanted.
+fn is_directory(found: &Option<String>, wanted: &str) -> bool {
+    match found {
+        Some(found) => found.as_str() == wanted,
+        None => wanted.is_empty(),
+    }
+}
+
+/// Asserts what a command line asks for.
 fn assert_read(rt: &impl Abort, alloc: Global, asked: &Asked) -> Result<(), Fail> {
     let (words, mode, workers, block, root) = *asked;
     let Ok(matches) = command(alloc)?.try_get_matches_from(words) else {
         return Err(Fail::new("the command line is refused"));
     };
     let options = read_options(alloc, &matches)?;
-    let directory = match &options.root {
-        Some(directory) => Some(directory.as_str()),
-        None => None,
-    };
-    assert!(rt; options.mode == mode && directory == root, "{words:?}");
+    assert!(rt; options.mode == mode, "{words:?}");
+    assert!(rt; is_directory(&options.root, root), "{words:?}");
     assert!(rt; options.workers.get() == workers, "{words:?}");
     assert!(rt; options.block.get() == block, "{words:?}");
     Ok(())
