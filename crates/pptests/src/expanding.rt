@@ -84,7 +84,8 @@ type Case = (&'static str, Option<u64>, &'static str, u8, Option<u64>);
 
 /// Returns the number of the fault of an expansion, or 0.
 fn number_of(expanded: Expanded) -> u8 {
-    match expanded.fault {
+    let Expanded { tokens: _, fault } = expanded;
+    match fault {
         Some(fault) => fault.into_fault().number,
         None => 0,
     }
