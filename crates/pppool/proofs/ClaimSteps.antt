@@ -10,7 +10,8 @@ use Rattle.atomic_table.specs.Table.{State, Act, step, keeps, stepped, Valid, Al
 use Rattle.atomic_table.proofs.Lists.{at_set, at_snoc, set_else}
 use Rattle.pppool.specs.declared.seat_state.SeatState.{SeatState}
 use Rattle.pppool.specs.declared.seat_state.Plan.{Plan}
-use Rattle.pppool.specs.Desk.{seat_state, max_blocks, times, total, once_below, FitsSeat, ClaimInvariant, TakesBlock, FindsNone, Claims}
+use Rattle.ppshelf.specs.Events.{times}
+use Rattle.pppool.specs.Desk.{seat_state, max_blocks, total, once_below, FitsSeat, ClaimInvariant, TakesBlock, FindsNone, Claims}
 use Rattle.pppool.proofs.SeatTotals.{total_set, total_snoc, total_le, total_at, times-append, times_at, below_once, once_more}
 
 -- The word is at most 65,599, far from an overflow.

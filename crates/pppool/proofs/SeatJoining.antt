@@ -4,7 +4,8 @@ use Rattle.std.proofs.Common.{Bool, true, false, ◌||◌, ◌&&◌, nat_eq, if�
 use Rattle.std.proofs.lemmas.Grind.{common_steps}
 use Rattle.std.proofs.lemmas.Bool.{false≢true}
 use Rattle.std.proofs.lemmas.Bool.Decides.{nat_tests}
-use Rattle.pppool.specs.Desk.{DeskId, SeatView, times, claims_of, any_empty}
+use Rattle.ppshelf.specs.Events.{times}
+use Rattle.pppool.specs.Desk.{DeskId, SeatView, claims_of, any_empty}
 use Rattle.pppool.proofs.SeatTotals.{times-append}
 
 last_of : (rest : List SeatView) (x : SeatView) → get_or (rest ++ x ∷ []) (length rest) x ≡ x

@@ -4,7 +4,8 @@ use mathlib.Core.Option.{some, some-injective, some-ne-none}
 use lib.ListN.{get_elem?}
 use Rattle.std.proofs.lemmas.Bool.Decides.{nat_tests}
 use Rattle.pppool.specs.declared.seat_state.SeatState.{SeatState}
-use Rattle.pppool.specs.Desk.{times, total, once_below}
+use Rattle.ppshelf.specs.Events.{times}
+use Rattle.pppool.specs.Desk.{total, once_below}
 
 pub total_set : (f : SeatState → ℕ) (views : List SeatState) (id : ℕ) (v w : SeatState) → get_elem? views id ≡ some v → total f (set views id w) + f v ≡ total f views + f w
 total_set f [] id v w at = absurd (some-ne-none v (sym at))

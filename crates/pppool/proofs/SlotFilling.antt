@@ -17,7 +17,8 @@ use Rattle.pppool.specs.Retained.{AreRetained, retained}
 use Rattle.pppool.proofs.RetainedOutputs.{kept_grows}
 use Rattle.ppunit.specs.Capped.{IsInBudget, IsCappedOver, StaysInBudget, BudgetCaps}
 use Rattle.ppunit.specs.Units.{AreUnits, AreInBudget, AreCapped}
-use Rattle.pppool.specs.Desk.{DeskId, SeatView, times, claims_of, once_below}
+use Rattle.ppshelf.specs.Events.{times}
+use Rattle.pppool.specs.Desk.{DeskId, SeatView, claims_of, once_below}
 use Rattle.pppool.specs.Laws.{ListGrows}
 use Rattle.pppool.specs.code.Workers.{IsRetained, UnitResult, AreUnitResults, AllFilled, FitSlots, result_units, filled_slots}
 use Rattle.pppool.proofs.WorkerResults.{times_other}

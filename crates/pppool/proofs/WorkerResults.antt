@@ -11,7 +11,7 @@ use Rattle.ppunit.specs.declared.units.UnitOut.{UnitOut}
 use Rattle.ppunit.specs.Laws.{Grows}
 use Rattle.pppool.specs.declared.retention.Retain.{Retain}
 use Rattle.pppool.proofs.RetainedOutputs.{kept_grows}
-use Rattle.pppool.specs.Desk.{times}
+use Rattle.ppshelf.specs.Events.{times}
 use Rattle.pppool.specs.code.Workers.{IsRetained, UnitResult, IsUnitResult, AreUnitResults, AllHaveResults, result_units}
 use Rattle.pppool.proofs.SeatTotals.{times-append, times_at}
 

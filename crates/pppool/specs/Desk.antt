@@ -1,10 +1,11 @@
 -- The claim protocol of a desk: how its atomic word, the number of the next block, relates to the states of its seats.
-use Rattle.std.specs.Prelude.{◌≡◌, ℕ, ◌+◌, ◌<◌, ◌≤◌, ◌==◌, min, Bool, List, [], ◌∷◌, ◌++◌, length, All}
+use Rattle.std.specs.Prelude.{◌≡◌, ℕ, ◌+◌, ◌<◌, ◌≤◌, min, Bool, List, [], ◌∷◌, ◌++◌, length, All}
 use Rattle.std.specs.Prelude.{MatchBool, false, ◌||◌, nat_lt, slice_index, if◌then◌else◌}
 use mathlib.Core.Option.{some}
 use lib.ListN.{get_elem?}
 use Rattle.atomic_table.specs.Table.{State, Me, Step}
 use Rattle.atomic_table.specs.Seated.{TableId}
+use Rattle.ppshelf.specs.Events.{times}
 use Rattle.ppshelf.specs.Files.{max_rows}
 use Rattle.pppool.specs.declared.seat_state.SeatState.{SeatState}
 use Rattle.pppool.specs.declared.seat_state.Plan.{Plan}
@@ -16,11 +17,6 @@ max_blocks = max_rows
 -- the state of a seat
 abbrev pub seat_state : List ℕ → ℕ → ℕ → Plan → SeatState
 seat_state claims empty_claims seats plan = record { claims = claims; empty_claims = empty_claims; seats = seats; plan = plan }
-
--- how often a number occurs in a list
-abbrev pub times : ℕ → List ℕ → ℕ
-times x [] = 0
-times x (y ∷ ys) = (if y == x then 1 else 0) + times x ys
 
 -- the sum of f over seats
 abbrev pub total : (SeatState → ℕ) → List SeatState → ℕ

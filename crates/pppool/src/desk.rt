@@ -1,7 +1,8 @@
 //! The desk: an atomic counter, at which workers claim blocks.
 ghost use Rattle.std.specs.Prelude.{◌≡◌, ℕ, ◌<◌, ◌≤◌, ◌==◌, ◌&&◌, true, false, [], ◌∷◌, ◌++◌, length, All};
 ghost use Rattle.std.specs.Prelude.{IfOk, IfSome, IfNone, IsTrue, if◌then◌else◌};
-ghost use Rattle.pppool.specs.Desk.{max_blocks, times, once_below, claims_of, any_empty, plan_of, new_seat};
+ghost use Rattle.ppshelf.specs.Events.{times};
+ghost use Rattle.pppool.specs.Desk.{max_blocks, once_below, claims_of, any_empty, plan_of, new_seat};
 
 use crate::claim_protocol::{ClaimBlock, ClaimProtocol, JoinSeats, SplitSeat};
 use crate::seat_state::{Plan, SeatState};

@@ -9,7 +9,8 @@ ghost use Rattle.std.specs.Prelude.{◌≡◌, ℕ, ◌<◌, ◌≤◌, ◌/◌,
 ghost use Rattle.ppshelf.specs.Files.{max_rows, Extends, Agree, AllPermitted};
 ghost use Rattle.ppunit.specs.Unit.{IsUnitOf};
 ghost use Rattle.ppunit.specs.Units.{AreUnits, AreInBudget, AreCapped};
-ghost use Rattle.pppool.specs.Desk.{max_blocks, new_seat, times, claims_of};
+ghost use Rattle.ppshelf.specs.Events.{times};
+ghost use Rattle.pppool.specs.Desk.{max_blocks, new_seat, claims_of};
 ghost use Rattle.pppool.specs.Retained.{AreRetained, AreRetainedInBudget, AreRetainedCapped};
 ghost use Rattle.pppool.specs.code.Workers.{AllFilled, FitSlots, IsDone};
 

@@ -1,7 +1,8 @@
 //! Workers, which claim blocks of units and preprocess them.
 ghost use Rattle.std.specs.Prelude.{◌≡◌, ℕ, ◌<◌, ◌≤◌, ◌/◌, [], ◌∷◌, ◌++◌, length, All, IfOk, OnOk};
 ghost use Rattle.ppunit.specs.Unit.{IsUnitOf};
-ghost use Rattle.pppool.specs.Desk.{max_blocks, new_seat, times};
+ghost use Rattle.ppshelf.specs.Events.{times};
+ghost use Rattle.pppool.specs.Desk.{max_blocks, new_seat};
 ghost use Rattle.pppool.specs.code.Workers.{AreUnitResults, IsDone, result_units};
 
 use crate::desk::{Desk, DeskSeat};

@@ -71,7 +71,3 @@ pub split_memory-if_ok : {A : Type 0} (r : Result A Error) (P : A → Type 0) �
 split_memory-if_ok (Ok a) P p = p
 split_memory-if_ok (Err (Faulted f)) P p = tt
 split_memory-if_ok (Err OutOfMemory) P p = tt
-
--- A property of a step's result holds for the value of `split_memory`.
-pub split_memory-at_ok : {A : Type 0} (r : Result A Error) (P : Result A Fault → Type 0) (x : Result A Fault) → Ok x ≡ split_memory r → UnlessOutOfMemory r P → P x
-split_memory-at_ok r P x e p = IfOk-at_ok P (sym e) (settles r P p)

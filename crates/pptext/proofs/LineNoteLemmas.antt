@@ -130,9 +130,6 @@ pub record Begun (s : Bool) (raw : List ℕ) (start : ℕ) (done : List ℕ) : T
   pub fits : start ≤ length raw
   pub table : (ns : List ℕ) → IsTable s (drop start raw) ns → IsTable s raw (done ++ ns)
 
-pub begun_none : (s : Bool) (raw : List ℕ) → Begun s raw 0 []
-begun_none s raw = record { fits = omega arith; table = λ ns h. h }
-
 -- the bytes after a line note at an offset
 pub behind_at : (s : Bool) (raw : List ℕ) (offset len : ℕ) → step_len (step_of s (drop offset raw)) ≡ len → after_note s (drop offset raw) ≡ drop (offset + len) raw
 behind_at s raw offset len is = ap (λ k. drop k (drop offset raw)) is ∙ drop-drop len offset raw

@@ -41,9 +41,6 @@ no_line_passed bs p none = along_line bs p (λ k lt. not_newline (get_or bs k 0)
 
 -- ---- the columns of a file's characters are at most one more than its length
 
-abbrev pub Narrow : ℕ → List Char → Type 0
-Narrow n cs = All (λ c. c.at.col < n) cs
-
 pub unmarked_length : (bs : List ℕ) → length (without_bom bs) ≤ length bs
 unmarked_length [] = omega arith
 unmarked_length (a ∷ []) = omega arith

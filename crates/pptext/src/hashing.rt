@@ -12,7 +12,7 @@ use std::hash::{BuildHasher, Hasher, RandomState};
 /// The function multiplies the name by the key, eight bytes at a time, and folds each product by exclusive or. It
 /// resists names that were chosen before the key was drawn. It is no cryptographic hash, and nothing is proved about
 /// how rarely names collide.
-#[derive(Clone, Copy)]
+#[derive(Clone, Copy, PartialEq, Eq)]
 pub struct Hashing {
     initial: NameHasher,
 }
@@ -54,7 +54,7 @@ impl BuildHasher for Hashing {
 }
 
 /// The hash of the bytes written so far, and the key.
-#[derive(Clone, Copy)]
+#[derive(Clone, Copy, PartialEq, Eq)]
 pub struct NameHasher {
     state: u64,
     key: u64,

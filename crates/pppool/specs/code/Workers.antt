@@ -9,7 +9,8 @@ use Rattle.ppunit.specs.declared.units.UnitOut.{UnitOut}
 use Rattle.ppunit.specs.Unit.{IsUnit}
 use Rattle.pppool.specs.Retained.{retained}
 use Rattle.pppool.specs.declared.retention.Retain.{Retain}
-use Rattle.pppool.specs.Desk.{DeskId, SeatView, times}
+use Rattle.ppshelf.specs.Events.{times}
+use Rattle.pppool.specs.Desk.{DeskId, SeatView}
 
 -- this is what is kept of the unit's value
 pub record IsRetained (retain : Retain) (names : List (List ℕ)) (files : Files) (setting : Setting) (unit : UnitOfList) (out : UnitOut) : Type 0 where

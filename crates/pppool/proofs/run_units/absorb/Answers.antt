@@ -1,7 +1,8 @@
 use Rattle.std.proofs.Common.{ℕ, ◌≡◌, ◌<◌, ◌/◌, List, Option, None, sym, ap, ◌∙◌, subst, length, IsSome, get_or}
 use Rattle.ppshelf.specs.Files.{Extends, PassView}
 use Rattle.ppunit.specs.declared.units.UnitOut.{UnitOut}
-use Rattle.pppool.specs.Desk.{SeatView, times}
+use Rattle.ppshelf.specs.Events.{times}
+use Rattle.pppool.specs.Desk.{SeatView}
 use Rattle.pppool.specs.code.Workers.{UnitResult, AreUnitResults, FitSlots, filled_slots}
 use Rattle.pppool.proofs.WorkerResults.{answers_grow}
 use Rattle.pppool.proofs.SlotFilling.{slots_grow, slots_placed, placed_stays, placed_fills, within_slots, slots_long}

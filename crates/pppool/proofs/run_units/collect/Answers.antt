@@ -36,3 +36,6 @@ loop-finished-preserved g c =
       subst Q (sym pushed) (All-push Told c.loop-finished.seats.items c.absorb-seat.result k.5 e.seat.1),
       one_more _ _ _ _ _ pushed k.6,
     )
+
+pub returns-in_err-push-clause-grows : goal.returns-in_err-push-clause-grows
+returns-in_err-push-clause-grows g c = λ row x h. c.absorb-seat.ensures.grows row x (c.loop-finished.invariant.1 row x h)

@@ -3,7 +3,8 @@ use Rattle.atomic_table.specs.Table.{Me}
 use Rattle.pppool.specs.declared.seat_state.SeatState.{SeatState}
 use Rattle.pppool.specs.declared.seat_state.Plan.{Plan}
 use Rattle.std.proofs.lemmas.Bool.{eqb-true, false≢true}
-use Rattle.pppool.specs.Desk.{DeskId, once_below, any_empty, claims_of, times}
+use Rattle.ppshelf.specs.Events.{times}
+use Rattle.pppool.specs.Desk.{DeskId, once_below, any_empty, claims_of}
 use Rattle.pppool.proofs.ClaimSteps.{joins, whole, at_most_once, claims_blocks}
 use Rattle.pppool.proofs.SeatTotals.{times_at}
 use Rattle.pppool.proofs.SeatJoining.{front_all, last_all, times_popped, joined_times, empty_popped, marked_now, or_when_true, or_when_false, none_claimed}

@@ -1,5 +1,6 @@
 use Rattle.std.proofs.Common.{ℕ, ◌≡◌, ◌+◌, ◌<◌, [], All, true, vec_len, ◌||◌}
-use Rattle.pppool.specs.Desk.{times, claims_of, any_empty}
+use Rattle.ppshelf.specs.Events.{times}
+use Rattle.pppool.specs.Desk.{claims_of, any_empty}
 use Rattle.pppool.proofs.desk.Desk.close.Given as goal
 
 abbrev pub invariant-loop-other : goal.invariant-loop-other

@@ -1,5 +1,5 @@
 use Rattle.std.proofs.Common.{◌≡◌, ℕ, ◌<◌, ◌≤◌}
-use Rattle.pppool.specs.Desk.{times}
+use Rattle.ppshelf.specs.Events.{times}
 use Rattle.pppool.specs.code.Workers.{AreUnitResults, result_units}
 use Rattle.pppool.proofs.workers.Worker.work_block.Given as goal
 
