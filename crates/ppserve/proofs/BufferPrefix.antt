@@ -3,7 +3,7 @@ use Rattle.std.proofs.Common.{◌≡◌, ℕ, zero, suc, ◌+◌, ◌/◌, ◌%�
 use Rattle.std.proofs.Math.Seq.{take-append-add}
 use Rattle.std.proofs.lemmas.List.{take-append-le, take-take, length-take-le}
 use Rattle.ppserve.specs.code.LinePrefix.{PrintsAsIsBetween}
-use Rattle.ppserve.specs.Output.{escaped, escaped_byte}
+use Rattle.ppserve.specs.Output.{percent_encoded, percent_encoded_byte}
 use Rattle.std.proofs.lemmas.Fmt.{decimal_digit, decimal_step, length-decimal-le}
 
 -- The first `a + n` elements are the prefix of length `a` and the first `n` of `ys`.
@@ -21,12 +21,12 @@ front_kept old new text at end result before within less is =
 pub front_left : (r l : ℕ) (new old : List ℕ) → r ≤ length new → r ≤ l → take r (take l (new ++ drop (length new) old)) ≡ take r new
 front_left r l new old within less = take-take r l (new ++ drop (length new) old) less ∙ take-append-le r new (drop (length new) old) within
 
--- Escaping doesn't change a prefix whose bytes all print as they are.
-pub plain_take : (bytes : List ℕ) (n : ℕ) → n ≤ length bytes → PrintsAsIsBetween bytes 0 n → escaped (take n bytes) ≡ take n bytes
+-- Percent-encoding doesn't change a prefix whose bytes all print as they are.
+pub plain_take : (bytes : List ℕ) (n : ℕ) → n ≤ length bytes → PrintsAsIsBetween bytes 0 n → percent_encoded (take n bytes) ≡ take n bytes
 plain_take bytes zero within plain = refl
 plain_take [] (suc n) within plain = absurd (omega (arith, within))
 plain_take (b ∷ bs) (suc n) within plain =
-    let first : escaped_byte b ≡ b ∷ [] = rw (plain 0 (omega arith) (omega arith)) refl in
+    let first : percent_encoded_byte b ≡ b ∷ [] = rw (plain 0 (omega arith) (omega arith)) refl in
     let rest = plain_take bs n (omega (arith, within)) (λ k from to. plain (suc k) (omega arith) (omega (arith, to))) in
     rw (first, rest) refl
 

@@ -2,7 +2,7 @@
 use Rattle.std.proofs.Common.{◌≡◌, ℕ, Bool, true, false, List, [], Option, Result, Ok, Err, IfOk, refl, inl, inr}
 use Rattle.ppshelf.specs.Files.{Files}
 use Rattle.pppool.proofs.SlotFilling.{if_ok_then}
-use Rattle.ppserve.specs.declared.list.List.{List as CompilationList}
+use Rattle.ppserve.specs.CompilationList.{CompilationList}
 use Rattle.ppserve.specs.declared.output.Mode.{Mode}
 use Rattle.ppserve.specs.declared.serving.RunFault.{RunFault}
 use Rattle.ppserve.specs.declared.serving.RunFault.TheVariants.{Memory as OutOfMemory, Write as WriteFailed}

@@ -22,7 +22,7 @@ use Rattle.ppshelf.specs.Names.{row_among}
 use Rattle.ppshelf.proofs.NameRows.{names_from_test}
 use Rattle.ppserve.specs.Listing.{accepted, refused, json_value, verdict_of, validated, listed, listed_unit, names_of, contents_of, names_hold, sizes_hold}
 use Rattle.ppserve.specs.Listing.{are_known, times_hold, lines_hold, directories_hold, profile_holds, profile_of, budget_holds, max_input, IsRunnable}
-use Rattle.ppserve.specs.declared.list.List.{List as CompilationList}
+use Rattle.ppserve.specs.CompilationList.{CompilationList}
 use Rattle.ppserve.specs.Drafts.{Draft, DraftFile, DraftUnit}
 
 pub fits_test : (most n : ℕ) → n ≤ most → nat_lt most n ≡ false

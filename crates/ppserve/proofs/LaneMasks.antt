@@ -59,7 +59,7 @@ module _ (d : List ℕ) (i r : ℕ) (z : List ℕ) (room : i + 8 ≤ length d)
   pub run_within : r ≤ 8
   run_within = omega (arith, counted, long, prefix_len-le-length (λ x. not (stops x)) (chunk i 8 d))
 
-  -- If lanes stop at all bytes that are escaped, the bytes before the first stop print as they are.
+  -- If lanes stop at all bytes that are percent-encoded, the bytes before the first stop print as they are.
   pub run_plain : agree_below (λ x. stops x || prints_as_is x) (λ _. true) 256 ≡ true → PrintsAsIsBetween d i (i + r)
   run_plain all k from to =
       sym (ap (λ b. b || prints_as_is (get_or d k 0)) (goes_on k from to)) ∙ agree_below_at (λ x. stops x || prints_as_is x) (λ _. true) 256 (get_or d k 0) all (fits k).fits

@@ -10,7 +10,7 @@ use Rattle.ppserve.specs.Laws.{IsLeast, IsAccepted, RefusesByTheLeast, AcceptsTh
 use Rattle.ppserve.specs.Listing.{Verdict, accepted, refused, json_value, verdict_of, validated, listed, names_of, names_hold, sizes_hold, are_known, times_hold, lines_hold}
 use Rattle.ppserve.specs.Listing.{directories_hold, profile_holds, budget_holds, max_input}
 use Rattle.ppserve.specs.Shape.{IsDraft}
-use Rattle.ppserve.specs.declared.list.List.{List as CompilationList}
+use Rattle.ppserve.specs.CompilationList.{CompilationList}
 use Rattle.ppserve.proofs.DraftShape.{decides}
 use Rattle.ppserve.proofs.DraftValidation.{fits_test, verdict_of-draft}
 use Rattle.ppserve.proofs.ReceivedBytes.{too_many}

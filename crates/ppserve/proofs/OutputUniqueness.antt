@@ -21,7 +21,7 @@ use Rattle.ppserve.specs.Drafts.{Draft}
 use Rattle.ppserve.specs.Listing.{verdict_of, accepted, validated, max_input, names_hold, names_of}
 use Rattle.ppserve.specs.Output.{output_text}
 use Rattle.ppserve.specs.Serving.{any_fault, ReadsList, IsOutput}
-use Rattle.ppserve.specs.declared.list.List.{List as CompilationList}
+use Rattle.ppserve.specs.CompilationList.{CompilationList}
 use Rattle.ppserve.specs.declared.output.Mode.{Mode}
 use Rattle.ppserve.proofs.DraftShape.{decides}
 use Rattle.ppserve.proofs.DraftValidation.{verdict_of-draft, validated-runnable, validated-contents}

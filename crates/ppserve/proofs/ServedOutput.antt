@@ -15,7 +15,7 @@ use Rattle.ppunit.proofs.UnitTest.{unit_of}
 use Rattle.pppool.specs.declared.retention.Retain.{Retain}
 use Rattle.pppool.specs.Retained.{retained}
 use Rattle.pppool.specs.Laws.{ListGrows}
-use Rattle.ppserve.specs.declared.list.List.{List as CompilationList}
+use Rattle.ppserve.specs.CompilationList.{CompilationList}
 use Rattle.ppserve.specs.Contents.{files_of, AreInList, ArePermitted}
 use Rattle.ppserve.specs.Listing.{IsRunnable}
 use Rattle.ppserve.specs.Output.{numbered, unit_lines, output_text}
@@ -23,7 +23,7 @@ use Rattle.ppserve.specs.Serving.{any_fault, IsOutput}
 use Rattle.ppserve.specs.declared.output.Mode.{Mode}
 use Rattle.ppserve.specs.code.NeededRetention.{needed_retention}
 use Rattle.ppserve.specs.declared.output.Output.{Output}
-use Rattle.ppserve.specs.code.Runs.{AreObservedFor, AreRetainedOverSome, IsOutputOf}
+use Rattle.ppserve.specs.code.Runs.{AreObservedFor, AreRetainedOverSome, IsOutputOf, list_over}
 use Rattle.ppserve.proofs.RecordLines.{lines_of_output}
 use Rattle.ppserve.proofs.RetainedText.{text_kept, some_fault_kept}
 
@@ -67,11 +67,20 @@ can_run list names units runs named same =
     let good = All-weaker _ (IsUnitOf (length list.names) list.setting.profile) (λ u h. unit_of (length list.names) list.setting.profile list.setting.profile u refl h) list.units runs.units in
     subst Q (sym named) (subst P (sym same) good)
 
--- A runnable list stays so if its contents are moved out of it.
-pub runs_without : (list : CompilationList) (left : List (List ℕ)) → IsRunnable list → left ≡ [] → IsRunnable (record list { contents = left })
-runs_without list left runs none =
-    let P : List (List ℕ) → Type 0 = All (λ bytes. length bytes ≤ longest) in
-    record { names = runs.names; names_fit = runs.names_fit; units_fit = runs.units_fit; small = subst P (sym none) (All-nil (λ bytes. length bytes ≤ longest)); setting = runs.setting; units = runs.units }
+-- The units of a runnable list make one over a file table with its names.
+pub runs_over : (list : CompilationList) (shelf : ShelfView) → IsRunnable list → shelf.names ≡ list.names → IsRunnable (list_over shelf list.setting list.units)
+runs_over list shelf runs named =
+    let over : List (List ℕ) → CompilationList = λ ns. record { setting = list.setting; names = ns; contents = []; units = list.units } in
+    let P : List (List ℕ) → Type 0 = λ ns. IsRunnable (over ns) in
+    let here : IsRunnable (over list.names) = record {
+      names = runs.names;
+      names_fit = runs.names_fit;
+      units_fit = runs.units_fit;
+      small = All-nil (λ (bytes : List ℕ). length bytes ≤ longest);
+      setting = runs.setting;
+      units = runs.units;
+    } in
+    subst P (sym named) here
 
 -- The text of the retained outputs is the output text of the list.
 text_of : (mode : Mode) (list : CompilationList) (units : List UnitOfList) (shown outs : List UnitOut) → units ≡ list.units → shown ≡ map (retained (needed_retention mode)) outs
@@ -118,23 +127,45 @@ printed_output {output = output} any text is may list shelf outs named names sam
     ap (λ (ns : List (List ℕ)). numbered (unit_lines output.mode ns) 0 output.units.now output.outs.now) names in
     retained_output may output.mode list shelf output.units.now outs output.outs.now named same shows r any text (is.printed ∙ (lines_of_output output ∙ e)) is.fault
 
--- Files that a run over a disk observed have contents that the disk may return.
-pub output_permitted : (may : List ℕ → Content → Type 0) (shelf : ShelfView) (mode : Mode) (list : CompilationList) → shelf.names ≡ list.names
+-- The output of units over a file table is that of a list with these units and its names.
+output_named : (may : List ℕ → Content → Type 0) (shelf : ShelfView) (mode : Mode) (list : CompilationList)
+    → shelf.names ≡ list.names
     → (any : Bool) (text : List ℕ)
+    → IsOutput (AreObservedFor may shelf) mode (list_over shelf list.setting list.units) any text
     → IsOutput (AreObservedFor may shelf) mode list any text
+output_named may shelf mode list named any text is =
+    let P : List (List ℕ) → Type 0 = λ ns. AreUnits ns is.files list.setting list.units is.outs in
+    let lines : List (List ℕ) → List ℕ = λ ns. numbered (unit_lines mode ns) 0 list.units is.outs in
+    record {
+      files = is.files;
+      allowed = is.allowed;
+      outs = is.outs;
+      values = subst P named is.values;
+      printed = is.printed ∙ ap lines named;
+      fault = is.fault;
+    }
+
+-- Files that a run over a disk observed have contents that the disk may return.
+pub output_permitted : (may : List ℕ → Content → Type 0) (shelf : ShelfView) (mode : Mode) (list : CompilationList)
+    → shelf.names ≡ list.names
+    → (any : Bool) (text : List ℕ)
+    → IsOutput (AreObservedFor may shelf) mode (list_over shelf list.setting list.units) any text
     → IsOutput (ArePermitted may) mode list any text
-output_permitted may shelf mode list named any text is =
+output_permitted may shelf mode list named any text run =
+    let is = output_named may shelf mode list named any text run in
     let P : List (List ℕ) → Type 0 = λ ns. AllPermitted may ns is.files in
     record { files = is.files; allowed = subst P named is.allowed.contents_permitted; outs = is.outs; values = is.values; printed = is.printed; fault = is.fault }
 
--- If the file table held the contents of a list, the run observed no others. The contents were moved out of the list.
-pub output_in_list : ListGrows → (may : List ℕ → Content → Type 0) (shelf : ShelfView) (mode : Mode) (list : CompilationList) (left : List (List ℕ))
+-- If the file table held the contents of a list, the run observed no others.
+pub output_in_list : ListGrows → (may : List ℕ → Content → Type 0) (shelf : ShelfView) (mode : Mode) (list : CompilationList)
+    → shelf.names ≡ list.names
     → IsFull shelf
     → shelf.filled ≡ files_of list.contents
     → (any : Bool) (text : List ℕ)
-    → IsOutput (AreObservedFor may shelf) mode (record list { contents = left }) any text
+    → IsOutput (AreObservedFor may shelf) mode (list_over shelf list.setting list.units) any text
     → IsOutput AreInList mode list any text
-output_in_list grows may shelf mode list left full filled any text is =
+output_in_list grows may shelf mode list named full filled any text run =
+    let is = output_named may shelf mode list named any text run in
     let wider = grows list.names is.files shelf.filled list.setting list.units is.outs (knows_files shelf is.files full is.allowed.agree is.allowed.rows) is.values in
     let P : Files → Type 0 = λ fs. AreUnits list.names fs list.setting list.units is.outs in
     record { files = files_of list.contents; allowed = refl; outs = is.outs; values = subst P filled wider; printed = is.printed; fault = is.fault }

@@ -2,7 +2,7 @@
 use Rattle.std.specs.Prelude.{◌≡◌, ℕ, List, map, Some}
 use Rattle.ppshelf.specs.Content.{Content, readable}
 use Rattle.ppshelf.specs.Files.{Files, AllPermitted}
-use Rattle.ppserve.specs.declared.list.List.{List as CompilationList}
+use Rattle.ppserve.specs.CompilationList.{CompilationList}
 
 -- the files with these contents, which are all known
 abbrev pub files_of : List (List ℕ) → Files

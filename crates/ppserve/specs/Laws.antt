@@ -8,7 +8,7 @@ use Rattle.ppserve.specs.Listing.{json_value, max_input, names_of, names_hold, s
 use Rattle.ppserve.specs.Listing.{profile_holds, budget_holds, listed, verdict_of, accepted, refused}
 use Rattle.ppserve.specs.Serving.{Stream, Serves, IsOutput}
 use Rattle.ppserve.specs.Shape.{IsDraft}
-use Rattle.ppserve.specs.declared.list.List.{List as CompilationList}
+use Rattle.ppserve.specs.CompilationList.{CompilationList}
 use Rattle.ppserve.specs.declared.output.Mode.{Mode}
 
 -- ---- refusals

@@ -1,3 +1,4 @@
+pub mod CompilationList
 pub mod Drafts
 pub mod Shape
 pub mod Drafting

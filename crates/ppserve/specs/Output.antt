@@ -11,7 +11,7 @@ use Rattle.ppunit.specs.declared.units.Item.{Item}
 use Rattle.ppunit.specs.declared.units.Item.TheVariants as item
 use Rattle.ppunit.specs.declared.units.UnitOut.{UnitOut}
 use Rattle.ppunit.specs.declared.units.Unit.{Unit as UnitOfList}
-use Rattle.ppserve.specs.declared.list.List.{List as CompilationList}
+use Rattle.ppserve.specs.CompilationList.{CompilationList}
 use Rattle.ppserve.specs.declared.output.Mode.{Mode}
 use Rattle.ppserve.specs.declared.output.Mode.TheVariants.{Dump, Deps}
 
@@ -23,11 +23,11 @@ hex_digit n = if nat_lt n 10 then 48 + n else 55 + n
 abbrev pub prints_as_is : ℕ → Bool
 prints_as_is b = nat_le 32 b && nat_le b 126 && not (b == 37)
 
-abbrev pub escaped_byte : ℕ → List ℕ
-escaped_byte b = if prints_as_is b then b ∷ [] else (37 ∷ (hex_digit (b / 16) ∷ (hex_digit (b % 16) ∷ [])))
+abbrev pub percent_encoded_byte : ℕ → List ℕ
+percent_encoded_byte b = if prints_as_is b then b ∷ [] else (37 ∷ (hex_digit (b / 16) ∷ (hex_digit (b % 16) ∷ [])))
 
-abbrev pub escaped : List ℕ → List ℕ
-escaped = flat_map escaped_byte
+abbrev pub percent_encoded : List ℕ → List ℕ
+percent_encoded = flat_map percent_encoded_byte
 
 abbrev pub place_text : Place → List ℕ
 place_text p = decimal p.file ++ codes ":" ++ decimal p.line ++ codes ":" ++ decimal p.col
@@ -50,7 +50,7 @@ space_sign false = 45
 abbrev pub token_text : Token → List ℕ
 token_text t =
     codes " " ++ place_text t.at ++ codes " " ++ place_text t.used
-    ++ (32 ∷ (kind_letter t.kind ∷ (space_sign t.space ∷ (32 ∷ [])))) ++ escaped t.text ++ (10 ∷ [])
+    ++ (32 ∷ (kind_letter t.kind ∷ (space_sign t.space ∷ (32 ∷ [])))) ++ percent_encoded t.text ++ (10 ∷ [])
 
 abbrev pub pragma_token_line : Token → List ℕ
 pragma_token_line t = codes "ptok" ++ token_text t
@@ -60,12 +60,12 @@ item_lines (item.Token t) = codes "tok" ++ token_text t
 item_lines (item.Pragma at ts) = codes "prag " ++ place_text at ++ (10 ∷ []) ++ flat_map pragma_token_line ts
 
 abbrev pub dep_line : List (List ℕ) → ℕ → List ℕ
-dep_line names row = codes "dep " ++ decimal row ++ codes " " ++ escaped (name_in names row) ++ (10 ∷ [])
+dep_line names row = codes "dep " ++ decimal row ++ codes " " ++ percent_encoded (name_in names row) ++ (10 ∷ [])
 
 -- a space before a text that is not empty
 abbrev pub fault_text : List ℕ → List ℕ
 fault_text [] = []
-fault_text (b ∷ bs) = 32 ∷ escaped (b ∷ bs)
+fault_text (b ∷ bs) = 32 ∷ percent_encoded (b ∷ bs)
 
 abbrev pub last_line : Option Fault → List ℕ
 last_line None = codes "ok" ++ (10 ∷ [])
@@ -81,7 +81,7 @@ shown_item_lines mode items = if shows_items mode then flat_map item_lines items
 
 abbrev pub unit_lines : Mode → List (List ℕ) → ℕ → UnitOfList → UnitOut → List ℕ
 unit_lines mode names i unit out =
-    codes "unit " ++ decimal i ++ codes " " ++ escaped (name_in names unit.file) ++ (10 ∷ [])
+    codes "unit " ++ decimal i ++ codes " " ++ percent_encoded (name_in names unit.file) ++ (10 ∷ [])
     ++ shown_item_lines mode out.items ++ flat_map (dep_line names) out.deps ++ last_line out.fault
 
 -- f of each pair, concatenated, numbered from n

@@ -6,7 +6,7 @@ use Rattle.ppshelf.specs.Content.{Content}
 use Rattle.ppshelf.specs.Files.{Files}
 use Rattle.ppunit.specs.Units.{AreUnits}
 use Rattle.ppunit.specs.declared.units.UnitOut.{UnitOut}
-use Rattle.ppserve.specs.declared.list.List.{List as CompilationList}
+use Rattle.ppserve.specs.CompilationList.{CompilationList}
 use Rattle.ppserve.specs.declared.list.ListFault.{ListFault}
 use Rattle.ppserve.specs.declared.list.ListFault.TheVariants as list_fault
 use Rattle.ppserve.specs.declared.output.Mode.{Mode}

@@ -1,7 +1,7 @@
 //! Writes the part of a token's line before the spelling.
 ghost use Rattle.std.specs.Prelude.{◌≡◌, ◌+◌, ◌≤◌, ◌++◌, [], codes, decimal, length, take};
 ghost use Rattle.ppserve.specs.Output.{kind_letter, space_sign as space_sign_of};
-ghost use Rattle.ppserve.specs.code.LinePrefix.{before_spelling, location_prefix};
+ghost use Rattle.ppserve.specs.code.LinePrefix.{before_spelling, location_prefix, max_location, max_locations, max_prefix};
 
 use crate::formatting::{Digits, put_byte, put_number, put_prefix};
 use pptext::{Kind, Place};
@@ -96,9 +96,9 @@ impl LocationPrefix {
     /// Writes a location on the line after the first `end` bytes. Returns where it ends.
     #[inline(always)]
     fn put(&self, bytes: &mut [u8], end: usize, col: u32) -> usize
-        requires { end + 33 ≤ length bytes.old }
+        requires { end + max_location ≤ length bytes.old }
         ensures text { take result bytes.new ≡ take end bytes.old ++ self.now ++ decimal col }
-        ensures within { result ≤ end + 33 }
+        ensures within { result ≤ end + max_location }
     {
         let end = put_prefix(bytes, end, &self.text, self.len);
         put_number(bytes, end, col)
@@ -107,9 +107,9 @@ impl LocationPrefix {
     /// Writes a location on the line twice. Returns where the second ends.
     #[inline(always)]
     fn put_twice(&self, bytes: &mut [u8], end: usize, col: u32) -> usize
-        requires { end + 66 ≤ length bytes.old }
+        requires { end + max_locations ≤ length bytes.old }
         ensures text { take result bytes.new ≡ take end bytes.old ++ self.now ++ decimal col ++ self.now ++ decimal col }
-        ensures within { result ≤ end + 66 }
+        ensures within { result ≤ end + max_locations }
     {
         if col >= 100 {
             let end = self.put(bytes, end, col);
@@ -142,9 +142,9 @@ impl LastPrefixes {
     /// Writes what is before the spelling of a token after the first `end` bytes. Returns where it ends.
     #[inline(always)]
     pub(crate) fn put(&mut self, bytes: &mut [u8], end: usize, fields: LineFields) -> usize
-        requires { end + 73 ≤ length bytes.old }
+        requires { end + max_prefix ≤ length bytes.old }
         ensures text { take result bytes.new ≡ take end bytes.old ++ codes "tok" ++ before_spelling fields.at fields.used fields.kind fields.space }
-        ensures within { result ≤ end + 73 }
+        ensures within { result ≤ end + max_prefix }
     {
         let end = put_prefix(bytes, end, b"tok", 3);
         let end = self.put_places(bytes, end, fields.at, fields.used);
@@ -157,10 +157,10 @@ impl LastPrefixes {
     /// Writes both locations. Most tokens are spelled where they are used, so that one prefix serves both.
     #[inline(always)]
     fn put_places(&mut self, bytes: &mut [u8], end: usize, at: Place, used: Place) -> usize
-        requires { end + 66 ≤ length bytes.old }
+        requires { end + max_locations ≤ length bytes.old }
         ensures text { take result bytes.new ≡ take end bytes.old ++ location_prefix at.file at.line ++ decimal at.col
             ++ location_prefix used.file used.line ++ decimal used.col }
-        ensures within { result ≤ end + 66 }
+        ensures within { result ≤ end + max_locations }
     {
         self.used.switch_to(used);
         if at == used {

@@ -10,23 +10,38 @@ mod validation;
 
 use crate::list::drafts::{Draft, draft_of};
 use crate::list::validation::validate;
-use ppshelf::Contents;
+use ppshelf::{Contents, FileNames};
 use pptext::{Hashing, Sequence};
-use ppunit::{OwnedTexts, Setting, Unit};
+use ppunit::{Setting, Unit};
 use serde_json::{Category, Value};
 use std::alloc::{AllocError, AllocFailed, Global};
+use std::marker::Model;
 use thiserror::Error;
 
 /// The units of a list. Its model is their list.
 pub type Units = Sequence<Unit>;
 
-/// A list of translation units with its files. The index of a file is that of its name, and of its content.
+/// A list of translation units with its files. The index of a file is that of its name, and of its content. Contracts
+/// don't see by which hash function the names are hashed.
 #[derive(Drop, Debug)]
 pub struct List {
     pub setting: Setting,
-    pub names: OwnedTexts,
+    pub names: FileNames,
     pub contents: Contents,
     pub units: Units,
+}
+
+impl Model for List {
+    ghost use Rattle.ppserve.specs.CompilationList.{CompilationList};
+
+    ghost Value = { CompilationList };
+
+    ghost view = { λ l. record {
+      setting = l.setting;
+      names = l.names.names;
+      contents = l.contents;
+      units = l.units;
+    } };
 }
 
 /// The error of reading a list.

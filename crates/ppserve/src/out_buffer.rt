@@ -1,8 +1,8 @@
 //! A 1 MiB output buffer.
 ghost use Rattle.std.specs.Prelude.{◌≡◌, ◌+◌, ◌≤◌, ◌++◌, ◌∷◌, [], codes, length, take, true, false, IfOk};
-ghost use Rattle.ppserve.specs.code.LinePrefix.{before_spelling};
-ghost use Rattle.ppserve.specs.Output.{escaped};
-ghost use Rattle.ppserve.specs.code.Printing.{Puts};
+ghost use Rattle.ppserve.specs.code.LinePrefix.{before_spelling, max_prefix};
+ghost use Rattle.ppserve.specs.Output.{percent_encoded};
+ghost use Rattle.ppserve.specs.code.Printing.{Puts, buffer_size, max_short, max_short_line};
 
 use crate::formatting::{as_is_prefix, put_byte, put_prefix};
 use crate::line_prefix::{LastPrefixes, LineFields, MAX_PREFIX};
@@ -16,10 +16,10 @@ pub(crate) const SIZE: usize = 1_048_576;
 /// The limit that keeps a buffer in a processor's cache.
 const SMALL: usize = 65_536;
 
-/// The capacity for a short spelling.
+/// The largest number of bytes of a short spelling.
 const SHORT: usize = 14;
 
-/// The longest line of a token with a short spelling.
+/// The largest number of bytes of the line of a token with a short spelling.
 const LONGEST: usize = MAX_PREFIX + SHORT + 1;
 
 /// A buffer of 1 MiB with the bytes that aren't written yet. It is allocated once, so that later calls can't run out
@@ -35,12 +35,13 @@ pub(crate) struct OutBuffer {
 
 impl Model for OutBuffer {
     ghost use Rattle.std.specs.Prelude.{◌≡◌, ◌+◌, ◌≤◌, ℕ, List, take, vec_len};
+    ghost use Rattle.ppserve.specs.code.Printing.{buffer_size, max_short_line};
 
     ghost Value = { List ℕ };
 
     ghost view = { λ p. take p.filled p.bytes.items };
 
-    ghost invariant = { λ p. (vec_len p.bytes ≡ 1_048_576) × (p.filled ≤ 1_048_576) × (p.limit + 88 ≤ 1_048_576) };
+    ghost invariant = { λ p. (vec_len p.bytes ≡ buffer_size) × (p.filled ≤ buffer_size) × (p.limit + max_short_line ≤ buffer_size) };
 }
 
 impl OutBuffer {
@@ -60,7 +61,7 @@ impl OutBuffer {
 
     /// Allocates an empty buffer, which is flushed when it has more than `limit` bytes.
     fn with_limit(alloc: Global, limit: usize) -> Result<OutBuffer, AllocError>
-        requires { limit + 88 ≤ 1_048_576 }
+        requires { limit + max_short_line ≤ buffer_size }
         ensures { IfOk result (λ buf. buf ≡ []) }
     {
         let bytes = vec![in alloc; 0u8; SIZE]?;
@@ -91,7 +92,7 @@ impl OutBuffer {
     #[inline(always)]
     pub(crate) fn ensure_capacity<W: Sink>(&mut self, writer: &mut W)
         ensures out { Puts W.written W.has_failed writer.old writer.new self.old self.new [] }
-        ensures capacity { length self.new + 88 ≤ 1_048_576 }
+        ensures capacity { length self.new + max_short_line ≤ buffer_size }
     {
         if self.filled > self.limit {
             self.flush(writer);
@@ -101,9 +102,9 @@ impl OutBuffer {
     /// Appends what is before the spelling of a token.
     #[inline(always)]
     pub(crate) fn add_line_prefix(&mut self, fields: LineFields)
-        requires { length self.old + 73 ≤ 1_048_576 }
+        requires { length self.old + max_prefix ≤ buffer_size }
         ensures text { self.new ≡ self.old ++ codes "tok" ++ before_spelling fields.at fields.used fields.kind fields.space }
-        ensures within { length self.new ≤ length self.old + 73 }
+        ensures within { length self.new ≤ length self.old + max_prefix }
     {
         let bytes = self.bytes.as_mut_slice();
         self.filled = self.prefixes.put(bytes, self.filled, fields);
@@ -113,10 +114,10 @@ impl OutBuffer {
     /// effect, if a byte of the spelling can't be printed as it is. All bytes of `inline` are copied, so that no branch
     /// depends on the spelling's length, which is hard to predict.
     #[inline(always)]
-    pub(crate) fn add_short_spelling(&mut self, inline: &[u8; 14], len: usize) -> bool
-        requires capacity { length self.old + 15 ≤ 1_048_576 }
-        requires len { len ≤ 14 }
-        ensures added { result ≡ true → self.new ≡ self.old ++ escaped (take len inline.now) ++ (10 ∷ []) }
+    pub(crate) fn add_short_spelling(&mut self, inline: &[u8; SHORT], len: usize) -> bool
+        requires capacity { length self.old + max_short + 1 ≤ buffer_size }
+        requires len { len ≤ max_short }
+        ensures added { result ≡ true → self.new ≡ self.old ++ percent_encoded (take len inline.now) ++ (10 ∷ []) }
         ensures refused { result ≡ false → self.new ≡ self.old }
     {
         if as_is_prefix(inline) < len {
@@ -130,7 +131,7 @@ impl OutBuffer {
 
     /// Appends bytes that fit.
     fn add(&mut self, bytes: &[u8])
-        requires { length self.old + length bytes.now ≤ 1_048_576 }
+        requires { length self.old + length bytes.now ≤ buffer_size }
         ensures { self.new ≡ self.old ++ bytes.now }
     {
         let end = self.filled + bytes.len();

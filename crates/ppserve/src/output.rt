@@ -7,7 +7,7 @@
 //! thread and several print the same records. The line of a token, most of the output, has a fast path.
 ghost use Rattle.std.specs.Prelude.{◌≡◌, ◌++◌, ◌∷◌, [], ◌<◌, ◌≤◌};
 ghost use Rattle.std.specs.Prelude.{IfOk, Some, codes, decimal, length, take, flat_map};
-ghost use Rattle.ppserve.specs.Output.{escaped, escaped_byte, prints_as_is, hex_digit, place_text, item_lines, pragma_token_line};
+ghost use Rattle.ppserve.specs.Output.{percent_encoded, percent_encoded_byte, prints_as_is, hex_digit, place_text, item_lines, pragma_token_line};
 ghost use Rattle.ppserve.specs.Output.{dep_line, fault_text, last_line, output_text, shows_items};
 ghost use Rattle.ppserve.specs.code.Records.{record_lines, first_line, last_lines, records_of_lines, remaining_records, output_bytes};
 ghost use Rattle.ppserve.specs.code.Printing.{Puts};
@@ -26,8 +26,9 @@ use crate::streams::{Sink, VecSink};
 use itoa::Buffer;
 use ppexpand::TokenSlice;
 use ppmacro::Hidden;
+use ppshelf::FileName;
 use pptext::{Fault, Memory, Place, Spelling, Token};
-use ppunit::{OwnedTexts, Unit, UnitOut};
+use ppunit::{Unit, UnitOut};
 use std::alloc::Global;
 
 /// What is printed of each unit.
@@ -73,7 +74,7 @@ pub fn deps(alloc: Global, list: &List, outs: &[UnitOut]) -> Result<Vec<u8>, Mem
 #[derive(Clone, Copy)]
 pub(crate) struct Output<'a> {
     pub mode: Mode,
-    pub names: &'a OwnedTexts,
+    pub names: &'a [FileName],
     pub units: &'a [Unit],
     pub outs: &'a [UnitOut<'a>],
 }
@@ -84,10 +85,12 @@ fn print_to_vec(alloc: Global, mode: Mode, list: &List, outs: &[UnitOut]) -> Res
 {
     let mut buf = OutBuffer::new(alloc)?;
     let mut text = VecSink::new(alloc);
+    let names = list.names.as_slice();
+    let units = list.units.as_slice();
     let output = Output {
         mode,
-        names: &list.names,
-        units: list.units.as_slice(),
+        names,
+        units,
         outs,
     };
     put_through(&mut buf, &mut text, output);
@@ -127,7 +130,7 @@ fn put_all<W: Sink>(buf: &mut OutBuffer, writer: &mut W, output: Output)
 pub(crate) fn put_next<W: Sink>(
     buf: &mut OutBuffer,
     writer: &mut W,
-    names: &OwnedTexts,
+    names: &[FileName],
     cursor: &mut LineCursor,
     count: usize,
 )
@@ -148,7 +151,7 @@ pub(crate) fn put_next<W: Sink>(
 }
 
 /// Prints consecutive lines.
-fn put_lines<W: Sink>(buf: &mut OutBuffer, writer: &mut W, names: &OwnedTexts, lines: Lines)
+fn put_lines<W: Sink>(buf: &mut OutBuffer, writer: &mut W, names: &[FileName], lines: Lines)
     ensures { Puts W.written W.has_failed writer.old writer.new buf.old buf.new (flat_map (record_lines names.now) (records_of_lines lines.entry)) }
 {
     match lines {
@@ -163,7 +166,7 @@ fn put_lines<W: Sink>(buf: &mut OutBuffer, writer: &mut W, names: &OwnedTexts, l
 fn put_first<W: Sink>(
     buf: &mut OutBuffer,
     writer: &mut W,
-    names: &OwnedTexts,
+    names: &[FileName],
     index: usize,
     unit: &Unit,
 )
@@ -177,7 +180,7 @@ fn put_first<W: Sink>(
 }
 
 /// Prints the last lines of a unit: its dependencies, and its fault or `ok`.
-fn put_last<W: Sink>(buf: &mut OutBuffer, writer: &mut W, names: &OwnedTexts, out: &UnitOut)
+fn put_last<W: Sink>(buf: &mut OutBuffer, writer: &mut W, names: &[FileName], out: &UnitOut)
     ensures { Puts W.written W.has_failed writer.old writer.new buf.old buf.new (last_lines names.now out.now) }
 {
     put_deps(buf, writer, names, out.deps.as_slice());
@@ -278,7 +281,7 @@ fn put_token_line<W: Sink>(
     spelling: &Spelling,
 )
     ensures { Puts W.written W.has_failed writer.old writer.new buf.old buf.new
-        (codes "tok" ++ before_spelling fields.at fields.used fields.kind fields.space ++ escaped spelling.now ++ (10 ∷ [])) }
+        (codes "tok" ++ before_spelling fields.at fields.used fields.kind fields.space ++ percent_encoded spelling.now ++ (10 ∷ [])) }
 {
     buf.ensure_capacity(writer);
     buf.add_line_prefix(fields);
@@ -293,14 +296,14 @@ fn put_token_line<W: Sink>(
 /// Prints any spelling and a new-line.
 #[inline(never)]
 fn put_spelling_and_newline<W: Sink>(buf: &mut OutBuffer, writer: &mut W, spelling: &[u8])
-    ensures { Puts W.written W.has_failed writer.old writer.new buf.old buf.new (escaped spelling.now ++ (10 ∷ [])) }
+    ensures { Puts W.written W.has_failed writer.old writer.new buf.old buf.new (percent_encoded spelling.now ++ (10 ∷ [])) }
 {
-    put_escaped(buf, writer, spelling);
+    put_percent_encoded(buf, writer, spelling);
     buf.put(writer, b"\n");
 }
 
 /// Prints the lines of a unit's dependencies.
-fn put_deps<W: Sink>(buf: &mut OutBuffer, writer: &mut W, names: &OwnedTexts, rows: &[usize])
+fn put_deps<W: Sink>(buf: &mut OutBuffer, writer: &mut W, names: &[FileName], rows: &[usize])
     ensures { Puts W.written W.has_failed writer.old writer.new buf.old buf.new (flat_map (dep_line names.now) rows.now) }
 {
     for &row in rows {
@@ -309,7 +312,7 @@ fn put_deps<W: Sink>(buf: &mut OutBuffer, writer: &mut W, names: &OwnedTexts, ro
 }
 
 /// Prints the line of a dependency.
-fn put_dep<W: Sink>(buf: &mut OutBuffer, writer: &mut W, names: &OwnedTexts, row: usize)
+fn put_dep<W: Sink>(buf: &mut OutBuffer, writer: &mut W, names: &[FileName], row: usize)
     ensures { Puts W.written W.has_failed writer.old writer.new buf.old buf.new (dep_line names.now row) }
 {
     buf.put(writer, b"dep ");
@@ -320,13 +323,13 @@ fn put_dep<W: Sink>(buf: &mut OutBuffer, writer: &mut W, names: &OwnedTexts, row
 }
 
 /// Prints the name of the file at index `row`.
-fn put_name<W: Sink>(buf: &mut OutBuffer, writer: &mut W, names: &OwnedTexts, row: usize)
-    ensures { Puts W.written W.has_failed writer.old writer.new buf.old buf.new (escaped (name_in names.now row)) }
+fn put_name<W: Sink>(buf: &mut OutBuffer, writer: &mut W, names: &[FileName], row: usize)
+    ensures { Puts W.written W.has_failed writer.old writer.new buf.old buf.new (percent_encoded (name_in names.now row)) }
 {
-    let Some(name) = names.as_slice().get(row) else {
+    let Some(name) = names.get(row) else {
         return;
     };
-    put_escaped(buf, writer, name.as_str().as_bytes());
+    put_percent_encoded(buf, writer, name.as_str().as_bytes());
 }
 
 /// Prints the last line of a unit: its fault or `ok`.
@@ -359,7 +362,7 @@ fn put_fault_text<W: Sink>(buf: &mut OutBuffer, writer: &mut W, text: &[u8])
         return;
     }
     buf.put(writer, b" ");
-    put_escaped(buf, writer, text);
+    put_percent_encoded(buf, writer, text);
 }
 
 /// Prints a location.
@@ -381,9 +384,9 @@ fn put_decimal<W: Sink>(buf: &mut OutBuffer, writer: &mut W, number: u64)
     buf.put(writer, buffer.format(number).as_bytes());
 }
 
-/// Prints bytes with escapes: each byte that isn't printed as it is becomes `%` and two hexadecimal digits.
-fn put_escaped<W: Sink>(buf: &mut OutBuffer, writer: &mut W, bytes: &[u8])
-    ensures { Puts W.written W.has_failed writer.old writer.new buf.old buf.new (escaped bytes.now) }
+/// Prints bytes percent-encoded: each byte that isn't printed as it is becomes `%` and two hexadecimal digits.
+fn put_percent_encoded<W: Sink>(buf: &mut OutBuffer, writer: &mut W, bytes: &[u8])
+    ensures { Puts W.written W.has_failed writer.old writer.new buf.old buf.new (percent_encoded bytes.now) }
 {
     let mut rest = bytes;
     while !rest.is_empty() {
@@ -392,14 +395,14 @@ fn put_escaped<W: Sink>(buf: &mut OutBuffer, writer: &mut W, bytes: &[u8])
         let Some((&byte, more)) = others.split_first() else {
             return;
         };
-        put_escaped_byte(buf, writer, byte);
+        put_percent_encoded_byte(buf, writer, byte);
         rest = more;
     }
 }
 
 /// Prints a byte as it is, or as `%` and two hexadecimal digits.
-fn put_escaped_byte<W: Sink>(buf: &mut OutBuffer, writer: &mut W, byte: u8)
-    ensures { Puts W.written W.has_failed writer.old writer.new buf.old buf.new (escaped_byte byte) }
+fn put_percent_encoded_byte<W: Sink>(buf: &mut OutBuffer, writer: &mut W, byte: u8)
+    ensures { Puts W.written W.has_failed writer.old writer.new buf.old buf.new (percent_encoded_byte byte) }
 {
     if prints_as_is(byte) {
         buf.put(writer, &[byte]);
@@ -411,7 +414,7 @@ fn put_escaped_byte<W: Sink>(buf: &mut OutBuffer, writer: &mut W, byte: u8)
 /// Returns the length of the longest prefix whose bytes are printed as they are.
 fn as_is_len(bytes: &[u8]) -> usize
     ensures within { result ≤ length bytes.now }
-    ensures as_is { escaped (take result bytes.now) ≡ take result bytes.now }
+    ensures as_is { percent_encoded (take result bytes.now) ≡ take result bytes.now }
 {
     for (count, &byte) in bytes.iter().enumerate() {
         if !prints_as_is(byte) {

@@ -14,7 +14,7 @@ use crate::line_cursor::LineCursor;
 use crate::out_buffer::{OutBuffer, SIZE};
 use crate::output::{Output, put_next};
 use crate::streams::{Failed, Sink};
-use ppunit::OwnedTexts;
+use ppshelf::FileName;
 use std::alloc::{AllocError, Global};
 use std::thread::{Threads, for_each_mut};
 
@@ -89,7 +89,7 @@ impl<'a> Page<'a> {
     }
 
     /// Puts the lines of the page's records into its buffer, as far as they fit.
-    fn fill(&mut self, names: &OwnedTexts)
+    fn fill(&mut self, names: &[FileName])
         requires { IsEmpty self.old }
         ensures records { page_records self.new ≡ page_records self.old }
         ensures filled { IsFilled names.now self.new }
@@ -106,7 +106,7 @@ impl<'a> Page<'a> {
 
     /// Writes the lines of the page's records, and empties it. If they didn't fit, they are formatted once more. Returns
     /// whether they fit.
-    fn write_out<W: Sink>(&mut self, writer: &mut W, names: &OwnedTexts) -> bool
+    fn write_out<W: Sink>(&mut self, writer: &mut W, names: &[FileName]) -> bool
         requires { IsFilled names.now self.old }
         ensures out { Puts W.written W.has_failed writer.old writer.new [] [] (flat_map (record_lines names.now) (page_records self.old)) }
         ensures empty { IsEmpty self.new }
@@ -154,7 +154,7 @@ fn assign_all<'a>(pages: &mut [Page<'a>], cursor: &mut LineCursor<'a>, count: us
 }
 
 /// Writes pages in order. Returns whether all lines fit.
-fn write_all<W: Sink>(pages: &mut [Page], writer: &mut W, names: &OwnedTexts) -> bool
+fn write_all<W: Sink>(pages: &mut [Page], writer: &mut W, names: &[FileName]) -> bool
     requires { All (IsFilled names.now) pages.old }
     ensures out { Puts W.written W.has_failed writer.old writer.new [] [] (flat_map (record_lines names.now) (flat_map page_records pages.old)) }
     ensures empty { All IsEmpty pages.new }
@@ -169,7 +169,7 @@ fn write_all<W: Sink>(pages: &mut [Page], writer: &mut W, names: &OwnedTexts) ->
 }
 
 /// Fills pages with the lines of their records, as far as they fit, with one thread per page.
-fn fill_all<T: Threads + Sync>(threads: &T, pages: &mut [Page], names: &OwnedTexts)
+fn fill_all<T: Threads + Sync>(threads: &T, pages: &mut [Page], names: &[FileName])
     requires pages { 0 < length pages.old }
     requires empty { All IsEmpty pages.old }
     ensures records { flat_map page_records pages.new ≡ flat_map page_records pages.old }

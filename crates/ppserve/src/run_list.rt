@@ -1,31 +1,31 @@
 //! Runs the units of a list with workers, and prints their outputs.
 //!
-//! There is one run, `run_over`, over a file table and a disk. A list that holds its files fills the table before it
-//! runs, and its disk has no file; a list that only names them begins with an empty table. What a run promises, `Delivers`,
-//! is the same for both, over the files that it observes; from that `run_with_contents` and `run_with_disk` conclude what
-//! `serve` promises of each. Outputs borrow from the file table, so that a run keeps it until all is printed, and so does
-//! the printing of the list's names: then `AtEnd` says whether the memory is freed at all.
-ghost use Rattle.std.specs.Prelude.{◌≡◌, ◌≤◌, [], length, map, replicate, string_bytes, All, IfOk, None, false};
+//! There is one run, `run_over`, over a file table and a disk. The table takes over the names of the list. A list that
+//! holds its files fills the table before it runs, and its disk has no file; a list that only names them begins with an
+//! empty table. What a run promises, `Delivers`, is the same for both, over the files that it observes; from that
+//! `run_with_contents` and `run_with_disk` conclude what `serve` promises of each. Outputs borrow from the file table, and
+//! its names are printed, so that a run keeps it until all is printed: then `AtEnd` says whether the memory is freed at
+//! all.
+ghost use Rattle.std.specs.Prelude.{◌≡◌, ◌≤◌, [], length, All, IfOk, false};
 ghost use Rattle.ppshelf.specs.Content.{longest};
 ghost use Rattle.ppshelf.specs.Files.{max_rows, IsFull};
-ghost use Rattle.ppshelf.specs.Names.{AreNames};
 ghost use Rattle.ppunit.specs.Unit.{IsUnitOf};
 ghost use Rattle.ppserve.specs.Contents.{files_of, AreInList, ArePermitted};
 ghost use Rattle.ppserve.specs.Listing.{IsRunnable};
 ghost use Rattle.ppserve.specs.Serving.{IsOutput};
 ghost use Rattle.ppserve.specs.code.NeededRetention.{needed_retention};
-ghost use Rattle.ppserve.specs.code.Runs.{AreObservedFor, AreRetainedOverSome, Delivers};
+ghost use Rattle.ppserve.specs.code.Runs.{AreObservedFor, AreRetainedOverSome, Delivers, list_over};
 
-use crate::list::List;
+use crate::list::{List, Units};
 use crate::output::{Mode, Output};
 use crate::printing::print;
 use crate::serving::RunFault;
 use crate::streams::Sink;
 use pppool::{Batch, Block, Gate, Retain, Workers, list_growth, run_retaining};
-use ppshelf::{Contents, Disk, MemoryDisk, Shelf, ShelfFault};
+use ppshelf::{Contents, Disk, FileNames, MemoryDisk, Shelf};
 use pptext::{Hashing, Memory, Profile};
-use ppunit::{OwnedText, OwnedTexts, UnitOut};
-use std::alloc::{AllocError, Global};
+use ppunit::{Setting, UnitOut};
+use std::alloc::Global;
 use std::mem;
 use std::thread::Threads;
 
@@ -90,97 +90,67 @@ pub(crate) fn no_disk(alloc: Global) -> MemoryDisk
     }
 }
 
-/// Copies names into strings.
-fn copies_of(alloc: Global, names: &[OwnedText]) -> Result<Vec<String>, AllocError>
-    ensures { IfOk result (λ copies. map string_bytes copies.items ≡ names.now) }
-{
-    let mut copies = Vec::with_capacity(alloc, names.len())?;
-    for name in names {
-        copies.push(String::from_str(alloc, name.as_str())?)?;
-    }
-    Ok(copies)
-}
-
-/// Creates a file table whose contents are unknown. The names must be distinct and in normal form. They are hashed by
-/// `hashing`.
-pub(crate) fn empty_shelf<D: Disk>(
-    alloc: Global,
-    names: &OwnedTexts,
-    profile: Profile,
-    hashing: Hashing,
-) -> Result<Shelf<D>, Memory>
-    requires form { AreNames names.now }
-    requires few { length names.now ≤ max_rows }
-    ensures names { IfOk result (λ s. s.names ≡ names.now) }
-    ensures profile { IfOk result (λ s. s.profile ≡ profile) }
-    ensures empty { IfOk result (λ s. s.filled ≡ replicate (length names.now) None) }
-{
-    let copies = copies_of(alloc, names.as_slice())?;
-    match Shelf::with_hasher(alloc, copies, profile, hashing) {
-        Ok(shelf) => Ok(shelf),
-        Err(ShelfFault::Memory) => Err(Memory),
-        Err(ShelfFault::Name(row)) => {
-            let _row = row;
-            unreachable!()
-        }
-    }
-}
-
-/// Creates a file table and moves the contents into it.
-pub(crate) fn filled_shelf(
-    alloc: Global,
-    names: &OwnedTexts,
-    profile: Profile,
-    contents: Contents,
-    hashing: Hashing,
-) -> Result<Shelf<MemoryDisk>, Memory>
-    requires form { AreNames names.now }
-    requires few { length names.now ≤ max_rows }
-    requires count { length contents ≡ length names.now }
-    requires small { All (λ bytes. length bytes ≤ longest) contents }
-    ensures names { IfOk result (λ s. s.names ≡ names.now) }
-    ensures profile { IfOk result (λ s. s.profile ≡ profile) }
-    ensures files { IfOk result (λ s. s.filled ≡ files_of contents) }
-    ensures full { IfOk result (λ s. IsFull s) }
-{
-    let mut shelf = empty_shelf(alloc, names, profile, hashing)?;
-    shelf.fill_with(contents)?;
-    Ok(shelf)
-}
-
-/// The files of a run: a file table, and the disk from which it reads the files that it doesn't know.
-struct RunFiles<'d, D: Disk> {
+/// What a run preprocesses: units with their setting, over a file table and the disk from which it reads the files that
+/// it doesn't know.
+struct Run<'d, D: Disk> {
     shelf: Shelf<D>,
     disk: &'d D,
+    setting: Setting,
+    units: Units,
 }
 
 /// Preprocesses the units of a list that holds its files, and writes their output once all are done. Returns whether a
-/// unit has a fault. Moves the contents out of the list.
+/// unit has a fault.
 pub(crate) fn run_with_contents<T: Threads + Sync, W: Sink>(
     threads: &T,
     alloc: Global,
     writer: &mut W,
-    list: &mut List,
+    list: List,
     options: RunOptions,
 ) -> Result<bool, RunFault>
     requires writer { W.has_failed writer.old ≡ false }
-    requires runnable { IsRunnable list.old }
-    requires contents { length list.old.contents ≡ length list.old.names }
-    ensures { Delivers W.written W.has_failed (IsOutput AreInList options.mode list.old) writer.old writer.new result }
+    requires runnable { IsRunnable list }
+    requires contents { length list.contents ≡ length list.names }
+    ensures { Delivers W.written W.has_failed (IsOutput AreInList options.mode list) writer.old writer.new result }
 {
-    let contents = mem::replace(&mut list.contents, Contents::new(Vec::new(alloc)));
-    let shelf = filled_shelf(
-        alloc,
-        &list.names,
-        list.setting.profile,
+    let List {
+        setting,
+        names,
         contents,
-        options.hashing,
-    )?;
+        units,
+    } = list;
+    let shelf = filled_shelf(alloc, names, setting.profile, contents)?;
     let disk = no_disk(alloc);
     // For proofs only: units have the same values over more files.
     list_growth();
-    let files = RunFiles { shelf, disk: &disk };
-    run_over(threads, alloc, writer, list, files, options)
+    let run = Run {
+        shelf,
+        disk: &disk,
+        setting,
+        units,
+    };
+    run_over(threads, alloc, writer, run, options)
+}
+
+/// Creates a file table with these names and moves the contents into it.
+fn filled_shelf(
+    alloc: Global,
+    names: FileNames,
+    profile: Profile,
+    contents: Contents,
+) -> Result<Shelf<MemoryDisk>, Memory>
+    requires few { length names.names ≤ max_rows }
+    requires count { length contents ≡ length names.names }
+    requires small { All (λ bytes. length bytes ≤ longest) contents }
+    ensures names { IfOk result (λ s. s.names ≡ names.names) }
+    ensures profile { IfOk result (λ s. s.profile ≡ profile) }
+    ensures hashing { IfOk result (λ s. s.hashing ≡ names.hashing) }
+    ensures files { IfOk result (λ s. s.filled ≡ files_of contents) }
+    ensures full { IfOk result (λ s. IsFull s) }
+{
+    let mut shelf = Shelf::over(alloc, names, profile)?;
+    shelf.fill_with(contents)?;
+    Ok(shelf)
 }
 
 /// Preprocesses the units of a list that only names its files, and writes their output once all are done. Returns
@@ -190,36 +160,50 @@ pub(crate) fn run_with_disk<T: Threads + Sync, W: Sink, D: Disk + Send + Sync>(
     alloc: Global,
     writer: &mut W,
     disk: &D,
-    list: &List,
+    list: List,
     options: RunOptions,
 ) -> Result<bool, RunFault>
     requires writer { W.has_failed writer.old ≡ false }
-    requires runnable { IsRunnable list.now }
-    ensures { Delivers W.written W.has_failed (IsOutput (ArePermitted D.may) options.mode list.now) writer.old writer.new result }
+    requires runnable { IsRunnable list }
+    ensures { Delivers W.written W.has_failed (IsOutput (ArePermitted D.may) options.mode list) writer.old writer.new result }
 {
-    let shelf = empty_shelf(alloc, &list.names, list.setting.profile, options.hashing)?;
-    let files = RunFiles { shelf, disk };
-    run_over(threads, alloc, writer, list, files, options)
+    let List {
+        setting,
+        names,
+        contents: _,
+        units,
+    } = list;
+    let shelf = Shelf::over(alloc, names, setting.profile)?;
+    let run = Run {
+        shelf,
+        disk,
+        setting,
+        units,
+    };
+    run_over(threads, alloc, writer, run, options)
 }
 
-/// Preprocesses the units of a list over a file table with its names, and writes their output once all are done. Returns
-/// whether a unit has a fault.
+/// Preprocesses the units of a run, and writes their output once all are done. Returns whether a unit has a fault.
 fn run_over<T: Threads + Sync, W: Sink, D: Disk + Send + Sync>(
     threads: &T,
     alloc: Global,
     writer: &mut W,
-    list: &List,
-    files: RunFiles<D>,
+    run: Run<D>,
     options: RunOptions,
 ) -> Result<bool, RunFault>
     requires writer { W.has_failed writer.old ≡ false }
-    requires runnable { IsRunnable list.now }
-    requires names { files.shelf.names ≡ list.now.names }
-    requires profile { files.shelf.profile ≡ list.now.setting.profile }
-    ensures { Delivers W.written W.has_failed (IsOutput (AreObservedFor D.may files.entry.shelf) options.mode list.now) writer.old writer.new result }
+    requires runnable { IsRunnable (list_over run.shelf run.setting run.units) }
+    requires profile { run.shelf.profile ≡ run.setting.profile }
+    ensures { Delivers W.written W.has_failed
+        (IsOutput (AreObservedFor D.may run.entry.shelf) options.mode (list_over run.entry.shelf run.entry.setting run.entry.units)) writer.old writer.new result }
 {
-    let RunFiles { shelf, disk } = files;
-    let units = list.units.as_slice();
+    let Run {
+        shelf,
+        disk,
+        setting,
+        units,
+    } = run;
+    let units = units.as_slice();
     let outs = run_batch(
         threads,
         alloc,
@@ -227,16 +211,17 @@ fn run_over<T: Threads + Sync, W: Sink, D: Disk + Send + Sync>(
             shelf: &shelf,
             disk,
             gate: &OpenGate,
-            setting: &list.setting,
+            setting: &setting,
             units,
             workers: options.workers,
             block: options.block.fitted(units.len(), options.workers),
         },
         options.mode,
     )?;
+    let names = shelf.names().as_slice();
     let output = Output {
         mode: options.mode,
-        names: &list.names,
+        names,
         units,
         outs: outs.as_slice(),
     };

@@ -99,12 +99,12 @@ pub fn serve<T: Threads + Sync, R: Feed, W: Sink, D: Disk + Send + Sync>(
 {
     match disk {
         None => {
-            let mut list = receive(alloc, reader, true, options.hashing)?;
-            run_with_contents(threads, alloc, writer, &mut list, options)
+            let list = receive(alloc, reader, true, options.hashing)?;
+            run_with_contents(threads, alloc, writer, list, options)
         }
         Some(disk) => {
             let list = receive(alloc, reader, false, options.hashing)?;
-            run_with_disk(threads, alloc, writer, disk, &list, options)
+            run_with_disk(threads, alloc, writer, disk, list, options)
         }
     }
 }

@@ -105,17 +105,6 @@ filled_files may stock observations is row c d filled known =
       | inr n ↦ absurd (none-some b (sym n.0 ∙ there))
     ]
 
-pub placed_read : (profile : Profile) (names : List (List ℕ)) (stock : List RowState) (row : ℕ) (state : RowState)
-    → Placed profile names stock
-    → row < length stock
-    → state ≡ get_or stock row state
-    → (h : LoadedView)
-    → state.filled ≡ Some h
-    → IsPlaced (file_in profile names row) h
-placed_read profile names stock row state placed within read h is =
-    let same : state ≡ get_or stock row no_row_state = get_or_read stock row state within read no_row_state in
-    placed row h (ap (λ (s : RowState). s.filled) (sym same) ∙ is)
-
 -- After h is shown for a row, the files have the content of h there.
 pub files_of-set : (observations : List Observation) (row : ℕ) (s : Observation) (h : LoadedView) → s.shown ≡ Some h → files_of (set observations row s) ≡ set (files_of observations) row (Some h.content)
 files_of-set observations row s h is = map-set content_of_sight observations row s ∙ ap (λ (o : Option LoadedView). set (files_of observations) row (option_map (λ (x : LoadedView). x.content) o)) is
@@ -135,35 +124,6 @@ pub record Unseen (stock : List RowState) (observations : List Observation) (n :
   pub len : length observations ≡ n
   pub each : (row : ℕ) → row < n → ((get_or observations row no_observation).cell ≡ (get_or stock row no_row_state).cell) × ((get_or observations row no_observation).shown ≡ None)
   pub files : files_of observations ≡ replicate n None
-
-get_or_last : (observations : List Observation) (s : Observation) (row : ℕ) → row ≡ length observations → get_or (observations ++ s ∷ []) row no_observation ≡ s
-get_or_last observations s row e = grind (arith, common_steps)
-
-get_or_front : (observations : List Observation) (s : Observation) (row : ℕ) → row < length observations → get_or (observations ++ s ∷ []) row no_observation ≡ get_or observations row no_observation
-get_or_front observations s row e = grind (arith, common_steps)
-
-pub unseen_more : (stock : List RowState) (observations : List Observation) (n : ℕ) (state : RowState) (s : Observation)
-    → Unseen stock observations n
-    → n < length stock
-    → state ≡ get_or stock n state
-    → s.cell ≡ state.cell
-    → s.shown ≡ None
-    → Unseen stock (observations ++ s ∷ []) (n + 1)
-unseen_more stock observations n state s u within read cell shown = let len = u.len in record {
-  len = omega (arith, length-append observations (s ∷ []));
-  each = λ row below.
-      elim (cases_lt row n) [
-        | inl h ↦ let at = get_or_front observations s row (omega arith) in let e = u.each row h in (ap (λ (x : Observation). x.cell) at ∙ e.0, ap (λ (x : Observation). x.shown) at ∙ e.1)
-        | inr h ↦
-            let is : row ≡ n = omega arith in
-            let at = get_or_last observations s row (omega arith) in
-            let place : state ≡ get_or stock row no_row_state = get_or_read stock n state within read no_row_state ∙ ap (λ k. get_or stock k no_row_state) (sym is) in
-            (ap (λ (x : Observation). x.cell) at ∙ (cell ∙ ap (λ (x : RowState). x.cell) place), ap (λ (x : Observation). x.shown) at ∙ shown)
-      ];
-  files = map-append content_of_sight observations (s ∷ [])
-      ∙ (ap (λ (f : Files). f ++ content_of_sight s ∷ []) u.files
-      ∙ (ap (λ (o : Option LoadedView). replicate n None ++ option_map (λ (h : LoadedView). h.content) o ∷ []) shown ∙ replicate_more n None));
-}
 
 pub unseen_pass : (may : List ℕ → Content → Type 0) (profile : Profile) (names : NamesView) (rows : List RowState) (observations : List Observation)
     → length rows ≡ length names.names
@@ -252,14 +212,6 @@ pub record Met (may : List ℕ → Content → Type 0) (stock : ShelfView) (old 
   pub cached : (row : ℕ) → row < n → get_or new row no_observation ≡ get_or old row no_observation
   pub joined : (row : ℕ) → n ≤ row → row < length stock.names → (get_or new row no_observation).shown ≡ or_else (get_or old row no_observation).shown (get_or other row no_observation).shown
   pub agree : (row : ℕ) → n ≤ row → row < length stock.names → (h k : LoadedView) → (get_or old row no_observation).shown ≡ Some h → (get_or other row no_observation).shown ≡ Some k → h ≡ k
-
-pub met_none : (may : List ℕ → Content → Type 0) (stock : ShelfView) (old other : List Observation) (n : ℕ) → IsPass may stock old → length stock.names ≤ n → Met may stock old other old n
-met_none may stock old other n is e = record {
-  is = is;
-  cached = λ row below. refl;
-  joined = λ row above within. absurd (omega arith);
-  agree = λ row above within. absurd (omega arith);
-}
 
 pub met_more : (may : List ℕ → Content → Type 0) (stock : ShelfView) (old other new : List Observation) (n : ℕ) (state : RowState) (mine theirs s : Observation)
     → Met may stock old other new (n + 1)

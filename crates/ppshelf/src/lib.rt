@@ -13,6 +13,7 @@ mod names;
 mod path;
 mod row;
 mod search;
+mod search_cache;
 mod shelf;
 
 pub use dir_disk::DirDisk;

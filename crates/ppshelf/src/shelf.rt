@@ -16,12 +16,15 @@ ghost use Rattle.ppshelf.specs.Content.{IsPermitted, readable};
 ghost use Rattle.ppshelf.specs.Faults.{IsShelfFault};
 ghost use Rattle.ppshelf.specs.Files.{max_rows, file_at, AllPermitted, Agree, Extends, IsMerged, IsFull, Filled, bytes_at};
 ghost use Rattle.ppshelf.specs.Names.{AreNames, IsRowOf, name_in};
+ghost use Rattle.ppshelf.specs.Search as spec;
 ghost use Rattle.ppshelf.specs.code.ShelfRows.{file_in, filled_of};
 
 use crate::disk::Disk;
 use crate::file_names::FileNames;
 use crate::loaded::{FileId, Loaded};
 use crate::row::{Row, RowObservation};
+use crate::search::{Directories, Form};
+use crate::search_cache::SearchCache;
 use pptext::{Hashing, Memory, Profile, Sequence};
 use std::alloc::Global;
 use std::marker::Model;
@@ -76,13 +79,16 @@ pub enum ShelfFault {
     Memory,
 }
 
-/// What one caller has observed of a shelf: a finite map from rows to contents.
+/// What one caller has observed of a shelf: a finite map from rows to contents. It also keeps the results of its
+/// searches for included files, which contracts don't see.
 pub struct Pass<'a, D: Disk> {
     shelf: &'a Shelf<D>,
     rows: Vec<RowObservation<'a, D>>,
+    searches: SearchCache<'a, D>,
 }
 
 impl<'a, D: Disk> Model for Pass<'a, D> {
+    ghost use Rattle.std.specs.Prelude.{◌≡◌};
     ghost use Rattle.ppshelf.specs.Files.{PassView};
     ghost use Rattle.ppshelf.specs.code.ShelfRows.{IsPass, files_of};
 
@@ -90,12 +96,16 @@ impl<'a, D: Disk> Model for Pass<'a, D> {
 
     ghost view = { λ p. record { shelf = p.shelf.now; files = files_of p.rows.items } };
 
-    ghost invariant = { λ p. IsPass D.may p.shelf.now p.rows.items };
+    ghost invariant = { λ p. IsPass D.may p.shelf.now p.rows.items × (p.searches.names ≡ p.shelf.now.names) };
 }
 
 impl<D: Disk> Drop for Pass<'_, D> {
     fn drop(self) {
-        let Pass { shelf: _, rows: _ } = self;
+        let Pass {
+            shelf: _,
+            rows: _,
+            searches: _,
+        } = self;
     }
 }
 
@@ -296,7 +306,11 @@ impl<D: Disk> Shelf<D> {
         for row in &self.rows {
             rows.push(row.new_observation())?;
         }
-        Ok(Pass { shelf: self, rows })
+        Ok(Pass {
+            shelf: self,
+            rows,
+            searches: SearchCache::new(self.alloc, self)?,
+        })
     }
 
     /// Returns a row's content, which the pass has observed from then on.
@@ -373,6 +387,29 @@ impl<'a, D: Disk> Pass<'a, D> {
         let _rows = &self.rows;
     }
 
+    /// Does what the function `resolve` does for the pass's shelf. A search that the pass did before costs less.
+    ///
+    /// # Errors
+    ///
+    /// An allocation fails.
+    pub fn resolve(
+        &mut self,
+        alloc: Global,
+        from: usize,
+        form: Form,
+        name: &[u8],
+        directories: Directories<'_>,
+    ) -> Result<Option<(usize, usize)>, Memory>
+        requires { from < length self.old.shelf.names }
+        ensures pass { self.new ≡ self.old }
+        ensures first { IfOk result (λ found. spec.IsFirstRow self.old.shelf.names
+            (spec.candidates form (name_in self.old.shelf.names from) directories.entry.unit.now
+            directories.entry.setting.now name.now) found) }
+        ensures within { IfOk result (λ found. IfSome found (λ f. f.0 < length self.old.shelf.names)) }
+    {
+        self.searches.resolve(alloc, from, form, name, directories)
+    }
+
     /// Does what `look` does, without the clauses about permitted contents.
     fn look_at_row(
         &mut self,
@@ -401,7 +438,11 @@ impl<'a, D: Disk> Pass<'a, D> {
         ensures agree { Agree self.old.files other.entry.files }
         ensures joined { IsMerged self.old.files other.entry.files self.new.files }
     {
-        let Pass { shelf: _, mut rows } = other;
+        let Pass {
+            shelf: _,
+            mut rows,
+            searches: _,
+        } = other;
         while let Some(theirs) = rows.pop() {
             let row = rows.len();
             self.rows[row].merge(&shelf.rows[row], &shelf.file(row), theirs);

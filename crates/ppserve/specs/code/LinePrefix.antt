@@ -14,6 +14,18 @@ abbrev pub before_spelling : Place → Place → Kind → Bool → List ℕ
 before_spelling at used kind space =
     codes " " ++ place_text at ++ codes " " ++ place_text used ++ (32 ∷ (kind_letter kind ∷ (space_sign space ∷ (32 ∷ []))))
 
+-- the largest number of bytes of a space and a location: three numbers of at most ten digits, and two colons
+abbrev pub max_location : ℕ
+max_location = 33
+
+-- the largest number of bytes of two such locations
+abbrev pub max_locations : ℕ
+max_locations = 66
+
+-- the largest number of bytes before a token's spelling: a word of 3, two locations, and 4 after them
+abbrev pub max_prefix : ℕ
+max_prefix = 73
+
 -- ` FILE:LINE:`, the prefix of a location
 abbrev pub location_prefix : ℕ → ℕ → List ℕ
 location_prefix file line = 32 ∷ (decimal file ++ codes ":" ++ decimal line ++ codes ":")

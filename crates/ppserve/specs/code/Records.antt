@@ -11,7 +11,7 @@ use Rattle.ppunit.specs.declared.units.Unit.{Unit as UnitOfList}
 use Rattle.ppunit.specs.BorrowedItems.{slice_items}
 use Rattle.ppunit.specs.declared.items.ItemSlice.{ItemSlice}
 use Rattle.ppunit.specs.declared.items.ItemSlices.{ItemSlices}
-use Rattle.ppserve.specs.Output.{escaped, item_lines, dep_line, last_line, shows_items}
+use Rattle.ppserve.specs.Output.{percent_encoded, item_lines, dep_line, last_line, shows_items}
 use Rattle.ppserve.specs.declared.output.Mode.{Mode}
 use Rattle.ppserve.specs.declared.output.Output.{Output}
 use Rattle.ppserve.specs.declared.line_cursor.Lines.{Lines}
@@ -25,7 +25,7 @@ pub data Record : Type 0 where
   Last : UnitOut → Record
 
 abbrev pub first_line : List (List ℕ) → ℕ → UnitOfList → List ℕ
-first_line names i unit = codes "unit " ++ decimal i ++ codes " " ++ escaped (name_in names unit.file) ++ (10 ∷ [])
+first_line names i unit = codes "unit " ++ decimal i ++ codes " " ++ percent_encoded (name_in names unit.file) ++ (10 ∷ [])
 
 abbrev pub last_lines : List (List ℕ) → UnitOut → List ℕ
 last_lines names out = flat_map (dep_line names) out.deps ++ last_line out.fault

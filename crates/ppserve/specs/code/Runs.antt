@@ -1,5 +1,5 @@
 -- What the parts of a run promise: its workers, its printing, and both together.
-use Rattle.std.specs.Prelude.{◌≡◌, ◌≢◌, ◌⊎◌, ℕ, Bool, true, List, length, take, Option, Result, IfOk, IfErr, IsErrOf}
+use Rattle.std.specs.Prelude.{◌≡◌, ◌≢◌, ◌⊎◌, ℕ, Bool, true, List, [], length, take, Option, Result, IfOk, IfErr, IsErrOf}
 use Rattle.std.specs.Io.KnownBytes.{Appends}
 use Rattle.ppshelf.specs.Content.{Content}
 use Rattle.ppshelf.specs.Files.{Files, ShelfView, Agree, AllPermitted}
@@ -8,7 +8,7 @@ use Rattle.ppunit.specs.declared.units.Unit.{Unit as UnitOfList}
 use Rattle.ppunit.specs.declared.units.UnitOut.{UnitOut}
 use Rattle.pppool.specs.declared.retention.Retain.{Retain}
 use Rattle.pppool.specs.Retained.{AreRetained}
-use Rattle.ppserve.specs.declared.list.List.{List as CompilationList}
+use Rattle.ppserve.specs.CompilationList.{CompilationList}
 use Rattle.ppserve.specs.declared.output.Output.{Output}
 use Rattle.ppserve.specs.declared.serving.RunFault.{RunFault}
 use Rattle.ppserve.specs.declared.serving.RunFault.TheVariants.{Memory as OutOfMemory, Write as WriteFailed}
@@ -30,6 +30,10 @@ pub record AreRetainedOverSome (may : List ℕ → Content → Type 0) (retain :
   pub files : Files
   pub observed : AreObserved may shelf files
   pub retained : AreRetained retain shelf.names files setting units outs
+
+-- the list of these units, with the names of a file table and without contents
+abbrev pub list_over : ShelfView → Setting → List UnitOfList → CompilationList
+list_over shelf setting units = record { setting = setting; names = shelf.names; contents = []; units = units }
 
 -- the files are some that a run over this file table observes, for a list with its names
 abbrev pub AreObservedFor : (List ℕ → Content → Type 0) → ShelfView → CompilationList → Files → Type 0

@@ -3,8 +3,8 @@
 //! Refusals have numbers, and a list is refused with the lowest that applies. So the checks run in the order of the
 //! numbers, each over all files or units, and the specification (`validated`) has them in the same order. The first part
 //! checks a draft that it borrows; the second takes a valid draft apart and builds the list from it, so that its texts are
-//! moved. `FileNames` refuses a name that isn't in normal form or that occurs before, and knows the row of each name, by
-//! which units refer to their files.
+//! moved, except for names. `FileNames` refuses a name that isn't in normal form or that occurs before, and knows the row
+//! of each name, by which units refer to their files. So names are copied into one, which the list keeps.
 ghost use Rattle.std.specs.Prelude.{◌≡◌, ◌≤◌, ℕ, List as ListOf, Bool, IfOk, IfErr, OnOk, IsErrOf, true, false, [], map, length, nat_le, if◌then◌else◌};
 ghost use Rattle.std.specs.List.{list_all};
 ghost use Rattle.ppshelf.specs.Content.{longest};
@@ -44,31 +44,42 @@ pub(super) fn validate(
     ensures ok { IfOk result (λ l. validated inline draft ≡ accepted l) }
     ensures bad { (n : ℕ) → IsErrOf result (Bad n) → validated inline draft ≡ refused n }
 {
-    match index_and_profile(alloc, &draft, hashing) {
-        Ok((rows, profile)) => listed(alloc, draft, rows.as_slice(), profile, inline),
+    match findings_of(alloc, &draft, hashing) {
+        Ok(findings) => listed(alloc, draft, findings, inline),
         Err(fault) => Err(fault),
     }
 }
 
-/// Returns the rows of the units' files and the profile, unless the draft is refused.
-fn index_and_profile(
-    alloc: Global,
-    draft: &Draft,
-    hashing: Hashing,
-) -> Result<(Vec<usize>, Profile), ListFault>
-    ensures rows { IfOk result (λ r. r.0.items ≡ map (spec.file_row (spec.names_of draft.now.files)) draft.now.units) }
-    ensures profile { IfOk result (λ r. r.1 ≡ spec.profile_of draft.now.setting) }
+/// What the checks of a valid draft find.
+#[derive(Drop)]
+struct Findings {
+    /// The names of the files.
+    names: FileNames,
+    /// The rows of the units' files.
+    rows: Vec<usize>,
+    profile: Profile,
+}
+
+/// Returns what the checks of a draft find, unless the draft is refused.
+fn findings_of(alloc: Global, draft: &Draft, hashing: Hashing) -> Result<Findings, ListFault>
+    ensures names { IfOk result (λ f. f.names.names ≡ spec.names_of draft.now.files) }
+    ensures rows { IfOk result (λ f. f.rows.items ≡ map (spec.file_row (spec.names_of draft.now.files)) draft.now.units) }
+    ensures profile { IfOk result (λ f. f.profile ≡ spec.profile_of draft.now.setting) }
     ensures fits { OnOk result (spec.commands_fit draft.now.units ≡ true) }
     ensures ok { OnOk result ((inline : Bool) → validated inline draft.now ≡ accepted (spec.listed inline draft.now)) }
     ensures bad { (n : ℕ) → IsErrOf result (Bad n) → (inline : Bool) → validated inline draft.now ≡ refused n }
 {
-    let index = index_files(alloc, draft.files.as_slice(), hashing)?;
+    let names = index_files(alloc, draft.files.as_slice(), hashing)?;
     if !sizes_hold(draft) {
         return Err(ListFault::Bad(4));
     }
-    let rows = file_rows(alloc, &index, draft.units.as_slice())?;
+    let rows = file_rows(alloc, &names, draft.units.as_slice())?;
     match profile_if_texts_valid(draft) {
-        Ok(profile) => Ok((rows, profile)),
+        Ok(profile) => Ok(Findings {
+            names,
+            rows,
+            profile,
+        }),
         Err(number) => Err(ListFault::Bad(number)),
     }
 }
@@ -213,16 +224,12 @@ fn budget_of(budget: DraftBudget) -> Option<u64>
     }
 }
 
-/// Builds the list of a valid draft whose units' files have these rows. The definitions of its units are read with the profile.
-fn listed(
-    alloc: Global,
-    draft: Draft,
-    rows: &[usize],
-    profile: Profile,
-    inline: bool,
-) -> Result<List, ListFault>
-    requires rows { rows.now ≡ map (spec.file_row (spec.names_of draft.files)) draft.units }
-    requires profile { profile ≡ spec.profile_of draft.setting }
+/// Builds the list of a valid draft, of which the checks found this. The definitions of its units are read with the
+/// profile.
+fn listed(alloc: Global, draft: Draft, findings: Findings, inline: bool) -> Result<List, ListFault>
+    requires names { findings.names.names ≡ spec.names_of draft.files }
+    requires rows { findings.rows.items ≡ map (spec.file_row (spec.names_of draft.files)) draft.units }
+    requires profile { findings.profile ≡ spec.profile_of draft.setting }
     requires fits { spec.commands_fit draft.units ≡ true }
     ensures ok { IfOk result (λ l. l ≡ spec.listed inline draft) }
     ensures err { IfErr result (λ fault. fault ≡ OutOfMemory) }
@@ -232,8 +239,13 @@ fn listed(
         files,
         units,
     } = draft;
-    let units = listed_units(alloc, rows, profile, units)?;
-    let (names, contents) = split_files(alloc, files, inline)?;
+    let Findings {
+        names,
+        rows,
+        profile,
+    } = findings;
+    let units = listed_units(alloc, rows.as_slice(), profile, units)?;
+    let contents = listed_contents(alloc, files, inline)?;
     Ok(List {
         setting: listed_setting(setting, profile),
         names,
@@ -302,25 +314,23 @@ fn listed_unit(alloc: Global, row: usize, profile: Profile, unit: DraftUnit) -> 
     })
 }
 
-/// Returns the names of the files, and their contents if the list holds them.
-fn split_files(
+/// Returns the contents of the files if the list holds them.
+fn listed_contents(
     alloc: Global,
     files: Sequence<DraftFile>,
     inline: bool,
-) -> Result<(OwnedTexts, Contents), AllocError>
-    ensures names { IfOk result (λ r. r.0 ≡ spec.names_of files) }
-    ensures contents { IfOk result (λ r. r.1 ≡ (if inline then spec.contents_of files else [])) }
+) -> Result<Contents, AllocError>
+    ensures { IfOk result (λ cs. cs ≡ (if inline then spec.contents_of files else [])) }
 {
-    let mut names = Vec::new(alloc);
     let mut contents = Vec::new(alloc);
-    for file in files.into_vec() {
-        let DraftFile { name, content } = file;
-        names.push(name)?;
-        if inline {
-            contents.push(content)?;
-        }
+    if !inline {
+        return Ok(Contents::new(contents));
     }
-    Ok((OwnedTexts::new(names), Contents::new(contents)))
+    for file in files.into_vec() {
+        let DraftFile { name: _, content } = file;
+        contents.push(content)?;
+    }
+    Ok(Contents::new(contents))
 }
 
 /// Returns whether date and time have their formats.

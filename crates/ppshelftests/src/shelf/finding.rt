@@ -1,6 +1,8 @@
 //! Searches for included files: the rows that they find, and the numbers of the directories.
+ghost use Rattle.std.specs.Prelude.{◌≡◌};
+
 use super::{named, owned};
-use ppshelf::{Directories, Form, MemoryDisk, Shelf, resolve, resolve_next};
+use ppshelf::{Directories, Form, MemoryDisk, Pass, Shelf, resolve, resolve_next};
 use pptext::Memory;
 use std::alloc::Global;
 use std::process::Abort;
@@ -54,4 +56,43 @@ fn searches_number_their_directories(rt: HostRuntime) -> Result<(), Fail> {
         setting: setting.as_slice(),
     };
     Ok(assert_finds(&rt, alloc, &shelf, directories)?)
+}
+
+/// Asserts that a search by a pass for `<h.h>` in `src/a.c` finds this.
+fn assert_pass_finds<'a>(
+    rt: &impl Abort,
+    alloc: Global,
+    shelf: &'a Shelf<MemoryDisk>,
+    pass: &mut Pass<'a, MemoryDisk>,
+    directories: Directories<'_>,
+    row: Option<(usize, usize)>,
+) -> Result<(), Memory>
+    requires { pass.old.shelf ≡ shelf.now }
+    ensures { pass.new.shelf ≡ shelf.now }
+{
+    assert!(rt; shelf.len() == 5);
+    let found = pass.resolve(alloc, 0, Form::Angle, b"h.h", directories)?;
+    assert!(rt; found == row);
+    Ok(())
+}
+
+#[test]
+fn a_pass_searches_the_given_directories(rt: HostRuntime) -> Result<(), Fail> {
+    let alloc = rt.alloc();
+    let shelf = named(alloc, NAMES)?;
+    let (one, two) = (owned(alloc, &["one"])?, owned(alloc, &["two", "three"])?);
+    let first = Directories {
+        unit: one.as_slice(),
+        setting: two.as_slice(),
+    };
+    let second = Directories {
+        unit: two.as_slice(),
+        setting: one.as_slice(),
+    };
+    let mut pass = shelf.pass()?;
+    assert_pass_finds(&rt, alloc, &shelf, &mut pass, first, Some((2, 1)))?;
+    assert_pass_finds(&rt, alloc, &shelf, &mut pass, first, Some((2, 1)))?;
+    assert_pass_finds(&rt, alloc, &shelf, &mut pass, second, Some((3, 1)))?;
+    assert_pass_finds(&rt, alloc, &shelf, &mut pass, first, Some((2, 1)))?;
+    Ok(())
 }

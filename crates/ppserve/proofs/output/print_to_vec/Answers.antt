@@ -6,7 +6,7 @@ use Rattle.ppserve.proofs.output.print_to_vec.Goals as goal
 
 pub returns : goal.returns
 returns c =
-    let all = lines_of_all c.args.mode c.args.list.now.names 0 c.as_slice.result.now c.args.outs.now in
+    let all = lines_of_all c.args.mode c.as_slice-names.result.now 0 c.as_slice-units.result.now c.args.outs.now in
     let appends = printed_all refl refl (search rules) c.put_through.ensures in
     let text = written_alone _ _ _ _ c.new-text.ensures.written c.into_bytes.ensures appends ∙ all in
-    rw c.as_slice.ensures at text
+    rw (← c.list.view_is) (rw (c.as_slice-names.ensures, c.as_slice-units.ensures) at text)

@@ -1,13 +1,21 @@
-use Rattle.std.proofs.Common.{◌∙◌, ap, rules}
-use Rattle.ppserve.specs.Contents.{files_of}
+use Rattle.std.proofs.Common.{sym, subst}
+use Rattle.ppserve.specs.CompilationList.{CompilationList}
+use Rattle.ppserve.specs.Listing.{IsRunnable}
 use Rattle.ppserve.proofs.Delivery.{delivers_as}
-use Rattle.ppserve.proofs.ServedOutput.{output_in_list, runs_without}
+use Rattle.ppserve.proofs.ServedOutput.{output_in_list, runs_over}
 use Rattle.ppserve.proofs.run_list.run_with_contents.Goals as goal
 
+pub filled_shelf-requires-clause-small : goal.filled_shelf-requires-clause-small
+filled_shelf-requires-clause-small g c = (subst IsRunnable (sym c.list.view_is) c.requires.runnable).small
+
 pub run_over-requires-clause-runnable : goal.run_over-requires-clause-runnable
-run_over-requires-clause-runnable g c κs within = runs_without c.args.list.now _ c.requires.runnable (search rules)
+run_over-requires-clause-runnable g c κs within =
+    runs_over _ c.in_ok-shelf.shelf (subst IsRunnable (sym c.list.view_is) c.requires.runnable) c.in_ok-shelf.ensures.names
 
 pub returns : goal.returns
 returns g c =
-    delivers_as (output_in_list c.list_growth.ensures _ c.in_ok-shelf.shelf c.args.options.mode c.args.list.now _ c.in_ok-shelf.ensures.full
-    (c.in_ok-shelf.ensures.files ∙ ap files_of c.replace-contents.ensures.value)) c.run_over.ensures
+    let parts = c.list.inside in
+    let list : CompilationList = record { setting = parts.setting; names = parts.names.names; contents = parts.contents; units = parts.units } in
+    let shelf = c.in_ok-shelf in
+    let whole = output_in_list c.list_growth.ensures _ shelf.shelf c.args.options.mode list shelf.ensures.names shelf.ensures.full shelf.ensures.files in
+    rw (← c.list.view_is) (delivers_as whole c.run_over.ensures)

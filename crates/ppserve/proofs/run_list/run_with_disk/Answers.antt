@@ -1,6 +1,16 @@
+use Rattle.std.proofs.Common.{sym, subst}
+use Rattle.ppserve.specs.CompilationList.{CompilationList}
+use Rattle.ppserve.specs.Listing.{IsRunnable}
 use Rattle.ppserve.proofs.Delivery.{delivers_as}
-use Rattle.ppserve.proofs.ServedOutput.{output_permitted}
+use Rattle.ppserve.proofs.ServedOutput.{output_permitted, runs_over}
 use Rattle.ppserve.proofs.run_list.run_with_disk.Goals as goal
 
+pub run_over-requires-clause-runnable : goal.run_over-requires-clause-runnable
+run_over-requires-clause-runnable g c κs within =
+    runs_over _ c.in_ok-shelf.shelf (subst IsRunnable (sym c.list.view_is) c.requires.runnable) c.in_ok-shelf.ensures.names
+
 pub returns : goal.returns
-returns g c = delivers_as (output_permitted _ c.in_ok-shelf.shelf c.args.options.mode c.args.list.now c.in_ok-shelf.ensures.names) c.run_over.ensures
+returns g c =
+    let parts = c.list.inside in
+    let list : CompilationList = record { setting = parts.setting; names = parts.names.names; contents = parts.contents; units = parts.units } in
+    rw (← c.list.view_is) (delivers_as (output_permitted _ c.in_ok-shelf.shelf c.args.options.mode list c.in_ok-shelf.ensures.names) c.run_over.ensures)

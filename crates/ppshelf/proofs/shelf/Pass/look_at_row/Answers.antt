@@ -27,14 +27,16 @@ look-requires-clause-fits g c =
     let P : FileView → Type 0 = λ f. FitsRow g.D.Disk.may f c.index.result.now c.index_mut-observation.result.now in
     subst P (sym (file_is g at))
     (fits_at c.shelf.inside.profile c.shelf.inside.names c.shelf.inside.rows.items c.self.inside.shelf.now (seen g at) c.args.row c.index.result.now
-    g.D.Disk.may c.self.inside.rows.items c.index_mut-observation.result.now (within g at) c.index.ensures c.self.invariant c.index_mut-observation.ensures.value)
+    g.D.Disk.may c.self.inside.rows.items c.index_mut-observation.result.now (within g at) c.index.ensures c.self.invariant.0 c.index_mut-observation.ensures.value)
 
 pub invariant_of-self : goal.invariant_of-self
 invariant_of-self g c =
     let at = (goal.at.invariant_of-self g c).After-file in
-    let P : FileView → Type 0 = λ f. FitsRow g.D.Disk.may f c.index.result.now c.look.new.observation in
-    shown_pass c.shelf.inside.profile c.shelf.inside.names c.shelf.inside.rows.items c.self.inside.shelf.now (seen g at) c.args.row c.index.result.now
-    g.D.Disk.may c.self.inside.rows.items c.look.new.observation (within g at) c.index.ensures c.self.invariant (subst P (file_is g at) c.look.ensures.fits)
+    let P : FileView → Type 0 = λ f. FitsRow g.D.Disk.may f c.index.result.now c.look.new.observation in (
+      shown_pass c.shelf.inside.profile c.shelf.inside.names c.shelf.inside.rows.items c.self.inside.shelf.now (seen g at) c.args.row c.index.result.now
+          g.D.Disk.may c.self.inside.rows.items c.look.new.observation (within g at) c.index.ensures c.self.invariant.0 (subst P (file_is g at) c.look.ensures.fits),
+      c.self.invariant.1,
+    )
 
 pub returns-clause-known : goal.returns-clause-known
 returns-clause-known g c =
@@ -47,7 +49,7 @@ returns-clause-known g c =
 pub returns-clause-err : goal.returns-clause-err
 returns-clause-err g c =
     let at = (goal.at.returns-clause-err g c).After-file in
-    let w : c.args.row < length c.self.inside.rows.items = let s = c.self.invariant.len in let u = within g at in omega arith in
+    let w : c.args.row < length c.self.inside.rows.items = let s = c.self.invariant.0.len in let u = within g at in omega arith in
     on_err_weaker c.look.result (λ unchanged.
     let e = files_of-same c.self.inside.rows.items c.args.row c.look.new.observation c.index_mut-observation.result.now w c.index_mut-observation.ensures.value unchanged in
     ap (λ (f : Files). record { shelf = c.self.inside.shelf.now; files = f }) e ∙ c.self.view_is) c.look.ensures.err

@@ -1,4 +1,4 @@
-use Rattle.std.proofs.Common.{◌≡◌, ◌<◌, ◌+◌, ap, sym, ◌∙◌, arith, length, ℕ, List, subst, get_or, set, vec_len}
+use Rattle.std.proofs.Common.{rules, ◌≡◌, ◌<◌, ◌+◌, ap, sym, ◌∙◌, arith, length, ℕ, List, subst, get_or, set, vec_len}
 use Rattle.std.proofs.lemmas.Option.{same_Some}
 use Rattle.ppshelf.specs.Files.{PassView, Files, ShelfView, Agree, IsMerged}
 use Rattle.ppshelf.specs.code.ShelfRows.{FileView, FitsRow, Observation, IsPass, files_of, row_state_at, no_observation}
@@ -15,7 +15,7 @@ module _ (g : Over) (c : After-file g) where
   theirs_pass : IsPass g.D.Disk.may c.args.shelf.now c.other.inside.rows.items
   theirs_pass =
       let P : ShelfView → Type 0 = λ s. IsPass g.D.Disk.may s c.other.inside.rows.items in
-      subst P (ap (λ (x : PassView). x.shelf) c.other.view_is ∙ c.requires.theirs) c.other.invariant
+      subst P (ap (λ (x : PassView). x.shelf) c.other.view_is ∙ c.requires.theirs) c.other.invariant.0
 
   before : vec_len c.loop-theirs.rows ≡ c.len-row.result + 1
   before = let h = c.in-Some.ensures in let n = c.len-row.ensures in omega arith
@@ -73,7 +73,7 @@ returns-clause-agree g c =
     let theirs : files_of c.other.inside.rows.items ≡ c.args.other.files = ap (λ (x : PassView). x.files) c.other.view_is in
     let own : c.self.inside.shelf.now ≡ c.args.shelf.now = ap (λ (x : PassView). x.shelf) c.self.view_is ∙ c.requires.mine in
     let a : Agree (files_of c.self.inside.rows.items) (files_of c.other.inside.rows.items) =
-    met_agree g.D.Disk.may _ _ _ _ met (c.self.invariant.len ∙ ap (λ (s : ShelfView). length s.names) own) in
+    met_agree g.D.Disk.may _ _ _ _ met (c.self.invariant.0.len ∙ ap (λ (s : ShelfView). length s.names) own) in
     let P : Files → Type 0 = λ f. Agree f c.args.other.files in
     let Q : Files → Type 0 = λ f. Agree (files_of c.self.inside.rows.items) f in
     subst P mine (subst Q theirs a)
@@ -87,7 +87,10 @@ returns-clause-joined g c =
     let own : c.self.inside.shelf.now ≡ c.args.shelf.now = ap (λ (x : PassView). x.shelf) c.self.view_is ∙ c.requires.mine in
     let of_them : c.other.inside.shelf.now ≡ c.args.shelf.now = ap (λ (x : PassView). x.shelf) c.other.view_is ∙ c.requires.theirs in
     let a : IsMerged (files_of c.self.inside.rows.items) (files_of c.other.inside.rows.items) (files_of c.loop-theirs.self-inside.rows.items) =
-    met_joined g.D.Disk.may _ _ _ _ met (c.self.invariant.len ∙ ap (λ (s : ShelfView). length s.names) own) (c.other.invariant.len ∙ ap (λ (s : ShelfView). length s.names) of_them) in
+    met_joined g.D.Disk.may _ _ _ _ met (c.self.invariant.0.len ∙ ap (λ (s : ShelfView). length s.names) own) (c.other.invariant.0.len ∙ ap (λ (s : ShelfView). length s.names) of_them) in
     let P : Files → Type 0 = λ f. IsMerged f c.args.other.files (files_of c.loop-theirs.self-inside.rows.items) in
     let Q : Files → Type 0 = λ f. IsMerged (files_of c.self.inside.rows.items) f (files_of c.loop-theirs.self-inside.rows.items) in
     subst P mine (subst Q theirs a)
+
+pub invariant_of-self : goal.invariant_of-self
+invariant_of-self g c = (search rules, search rules)

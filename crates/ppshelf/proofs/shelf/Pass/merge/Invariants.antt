@@ -4,7 +4,7 @@ use Rattle.ppshelf.proofs.shelf.Pass.merge.Given as goal
 
 abbrev pub invariant-loop-theirs : goal.invariant-loop-theirs
 invariant-loop-theirs g l =
-    (l.self-inside.shelf ≡ l.initial.self-inside.shelf)
+    ((l.self-inside.shelf ≡ l.initial.self-inside.shelf) × (l.self-inside.searches ≡ l.initial.self-inside.searches))
     × (vec_len l.rows ≤ length l.initial.shelf.names)
     × (l.rows.items ≡ take (vec_len l.rows) l.initial.rows.items)
     × Met g.D.Disk.may l.initial.shelf l.initial.self-inside.rows.items l.initial.rows.items l.self-inside.rows.items (vec_len l.rows)
