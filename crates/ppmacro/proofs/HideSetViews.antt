@@ -1,5 +1,5 @@
 -- The hide sets as callers and contracts see them.
-use Rattle.std.proofs.Common.{◌≡◌, ℕ, ◌<◌, ◌||◌, ◌++◌, nat_eq, [], List, length, get_or, refl, sym, ap, ◌∙◌, subst}
+use Rattle.std.proofs.Common.{◌≡◌, ℕ, ◌<◌, ◌||◌, ◌++◌, nat_eq, [], List, length, get_or, refl, sym, ap, ◌∙◌, subst, append-nil}
 use Rattle.std.specs.FinSet as set
 use Rattle.std.specs.List.{IsDistinct}
 use Rattle.std.specs.HashSet.{hasher_of}
@@ -13,7 +13,8 @@ use Rattle.ppmacro.specs.code.Operations.{Operation, Union, Intersection, member
 use Rattle.ppmacro.specs.PairCache.{CachedPairs, KeepsPairs}
 use Rattle.ppmacro.specs.HideSetPool.{HideSetPool}
 use Rattle.ppmacro.specs.HideSets.{set_at, IsKnown, KeepsSets}
-use Rattle.ppmacro.specs.code.PoolInvariant.{AreCachedResults, IsConsistentPool}
+use Rattle.ppmacro.specs.code.PoolInvariant.{AreCachedResults, IsAddition, IsConsistentPool}
+use Rattle.ppmacro.specs.declared.hide_sets.additions.Addition.{Addition}
 use Rattle.ppmacro.proofs.NodeHideSets.{IsNamed, made_of, set-at, known-at, at-known, sets-keep, past-by, made-is, sets_are_unique-names, sets-named, bounded-more, insert-is, set-named, hide-none, made-members, more-members}
 use Rattle.ppmacro.proofs.PoolGrowthLemmas.{pairs-are}
 use Rattle.ppmacro.proofs.CachedResults.{results-keep}
@@ -157,6 +158,20 @@ pub with-seen : (names more after : List Name) (old new : List Node) (v : HideSe
 with-seen names more after old new v a a' x n q grown d lx at is bounded same la ln h =
     set-at after new n ln ∙ insert-is after old new a x n q d lx at h
     ∙ ap (λ s. set.insert s q) ((λ i. hide_set (grown i) old a) ∙ set-named names more old a bounded la ∙ set-seen names old v a a' is same la)
+
+-- A cached addition is the set with one more name.
+pub cached-seen : (s : Inside) {v : HideSetPool} {a' : ℕ} (e : Addition) (q : Name)
+    → seen s ≡ v
+    → IsConsistentPool s.names.names s.nodes.keys s.unions.results s.intersections.results
+    → IsAddition (length s.names.names) s.nodes.keys e
+    → e.base ≡ a'
+    → get_or s.names.names e.name [] ≡ q
+    → set_at v e.result ≡ set.insert (set_at v a') q
+cached-seen s {v = v} {a' = a'} e q is k h same at =
+    let names = s.names.names in
+    let ns = s.nodes.keys in
+    ap (λ w. set_at w e.result) (sym is)
+    ∙ with-seen names [] names ns ns v e.base a' e.name e.result q (sym (append-nil names)) k.distinct h.name at (ap (λ w. w.sets) is) k.bounded same h.base h.within h.is
 
 -- ---- sets that exist already
 

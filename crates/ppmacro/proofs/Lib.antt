@@ -28,6 +28,8 @@ pub mod Tries
 pub mod ExistingSets
 -- Cached results of pairs, while nodes and pairs are added.
 pub mod CachedResults
+-- Cached sets with one more name, while nodes and names are added.
+pub mod CachedAdditions
 -- The set of names that each node of the trie represents.
 pub mod NodeHideSets
 -- Names and their numbers.

@@ -58,6 +58,11 @@ name-got [] n k e = absurd (cc e)
 name-got (x ∷ ks) zero k e = cc e
 name-got (x ∷ ks) (suc n) k e = name-got ks n k e
 
+pub name-within : (ks : List Name) (n : ℕ) (k : Name) → slice_get ks n ≡ Some k → n < length ks
+name-within [] n k e = absurd (cc e)
+name-within (x ∷ ks) zero k e = omega arith
+name-within (x ∷ ks) (suc n) k e = omega (arith, name-within ks n k e)
+
 pub names-keep : (b : Bool) (ks : List Name) (k : Name) → (more : List Name) × ((if b then ks else ks ++ k ∷ []) ≡ ks ++ more)
 names-keep true ks k = ([], sym (append-nil ks))
 names-keep false ks k = (k ∷ [], refl)

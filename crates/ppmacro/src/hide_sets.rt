@@ -4,19 +4,22 @@
 //! (`nodes`). Each node exists once, so sets with equal members have equal numbers, and `==` on numbers compares sets.
 //!
 //! A unit computes few different unions and intersections, but computes them for many tokens. So both operations cache their
-//! results by pairs of sets: a second call with the same pair allocates nothing and can't fail. Existing sets never change.
+//! results by pairs of sets: a second call with the same pair allocates nothing and can't fail. Existing sets never change. Sets with
+//! one more name are cached in a table of fixed size (`additions`), which contracts don't mention.
 //!
 //! Names come from the files that are preprocessed, so whoever writes these could choose names that collide. All tables of a pool
 //! hash with the key that the pool is made with, and each contract promises that the key stays.
-ghost use Rattle.std.specs.Prelude.{◌≡◌, ◌↔◌, IsTrue, ℕ, Some, Ok, IfOk, OnErr};
+ghost use Rattle.std.specs.Prelude.{◌≡◌, ◌↔◌, IsTrue, ℕ, Some, Ok, IfOk, IfSome, OnErr, length};
 ghost use Rattle.std.specs.FinSet as set;
 ghost use Rattle.ppmacro.specs.HideSets.{set_at, IsKnown, KeepsSets, initial_pool};
 ghost use Rattle.ppmacro.specs.PairCache.{union_known, intersection_known, KeepsPairs};
 
+mod additions;
 mod names;
 mod nodes;
 mod pair_cache;
 
+use additions::{Addition, Additions};
 use indexmap::IndexSet;
 use names::NameNumbers;
 use nodes::{Node, Operation, OperationKind};
@@ -41,7 +44,7 @@ impl Model for Set {
     ghost inverse = { λ n. record { number = n } };
 }
 
-/// A pool of distinct hide sets, and a cache of the unions and intersections that were computed. A set is a node of a trie over
+/// A pool of distinct hide sets, and caches of the sets that were computed. A set is a node of a trie over
 /// the numbers of names, and its number is the node's number.
 #[derive(Drop)]
 pub struct HideSets {
@@ -50,6 +53,7 @@ pub struct HideSets {
     nodes: IndexSet<Node, Hashing>,
     unions: PairCache,
     intersections: PairCache,
+    additions: Additions,
 }
 
 impl Model for HideSets {
@@ -68,7 +72,7 @@ impl Model for HideSets {
 
     ghost view = { λ s. record { sets = hide_sets s.names.names s.nodes.keys; unions = s.unions.results; intersections = s.intersections.results; hashing = hasher_of s.nodes } };
 
-    ghost invariant = { λ s. IsPoolHashedBy (hasher_of s.nodes) s.names s.nodes.keys s.unions s.intersections };
+    ghost invariant = { λ s. IsPoolHashedBy (hasher_of s.nodes) s.names s.nodes.keys s.unions s.intersections s.additions };
 }
 
 impl HideSets {
@@ -89,6 +93,7 @@ impl HideSets {
             nodes: nodes::start(alloc, hashing)?,
             unions: PairCache::new(alloc, hashing),
             intersections: PairCache::new(alloc, hashing),
+            additions: Additions::new(alloc),
         })
     }
 
@@ -97,6 +102,13 @@ impl HideSets {
         ensures { result ≡ self.now.hashing }
     {
         *self.nodes.hasher()
+    }
+
+    /// Returns the number of sets.
+    pub fn len(&self) -> usize
+        ensures { result ≡ length self.now.sets }
+    {
+        self.nodes.len()
     }
 
     /// Returns the empty set.
@@ -138,6 +150,25 @@ impl HideSets {
         }
     }
 
+    /// Returns a set with one more name, if it is cached.
+    fn cached_with(&self, hide: Set, name: &[u8]) -> Option<Set>
+        requires { IsKnown self.now hide }
+        ensures set { IfSome result (λ s. set_at self.now s ≡ set.insert (set_at self.now hide) name.now) }
+        ensures known { IfSome result (λ s. IsKnown self.now s) }
+        ensures unique { IfSome result (λ s. (n : ℕ) → IsKnown self.now n → set_at self.now n ≡ set.insert (set_at self.now hide) name.now → s ≡ n) }
+    {
+        let addition = self.additions.get(hide.number, name)?;
+        if addition.base != hide.number {
+            return None;
+        }
+        if !self.names.is_name(addition.name, name) {
+            return None;
+        }
+        Some(Set {
+            number: addition.result,
+        })
+    }
+
     /// Returns a set with one more name. Fails only if an allocation fails, or if the result is a new set and 4,294,967,295 nodes
     /// exist. If the result exists, succeeds and changes nothing. Existing sets never change.
     pub fn with(&mut self, hide: Set, name: &[u8]) -> Result<Set, Memory>
@@ -148,9 +179,18 @@ impl HideSets {
         ensures pairs { (self.new.unions ≡ self.old.unions) × (self.new.intersections ≡ self.old.intersections) }
         ensures there { (n : ℕ) → IsKnown self.old n → set_at self.old n ≡ set.insert (set_at self.old hide) name.now → (result ≡ Ok n) × (self.new ≡ self.old) }
     {
+        if let Some(cached) = self.cached_with(hide, name) {
+            return Ok(cached);
+        }
         let (alloc, set) = (self.alloc, hide.number);
         let named = self.names.number_for(alloc, name)?;
         let number = nodes::insert(&mut self.nodes, set, named)?;
+        let addition = Addition {
+            base: set,
+            name: named,
+            result: number,
+        };
+        self.additions.put(alloc, name, addition);
         Ok(Set { number })
     }
 

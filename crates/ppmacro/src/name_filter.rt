@@ -12,7 +12,7 @@ const SLOTS: usize = 32_768;
 
 /// Returns the fingerprint of a name.
 #[tactic(auto, unfolding(crate::specs::code::NameFilter::fingerprint_of))]
-fn fingerprint_of(name: &[u8]) -> usize
+pub(crate) fn fingerprint_of(name: &[u8]) -> usize
     ensures value { result ≡ fingerprint_of name.now }
     ensures bound { result < 32_768 }
 {

@@ -23,7 +23,7 @@ use std::alloc::Global;
 use std::marker::Model;
 
 /// The initial capacity, about the number of macros of a unit in a large project. A table that grows moves its entries.
-const INITIAL_CAPACITY: usize = 4_096;
+const INITIAL_CAPACITY: usize = 7_000;
 
 /// The macros of a unit. Contracts see a finite map from names to definitions, and how the names are hashed.
 ///

@@ -1,5 +1,5 @@
 //! The names of hide sets, by number.
-ghost use Rattle.std.specs.Prelude.{◌≡◌, ◌<◌, ◌++◌, List, ℕ, false, IfOk, IfSome, IfNone, IsOk, OnErr, length, slice_index_or, []};
+ghost use Rattle.std.specs.Prelude.{◌≡◌, ◌<◌, ◌++◌, List, ℕ, false, IfOk, IfSome, IfNone, IsOk, IsTrue, OnErr, length, slice_index_or, []};
 ghost use Rattle.std.specs.List.{AllByRecursion, IsDistinct};
 ghost use Rattle.ppmacro.specs.code.Members.{same_name};
 
@@ -119,6 +119,16 @@ impl NameNumbers {
             text: NameText::Sought(name),
         };
         self.names.get_index_of(&sought)
+    }
+
+    /// Returns whether a name has this number.
+    pub(crate) fn is_name(&self, number: usize, name: &[u8]) -> bool
+        ensures { IsTrue result → (number < length self.now.names) × (slice_index_or self.now.names number [] ≡ name.now) }
+    {
+        match self.names.get_index(number) {
+            Some(kept) => kept.key().bytes == name,
+            None => false,
+        }
     }
 
     /// Returns the number of a name. Adds the name if it is new.

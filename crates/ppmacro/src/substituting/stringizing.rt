@@ -28,6 +28,7 @@ pub fn push_escaped(text: &mut Vec<u8>, spelling: &[u8]) -> Result<(), Memory>
     ensures put { OnOk result (text.new.items ≡ text.old.items ++ escaped_literal spelling.now) }
     ensures refused { OnErr result ((n : ℕ) × (text.new.items ≡ text.old.items ++ escaped_literal (take n spelling.now))) }
 {
+    text.reserve(spelling.len())?;
     for byte in spelling {
         push_escaped_byte(text, *byte)?;
     }

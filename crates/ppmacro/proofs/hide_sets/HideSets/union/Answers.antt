@@ -1,8 +1,9 @@
-use Rattle.std.proofs.Common.{◌≡◌, ◌∙◌, refl, sym, ap}
+use Rattle.std.proofs.Common.{◌≡◌, length, arith, ◌∙◌, refl, sym, ap}
 use Rattle.ppmacro.specs.code.Members.{hide_sets}
 use Rattle.ppmacro.specs.code.Operations.{Union}
 use Rattle.ppmacro.proofs.PoolGrowthLemmas.{pairs-are}
 use Rattle.ppmacro.proofs.HideSetViews.{both-seen, node-asked, keeps-seen, made-seen, selected-made}
+use Rattle.ppmacro.proofs.CachedAdditions.{additions-keep}
 use Rattle.ppmacro.proofs.NodeHideSets.{known-at}
 use Rattle.ppmacro.proofs.ExistingSets.{refused}
 use Rattle.ppmacro.proofs.hide_sets.HideSets.union.Goals as goal
@@ -17,6 +18,8 @@ pub invariant_of-self : goal.invariant_of-self
 invariant_of-self c =
     record {
       consistent = selected-made Union c.self.inside c.self.invariant.consistent c.combine.ensures.pool c.combine.ensures.keeps c.combine.ensures.bounded c.combine.ensures.results;
+      additions = additions-keep (length c.self.inside.names.names) (length c.self.inside.names.names) c.self.inside.nodes.keys c.combine.new.nodes.keys
+          c.self.inside.additions (omega arith) c.self.invariant.consistent.pool c.combine.ensures.keeps c.self.invariant.additions;
       names_hashing = c.self.invariant.names_hashing ∙ sym c.combine.ensures.hashing;
       unions_hashing = c.combine.ensures.pairs_hashing ∙ c.self.invariant.unions_hashing ∙ sym c.combine.ensures.hashing;
       intersections_hashing = c.self.invariant.intersections_hashing ∙ sym c.combine.ensures.hashing;
@@ -26,6 +29,8 @@ pub invariant_of-self-2 : goal.invariant_of-self-2
 invariant_of-self-2 c =
     record {
       consistent = selected-made Union c.self.inside c.self.invariant.consistent c.combine.ensures.pool c.combine.ensures.keeps c.combine.ensures.bounded c.combine.ensures.results;
+      additions = additions-keep (length c.self.inside.names.names) (length c.self.inside.names.names) c.self.inside.nodes.keys c.combine.new.nodes.keys
+          c.self.inside.additions (omega arith) c.self.invariant.consistent.pool c.combine.ensures.keeps c.self.invariant.additions;
       names_hashing = c.self.invariant.names_hashing ∙ sym c.combine.ensures.hashing;
       unions_hashing = c.combine.ensures.pairs_hashing ∙ c.self.invariant.unions_hashing ∙ sym c.combine.ensures.hashing;
       intersections_hashing = c.self.invariant.intersections_hashing ∙ sym c.combine.ensures.hashing;

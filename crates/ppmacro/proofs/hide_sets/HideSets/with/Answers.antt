@@ -2,6 +2,9 @@ use Rattle.std.proofs.Common.{◌≡◌, ◌<◌, [], length, get_or, refl, sym,
 use Rattle.std.specs.HashSet.{hasher_of}
 use Rattle.ppmacro.specs.code.Members.{hide_sets}
 use Rattle.ppmacro.proofs.HideSetViews.{node-asked, more-there, more-seen, node-known, keeps-named, selected-named, with-seen}
+use Rattle.ppmacro.specs.HideSets.{KeepsSets}
+use Rattle.ppmacro.proofs.PoolGrowthLemmas.{keeps-all}
+use Rattle.ppmacro.proofs.CachedAdditions.{additions-keep, is-addition, names-grown}
 use Rattle.ppmacro.proofs.NodeHideSets.{known-at, more-named}
 use Rattle.ppmacro.proofs.hide_sets.HideSets.with.Goals as goal
 
@@ -13,6 +16,9 @@ invariant_of-self-in_err-number c = record {
   consistent = selected-named c.self.inside.names.names c.in_ok-named.ensures.keeps.0 c.number_for.new.self.names c.self.inside.nodes.keys
       c.insert.new.nodes.keys c.self.inside.unions.results c.self.inside.intersections.results c.in_ok-named.named c.in_ok-named.ensures.keeps.1 c.in_ok-named.ensures.distinct
       c.in_ok-named.ensures.found.0 c.self.invariant.consistent c.insert.ensures.pool c.insert.ensures.keeps c.insert.ensures.bounded;
+  additions = additions-keep (length c.self.inside.names.names) (length c.number_for.new.self.names) c.self.inside.nodes.keys c.insert.new.nodes.keys c.self.inside.additions
+      (names-grown c.self.inside.names.names c.in_ok-named.ensures.keeps.0 c.number_for.new.self.names c.in_ok-named.ensures.keeps.1) c.self.invariant.consistent.pool
+      c.insert.ensures.keeps c.self.invariant.additions;
   names_hashing = c.in_ok-named.ensures.hashing ∙ c.self.invariant.names_hashing ∙ sym c.insert.ensures.hashing;
   unions_hashing = c.self.invariant.unions_hashing ∙ sym c.insert.ensures.hashing;
   intersections_hashing = c.self.invariant.intersections_hashing ∙ sym c.insert.ensures.hashing;
@@ -23,10 +29,26 @@ invariant_of-self-2 c = record {
   consistent = selected-named c.self.inside.names.names c.in_ok-named.ensures.keeps.0 c.number_for.new.self.names c.self.inside.nodes.keys c.insert.new.nodes.keys
       c.self.inside.unions.results c.self.inside.intersections.results c.in_ok-named.named c.in_ok-named.ensures.keeps.1 c.in_ok-named.ensures.distinct c.in_ok-named.ensures.found.0
       c.self.invariant.consistent c.insert.ensures.pool c.insert.ensures.keeps c.insert.ensures.bounded;
+  additions = c.put.ensures (length c.number_for.new.self.names) c.insert.new.nodes.keys
+      (additions-keep (length c.self.inside.names.names) (length c.number_for.new.self.names) c.self.inside.nodes.keys c.insert.new.nodes.keys c.self.inside.additions
+      (names-grown c.self.inside.names.names c.in_ok-named.ensures.keeps.0 c.number_for.new.self.names c.in_ok-named.ensures.keeps.1) c.self.invariant.consistent.pool
+      c.insert.ensures.keeps c.self.invariant.additions)
+      (is-addition (length c.number_for.new.self.names) c.self.inside.nodes.keys c.insert.new.nodes.keys _ c.self.invariant.consistent.pool c.insert.ensures.keeps
+      (node-asked c.self.inside c.self.view_is c.hide.view_is c.requires) c.in_ok-named.ensures.found.0 c.in_ok-number.ensures.known c.in_ok-number.ensures.set);
   names_hashing = c.in_ok-named.ensures.hashing ∙ c.self.invariant.names_hashing ∙ sym c.insert.ensures.hashing;
   unions_hashing = c.self.invariant.unions_hashing ∙ sym c.insert.ensures.hashing;
   intersections_hashing = c.self.invariant.intersections_hashing ∙ sym c.insert.ensures.hashing;
 }
+
+pub returns-in_err-named-clause-keeps : goal.returns-in_err-named-clause-keeps
+returns-in_err-named-clause-keeps c =
+    let same = (λ i. record {
+      sets = hide_sets (c.in_err-named.ensures.err i).names c.self.inside.nodes.keys;
+      unions = c.self.inside.unions.results;
+      intersections = c.self.inside.intersections.results;
+      hashing = hasher_of c.self.inside.nodes;
+    }) ∙ c.self.view_is in
+    subst (KeepsSets c.args.self.now) (sym same) (keeps-all c.args.self.now)
 
 pub returns-in_err-number-clause-keeps : goal.returns-in_err-number-clause-keeps
 returns-in_err-number-clause-keeps c =
