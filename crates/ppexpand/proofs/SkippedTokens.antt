@@ -1,5 +1,5 @@
 -- Consecutive tokens that are emitted unchanged.
-use Rattle.std.proofs.Common.{◌≡◌, ℕ, zero, suc, ◌≤◌, Bool, true, false, not, ◌&&◌, List, [], ◌∷◌, ◌++◌, map, Option, Some, None}
+use Rattle.std.proofs.Common.{◌≡◌, ℕ, suc, ◌≤◌, Bool, true, false, not, ◌&&◌, List, [], ◌∷◌, ◌++◌, map, Option, Some, None}
 use Rattle.std.proofs.Common.{is_some, refl, sym, ap, ◌∙◌, subst, arith, append_assoc, append-nil, true≢false}
 use Rattle.std.specs.FinSet as set
 use Rattle.std.specs.List.{AllByRecursion}
@@ -162,6 +162,15 @@ expansion-following macros env meter tokens prefix rest e out laid_out h d is en
       fault_is = ends;
       meter_is = leaves;
     }
+
+-- the expansion of a list with a prefix of tokens that never expand, by the expansion of the rest
+pub expansion-of_rest : (macros : Macros) (env : Env) (meter : Meter) (tokens prefix rest : List Token) (e : Expansion)
+    → tokens ≡ prefix ++ rest
+    → AllByRecursion (λ t. never_expands macros t ≡ true) prefix
+    → IsExpansion macros env meter rest e
+    → IsExpansion macros env meter tokens (record e { tokens = prefix ++ e.tokens })
+expansion-of_rest macros env meter tokens prefix rest e laid_out h x =
+    expansion-following macros env meter tokens prefix rest (record e { tokens = prefix ++ e.tokens }) x.outcome laid_out h x.expands (ap (λ ts. prefix ++ ts) x.emitted) x.fault_is x.meter_is
 
 -- Tokens that are all emitted unchanged expand to themselves.
 pub unhidden-expands : (macros : Macros) (env : Env) (level : ℕ) (meter : Meter) (s : HideSetPool) (hs : List Hidden)

@@ -2,7 +2,7 @@
 use Rattle.std.proofs.Common.{ℕ, suc, ◌≤◌, subst, arith}
 use Rattle.ppmacro.specs.Names.{Macros}
 use Rattle.ppmacro.specs.Hiding.{Hiding}
-use Rattle.std.specs.Prelude.{List, ◌∷◌, Option}
+use Rattle.std.specs.Prelude.{List, ◌∷◌}
 use Rattle.ppexpand.specs.declared.env.Env.{Env}
 use Rattle.ppexpand.specs.declared.meter.Meter.{Meter}
 use Rattle.ppexpand.specs.Expansion.{Outcome, Expands, emits, replaced, invocation_replaced}

@@ -1,11 +1,19 @@
--- Borrowed tokens of an expanded list: single ones, and slices of the list.
+-- Pieces of an expanded list, and its tokens as they are borrowed: single ones, and slices of the list.
 use Rattle.std.specs.Prelude.{◌≡◌, ◌<◌, ◌++◌, [], List, Option, MatchOption, length}
 use Rattle.pptext.specs.declared.tokens.Token.{Token}
 use Rattle.ppmacro.specs.Substituting.{tokens_of}
-use Rattle.ppexpand.specs.declared.rope_iter.TokenRef.{TokenRef}
-use Rattle.ppexpand.specs.declared.rope_iter.TokenRef.TheVariants as ref
-use Rattle.ppexpand.specs.declared.rope_iter.TokenSlice.{TokenSlice}
-use Rattle.ppexpand.specs.declared.rope_iter.TokenSlice.TheVariants as slice
+use Rattle.ppmacro.specs.declared.hidden_token.Hidden.{Hidden}
+use Rattle.ppexpand.specs.declared.emitted.Piece.{Piece}
+use Rattle.ppexpand.specs.declared.emitted.Piece.TheVariants.{Span, Singles}
+use Rattle.ppexpand.specs.declared.token_slice.TokenRef.{TokenRef}
+use Rattle.ppexpand.specs.declared.token_slice.TokenRef.TheVariants as ref
+use Rattle.ppexpand.specs.declared.token_slice.TokenSlice.{TokenSlice}
+use Rattle.ppexpand.specs.declared.token_slice.TokenSlice.TheVariants as slice
+
+-- the tokens of a piece, with their hide sets
+abbrev pub piece_list : Piece → List Hidden
+piece_list (Span s) = s
+piece_list (Singles hs) = hs.items
 
 -- the value of a borrowed token
 abbrev pub ref_token : TokenRef → Token

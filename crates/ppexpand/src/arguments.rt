@@ -106,7 +106,7 @@ pub(crate) fn gather<'a>(
     ]) }
 {
     let mut argument = pool.list(ARGUMENT_CAPACITY)?;
-    let mut arguments: Vec<Vec<Hidden<'a>>> = Vec::new(pool.alloc());
+    let mut arguments = pool.arguments();
     let mut depth: usize = 0;
     let mut commas = commas;
     while let Some(hidden) = list.next() {

@@ -2,28 +2,31 @@
 //!
 //! Most tokens are emitted unchanged, many at a time. So the output is a list of pieces: a span borrows tokens of the file, and a vector
 //! has tokens that were emitted one by one. A short span is copied to the vector instead, since a piece costs more than a few copies.
-//! While a list is expanded, tokens are only appended (`Emitted`). The result adds the prefix of the list before the first macro name,
-//! which is never touched (`TokenRope`). It is kept until all units are done, so its unused capacity is freed.
-//! Contracts see each of these as one list of tokens, and say nothing of its pieces.
-ghost use Rattle.std.specs.Prelude.{◌≡◌, ◌∷◌, ◌++◌, [], flat_map, true, IfOk, IfSome, OnOk};
-ghost use Rattle.ppexpand.specs.Slices.{slice_tokens};
-ghost use Rattle.ppexpand.specs.code.Pieces.{piece_list};
+//! While a list is expanded, tokens are only appended. Whoever keeps them takes the pieces: their vectors have no unused capacity, and the
+//! vector for the next tokens stays.
+//! Contracts see the tokens as one list, and say nothing of its pieces.
+ghost use Rattle.std.specs.Prelude.{◌≡◌, ◌∷◌, ◌++◌, [], flat_map, true, IfOk, OnOk};
+ghost use Rattle.ppexpand.specs.Slices.{piece_list, slice_tokens};
 ghost use Rattle.ppmacro.specs.Substituting.{tokens_of};
 
 use crate::lists::put;
-use crate::rope_iter::TokenSlice;
+use crate::token_slice::{SliceIter, TokenSlice};
 use crate::token_span::TokenSpan;
 use ppmacro::Hidden;
 use pptext::{Memory, Token};
 use std::alloc::Global;
 use std::marker::Model;
+use std::mem;
 
 /// The largest number of tokens of a span that are copied. A longer span becomes a piece, and the tokens after it need a new vector.
 const MAX_COPIED: usize = 12;
 
+/// The capacity, in tokens, above which a vector is not kept for later tokens.
+const MOST_KEPT: usize = 4096;
+
 /// A piece of the emitted tokens: a span of a file, or tokens that were emitted one by one.
 #[derive(Drop)]
-pub(crate) enum Piece<'a> {
+pub enum Piece<'a> {
     /// A span of a file.
     Span(TokenSpan<'a>),
     /// Tokens that were emitted one by one.
@@ -32,7 +35,7 @@ pub(crate) enum Piece<'a> {
 
 impl<'a> Piece<'a> {
     /// Returns the tokens.
-    pub(crate) fn tokens(&self) -> TokenSlice<'_, 'a>
+    pub fn tokens(&self) -> TokenSlice<'_, 'a>
         ensures { slice_tokens result ≡ tokens_of (piece_list self.now) }
     {
         match self {
@@ -55,16 +58,21 @@ impl<'a> Model for Emitted<'a> {
 
     ghost Value = { List Hidden };
 
-    ghost use Rattle.ppexpand.specs.code.Pieces.{piece_list};
+    ghost use Rattle.ppexpand.specs.Slices.{piece_list};
 
     ghost view = { λ p. flat_map piece_list p.pieces.items ++ p.singles.items };
 }
 
-/// Moves tokens to a new vector without spare capacity. The old vector keeps its capacity, for the tokens that follow.
+/// Moves tokens to a vector without spare capacity. The old vector keeps its capacity for the tokens that follow, unless it is large.
 fn exact_vec<'a>(singles: &mut Vec<Hidden<'a>>) -> Result<Vec<Hidden<'a>>, Memory>
     ensures same { IfOk result (λ v. v.items ≡ singles.old.items) }
     ensures none { OnOk result (singles.new.items ≡ []) }
 {
+    if singles.capacity() > MOST_KEPT {
+        let mut large = mem::replace(singles, Vec::new(*singles.allocator()));
+        large.shrink_to_fit();
+        return Ok(large);
+    }
     let mut exact_vec = Vec::with_capacity(*singles.allocator(), singles.len())?;
     exact_vec.append(singles)?;
     Ok(exact_vec)
@@ -92,14 +100,24 @@ impl<'a> Emitted<'a> {
         }
     }
 
-    /// Creates an empty list, with capacity for `count` tokens that are emitted one by one.
-    pub(crate) fn with_capacity(alloc: Global, count: usize) -> Result<Emitted<'a>, Memory>
-        ensures { IfOk result (λ p. p ≡ []) }
+    /// Creates an empty list, which uses the memory of this vector.
+    pub(crate) fn over(singles: Vec<Hidden<'a>>) -> Emitted<'a>
+        ensures { result ≡ [] }
     {
-        Ok(Emitted {
-            pieces: Vec::new(alloc),
-            singles: Vec::with_capacity(alloc, count)?,
-        })
+        let mut singles = singles;
+        singles.clear();
+        Emitted {
+            pieces: Vec::new(*singles.allocator()),
+            singles,
+        }
+    }
+
+    /// Removes all tokens.
+    pub(crate) fn clear(&mut self)
+        ensures { self.new ≡ [] }
+    {
+        self.pieces.clear();
+        self.singles.clear();
     }
 
     /// Appends a span of a file.
@@ -121,13 +139,29 @@ impl<'a> Emitted<'a> {
         put(&mut self.singles, hidden)
     }
 
-    /// Frees unused capacity, because the tokens are kept until all units are done.
-    pub(crate) fn free_unused(&mut self) -> Result<(), Memory>
-        ensures { OnOk result (self.new ≡ self.old) }
+    /// Returns the number of tokens that were emitted one by one since the last piece.
+    pub(crate) fn singles_len(&self) -> usize {
+        self.singles.len()
+    }
+
+    /// Removes all tokens, and returns their pieces in order.
+    pub(crate) fn take_pieces(&mut self) -> Result<Vec<Piece<'a>>, Memory>
+        ensures same { IfOk result (λ v. flat_map piece_list v.items ≡ self.old) }
+        ensures none { OnOk result (self.new ≡ []) }
     {
-        self.pieces.shrink_to_fit();
-        self.singles = exact_vec(&mut self.singles)?;
-        Ok(())
+        end_piece(&mut self.pieces, &mut self.singles)?;
+        let alloc = *self.pieces.allocator();
+        Ok(mem::replace(&mut self.pieces, Vec::new(alloc)))
+    }
+
+    /// Appends copies of the tokens to a vector.
+    pub(crate) fn copy_to(&self, tokens: &mut Vec<Token>) -> Result<(), Memory>
+        ensures { OnOk result (tokens.new.items ≡ tokens.old.items ++ tokens_of self.now) }
+    {
+        for piece in &self.pieces {
+            copy_slice(tokens, piece.tokens().iter())?;
+        }
+        copy_slice(tokens, TokenSlice::Hidden(self.singles.as_slice()).iter())
     }
 
     /// Returns true only if no tokens were emitted.
@@ -185,52 +219,13 @@ fn push_piece<'a>(tokens: &mut Vec<Hidden<'a>>, piece: Piece<'a>) -> Result<(), 
     }
 }
 
-/// An expanded list of tokens, which contracts see as a list.
-///
-/// It consists of a prefix of the list that was expanded, up to the first token that names a macro or is an unmatched quote, and of the tokens that
-/// were emitted after it.
-#[derive(Drop)]
-pub struct TokenRope<'a> {
-    prefix: &'a [Token],
-    emitted: Emitted<'a>,
-}
-
-impl<'a> Model for TokenRope<'a> {
-    ghost use Rattle.std.specs.Prelude.{List, ◌++◌};
-    ghost use Rattle.pptext.specs.declared.tokens.Token.{Token};
-
-    ghost Value = { List Token };
-
-    ghost use Rattle.ppmacro.specs.Substituting.{tokens_of};
-
-    ghost view = { λ r. r.prefix.now ++ tokens_of r.emitted };
-}
-
-impl<'a> TokenRope<'a> {
-    /// Joins a prefix of the list that was expanded and the tokens that were emitted after it.
-    pub(crate) fn new(prefix: &'a [Token], emitted: Emitted<'a>) -> TokenRope<'a>
-        ensures { result ≡ prefix.now ++ tokens_of emitted.entry }
-    {
-        TokenRope { prefix, emitted }
+/// Appends copies of the tokens of a slice.
+fn copy_slice(tokens: &mut Vec<Token>, slice: SliceIter) -> Result<(), Memory>
+    ensures { OnOk result (tokens.new.items ≡ tokens.old.items ++ slice.entry) }
+{
+    let mut slice = slice;
+    while let Some(token) = slice.next() {
+        put(tokens, token.to_token()?)?;
     }
-
-    /// Returns the prefix, the pieces, and the tokens that were emitted one by one after the last piece.
-    pub(crate) fn split(&self) -> (&'a [Token], &[Piece<'a>], &[Hidden<'a>])
-        ensures { result.0.now ++ tokens_of (flat_map piece_list result.1.now ++ result.2.now) ≡ self.now }
-    {
-        let Emitted { pieces, singles } = &self.emitted;
-        (self.prefix, pieces.as_slice(), singles.as_slice())
-    }
-
-    /// Returns the tokens as a slice of the list that was expanded, if no tokens were emitted after its prefix. Even then a macro may have been
-    /// replaced, by no tokens.
-    pub fn unchanged(&self) -> Option<&'a [Token]>
-        ensures { IfSome result (λ tokens. tokens.now ≡ self.now) }
-    {
-        if self.emitted.is_empty() {
-            Some(self.prefix)
-        } else {
-            None
-        }
-    }
+    Ok(())
 }

@@ -27,12 +27,13 @@ ghost use Rattle.ppexpand.specs.code.ProgramValues.{expanded_in, ExpansionsKnown
 ghost use Rattle.ppexpand.specs.code.ProgramValues.{ExpandsInvocationArguments, ClosedStepsTo, HasStepped, HasInvoked};
 
 use crate::context::Context;
-use crate::emitted::{Emitted, TokenRope};
+use crate::emitted::Emitted;
 use crate::env::Env;
 use crate::expand_step::{Action, Invocation, Replacer};
 use crate::lists::put;
 use crate::meter::Meter;
-use crate::pre_expansion::{parameter_count, pre_expanded_parameters};
+use crate::pre_expansion::pre_expanded_parameters;
+use crate::scratch::Scratch;
 use crate::token_roles::fault_at_expansion;
 use crate::token_span::{never_expands, split_unexpanded};
 use crate::token_stack::{Lookahead, TokenStack};
@@ -40,6 +41,7 @@ use crate::vec_pool::VecPool;
 use ppmacro::{ArgumentExpansion, Hidden, HideSets, Macro, Pattern, Table, argument_of};
 use pptext::{BoxedFault, Error, Hashing, Memory, Token};
 use std::alloc::Global;
+use std::mem;
 
 /// The largest level of a token list. A list given to `expand` is at level 0, an argument one level deeper than its invocation.
 ///
@@ -47,8 +49,11 @@ use std::alloc::Global;
 /// functions that they call are not inlined into them.
 const DEEPEST: u32 = 256;
 
-/// The initial capacity for tokens that are emitted one by one. It suffices for most text lines.
-const CAPACITY: usize = 32;
+/// The number of hide sets above which they are made anew for the next expansion of a file's tokens.
+const MOST_SETS: usize = 2048;
+
+/// The capacity, in tokens, above which a stack's vector is not kept for the next expansion.
+const MOST_KEPT: usize = 4096;
 
 /// Emits the tokens that replacements pushed, up to the first that names a macro or is an unmatched quote. Returns the macro that this
 /// token names. Returns `None` at a quote, or if no pushed token remains.
@@ -103,13 +108,9 @@ fn none_expands(table: &Table, tokens: &[Hidden]) -> bool
 
 /// Returns the vectors of an invocation's arguments to the pool.
 #[inline(never)]
-fn recycle_arguments<'x>(
-    pool: &mut VecPool<'x>,
-    invocation: &mut Option<Invocation<'_, 'x, '_>>,
-) -> Result<(), Memory> {
-    match invocation.take() {
-        Some(invocation) => pool.keep(invocation.arguments),
-        None => Ok(()),
+fn recycle_arguments<'x>(pool: &mut VecPool<'x>, invocation: &mut Option<Invocation<'_, 'x, '_>>) {
+    if let Some(invocation) = invocation.take() {
+        pool.keep_arguments(invocation.arguments);
     }
 }
 
@@ -128,13 +129,25 @@ fn pattern_of<'a>(
 
 /// The state of an expansion, shared by all levels.
 #[derive(Drop)]
-struct Expander<'x> {
+pub(crate) struct Expander<'x> {
     /// The state of replacement.
-    replacer: Replacer<'x>,
-    meter: Meter,
+    pub(crate) replacer: Replacer<'x>,
+    pub(crate) meter: Meter,
 }
 
 impl<'x> Expander<'x> {
+    /// Makes the hide sets anew if there are many, or if they are hashed in another way.
+    fn renew_sets(&mut self, hashing: Hashing) -> Result<(), Memory>
+        ensures hashing { OnOk result (self.new.replacer.sets.hashing ≡ hashing) }
+        ensures meter { self.new.meter ≡ self.old.meter }
+    {
+        let sets = &self.replacer.sets;
+        if sets.len() > MOST_SETS || sets.hashing() != hashing {
+            self.replacer.sets = HideSets::with_hasher(self.replacer.pool.alloc(), hashing)?;
+        }
+        Ok(())
+    }
+
     /// Begins an expansion step of a list. `named` is the macro that the next token names, if any. Returns whether the expansion of the
     /// list continues, or the fault that stops it.
     ///
@@ -204,19 +217,17 @@ impl<'x> Expander<'x> {
         if none_expands(context.table, argument) {
             return Ok(ArgumentExpansion::AsGiven);
         }
-        let mut list = TokenStack::of_clones(
-            self.replacer.pool.alloc(),
-            argument,
-            self.replacer.sets.empty(),
-        )?;
+        let pushed = self.replacer.pool.list(argument.len())?;
+        let mut list = TokenStack::of_clones(pushed, argument, self.replacer.sets.empty())?;
         // Most arguments expand to about as many tokens as they have.
-        let mut emitted = Emitted::with_capacity(self.replacer.pool.alloc(), argument.len())?;
+        let mut emitted = Emitted::over(self.replacer.pool.list(argument.len())?);
         let deeper = Context {
             table: context.table,
             env: context.env,
             level: context.level + 1,
         };
         self.expand_list(&deeper, &mut list, &mut emitted)?;
+        self.replacer.pool.keep_list(list.into_pushed());
         let tokens = emitted.into_vec(self.replacer.pool.alloc())?;
         Ok(ArgumentExpansion::Owned(tokens))
     }
@@ -285,13 +296,13 @@ impl<'x> Expander<'x> {
             context.table.hashing(),
             invocation.definition,
         )?;
-        let mut expanded = Vec::with_capacity(
-            self.replacer.pool.alloc(),
-            parameter_count(invocation.definition),
-        )?;
+        let mut expanded = self.replacer.pool.expansions();
         self.expand_arguments(context, invocation, &pattern, &mut expanded)?;
-        self.replacer
-            .finish_invocation(invocation, &pattern, expanded.as_slice(), list)
+        let replaced = self
+            .replacer
+            .finish_invocation(invocation, &pattern, expanded.as_slice(), list);
+        self.replacer.pool.keep_expansions(expanded);
+        replaced
     }
 
     /// Makes one expansion step of a list, including the arguments of an invocation. `named` is the macro that the next token names, if
@@ -325,7 +336,7 @@ impl<'x> Expander<'x> {
             return Ok(continues);
         };
         self.replace_invocation(context, found, list)?;
-        recycle_arguments(&mut self.replacer.pool, invocation)?;
+        recycle_arguments(&mut self.replacer.pool, invocation);
         Ok(true)
     }
 
@@ -361,77 +372,73 @@ impl<'x> Expander<'x> {
     }
 }
 
-/// The result of an expansion: the emitted tokens, and the fault that stopped it, if any.
+/// The result of an expansion. The emitted tokens are the prefix and then the tokens of the scratch.
 #[derive(Drop)]
-pub struct Expanded<'a> {
-    /// The emitted tokens.
-    pub tokens: TokenRope<'a>,
+pub struct Expanded<'x> {
+    /// The tokens of the list before the first that names a macro or is an unmatched quote.
+    pub prefix: &'x [Token],
     /// The fault that stopped the expansion, if any.
     pub fault: Option<BoxedFault>,
 }
 
-/// Expands tokens of a file, with empty hide sets at first, and appends the emitted tokens to `emitted`.
+/// Keeps a vector for the stack of the next expansion, unless it is large.
+fn keep_stack<'x>(stack: &mut Vec<Hidden<'x>>, pushed: Vec<Hidden<'x>>) {
+    if pushed.capacity() <= MOST_KEPT {
+        *stack = pushed;
+    }
+}
+
+/// Expands tokens of a file, with empty hide sets at first, and appends the emitted tokens to `emitted`. The list's stack uses the memory of
+/// `stack`.
 ///
 /// Returns the fault that stopped the expansion, if any.
 fn expand_tokens<'x, 'a: 'x>(
-    alloc: Global,
+    expander: &mut Expander<'x>,
+    stack: &mut Vec<Hidden<'x>>,
     context: &Context<'_, 'a>,
-    meter: &mut Meter,
     tokens: &'x [Token],
     emitted: &mut Emitted<'x>,
 ) -> Result<Option<BoxedFault>, Memory>
     requires level { context.now.level ≡ 0 }
     requires none { emitted.old ≡ [] }
-    ensures { IfOk result (λ r. (sets : HideSetPool) × ExpandsTo context.now.table.now.macros context.now.env.now 0 meter.old (map unhidden tokens.now)
-        (record { tokens = hidings sets emitted.new; fault = r; meter = meter.new })) }
+    ensures { IfOk result (λ r. (sets : HideSetPool) × ExpandsTo context.now.table.now.macros context.now.env.now 0 expander.old.meter (map unhidden tokens.now)
+        (record { tokens = hidings sets emitted.new; fault = r; meter = expander.new.meter })) }
 {
-    let sets = HideSets::with_hasher(alloc, context.table.hashing())?;
-    let mut list = TokenStack::over(alloc, tokens, sets.empty());
-    let mut expander = Expander {
-        replacer: Replacer {
-            pool: VecPool::new(alloc),
-            sets,
-        },
-        meter: *meter,
-    };
-    match expander.expand_list(context, &mut list, emitted) {
-        Ok(()) => {
-            *meter = expander.meter;
-            Ok(None)
-        }
-        Err(Error::Fault(fault)) => {
-            *meter = expander.meter;
-            Ok(Some(fault))
-        }
+    expander.renew_sets(context.table.hashing())?;
+    let pushed = mem::replace(stack, Vec::new(*stack.allocator()));
+    let mut list = TokenStack::over(pushed, tokens, expander.replacer.sets.empty());
+    let outcome = expander.expand_list(context, &mut list, emitted);
+    keep_stack(stack, list.into_pushed());
+    match outcome {
+        Ok(()) => Ok(None),
+        Err(Error::Fault(fault)) => Ok(Some(fault)),
         Err(Error::Memory) => Err(Memory),
     }
 }
 
-/// Expands `prefix` and `rest`, where the tokens of `prefix` are emitted unchanged.
+/// Expands tokens of a file. The emitted tokens are those of the scratch. Returns the fault that stopped the expansion, if any.
 #[inline(never)]
 fn expand_rest<'x, 'a: 'x>(
-    alloc: Global,
-    table: &Table<'a>,
-    env: &Env,
+    context: &Context<'_, 'a>,
     meter: &mut Meter,
-    prefix: &'x [Token],
-    rest: &'x [Token],
-) -> Result<Expanded<'x>, Memory>
-    requires unexpanded { AllByRecursion (λ t. never_expands table.now.macros t ≡ true) prefix.now }
-    ensures { IfOk result (λ e. IsExpansion table.now.macros env.now meter.old (prefix.now ++ rest.now) (record { tokens = e.tokens; fault = e.fault; meter = meter.new })) }
+    tokens: &'x [Token],
+    scratch: &mut Scratch<'x>,
+) -> Result<Option<BoxedFault>, Memory>
+    requires { context.now.level ≡ 0 }
+    ensures { IfOk result (λ r. IsExpansion context.now.table.now.macros context.now.env.now meter.old tokens.now
+        (record { tokens = scratch.new; fault = r; meter = meter.new })) }
 {
-    let context = Context {
-        table,
-        env,
-        level: 0,
-    };
-    let mut emitted = Emitted::with_capacity(alloc, CAPACITY)?;
-    let fault = expand_tokens(alloc, &context, meter, rest, &mut emitted)?;
-    emitted.free_unused()?;
-    Ok(Expanded {
-        tokens: TokenRope::new(prefix, emitted),
-        fault,
-    })
+    scratch.emitted.clear();
+    scratch.expander.meter = *meter;
+    let fault = expand_tokens(
+        &mut scratch.expander,
+        &mut scratch.stack,
+        context,
+        tokens,
+        &mut scratch.emitted,
+    )?;
+    *meter = scratch.expander.meter;
+    Ok(fault)
 }
 
 /// Expands a list of tokens: replaces each macro name, and rescans the replacement together with the tokens after it (6.10.3.4). A token
@@ -454,20 +461,27 @@ fn expand_rest<'x, 'a: 'x>(
 ///
 /// Returns `Memory` if an allocation fails.
 pub fn expand<'x, 'a: 'x>(
-    alloc: Global,
     table: &Table<'a>,
     env: &Env,
     meter: &mut Meter,
     tokens: &'x [Token],
+    scratch: &mut Scratch<'x>,
 ) -> Result<Expanded<'x>, Memory>
-    ensures { IfOk result (λ e. IsExpansion table.now.macros env.now meter.old tokens.now (record { tokens = e.tokens; fault = e.fault; meter = meter.new })) }
+    ensures { IfOk result (λ e. IsExpansion table.now.macros env.now meter.old tokens.now (record { tokens = e.prefix.now ++ scratch.new; fault = e.fault; meter = meter.new })) }
 {
     let (prefix, rest) = split_unexpanded(table, tokens);
     if rest.is_empty() {
+        scratch.clear();
         return Ok(Expanded {
-            tokens: TokenRope::new(prefix, Emitted::new(alloc)),
+            prefix,
             fault: None,
         });
     }
-    expand_rest(alloc, table, env, meter, prefix, rest)
+    let context = Context {
+        table,
+        env,
+        level: 0,
+    };
+    let fault = expand_rest(&context, meter, rest, scratch)?;
+    Ok(Expanded { prefix, fault })
 }

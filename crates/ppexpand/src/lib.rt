@@ -12,13 +12,14 @@ mod lists;
 mod meter;
 mod pre_expansion;
 mod predefined;
-mod rope_iter;
+mod scratch;
 mod token_roles;
+mod token_slice;
 mod token_span;
 mod token_stack;
 mod vec_pool;
 
-pub use emitted::TokenRope;
+pub use emitted::Piece;
 pub use env::Env;
 pub use expansion::{Expanded, expand};
 pub use laws::{
@@ -27,4 +28,6 @@ pub use laws::{
     prefixes_terminate, without_a_budget,
 };
 pub use meter::Meter;
-pub use rope_iter::{RopeIter, RopeSlices, SliceIter, TokenRef, TokenSlice};
+pub use scratch::Scratch;
+pub use token_slice::{SliceIter, TokenRef, TokenSlice};
+pub use token_span::TokenSpan;

@@ -1,6 +1,7 @@
 //! Appends to vectors.
 ghost use Rattle.std.specs.Prelude.{◌≡◌, ◌∷◌, ◌++◌, [], OnOk};
 
+use ppmacro::Hidden;
 use pptext::Memory;
 
 /// Appends an item.
@@ -10,4 +11,14 @@ pub(crate) fn put<T: Drop>(items: &mut Vec<T>, item: T) -> Result<(), Memory>
 {
     items.push(item)?;
     Ok(())
+}
+
+/// Appends copies of tokens.
+pub(crate) fn put_clones<'a>(
+    tokens: &mut Vec<Hidden<'a>>,
+    more: &[Hidden<'a>],
+) -> Result<(), Memory>
+    ensures { OnOk result (tokens.new.items ≡ tokens.old.items ++ more.now) }
+{
+    tokens.extend_with_clones(more)
 }

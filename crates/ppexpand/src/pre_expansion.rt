@@ -9,7 +9,7 @@ use pptext::Memory;
 use std::alloc::Global;
 
 /// Returns the number of parameters of a macro.
-pub(crate) fn parameter_count(definition: &Macro) -> usize
+fn parameter_count(definition: &Macro) -> usize
     ensures { result ≡ length (parameter_names definition.now.kind) }
 {
     match &definition.kind {

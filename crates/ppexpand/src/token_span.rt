@@ -12,7 +12,7 @@ use std::marker::Model;
 
 /// Consecutive tokens of a file, all with one hide set. Contracts see them as a list of tokens with hide sets.
 #[derive(Drop)]
-pub(crate) struct TokenSpan<'a> {
+pub struct TokenSpan<'a> {
     tokens: &'a [Token],
     hide: Set,
 }
@@ -68,7 +68,7 @@ impl<'a> TokenSpan<'a> {
     }
 
     /// Returns the tokens.
-    pub(crate) fn tokens(&self) -> &'a [Token]
+    pub fn tokens(&self) -> &'a [Token]
         ensures { tokens_of self.now ≡ result.now }
     {
         self.tokens

@@ -5,11 +5,10 @@ ghost use Rattle.ppmacro.specs.Substituting.{tokens_of};
 ghost use Rattle.ppexpand.specs.code.Lists.{spaced, with_set, never_expands, next_macro, NeverExpand};
 
 use crate::expand_step::macro_at;
-use crate::lists::put;
+use crate::lists::{put, put_clones};
 use crate::token_span::TokenSpan;
 use ppmacro::{Hidden, Macro, Set, Table};
 use pptext::{Memory, Token};
-use std::alloc::Global;
 use std::marker::Model;
 
 /// The tokens that are still to be expanded. Contracts see them as a list that begins with the next token.
@@ -46,33 +45,42 @@ pub(crate) enum Lookahead<'t, 'x, 'a> {
 }
 
 impl<'a> TokenStack<'a> {
-    /// Creates a stack of tokens of a file, each with this hide set.
-    pub(crate) fn over(alloc: Global, tokens: &'a [Token], hide: Set) -> TokenStack<'a>
+    /// Creates a stack of tokens of a file, each with this hide set. It uses the memory of the vector.
+    pub(crate) fn over(pushed: Vec<Hidden<'a>>, tokens: &'a [Token], hide: Set) -> TokenStack<'a>
         ensures { result ≡ map (with_set hide) tokens.now }
     {
+        let mut pushed = pushed;
+        pushed.clear();
         TokenStack {
-            pushed: Vec::new(alloc),
+            pushed,
             below: TokenSpan::new(tokens, hide),
             pending: false,
         }
     }
 
-    /// Creates a stack of copies of these tokens, without tokens of a file. `hide` has no effect.
+    /// Creates a stack of copies of these tokens, without tokens of a file. It uses the memory of the vector. `hide` has no effect.
     #[inline(never)]
     pub(crate) fn of_clones(
-        alloc: Global,
+        pushed: Vec<Hidden<'a>>,
         tokens: &[Hidden<'a>],
         hide: Set,
     ) -> Result<TokenStack<'a>, Memory>
         ensures { IfOk result (λ list. list ≡ tokens.now) }
     {
-        let mut pushed = Vec::from_clones(alloc, tokens)?;
+        let mut pushed = pushed;
+        pushed.clear();
+        put_clones(&mut pushed, tokens)?;
         pushed.reverse();
         Ok(TokenStack {
             pushed,
             below: TokenSpan::new(Default::default(), hide),
             pending: false,
         })
+    }
+
+    /// Returns the vector of the pushed tokens.
+    pub(crate) fn into_pushed(self) -> Vec<Hidden<'a>> {
+        self.pushed
     }
 
     /// Pops the next token.
@@ -105,10 +113,6 @@ impl<'a> TokenStack<'a> {
     {
         let mut tokens = tokens;
         tokens.reverse();
-        if self.pushed.is_empty() {
-            self.pushed = tokens;
-            return Ok(());
-        }
         self.pushed.append(&mut tokens)?;
         Ok(())
     }

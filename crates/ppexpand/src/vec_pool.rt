@@ -2,21 +2,23 @@
 ghost use Rattle.std.specs.Prelude.{◌≡◌, [], IfOk};
 
 use crate::lists::put;
-use ppmacro::Hidden;
+use ppmacro::{ArgumentExpansion, Hidden};
 use pptext::Memory;
 use std::alloc::Global;
 
-/// The most vectors in the pool. Few nested invocations have more arguments together.
+/// The most vectors of one kind in the pool. Few nested invocations have more arguments together.
 const MOST: usize = 64;
 
-/// The longest vector that is put in the pool, in tokens. Longer ones are freed.
-const LONG: usize = 64;
+/// The largest capacity of a vector that is put in the pool. Larger ones are freed.
+const LARGE: usize = 256;
 
-/// The allocator, and vectors for the arguments of the next invocations.
+/// The allocator, and vectors for the next invocations: for tokens, for arguments, and for the expansions of arguments.
 #[derive(Drop)]
 pub(crate) struct VecPool<'x> {
     alloc: Global,
     lists: Vec<Vec<Hidden<'x>>>,
+    arguments: Vec<Vec<Vec<Hidden<'x>>>>,
+    expansions: Vec<Vec<ArgumentExpansion<'x>>>,
 }
 
 impl<'x> VecPool<'x> {
@@ -25,6 +27,8 @@ impl<'x> VecPool<'x> {
         VecPool {
             alloc,
             lists: Vec::new(alloc),
+            arguments: Vec::new(alloc),
+            expansions: Vec::new(alloc),
         }
     }
 
@@ -33,7 +37,7 @@ impl<'x> VecPool<'x> {
         self.alloc
     }
 
-    /// Returns an empty vector: one of the pool, or a new one with capacity for `capacity` tokens.
+    /// Returns an empty vector for tokens: one of the pool, or a new one with capacity for `capacity` tokens.
     pub(crate) fn list(&mut self, capacity: usize) -> Result<Vec<Hidden<'x>>, Memory>
         ensures { IfOk result (λ list. list.items ≡ []) }
     {
@@ -45,14 +49,56 @@ impl<'x> VecPool<'x> {
         Vec::with_capacity(self.alloc, capacity)
     }
 
-    /// Puts vectors that are no longer used in the pool.
-    pub(crate) fn keep(&mut self, lists: Vec<Vec<Hidden<'x>>>) -> Result<(), Memory> {
-        let mut lists = lists;
-        while let Some(list) = lists.pop() {
-            if self.lists.len() < MOST && list.len() <= LONG {
-                put(&mut self.lists, list)?;
+    /// Returns an empty vector for arguments.
+    pub(crate) fn arguments(&mut self) -> Vec<Vec<Hidden<'x>>>
+        ensures { result.items ≡ [] }
+    {
+        let Some(mut arguments) = self.arguments.pop() else {
+            return Vec::new(self.alloc);
+        };
+        arguments.clear();
+        arguments
+    }
+
+    /// Returns an empty vector for the expansions of arguments.
+    pub(crate) fn expansions(&mut self) -> Vec<ArgumentExpansion<'x>>
+        ensures { result.items ≡ [] }
+    {
+        let Some(mut expansions) = self.expansions.pop() else {
+            return Vec::new(self.alloc);
+        };
+        expansions.clear();
+        expansions
+    }
+
+    /// Puts a vector of tokens that are no longer used in the pool, if there is memory for it.
+    pub(crate) fn keep_list(&mut self, list: Vec<Hidden<'x>>) {
+        if self.lists.len() < MOST && list.capacity() <= LARGE {
+            let _kept = put(&mut self.lists, list);
+        }
+    }
+
+    /// Puts the vectors of arguments that are no longer used in the pool.
+    pub(crate) fn keep_arguments(&mut self, arguments: Vec<Vec<Hidden<'x>>>) {
+        let mut arguments = arguments;
+        while let Some(list) = arguments.pop() {
+            self.keep_list(list);
+        }
+        if self.arguments.len() < MOST && arguments.capacity() <= LARGE {
+            let _kept = put(&mut self.arguments, arguments);
+        }
+    }
+
+    /// Puts the vectors of expansions that are no longer used in the pool.
+    pub(crate) fn keep_expansions(&mut self, expansions: Vec<ArgumentExpansion<'x>>) {
+        let mut expansions = expansions;
+        while let Some(expansion) = expansions.pop() {
+            if let ArgumentExpansion::Owned(list) = expansion {
+                self.keep_list(list);
             }
         }
-        Ok(())
+        if self.expansions.len() < MOST && expansions.capacity() <= LARGE {
+            let _kept = put(&mut self.expansions, expansions);
+        }
     }
 }

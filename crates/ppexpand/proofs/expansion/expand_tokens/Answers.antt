@@ -1,4 +1,4 @@
-use Rattle.std.proofs.Common.{◌≡◌, ◌∙◌, ℕ, List, Option, sym, ap, subst, map}
+use Rattle.std.proofs.Common.{◌≡◌, ◌∙◌, ℕ, List, sym, ap, subst, map}
 use Rattle.ppmacro.specs.Names.{Macros}
 use Rattle.ppmacro.specs.Hiding.{Hiding}
 use Rattle.ppmacro.specs.HideSets.{hidings, AllKnown}
@@ -9,30 +9,29 @@ use Rattle.ppexpand.specs.Expansion.{Outcome, ExpandsTo}
 use Rattle.ppexpand.proofs.SkippedTokens.{known-with_set, hidings-with_set}
 use Rattle.ppexpand.proofs.expansion.expand_tokens.Goals as goal
 
-at_start : (macros : Macros) (env : Env) (level : ℕ) (meter : Meter) (list start : List Hiding) (out : Outcome)
+at_start : (macros : Macros) (env : Env) (level : ℕ) (meter first : Meter) (list start : List Hiding) (out : Outcome)
     → level ≡ 0
+    → meter ≡ first
     → list ≡ start
     → ExpandsTo macros env level meter list out
-    → ExpandsTo macros env 0 meter start out
-at_start macros env level meter list start out low same one = subst (λ l. ExpandsTo macros env 0 meter l out) same (subst (λ n. ExpandsTo macros env n meter list out) low one)
+    → ExpandsTo macros env 0 first start out
+at_start macros env level meter first list start out low kept same one =
+    subst (λ l. ExpandsTo macros env 0 first l out) same (subst (λ m. ExpandsTo macros env 0 m list out) kept (subst (λ n. ExpandsTo macros env n meter list out) low one))
 
-pub expand_list-requires-clause-known : goal.expand_list-requires-clause-known
-expand_list-requires-clause-known c =
-    let s = c.in_ok-sets.sets in
+pub expand_list-outcome-requires-clause-known : goal.expand_list-outcome-requires-clause-known
+expand_list-outcome-requires-clause-known c =
+    let s = c.renew_sets.new.self.replacer.sets in
     subst (AllKnown s) (sym c.over-list.ensures) (known-with_set s c.empty.result _ c.empty.ensures.known)
 
 pub returns-in-Ok : goal.returns-in-Ok
 returns-in-Ok c =
-    let s = c.in_ok-sets.sets in
+    let s = c.renew_sets.new.self.replacer.sets in
     let start : hidings s c.over-list.result ≡ map unhidden c.args.tokens.now = ap (hidings s) c.over-list.ensures ∙ hidings-with_set s c.empty.result c.args.tokens.now c.empty.ensures.set in
-    (c.expand_list.new.self.replacer.sets, at_start _ _ _ _ _ _ _ c.requires.level start (rw c.in-Ok.is at c.expand_list.ensures.outcome))
+    (c.expand_list-outcome.new.self.replacer.sets, at_start _ _ _ _ _ _ _ _ c.requires.level c.renew_sets.ensures.meter start (rw c.in-Ok.is at c.expand_list-outcome.ensures.outcome))
 
 pub returns-in-Err-Fault : goal.returns-in-Err-Fault
 returns-in-Err-Fault c =
-    let s = c.in_ok-sets.sets in
+    let s = c.renew_sets.new.self.replacer.sets in
     let start : hidings s c.over-list.result ≡ map unhidden c.args.tokens.now = ap (hidings s) c.over-list.ensures ∙ hidings-with_set s c.empty.result c.args.tokens.now c.empty.ensures.set in
-    let raised = rw c.in-Err-Fault.field-0-is at (rw c.in-Err-Fault.is at c.expand_list.ensures.outcome) in
-    (c.expand_list.new.self.replacer.sets, at_start _ _ _ _ _ _ _ c.requires.level start raised)
-
-pub expand_list-requires-clause-hashing : goal.expand_list-requires-clause-hashing
-expand_list-requires-clause-hashing c = ap (λ p. p.hashing) c.in_ok-sets.ensures ∙ c.hashing.ensures
+    let raised = rw c.in-Err-Fault.field-0-is at (rw c.in-Err-Fault.is at c.expand_list-outcome.ensures.outcome) in
+    (c.expand_list-outcome.new.self.replacer.sets, at_start _ _ _ _ _ _ _ _ c.requires.level c.renew_sets.ensures.meter start raised)

@@ -78,15 +78,15 @@ pub replace_invocation-returns-in_err-expand_arguments-clause-is : goal.replace_
 replace_invocation-returns-in_err-expand_arguments-clause-is m c =
     stopped _ _ _ _ c.from_residual-in_err-expand_arguments.ensures.1 c.in_err-expand_arguments.ensures.is (λ f raised. fault_in_arguments (raised c.args.list.now))
 
-pub replace_invocation-finish_invocation-requires-clause-invocation : goal.replace_invocation-finish_invocation-requires-clause-invocation
-replace_invocation-finish_invocation-requires-clause-invocation m c = invocation_known-keeps c.args.invocation.now c.in_ok-expand_arguments.ensures.keeps c.requires.invocation_known
+pub replace_invocation-finish_invocation-replaced-requires-clause-invocation : goal.replace_invocation-finish_invocation-replaced-requires-clause-invocation
+replace_invocation-finish_invocation-replaced-requires-clause-invocation m c = invocation_known-keeps c.args.invocation.now c.in_ok-expand_arguments.ensures.keeps c.requires.invocation_known
 
-pub replace_invocation-finish_invocation-requires-clause-expanded : goal.replace_invocation-finish_invocation-requires-clause-expanded
-replace_invocation-finish_invocation-requires-clause-expanded m c =
+pub replace_invocation-finish_invocation-replaced-requires-clause-expanded : goal.replace_invocation-finish_invocation-replaced-requires-clause-expanded
+replace_invocation-finish_invocation-replaced-requires-clause-expanded m c =
     subst (ExpansionsKnown c.expand_arguments.new.self.replacer.sets) (sym c.as_slice.ensures.value) c.in_ok-expand_arguments.ensures.known
 
-pub replace_invocation-finish_invocation-requires-clause-list : goal.replace_invocation-finish_invocation-requires-clause-list
-replace_invocation-finish_invocation-requires-clause-list m c = known-keeps c.args.list.now c.in_ok-expand_arguments.ensures.keeps c.requires.list_known
+pub replace_invocation-finish_invocation-replaced-requires-clause-list : goal.replace_invocation-finish_invocation-replaced-requires-clause-list
+replace_invocation-finish_invocation-replaced-requires-clause-list m c = known-keeps c.args.list.now c.in_ok-expand_arguments.ensures.keeps c.requires.list_known
 
 pub replace_invocation-returns-clause-is : goal.replace_invocation-returns-clause-is
 replace_invocation-returns-clause-is m c =
@@ -100,14 +100,14 @@ replace_invocation-returns-clause-is m c =
     let args : ExpandsArguments macros env level invocation c.args.self.now.meter (arguments_to_expand invocation) c.expand_arguments.new.self.meter (Ok (expanded_in u c.args.invocation.now.arguments.items expanded)) =
     c.in_ok-expand_arguments.ensures.is list in
     let same = invocation_of-keeps c.args.invocation.now list c.in_ok-expand_arguments.ensures.keeps c.requires.invocation_known c.requires.list_known in
-    if_settled-weaker c.finish_invocation.result _ _
+    if_settled-weaker c.finish_invocation-replaced.result _ _
     (λ r e. subst (ClosedStepsTo macros env level invocation c.args.self.now.meter c.expand_arguments.new.self.meter)
     (sym (e ∙ (λ i. finish_invocation (same i) (expanded_in u c.args.invocation.now.arguments.items (c.as_slice.ensures.value i)))))
     (finishes args))
-    c.finish_invocation.ensures.is
+    c.finish_invocation-replaced.ensures.is
 
 pub replace_invocation-returns-clause-keeps : goal.replace_invocation-returns-clause-keeps
-replace_invocation-returns-clause-keeps m c = keeps-after c.in_ok-expand_arguments.ensures.keeps c.finish_invocation.ensures.keeps
+replace_invocation-returns-clause-keeps m c = keeps-after c.in_ok-expand_arguments.ensures.keeps c.finish_invocation-replaced.ensures.keeps
 
 -- ---- an argument
 
@@ -132,7 +132,7 @@ expand_argument-expand_list-requires m c = (
   omega (arith, c.if-context-ge-DEEPEST.false),
   (
     omega (arith, c.if-context-ge-DEEPEST.false),
-    (c.requires.hashing, (subst (AllKnown c.args.self.now.replacer.sets) (sym c.in_ok-list.ensures) c.requires.known, c.in_ok-emitted.ensures)),
+    (c.requires.hashing, (subst (AllKnown c.args.self.now.replacer.sets) (sym c.in_ok-list.ensures) c.requires.known, c.over-emitted.ensures)),
   ),
 )
 

@@ -4,7 +4,7 @@ use Rattle.pptext.proofs.ErrorReturns.{stopped}
 use Rattle.ppmacro.specs.HideSets.{hiding, hidings, AllKnown}
 use Rattle.ppmacro.proofs.PoolGrowthLemmas.{hidings-keeps, known-keeps, known-append}
 use Rattle.ppexpand.specs.Expansion.{done, emits, replaced}
-use Rattle.ppexpand.specs.code.ProgramValues.{ActionKnown, EndsWith, Advances}
+use Rattle.ppexpand.specs.code.ProgramValues.{EndsWith, Advances}
 use Rattle.ppexpand.proofs.LoopInvariants.{failed_ends}
 use Rattle.ppexpand.proofs.expansion.Expander.begin_step.Goals as goal
 
