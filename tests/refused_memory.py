@@ -53,14 +53,15 @@ INVOCATION = {"a.c": "#define f(a) a*g\n#define g(a) f(a)\nf(2)(9)\n"}
 GUARDED = {"a.c": '#include "h.h"\n#include "h.h"\n', "h.h": "#ifndef H\n#define H\nint a;\n#endif\n"}
 SEARCHED = {"src/a.c": '#include "x.h"\n#include <x.h>\n#include "../inc/x.h"\n#include <y.h>\n', "src/x.h": "1", "inc/x.h": "2"}
 
-# Files, units and directories, what is printed for them, and how many blocks are shrunk to their contents: the tokens and lines
-# of files and the items of units, if they have unused room.  A block that can't be shrunk keeps its size.
+# Files, units and directories, what is printed for them, and how many blocks the answer doesn't need.  Most are shrunk to their
+# contents: the tokens and lines of files and the items of units, if they have unused room.  A block that can't be shrunk keeps its
+# size.  An invocation gives its vectors back to a pool, which has three lists of them.  If a list can't grow, the vector is freed.
 ROWS = {
     "one token": ({"a.c": "x\n"}, [{"file": "a.c"}], [], "unit 0 a.c\ntok 0:1:1 0:1:1 i+ x\ndep 0 a.c\nok\n", 3),
     "an invocation that reaches past its replacement": (
         INVOCATION, [{"file": "a.c"}], [],
         "unit 0 a.c\ntok 0:3:3 0:3:1 n+ 2\ntok 0:1:15 0:3:1 p- *\ntok 0:3:6 0:3:1 n- 9\ntok 0:1:15 0:3:1 p- *\ntok 0:1:16 0:3:1 i- g\n"
-        "dep 0 a.c\nok\n", 3,
+        "dep 0 a.c\nok\n", 6,
     ),
     "a guarded header twice, in two units": (
         GUARDED, [{"file": "a.c"}, {"file": "a.c", "define": ["H"]}], [],

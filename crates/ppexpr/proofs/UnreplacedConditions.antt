@@ -1,6 +1,6 @@
 -- A condition without macro replacement has the result of its tokens' symbols.
 use Rattle.std.proofs.Common.{◌≡◌, suc, ◌<◌, ◌⊎◌, inl, inr, ◌&&◌, Bool, true, false, List, [], ◌∷◌, length, Option, Some, None}
-use Rattle.std.proofs.Common.{Ok, refl, sym, subst, append-nil, arith, is_some, codes, if◌then◌else◌}
+use Rattle.std.proofs.Common.{◌||◌, true≢false, Ok, refl, sym, subst, append-nil, arith, is_some, codes, if◌then◌else◌}
 use Rattle.std.specs.FinMap as table
 use Rattle.std.specs.List.{list_any, AllByRecursion}
 use Rattle.pptext.specs.declared.tokens.Place.{Place}
@@ -102,3 +102,16 @@ operand_shorter (x ∷ ts) o e = elim (picked (is_identifier x) (record { name =
 pub rest_shorter : (macros : Macros) (ts rest : List Token) (s : Symbol) → BeginsWith macros ts s rest → length rest < length ts
 rest_shorter macros ts rest s (token {t = t} {ts = us} e h) = omega arith
 rest_shorter macros ts rest s (defined_use {d = d} {ts = us} {o = o} e k) = omega (arith, operand_shorter us o k)
+
+-- ---- a list without `defined`
+
+neither : (a b : Bool) → (a || b) ≡ false → (a ≡ false) × (b ≡ false)
+neither true b h = absurd (true≢false h)
+neither false b h = (refl, h)
+
+-- Tokens without `defined` stay.
+pub undefined_stays : (macros : Macros) (ts : List Token) → list_any is_defined ts ≡ false → ReplacesDefined macros ts ts
+undefined_stays macros [] h = replaces_nothing
+undefined_stays macros (t ∷ ts) h =
+    let both = neither (is_defined t) (list_any is_defined ts) h in
+    other both.0 (undefined_stays macros ts both.1)

@@ -1,8 +1,9 @@
 //! Evaluates the controlling expression of `#if` or `#elif` (6.10.1).
-ghost use Rattle.std.specs.Prelude.{◌≡◌};
+ghost use Rattle.std.specs.Prelude.{◌≡◌, ◌++◌, List};
 ghost use Rattle.std.specs.List.{list_any};
 ghost use Rattle.pptext.specs.Errors.{Raises, UnlessOutOfMemory};
-ghost use Rattle.ppexpr.specs.DefinedOperator.{is_defined};
+ghost use Rattle.pptext.specs.declared.tokens.Token.{Token};
+ghost use Rattle.ppexpr.specs.DefinedOperator.{is_defined, ReplacesDefined};
 ghost use Rattle.ppexpr.specs.Conditions.{failure_fault, taken, EvaluatesShallow, EvaluatesSymbols, EvaluatesTokens, IsCondition};
 
 use crate::defined_only::evaluate_defined_only;
@@ -11,7 +12,7 @@ use crate::nesting::is_too_nested;
 use crate::parsing::parse;
 use crate::symbols::{Failure, Symbol, Value};
 use crate::tokens::symbols_of;
-use ppexpand::{Env, Expanded, Meter, TokenRope, expand};
+use ppexpand::{Env, Expanded, Meter, Scratch, expand};
 use ppmacro::Table;
 use pptext::{Error, Place, Token};
 use std::alloc::Global;
@@ -75,34 +76,53 @@ fn evaluate_tokens(alloc: Global, at: Place, tokens: &[Token]) -> Result<bool, E
     evaluate_symbols(alloc, at, symbols.as_slice())
 }
 
-/// Evaluates an expanded list. Copies the tokens only if macros were replaced.
-fn evaluate_rope(alloc: Global, at: Place, rope: &TokenRope) -> Result<bool, Error>
-    ensures { UnlessOutOfMemory result (λ c. EvaluatesTokens at rope.now c) }
+/// Evaluates a prefix and the tokens of a scratch after it. Copies the tokens only if macros were replaced.
+fn evaluate_emitted(at: Place, prefix: &[Token], scratch: &Scratch) -> Result<bool, Error>
+    ensures { UnlessOutOfMemory result (λ c. EvaluatesTokens at (prefix.now ++ scratch.now) c) }
 {
-    if let Some(tokens) = rope.unchanged() {
-        return evaluate_tokens(alloc, at, tokens);
+    let alloc = scratch.alloc();
+    if scratch.is_empty() {
+        return evaluate_tokens(alloc, at, prefix);
     }
-    let tokens = rope.to_vec(alloc)?;
+    let tokens = scratch.to_vec(prefix)?;
     evaluate_tokens(alloc, at, tokens.as_slice())
 }
 
-/// Replaces macros and evaluates the result.
+/// Replaces macros in tokens in which each use of `defined` is replaced, and evaluates the result.
+fn evaluate_expansion<'x, 'a: 'x>(
+    table: &Table<'a>,
+    env: &Env,
+    meter: &mut Meter,
+    at: Place,
+    tokens: &'x [Token],
+    scratch: &mut Scratch<'x>,
+) -> Result<bool, Error>
+    ensures { UnlessOutOfMemory result (λ c. (list : List Token) → ReplacesDefined table.now.macros list tokens.now
+        → IsCondition table.now.macros env.now at list meter.old c meter.new) }
+{
+    let Expanded { prefix, fault } = expand(table, env, meter, tokens, scratch)?;
+    match fault {
+        Some(fault) => Err(Error::Fault(fault)),
+        None => evaluate_emitted(at, prefix, scratch),
+    }
+}
+
+/// Replaces each use of `defined` and then macros, and evaluates the result.
 fn evaluate_replaced(
-    alloc: Global,
     table: &Table,
     env: &Env,
     meter: &mut Meter,
     at: Place,
     tokens: &[Token],
+    scratch: &mut Scratch,
 ) -> Result<bool, Error>
     ensures { UnlessOutOfMemory result (λ c. IsCondition table.now.macros env.now at tokens.now meter.old c meter.new) }
 {
-    let without_defined = without_defined(alloc, table, at, tokens)?;
-    let Expanded { tokens, fault } = expand(alloc, table, env, meter, without_defined.as_slice())?;
-    match fault {
-        Some(fault) => Err(Error::Fault(fault)),
-        None => evaluate_rope(alloc, at, &tokens),
-    }
+    let without_defined = without_defined(scratch.alloc(), table, at, tokens)?;
+    let mut lent = scratch.lend()?;
+    let taken = evaluate_expansion(table, env, meter, at, without_defined.as_slice(), &mut lent);
+    scratch.take_back(lent);
+    taken
 }
 
 /// Returns whether the group after `#if` or `#elif` is taken (6.10.1).
@@ -122,13 +142,13 @@ fn evaluate_replaced(
 /// - 29: an expression that is nested too deep;
 /// - 23: a list that is no expression;
 /// - 26, 27, 28: a division by 0, a signed overflow, or a shift without a value.
-pub fn evaluate(
-    alloc: Global,
-    table: &Table,
+pub fn evaluate<'x, 'a: 'x>(
+    table: &Table<'a>,
     env: &Env,
     meter: &mut Meter,
     at: Place,
-    tokens: &[Token],
+    tokens: &'x [Token],
+    scratch: &mut Scratch<'x>,
 ) -> Result<bool, Error>
     ensures { UnlessOutOfMemory result (λ c. IsCondition table.now.macros env.now at tokens.now meter.old c meter.new) }
 {
@@ -136,5 +156,9 @@ pub fn evaluate(
     if let Some(taken) = evaluate_defined_only(table, tokens) {
         return Ok(taken);
     }
-    evaluate_replaced(alloc, table, env, meter, at, tokens)
+    // Most of the others have no use of `defined`, so that their tokens are not copied.
+    if has_defined(tokens) {
+        return evaluate_replaced(table, env, meter, at, tokens, scratch);
+    }
+    evaluate_expansion(table, env, meter, at, tokens, scratch)
 }

@@ -86,7 +86,7 @@ pub(crate) fn without_defined(
     ensures { UnlessOutOfMemory result (λ r. MatchResult r (λ v. ReplacesDefined table.now.macros tokens.now v.items)
         (λ f. (f ≡ fault 22 at []) × ((us : List Token) → ¬ ReplacesDefined table.now.macros tokens.now us))) }
 {
-    let mut without_defined = Vec::new(alloc);
+    let mut without_defined = Vec::with_capacity(alloc, tokens.len())?;
     let mut rest = tokens;
     while let Some((first, following)) = rest.split_first() {
         if !is_defined(first) {

@@ -3,9 +3,9 @@
 //! A token's operator is known by its spelling alone, so `+` is one `Operator` whether it has one operand or two. The parser knows which of the
 //! two it reads, and asks for the `Unary` or the `Infix` there. `Operator` is the key of the table, and a fault prints its spelling.
 //!
-//! The table is a function of the operator and no array, because a match needs no bound on an index. The search by spelling goes through all
-//! operators. Few tokens get there: most conditions take the fast path of `defined_only`.
-ghost use Rattle.std.specs.Prelude.{◌≡◌, Some, None};
+//! The table is a function of the operator and no array, because a match needs no bound on an index. The search by spelling is a match, too, and
+//! its contract cites the table.
+ghost use Rattle.std.specs.Prelude.{◌≡◌, ◌∷◌, [], Some, None};
 ghost use Rattle.ppexpr.specs.Operators as specification;
 
 /// An operator by its spelling (6.4.6). `+` and `-` are unary or binary.
@@ -120,30 +120,6 @@ fn either_row(spelling: &'static [u8], unary: Unary, operation: Binary, level: u
 }
 
 impl Operator {
-    /// All operators.
-    const ALL: [Operator; 20] = [
-        Operator::Plus,
-        Operator::Minus,
-        Operator::Tilde,
-        Operator::Bang,
-        Operator::Star,
-        Operator::Slash,
-        Operator::Percent,
-        Operator::ShiftLeft,
-        Operator::ShiftRight,
-        Operator::Less,
-        Operator::Greater,
-        Operator::LessOrEqual,
-        Operator::GreaterOrEqual,
-        Operator::Equal,
-        Operator::NotEqual,
-        Operator::Ampersand,
-        Operator::Caret,
-        Operator::Bar,
-        Operator::And,
-        Operator::Or,
-    ];
-
     /// Returns the row of the table (6.4.6, 6.5.3.3, 6.5.5 to 6.5.14).
     fn row(self) -> Row
         ensures spelling { result.spelling.now ≡ specification.spelling_of self }
@@ -178,10 +154,49 @@ impl Operator {
     pub(crate) fn of_spelling(text: &[u8]) -> Option<Operator>
         ensures { result ≡ specification.operator_of text.now }
     {
-        Operator::ALL
-            .iter()
-            .copied()
-            .find(|operator| operator.spelling() == text)
+        match text {
+            [byte] => Operator::of_byte(*byte),
+            [first, second] => Operator::of_bytes(*first, *second),
+            _ => None,
+        }
+    }
+
+    /// Returns the operator whose spelling is one byte.
+    fn of_byte(byte: u8) -> Option<Operator>
+        ensures { result ≡ specification.operator_of (byte ∷ []) }
+    {
+        match byte {
+            b'+' => Some(Operator::Plus),
+            b'-' => Some(Operator::Minus),
+            b'~' => Some(Operator::Tilde),
+            b'!' => Some(Operator::Bang),
+            b'*' => Some(Operator::Star),
+            b'/' => Some(Operator::Slash),
+            b'%' => Some(Operator::Percent),
+            b'<' => Some(Operator::Less),
+            b'>' => Some(Operator::Greater),
+            b'&' => Some(Operator::Ampersand),
+            b'^' => Some(Operator::Caret),
+            b'|' => Some(Operator::Bar),
+            _ => None,
+        }
+    }
+
+    /// Returns the operator whose spelling is these two bytes.
+    fn of_bytes(first: u8, second: u8) -> Option<Operator>
+        ensures { result ≡ specification.operator_of (first ∷ second ∷ []) }
+    {
+        match (first, second) {
+            (b'<', b'<') => Some(Operator::ShiftLeft),
+            (b'>', b'>') => Some(Operator::ShiftRight),
+            (b'<', b'=') => Some(Operator::LessOrEqual),
+            (b'>', b'=') => Some(Operator::GreaterOrEqual),
+            (b'=', b'=') => Some(Operator::Equal),
+            (b'!', b'=') => Some(Operator::NotEqual),
+            (b'&', b'&') => Some(Operator::And),
+            (b'|', b'|') => Some(Operator::Or),
+            _ => None,
+        }
     }
 
     /// Returns the spelling (6.4.6).

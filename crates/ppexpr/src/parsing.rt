@@ -22,6 +22,9 @@ use std::marker::Model;
 /// The level of a conditional expression (6.5.15).
 const CONDITIONAL: u8 = 1;
 
+/// The capacity of the stack at first. Few expressions need more.
+const USUAL_DEPTH: usize = 8;
+
 /// The level of a logical OR expression (6.5.14), such as the condition of a conditional expression.
 const LOGICAL_OR: u8 = 2;
 
@@ -206,7 +209,7 @@ pub(crate) fn parse(alloc: Global, symbols: &[Symbol]) -> Result<Option<Evaluati
     ensures { IfOk result (λ r. MatchOption r (¬ IsExpression symbols.now) (Denotes symbols.now)) }
 {
     let mut parser = Parser {
-        frames: Vec::new(alloc),
+        frames: Vec::with_capacity(alloc, symbols.len().min(USUAL_DEPTH))?,
         operand: None,
     };
     for symbol in symbols {

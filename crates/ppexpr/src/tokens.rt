@@ -55,7 +55,7 @@ fn symbol_of(alloc: Global, at: Place, token: &Token) -> Result<Symbol, Error>
 pub(crate) fn symbols_of(alloc: Global, at: Place, tokens: &[Token]) -> Result<Vec<Symbol>, Error>
     ensures { Returns result (λ v. v.items) (symbols_of at tokens.now) }
 {
-    let mut symbols = Vec::new(alloc);
+    let mut symbols = Vec::with_capacity(alloc, tokens.len())?;
     for token in tokens {
         symbols.push(symbol_of(alloc, at, token)?)?;
     }

@@ -1,7 +1,7 @@
 //! Tests of `evaluate`: conditions, and the rest of a budget, also after a fault. More conditions and faults are in
 //! tests/row_tests.py, which compares the program's output.
 use crate::defining::{directed, env, source_of};
-use ppexpand::Meter;
+use ppexpand::{Meter, Scratch};
 use ppexpr::evaluate;
 use ppmacro::Table;
 use pptext::{Error, Place, Source};
@@ -25,7 +25,8 @@ fn condition_of(
 ) -> Result<bool, Error> {
     let mut table = Table::new(alloc)?;
     let tokens = directed(rt, alloc, &mut table, source)?;
-    evaluate(alloc, &table, &env(0), meter, HASH, tokens)
+    let mut scratch = Scratch::new(alloc, table.hashing())?;
+    evaluate(&table, &env(0), meter, HASH, tokens, &mut scratch)
 }
 
 /// Returns whether a result is this condition, or a fault with this number.

@@ -2,9 +2,9 @@
 //! are in tests/row_tests.py and tests/token_tests.py, which compare the program's output.
 use crate::defining::{directed, env, source_of};
 use crate::showing::assert_shown;
-use ppexpand::{Expanded, Meter, TokenRef, TokenRope, TokenSlice, expand};
+use ppexpand::{Expanded, Meter, Piece, Scratch, TokenRef, TokenSlice, expand};
 use ppmacro::{Hidden, Table};
-use pptext::{Memory, Source, Token};
+use pptext::{BoxedFault, Hashing, Memory, Source, Token};
 use std::alloc::{AllocError, Global};
 use std::process::Abort;
 use std::test::Fail;
@@ -36,15 +36,11 @@ fn push_slice(text: &mut Vec<u8>, slice: TokenSlice) -> Result<(), AllocError> {
     }
 }
 
-/// Appends the spellings of tokens to a text, slice by slice, by a duplicate of the iterator. Each slice is split in two.
-fn push_slices(text: &mut Vec<u8>, rope: &TokenRope) -> Result<(), AllocError> {
-    let mut slices = rope.slices().duplicate();
-    while let Some(slice) = slices.next() {
-        let (first, others) = slice.split_at(slice.len() / 2);
-        push_slice(text, first)?;
-        push_slice(text, others)?;
-    }
-    Ok(())
+/// Appends the spellings of a slice's tokens to a text. The slice is split in two.
+fn push_halves(text: &mut Vec<u8>, slice: TokenSlice) -> Result<(), AllocError> {
+    let (first, others) = slice.split_at(slice.len() / 2);
+    push_slice(text, first)?;
+    push_slice(text, others)
 }
 
 /// Returns whether a token of a list is equal to this one.
@@ -55,24 +51,37 @@ fn is_same(found: &TokenRef, token: &Token) -> Result<bool, AllocError> {
     Ok(marks && places && is_spelled && found.to_token()? == *token)
 }
 
-/// Returns whether the tokens of a list, one by one, are those of its vector.
-fn yields_all(alloc: Global, rope: &TokenRope) -> Result<bool, AllocError> {
-    let tokens = rope.to_vec(alloc)?;
-    let mut found = rope.iter();
-    for token in &tokens {
-        match found.next() {
-            Some(one) if is_same(&one, token)? => {}
+/// Returns whether the tokens of a piece, one by one, are the first of a list, and removes those from the list.
+fn begins_with<'x>(tokens: &mut &'x [Token], piece: &Piece) -> Result<bool, AllocError> {
+    let mut found = piece.tokens().iter();
+    while let Some(one) = found.next() {
+        let list: &'x [Token] = *tokens;
+        match list.split_first() {
+            Some((token, rest)) if is_same(&one, token)? => *tokens = rest,
             _ => return Ok(false),
         }
     }
-    Ok(found.next().is_none())
+    Ok(true)
 }
 
-/// Returns an expansion as text: its slices, and ` same` if it is the unchanged input.
-fn as_text(alloc: Global, expanded: &Expanded) -> Result<Vec<u8>, AllocError> {
-    let mut text = Vec::new(alloc);
-    push_slices(&mut text, &expanded.tokens)?;
-    if expanded.tokens.unchanged().is_some() {
+/// Returns an expansion as text: the prefix and the pieces after it, and ` same` if there are none. The pieces have the tokens that the scratch
+/// copied.
+fn as_text(
+    rt: &impl Abort,
+    prefix: &[Token],
+    scratch: &mut Scratch,
+) -> Result<Vec<u8>, AllocError> {
+    let mut text = Vec::new(scratch.alloc());
+    let copies = scratch.to_vec(prefix)?;
+    let mut unread = &copies.as_slice()[prefix.len()..];
+    let was_empty = scratch.is_empty();
+    push_in_file(&mut text, prefix)?;
+    for piece in scratch.take_pieces()? {
+        assert!(rt; begins_with(&mut unread, &piece)?);
+        push_halves(&mut text, piece.tokens())?;
+    }
+    assert!(rt; unread.is_empty() && scratch.is_empty());
+    if was_empty {
         text.extend_from_slice(b" same")?;
     }
     Ok(text)
@@ -82,25 +91,12 @@ fn as_text(alloc: Global, expanded: &Expanded) -> Result<Vec<u8>, AllocError> {
 /// the budget.
 type Case = (&'static str, Option<u64>, &'static str, u8, Option<u64>);
 
-/// Returns the number of the fault of an expansion, or 0.
-fn number_of(expanded: Expanded) -> u8 {
-    let Expanded { tokens: _, fault } = expanded;
+/// Returns the number of a fault, or 0.
+fn number_of(fault: Option<BoxedFault>) -> u8 {
     match fault {
         Some(fault) => fault.into_fault().number,
         None => 0,
     }
-}
-
-/// Asserts the tokens of an expansion.
-fn assert_text(
-    rt: &impl Abort,
-    alloc: Global,
-    expanded: &Expanded,
-    wanted: &str,
-) -> Result<(), AllocError> {
-    assert!(rt; yields_all(alloc, &expanded.tokens)?);
-    assert_shown(rt, as_text(alloc, expanded)?.as_slice(), wanted);
-    Ok(())
 }
 
 /// Asserts the expansion of tokens with these macros.
@@ -112,10 +108,11 @@ fn assert_expanded_by(
     (_text, budget, wanted, number, remaining): Case,
 ) -> Result<(), Memory> {
     let mut meter = Meter::new(budget);
-    let expanded = expand(alloc, table, &env(0), &mut meter, tokens)?;
-    assert_text(rt, alloc, &expanded, wanted)?;
+    let mut scratch = Scratch::new(alloc, Hashing::fixed())?;
+    let Expanded { prefix, fault } = expand(table, &env(0), &mut meter, tokens, &mut scratch)?;
+    assert_shown(rt, as_text(rt, prefix, &mut scratch)?.as_slice(), wanted);
     assert!(rt;
-        number_of(expanded) == number && meter.remaining == remaining,
+        number_of(fault) == number && meter.remaining == remaining,
         "at {wanted}"
     );
     Ok(())
@@ -187,5 +184,40 @@ fn tells_parts_and_what_is_left(rt: HostRuntime) -> Result<(), Fail> {
         let source = source_of(&rt, rt.alloc(), case.0.as_bytes())?;
         assert_expanded(&rt, rt.alloc(), &source, *case)?;
     }
+    Ok(())
+}
+
+/// Returns the spellings of an expansion.
+fn spelled(prefix: &[Token], scratch: &Scratch) -> Result<Vec<u8>, AllocError> {
+    let mut text = Vec::new(scratch.alloc());
+    push_in_file(&mut text, scratch.to_vec(prefix)?.as_slice())?;
+    Ok(text)
+}
+
+/// Asserts that expansions by one scratch, and by one that it lends, are equal: nothing remains of the one before.
+fn assert_repeated(
+    rt: &impl Abort,
+    table: &Table,
+    tokens: &[Token],
+    scratch: &mut Scratch,
+) -> Result<(), Memory> {
+    let mut meter = Meter::new(None);
+    for _ in 0..3 {
+        let mut lent = scratch.lend()?;
+        let Expanded { prefix, fault: _ } = expand(table, &env(0), &mut meter, tokens, &mut lent)?;
+        assert_shown(rt, spelled(prefix, &lent)?.as_slice(), ".a.1.b.2.2.1");
+        scratch.take_back(lent);
+    }
+    Ok(())
+}
+
+#[test]
+fn expands_again(rt: HostRuntime) -> Result<(), Fail> {
+    let text = b"#define X 1\n#define Y b 2\n#define SAME(x) x\na X SAME(Y) 2 SAME(X)";
+    let source = source_of(&rt, rt.alloc(), text.as_slice())?;
+    let mut table = Table::new(rt.alloc())?;
+    let tokens = directed(&rt, rt.alloc(), &mut table, &source)?;
+    let mut scratch = Scratch::new(rt.alloc(), table.hashing())?;
+    assert_repeated(&rt, &table, tokens, &mut scratch)?;
     Ok(())
 }

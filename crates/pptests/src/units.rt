@@ -9,8 +9,8 @@ use crate::showing::{assert_shown, push_fault, push_place};
 use ppshelf::{File, MAX_ROWS, MemoryDisk, Pass, Shelf};
 use pptext::{Fault, Memory, Profile, Token};
 use ppunit::{
-    CommandMacros, Item, Items, OwnedText, OwnedTexts, Setting, Unit, UnitOut, fits_command,
-    preprocess, unit_ok,
+    CommandMacros, Item, ItemRef, ItemSlice, Items, OwnedText, OwnedTexts, Setting, Unit, UnitOut,
+    fits_command, preprocess, unit_ok,
 };
 use std::alloc::{AllocError, Global};
 use std::process::Abort;
@@ -121,6 +121,32 @@ fn spelled(alloc: Global, items: &Items) -> Result<Vec<u8>, AllocError> {
     Ok(text)
 }
 
+/// Appends items, as they are stored, to a text.
+fn push_items(alloc: Global, text: &mut Vec<u8>, slice: ItemSlice) -> Result<(), AllocError> {
+    match slice {
+        ItemSlice::Tokens(tokens) => {
+            let mut unread = tokens.iter();
+            while let Some(token) = unread.next() {
+                push_token(text, &token.to_token()?)?;
+            }
+            Ok(())
+        }
+        ItemSlice::Pragma(at, tokens) => {
+            push_item(alloc, text, &ItemRef::Pragma(at, tokens).to_item(alloc)?)
+        }
+    }
+}
+
+/// Returns the text of items, slice by slice, by a duplicate of the iterator.
+fn spelled_in_slices(alloc: Global, items: &Items) -> Result<Vec<u8>, AllocError> {
+    let mut text = Vec::new(alloc);
+    let mut slices = items.slices().duplicate();
+    while let Some(slice) = slices.next() {
+        push_items(alloc, &mut text, slice)?;
+    }
+    Ok(text)
+}
+
 /// Appends the files that a unit depends on, and its fault, to a text: `| 0 2 | 31 0:4:1 y.h`.
 fn push_end(
     alloc: Global,
@@ -139,7 +165,7 @@ fn push_end(
     }
 }
 
-/// Returns a unit's result as text: its items and its end. Asserts that the items, one by one, are those of its list.
+/// Returns a unit's result as text: its items and its end. Asserts that the items, one by one and in slices, are those of its list.
 fn as_text(alloc: Global, out: &UnitOut) -> Result<Vec<u8>, Fail> {
     let mut text = Vec::new(alloc);
     for item in &out.items.to_vec(alloc)? {
@@ -147,6 +173,9 @@ fn as_text(alloc: Global, out: &UnitOut) -> Result<Vec<u8>, Fail> {
     }
     if spelled(alloc, &out.items)?.as_slice() != text.as_slice() {
         return Err(Fail::new("other items one by one"));
+    }
+    if spelled_in_slices(alloc, &out.items)?.as_slice() != text.as_slice() {
+        return Err(Fail::new("other items in slices"));
     }
     push_end(alloc, &mut text, out.deps.as_slice(), out.fault.as_ref())?;
     Ok(text)

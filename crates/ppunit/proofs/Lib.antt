@@ -76,3 +76,5 @@ pub mod BudgetPrefixes
 pub mod UnlimitedUnits
 -- If the content of each file is known, a unit has a value.
 pub mod UnitExistence
+-- Items to which the pieces of an expansion are appended one after another.
+pub mod EmittedPieces

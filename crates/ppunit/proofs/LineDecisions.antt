@@ -65,16 +65,6 @@ asks_value None has other = absurd (cc)
 asks_value (Some Value) has other = refl
 asks_value (Some (Defined wanted)) has other = absurd (other wanted refl)
 
--- Processing continues after a line whose directive has no condition.
-enters_by_directive : (search : Search) (row : ℕ) (d : Directive) (s : State) (r : LogicalLine) → begins_elif_group d ≡ false → ContinuesBy search row (Some d) s r s.meter (Ok true)
-enters_by_directive search row d s r e = subst (λ (b : Bool). ContinuesIf search row b s r s.meter (Ok true)) (sym e) (refl, refl)
-
-pub enters_no_directive : (search : Search) (row : ℕ) (s : State) (r : LogicalLine) → r.directive ≡ None → TakesBranch search row s r s.meter (Ok true)
-enters_no_directive search row s r is = subst (λ (z : Option Directive). ContinuesBy search row z s r s.meter (Ok true)) (sym is) (refl, refl)
-
-pub enters_unasked : (search : Search) (row : ℕ) (s : State) (r : LogicalLine) (d : Directive) → r.directive ≡ Some d → begins_elif_group d ≡ false → TakesBranch search row s r s.meter (Ok true)
-enters_unasked search row s r d is e = subst (λ (z : Option Directive). ContinuesBy search row z s r s.meter (Ok true)) (sym is) (enters_by_directive search row d s r e)
-
 enters_by_condition : (search : Search) (row : ℕ) (d : Directive) (s : State) (r : LogicalLine) (meter_after : Meter) (taken : Result Bool Fault)
     → begins_elif_group d ≡ true
     → Decides search row s r meter_after taken

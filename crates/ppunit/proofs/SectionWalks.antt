@@ -47,9 +47,6 @@ pub record SectionSoFar (lines : List LogicalLine) (branch index : ℕ) : Type 0
       → AreBranches last bs
       → (final : Bool) × (cs : Branches) × (drop index lines ≡ branch_lines cs ++ rest) × AreBranches final cs
 
-pub section_start : (lines : List LogicalLine) (branch : ℕ) → branch < length lines → SectionSoFar lines branch branch
-section_start lines branch within = record { within = within; from = omega arith; so_far = λ last bs rest e are. (last, bs, e, are) }
-
 section_one : (lines : List LogicalLine) (index next : ℕ) (last : Bool) (bs : Branches) (rest : List LogicalLine)
     → drop index lines ≡ branch_lines bs ++ rest
     → AreBranches last bs
@@ -285,9 +282,6 @@ pub record BranchSoFar (search : Search) (row : ℕ) (lines : List LogicalLine) 
   pub within : index < length lines
   pub from : start ≤ index
   pub so_far : (ps : GroupParts) (bs : Branches) (qs : GroupParts) (k : EnclosingSections) → BranchesAt lines start ps bs qs k → Later search row lines index s t bs qs k
-
-pub branch_start : (search : Search) (row : ℕ) (lines : List LogicalLine) (start : ℕ) (s : State) → start < length lines → BranchSoFar search row lines start s s start
-branch_start search row lines start s within = record { within = within; from = omega arith; so_far = λ ps bs qs k b. (ps, bs, b, λ context by depth m here. here) }
 
 pub branch_more : (search : Search) (row : ℕ) (lines : List LogicalLine) (start next index : ℕ) (s t : State) (meter_after : Meter)
     → BranchSoFar search row lines start s t index

@@ -1,12 +1,15 @@
 //! File indices and items. Their models are lists.
 ghost use Rattle.ppunit.specs.code.Chunks.{chunk_items};
+ghost use Rattle.ppmacro.specs.Substituting.{tokens_of};
+ghost use Rattle.ppexpand.specs.Slices.{piece_list, slice_tokens};
 ghost use Rattle.std.specs.Prelude.{flat_map, ◌≡◌, map, IfOk, OnOk, ◌++◌, ◌∷◌, []};
 ghost use Rattle.ppunit.specs.declared.units.Item.TheVariants as item;
 ghost use Rattle.ppunit.specs.Dependencies.{has_row, with_row};
 
 use crate::units::Item;
 use indexmap::IndexSet;
-use ppexpand::TokenRope;
+use ppexpand::{Piece, Scratch, TokenSlice};
+use ppmacro::Hidden;
 use pptext::{Memory, Place, Token, Tokens};
 use std::alloc::Global;
 use std::marker::Model;
@@ -60,10 +63,12 @@ impl Rows {
     }
 }
 
-/// A chunk of the items: tokens, or a pragma with its location and its tokens.
+/// A chunk of the items: consecutive tokens of a file, tokens that were emitted one by one, or a pragma with its location and its
+/// tokens.
 #[derive(Drop)]
 pub(crate) enum Chunk<'a> {
-    Tokens(TokenRope<'a>),
+    InFile(&'a [Token]),
+    Singles(Vec<Hidden<'a>>),
     Pragma(Place, &'a [Token]),
 }
 
@@ -129,12 +134,55 @@ impl<'a> Items<'a> {
         Ok(())
     }
 
-    /// Appends tokens.
-    pub(crate) fn extend(&mut self, rope: TokenRope<'a>) -> Result<(), Memory>
-        ensures { OnOk result (self.new ≡ self.old ++ map item.Token rope.entry) }
+    /// Appends tokens of a file, if there are any.
+    fn push_in_file(&mut self, tokens: &'a [Token]) -> Result<(), Memory>
+        ensures { OnOk result (self.new ≡ self.old ++ map item.Token tokens.now) }
     {
-        self.chunks.push(Chunk::Tokens(rope))?;
+        if tokens.is_empty() {
+            return Ok(());
+        }
+        self.chunks.push(Chunk::InFile(tokens))?;
         Ok(())
+    }
+
+    /// Appends a piece of an expansion.
+    fn push_piece(&mut self, piece: Piece<'a>) -> Result<(), Memory>
+        ensures { OnOk result (self.new ≡ self.old ++ map item.Token (tokens_of (piece_list piece.entry))) }
+    {
+        match piece {
+            Piece::Span(span) => self.push_in_file(span.tokens()),
+            Piece::Singles(singles) => {
+                self.chunks.push(Chunk::Singles(singles))?;
+                Ok(())
+            }
+        }
+    }
+
+    /// Appends the pieces of an expansion.
+    fn push_pieces(&mut self, pieces: Vec<Piece<'a>>) -> Result<(), Memory>
+        ensures { OnOk result (self.new ≡ self.old ++ map item.Token (tokens_of (flat_map piece_list pieces.entry.items))) }
+    {
+        for piece in pieces {
+            self.push_piece(piece)?;
+        }
+        Ok(())
+    }
+
+    /// Appends an expansion: a prefix, and the tokens of a scratch after it. They are removed from the scratch.
+    pub(crate) fn extend(
+        &mut self,
+        prefix: &'a [Token],
+        scratch: &mut Scratch<'a>,
+    ) -> Result<(), Memory>
+        ensures { OnOk result (self.new ≡ self.old ++ map item.Token (prefix.now ++ scratch.old)) }
+    {
+        self.push_in_file(prefix)?;
+        // Most text lines name no macro.
+        if scratch.is_empty() {
+            return Ok(());
+        }
+        let pieces = scratch.take_pieces()?;
+        self.push_pieces(pieces)
     }
 }
 
@@ -143,7 +191,8 @@ fn copy_chunk(alloc: Global, items: &mut Vec<Item>, chunk: &Chunk) -> Result<(),
     ensures { OnOk result (items.new.items ≡ items.old.items ++ chunk_items chunk.now) }
 {
     match chunk {
-        Chunk::Tokens(rope) => push_tokens(items, rope.to_vec(alloc)?),
+        Chunk::InFile(tokens) => push_tokens(items, TokenSlice::InFile(tokens)),
+        Chunk::Singles(tokens) => push_tokens(items, TokenSlice::Hidden(tokens.as_slice())),
         Chunk::Pragma(at, tokens) => {
             let tokens = Tokens::new(Vec::from_clones(alloc, tokens)?);
             items.push(Item::Pragma(*at, tokens))?;
@@ -152,12 +201,13 @@ fn copy_chunk(alloc: Global, items: &mut Vec<Item>, chunk: &Chunk) -> Result<(),
     }
 }
 
-/// Appends tokens.
-fn push_tokens(items: &mut Vec<Item>, tokens: Vec<Token>) -> Result<(), Memory>
-    ensures { OnOk result (items.new.items ≡ items.old.items ++ map item.Token tokens.items) }
+/// Appends copies of tokens.
+fn push_tokens(items: &mut Vec<Item>, tokens: TokenSlice) -> Result<(), Memory>
+    ensures { OnOk result (items.new.items ≡ items.old.items ++ map item.Token (slice_tokens tokens.entry)) }
 {
-    for token in tokens {
-        items.push(Item::Token(token))?;
+    let mut tokens = tokens.iter();
+    while let Some(token) = tokens.next() {
+        items.push(Item::Token(token.to_token()?))?;
     }
     Ok(())
 }

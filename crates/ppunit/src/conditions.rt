@@ -15,6 +15,7 @@ use crate::directive_line::{DirectiveTokens, line_fault, one_identifier, refuse_
 use crate::open_file::UnitContext;
 use crate::probing::{needs_probing, probe};
 use crate::states::State;
+use ppexpand::{Env, Meter, Scratch};
 use ppexpr::evaluate;
 use ppmacro::Table;
 use ppshelf::Disk;
@@ -23,12 +24,12 @@ use std::alloc::Global;
 
 /// Decides whether the group after a line of the file at index `row` is taken. Fails with the line's fault: 7, 9, 30,
 /// or a fault of its condition. Changes nothing in `state` but the meter.
-pub(crate) fn decide<D: Disk>(
+pub(crate) fn decide<'x, D: Disk>(
     context: &UnitContext<'_, '_, D>,
-    state: &mut State,
+    state: &mut State<'x>,
     row: usize,
     directive: Directive,
-    line: &DirectiveTokens<'_>,
+    line: &DirectiveTokens<'x>,
 ) -> Result<bool, Error>
     requires rows { 0 < length context.now.shelf.names }
     requires condition { IsConditional directive }
@@ -62,11 +63,11 @@ fn by_name(
 }
 
 /// Evaluates the line's condition.
-fn by_condition<D: Disk>(
+fn by_condition<'x, D: Disk>(
     context: &UnitContext<'_, '_, D>,
-    state: &mut State,
+    state: &mut State<'x>,
     row: usize,
-    line: &DirectiveTokens<'_>,
+    line: &DirectiveTokens<'x>,
 ) -> Result<bool, Error>
     requires { 0 < length context.now.shelf.names }
     ensures rest { state.new ≡ with_meter state.old state.new.meter }
@@ -77,26 +78,61 @@ fn by_condition<D: Disk>(
     let operands = line.operands();
     // Most conditions have no `__has_include`, so that their tokens are not copied.
     if !needs_probing(context.profile(), operands) {
-        return value(context.alloc, state, at, operands);
+        return value(state, at, operands);
     }
     let Some(tokens) = probe(context, row, operands)? else {
         return Err(Error::bare(context.alloc, 30, at));
     };
-    value(context.alloc, state, at, tokens.as_slice())
+    value_of_probed(state, at, tokens)
 }
 
-/// Evaluates a condition with the meter of the unit.
-fn value(alloc: Global, state: &mut State, at: Place, tokens: &[Token]) -> Result<bool, Error>
+/// Evaluates a condition of a file with the meter of the unit.
+fn value<'x>(state: &mut State<'x>, at: Place, tokens: &'x [Token]) -> Result<bool, Error>
     ensures rest { state.new ≡ with_meter state.old state.new.meter }
     ensures is { UnlessOutOfMemory result (λ taken.
         IsCondition state.old.macros state.old.env at tokens.now state.old.meter taken state.new.meter) }
 {
     evaluate(
-        alloc,
         &state.macros,
         &state.file_context.env,
         &mut state.meter,
         at,
         tokens,
+        &mut state.scratch,
+    )
+}
+
+/// Evaluates a condition whose tokens are dropped before those of the scratch.
+fn evaluate_probed(
+    table: &Table,
+    env: &Env,
+    meter: &mut Meter,
+    at: Place,
+    tokens: Vec<Token>,
+    scratch: &mut Scratch,
+) -> Result<bool, Error>
+    ensures { UnlessOutOfMemory result (λ taken.
+        IsCondition table.now.macros env.now at tokens.items meter.old taken meter.new) }
+{
+    let probed = tokens;
+    let mut lent = scratch.lend()?;
+    let taken = evaluate(table, env, meter, at, probed.as_slice(), &mut lent);
+    scratch.take_back(lent);
+    taken
+}
+
+/// Evaluates a condition in which each `__has_include` is replaced, with the meter of the unit.
+fn value_of_probed(state: &mut State, at: Place, tokens: Vec<Token>) -> Result<bool, Error>
+    ensures rest { state.new ≡ with_meter state.old state.new.meter }
+    ensures is { UnlessOutOfMemory result (λ taken.
+        IsCondition state.old.macros state.old.env at tokens.items state.old.meter taken state.new.meter) }
+{
+    evaluate_probed(
+        &state.macros,
+        &state.file_context.env,
+        &mut state.meter,
+        at,
+        tokens,
+        &mut state.scratch,
     )
 }

@@ -10,32 +10,28 @@ ghost use Rattle.ppunit.specs.States.{running};
 use crate::directive_line::{DirectiveLine, DirectiveTokens, line_fault, push_space};
 use crate::line_control::renumber;
 use crate::states::State;
-use ppexpand::expand;
+use ppexpand::{Expanded, expand};
 use ppmacro::{define, undef};
 use pptext::{Directive, Error, Memory, Profile, Token};
 use std::alloc::Global;
 
 /// Emits the expansion of consecutive text lines, up to its first fault (6.10.3).
-pub(crate) fn emit_text<'x>(
-    alloc: Global,
-    state: &mut State<'x>,
-    tokens: &'x [Token],
-) -> Result<(), Error>
+pub(crate) fn emit_text<'x>(state: &mut State<'x>, tokens: &'x [Token]) -> Result<(), Error>
     ensures { UnlessOutOfMemory result (λ r. spec.EmitsText state.old tokens.now (record { state = state.new; fault = result_err r })) }
 {
     // Blank lines between directives are text lines too.
     if tokens.is_empty() {
         return Ok(());
     }
-    let expanded = expand(
-        alloc,
+    let Expanded { prefix, fault } = expand(
         &state.macros,
         &state.file_context.env,
         &mut state.meter,
         tokens,
+        &mut state.scratch,
     )?;
-    state.items.extend(expanded.tokens)?;
-    match expanded.fault {
+    state.items.extend(prefix, &mut state.scratch)?;
+    match fault {
         None => Ok(()),
         Some(fault) => Err(Error::Fault(fault)),
     }

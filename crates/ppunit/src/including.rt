@@ -194,7 +194,7 @@ fn expand_include_name<'x>(
     ensures rest { state.new ≡ with_meter state.old state.new.meter }
     ensures names { UnlessOutOfMemory result (λ include_name. NamesHeaderByExpansion state.old line.now state.new.meter include_name) }
 {
-    let tokens = expand_operands(alloc, state, line.operands())?;
+    let tokens = expand_operands(state, line.operands())?;
     name_of_expansion_or(alloc, line, tokens.as_slice())
 }
 

@@ -1,12 +1,13 @@
 //! Iterates over items: over slices of them, or one by one.
-ghost use Rattle.std.specs.Prelude.{◌≡◌, IfOk};
-ghost use Rattle.std.specs.Iterator.{YieldsFirstBy, YieldsFirstRef, item_count};
+ghost use Rattle.std.specs.Prelude.{◌≡◌, ◌<◌, [], true, false, length, IfOk};
+ghost use Rattle.std.specs.Iterator.{YieldsFirstBy, item_count};
 ghost use Rattle.ppexpand.specs.Slices.{YieldsSlice};
 ghost use Rattle.ppunit.specs.BorrowedItems.{ref_item, slice_items};
+ghost use Rattle.ppunit.specs.code.Chunks.{chunk_items};
 
 use crate::collections::{Chunk, Items};
 use crate::units::Item;
-use ppexpand::{RopeSlices, SliceIter, TokenRef, TokenSlice};
+use ppexpand::{SliceIter, TokenRef, TokenSlice};
 use pptext::{Memory, Place, Token, Tokens};
 use std::alloc::Global;
 use std::marker::Model;
@@ -40,29 +41,29 @@ pub enum ItemSlice<'r, 'a> {
     Pragma(Place, &'a [Token]),
 }
 
-/// The remaining chunks.
-#[derive(Drop)]
-struct RemainingChunks<'r, 'a> {
-    chunks: &'r [Chunk<'a>],
-}
-
-impl<'r, 'a> Model for RemainingChunks<'r, 'a> {
-    ghost use Rattle.std.specs.Prelude.{List};
-    ghost use Rattle.ppunit.specs.declared.collections.Chunk.{Chunk};
-
-    ghost Value = { List Chunk };
-
-    ghost view = { λ l. l.chunks.now };
-}
-
-impl<'r, 'a> RemainingChunks<'r, 'a> {
-    /// Removes the first chunk.
-    fn next(&mut self) -> Option<&'r Chunk<'a>>
-        ensures { YieldsFirstRef (λ rest. rest) self.old result self.new }
+impl<'a> Chunk<'a> {
+    /// Returns the items.
+    fn slice(&self) -> ItemSlice<'_, 'a>
+        ensures { slice_items result ≡ chunk_items self.now }
     {
-        let (first, chunks) = self.chunks.split_first()?;
-        *self = RemainingChunks { chunks };
-        Some(first)
+        match self {
+            Chunk::InFile(tokens) => ItemSlice::Tokens(TokenSlice::InFile(tokens)),
+            Chunk::Singles(tokens) => ItemSlice::Tokens(TokenSlice::Hidden(tokens.as_slice())),
+            Chunk::Pragma(at, tokens) => ItemSlice::Pragma(*at, tokens),
+        }
+    }
+}
+
+impl<'r, 'a> ItemSlice<'r, 'a> {
+    /// Returns whether there are no items.
+    fn is_empty(self) -> bool
+        ensures yes { result ≡ true → slice_items self.entry ≡ [] }
+        ensures no { result ≡ false → 0 < length (slice_items self.entry) }
+    {
+        match self {
+            ItemSlice::Tokens(tokens) => tokens.is_empty(),
+            ItemSlice::Pragma(_, _) => false,
+        }
     }
 }
 
@@ -70,19 +71,18 @@ impl<'r, 'a> RemainingChunks<'r, 'a> {
 /// slices.
 #[derive(Drop)]
 pub struct ItemSlices<'r, 'a> {
-    rope: Option<RopeSlices<'r, 'a>>,
-    remaining: RemainingChunks<'r, 'a>,
+    chunks: &'r [Chunk<'a>],
 }
 
 impl<'r, 'a> Model for ItemSlices<'r, 'a> {
-    ghost use Rattle.std.specs.Prelude.{List, ◌++◌, flat_map};
+    ghost use Rattle.std.specs.Prelude.{List, flat_map};
     ghost use Rattle.ppunit.specs.declared.units.Item.{Item};
 
     ghost Value = { List Item };
 
-    ghost use Rattle.ppunit.specs.code.Chunks.{chunk_items, rope_items};
+    ghost use Rattle.ppunit.specs.code.Chunks.{chunk_items};
 
-    ghost view = { λ i. rope_items i.rope ++ flat_map chunk_items i.remaining };
+    ghost view = { λ i. flat_map chunk_items i.chunks.now };
 }
 
 impl<'r, 'a> ItemSlices<'r, 'a> {
@@ -90,15 +90,8 @@ impl<'r, 'a> ItemSlices<'r, 'a> {
     pub fn duplicate(&self) -> ItemSlices<'r, 'a>
         ensures { result ≡ self.now }
     {
-        let rope = match &self.rope {
-            Some(rope) => Some(rope.duplicate()),
-            None => None,
-        };
         ItemSlices {
-            rope,
-            remaining: RemainingChunks {
-                chunks: self.remaining.chunks,
-            },
+            chunks: self.chunks,
         }
     }
 }
@@ -112,17 +105,11 @@ impl<'r, 'a> Iterator for ItemSlices<'r, 'a> {
 
     fn next(&mut self) -> Option<ItemSlice<'r, 'a>> {
         loop {
-            if let Some(rope) = &mut self.rope {
-                if let Some(tokens) = rope.next() {
-                    return Some(ItemSlice::Tokens(tokens));
-                }
-            }
-            match self.remaining.next()? {
-                Chunk::Tokens(rope) => self.rope = Some(rope.slices()),
-                Chunk::Pragma(at, tokens) => {
-                    self.rope = None;
-                    return Some(ItemSlice::Pragma(*at, tokens));
-                }
+            let (chunk, chunks) = self.chunks.split_first()?;
+            *self = ItemSlices { chunks };
+            let slice = chunk.slice();
+            if !slice.is_empty() {
+                return Some(slice);
             }
         }
     }
@@ -172,10 +159,7 @@ impl<'a> Items<'a> {
         ensures { result ≡ self.now }
     {
         ItemSlices {
-            rope: None,
-            remaining: RemainingChunks {
-                chunks: self.chunks(),
-            },
+            chunks: self.chunks(),
         }
     }
 

@@ -122,7 +122,7 @@ pub(crate) fn renumber<'x>(
 ) -> Result<(), Error>
     ensures { UnlessOutOfMemory result (λ r. SetsLine state.old (directed Line line.now physical) (record { state = state.new; fault = result_err r })) }
 {
-    let tokens = expand_operands(alloc, state, line.operands())?;
+    let tokens = expand_operands(state, line.operands())?;
     let presumed = presumed_or_fault(alloc, line, tokens.as_slice())?;
     set_presumed(&mut state.file_context.env, presumed, physical);
     Ok(())

@@ -31,12 +31,11 @@ use crate::directives::{control, emit_text, error};
 use crate::include_stack::Stack;
 use crate::including::read_include_name;
 use crate::line_access::{line, line_count, tokens_at, tokens_between};
-use crate::open_file::{Entered, LocatedFile, OpenFile, UnitContext, resolve_in};
+use crate::open_file::{Entered, LocatedFile, OpenFile, UnitContext, find_file};
 use crate::preprocessor::Preprocessor;
 use crate::states::State;
 use ppshelf::Disk;
 use pptext::{Class, Directive, Error, Source, Token};
-use std::alloc::Global;
 use std::marker::Model;
 
 /// Returns the index of the line after the text lines that begin at `start`.
@@ -61,11 +60,11 @@ fn text_end(source: &Source, start: usize) -> usize
 
 /// Returns whether the group after the branch line at `index` is taken, in the file at index `row`. Returns true at
 /// `#else` and `#endif`. Changes nothing in `state` but the meter.
-fn takes_branch<D: Disk>(
+fn takes_branch<'x, D: Disk>(
     context: &UnitContext<'_, '_, D>,
-    state: &mut State,
+    state: &mut State<'x>,
     row: usize,
-    source: &Source,
+    source: &'x Source,
     index: usize,
 ) -> Result<bool, Error>
     requires rows { 0 < length context.now.shelf.names }
@@ -84,11 +83,11 @@ fn takes_branch<D: Disk>(
 
 /// Returns the index of the line at which execution continues if the group after the line at `start` isn't taken: the
 /// line after the first branch line whose group is taken, or the line after `#endif`.
-fn find_branch<D: Disk>(
+fn find_branch<'x, D: Disk>(
     context: &UnitContext<'_, '_, D>,
-    state: &mut State,
+    state: &mut State<'x>,
     row: usize,
-    source: &Source,
+    source: &'x Source,
     start: usize,
 ) -> Result<usize, Error>
     requires rows { 0 < length context.now.shelf.names }
@@ -127,11 +126,11 @@ fn section_end(source: &Source, branch: usize) -> usize
 
 /// Executes a line that opens an if-section of the file at index `row`. Returns the index of the line at which
 /// execution continues.
-fn execute_if_line<D: Disk>(
+fn execute_if_line<'x, D: Disk>(
     context: &UnitContext<'_, '_, D>,
-    state: &mut State,
+    state: &mut State<'x>,
     row: usize,
-    source: &Source,
+    source: &'x Source,
     directive: Directive,
     index: usize,
 ) -> Result<usize, Error>
@@ -151,7 +150,6 @@ fn execute_if_line<D: Disk>(
 
 /// Expands consecutive text lines and emits their tokens. Returns the index of the line after them.
 fn execute_text_lines<'x>(
-    alloc: Global,
     state: &mut State<'x>,
     source: &'x Source,
     index: usize,
@@ -163,7 +161,7 @@ fn execute_text_lines<'x>(
         → UnlessOutOfMemory result (λ next. Advances context files depth row source.now index state.old state.new next) }
 {
     let end = text_end(source, index);
-    emit_text(alloc, state, tokens_between(source, index, end))?;
+    emit_text(state, tokens_between(source, index, end))?;
     Ok(end)
 }
 
@@ -225,7 +223,7 @@ impl<'x, 'a: 'x, D: Disk> Preprocessor<'_, 'x, 'a, D> {
     {
         let context = self.context;
         let include_name = read_include_name(context.alloc, &mut self.state, tokens)?;
-        let Some((row, directory)) = resolve_in(context, from, &include_name)? else {
+        let Some((row, directory)) = find_file(context, self.pass, from, &include_name)? else {
             let name = include_name.name.as_bytes();
             return Err(line_fault(context.alloc, 31, tokens, name));
         };
@@ -281,12 +279,7 @@ impl<'x, 'a: 'x, D: Disk> Preprocessor<'_, 'x, 'a, D> {
         let OpenFile { row, source, index } = *file;
         let context = self.context;
         let Some(directive) = line(source, index).directive else {
-            return Ok(in_same_file(execute_text_lines(
-                context.alloc,
-                &mut self.state,
-                source,
-                index,
-            )?));
+            return Ok(in_same_file(execute_text_lines(&mut self.state, source, index)?));
         };
         if directive.opens_section() {
             let next = execute_if_line(context, &mut self.state, row, source, directive, index)?;

@@ -27,7 +27,7 @@ use crate::line_access::line_count;
 use crate::preprocessor::Preprocessor;
 use crate::states::{FileContext, State, literal};
 use ppexpand::Env;
-use ppshelf::{Directories, Disk, Shelf, resolve, resolve_next};
+use ppshelf::{Directories, Disk, Pass, Shelf, resolve, resolve_next};
 use pptext::{Error, Memory, Place, Profile, Source};
 use std::alloc::Global;
 use std::marker::Model;
@@ -210,6 +210,31 @@ pub(crate) fn resolve_in<D: Disk>(
         );
     }
     resolve_next(context.alloc, shelf, 0, name, directories)
+}
+
+/// Does what `resolve_in` does, by the pass if it can.
+pub(crate) fn find_file<'a, D: Disk>(
+    context: &UnitContext<'a, '_, D>,
+    pass: &mut Pass<'a, D>,
+    from: LocatedFile,
+    include_name: &IncludeName,
+) -> Result<Option<(usize, usize)>, Memory>
+    requires shelf { pass.old.shelf ≡ context.now.shelf }
+    requires rows { 0 < length context.now.shelf.names }
+    ensures pass { pass.new ≡ pass.old }
+    ensures finds { (files : Files) → IfOk result (λ found. FindsFile (context_over context.now files) from.row from.directory include_name.now found) }
+    ensures within { IfOk result (λ found. IfSome found (λ f. f.0 < length context.now.shelf.names)) }
+{
+    if from.directory.is_none() && from.row < context.shelf().len() {
+        return pass.resolve(
+            context.alloc,
+            from.row,
+            include_name.form,
+            include_name.name.as_bytes(),
+            context.directories(),
+        );
+    }
+    resolve_in(context, from, include_name)
 }
 
 /// Spends one opening from the budget, if the file at index `row` may be opened at this depth. Fault 32 if it is too

@@ -140,6 +140,7 @@ fn into_output<'x>(
         items,
         deps,
         file_context: _,
+        scratch: _,
     } = state;
     unit_out(items, deps, outcome)
 }

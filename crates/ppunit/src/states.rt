@@ -1,5 +1,7 @@
 //! The state of phase 4 in a unit.
-ghost use Rattle.std.specs.Prelude.{◌≡◌, IfOk, OnOk, [], ◌∷◌, None};
+ghost use Rattle.std.specs.Prelude.{◌≡◌, IfOk, OnOk, [], ◌∷◌, ◌++◌, ◌==◌, ◌||◌, None};
+ghost use Rattle.std.specs.List.{list_any};
+ghost use Rattle.ppmacro.specs.Substitution.{escaped_literal};
 ghost use Rattle.ppexpand.specs.Budget.{is_exhausted};
 ghost use Rattle.ppunit.specs.States.{file_context, in_file_context, emitted, with_dependency, with_once, with_one_spent, literal};
 ghost use Rattle.ppunit.specs.Unit.{initial_state};
@@ -7,7 +9,7 @@ ghost use Rattle.ppunit.specs.declared.units.Item.TheVariants as item;
 
 use crate::collections::{Items, Rows};
 use crate::units::Setting;
-use ppexpand::{Env, Meter};
+use ppexpand::{Env, Meter, Scratch};
 use ppmacro::{Table, push_escaped};
 use pptext::{Hashing, Memory, Place, Spelling, Token};
 use std::alloc::Global;
@@ -24,7 +26,7 @@ pub(crate) struct FileContext {
 
 /// The state of phase 4: the macros, the items that were emitted, the indices of the opened files in the order of their
 /// first opening, those of them that are marked by `#pragma once`, the meter of the unit, and the context of the file
-/// that is being processed.
+/// that is being processed. Its model leaves out what expansions reuse, which affects no result.
 #[derive(Drop)]
 pub(crate) struct State<'x> {
     pub macros: Table<'x>,
@@ -33,6 +35,7 @@ pub(crate) struct State<'x> {
     pub once: Rows,
     pub meter: Meter,
     pub file_context: FileContext,
+    pub scratch: Scratch<'x>,
 }
 
 impl<'x> Model for State<'x> {
@@ -72,13 +75,15 @@ impl<'x> State<'x> {
     {
         let macros = Table::with_hasher(alloc, hashing)?;
         let env = initial_env(alloc, setting)?;
-        Ok(State::initial(alloc, macros, Meter::new(setting.budget), env))
+        let scratch = Scratch::new(alloc, hashing)?;
+        Ok(State::initial(macros, Meter::new(setting.budget), env, scratch))
     }
 
     /// Creates a state with no items and no opened files.
-    fn initial(alloc: Global, macros: Table<'x>, meter: Meter, env: Env) -> State<'x>
+    fn initial(macros: Table<'x>, meter: Meter, env: Env, scratch: Scratch<'x>) -> State<'x>
         ensures { result ≡ record { macros = macros.entry.macros; items = []; deps = []; once = []; meter = meter; env = env; directory = None } }
     {
+        let alloc = scratch.alloc();
         State {
             macros,
             items: Items::new(alloc),
@@ -89,6 +94,7 @@ impl<'x> State<'x> {
                 env,
                 directory: None,
             },
+            scratch,
         }
     }
 
@@ -164,13 +170,30 @@ fn to_spelling(alloc: Global, text: &str) -> Result<Spelling, Memory>
     Spelling::from_slice(alloc, text.as_bytes())
 }
 
+/// Returns whether a string literal of this text has a `\` before one of its bytes.
+fn needs_escape(text: &[u8]) -> bool
+    ensures { result ≡ list_any (λ b. b == 34 || b == 92) text.now }
+{
+    text.iter().any(|byte| *byte == b'"' || *byte == b'\\')
+}
+
+/// Appends a name, with `\` before each `"` and `\`. Most names need none, and are copied at once.
+fn push_name(text: &mut Vec<u8>, name: &[u8]) -> Result<(), Memory>
+    ensures { OnOk result (text.new.items ≡ text.old.items ++ escaped_literal name.now) }
+{
+    if needs_escape(name) {
+        return push_escaped(text, name);
+    }
+    text.extend_from_slice(name)
+}
+
 /// Returns a name as a string literal: between `"`, with `\` before each `"` and `\`.
 pub(crate) fn literal(alloc: Global, name: &str) -> Result<Spelling, Memory>
     ensures { IfOk result (λ s. s ≡ literal name.now) }
 {
-    let mut text = Vec::new(alloc);
+    let mut text = Vec::with_capacity(alloc, name.len() + 2)?;
     text.push(b'"')?;
-    push_escaped(&mut text, name.as_bytes())?;
+    push_name(&mut text, name.as_bytes())?;
     text.push(b'"')?;
     Spelling::new(text)
 }

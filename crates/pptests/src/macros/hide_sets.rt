@@ -94,6 +94,7 @@ fn assert_all_joined(rt: &impl Abort, sets: &mut HideSets) -> Result<(), Memory>
 /// Asserts the union and the intersection of each pair in a pool with this hash function.
 fn assert_hashed(rt: &impl Abort, alloc: Global, hashing: Hashing) -> Result<(), Memory> {
     let mut sets = HideSets::with_hasher(alloc, hashing)?;
+    assert!(rt; sets.len() == 1);
     assert_all_joined(rt, &mut sets)
 }
 

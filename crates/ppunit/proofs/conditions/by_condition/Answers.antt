@@ -12,12 +12,12 @@ returns-then-not-needs_probing-clause-is g c =
     c.value.ensures.is
 
 pub returns-clause-rest : goal.returns-clause-rest
-returns-clause-rest g c = c.value-2.ensures.rest
+returns-clause-rest g c = c.value_of_probed.ensures.rest
 
 pub returns-clause-is : goal.returns-clause-is
 returns-clause-is g c =
-    on_settled c.value-2.result
+    on_settled c.value_of_probed.result
     (λ taken. decides_probed (search_in_unit c.args.context.now) c.args.row c.args.state.now c.args.line.now c.operands-operands.result.now
-    c.in-Some.tokens.items c.profile.result c.hash_place-at.result c.value-2.new.state.meter taken c.profile.ensures c.operands-operands.ensures
+    c.in-Some.tokens.items c.profile.result c.hash_place-at.result c.value_of_probed.new.state.meter taken c.profile.ensures c.operands-operands.ensures
     c.hash_place-at.ensures c.if-not-needs_probing.ensures (rw c.in-Some.is at c.in_ok-tokens.ensures))
-    (rw c.as_slice.ensures.value at c.value-2.ensures.is)
+    c.value_of_probed.ensures.is

@@ -1,4 +1,4 @@
-use Rattle.std.proofs.Common.{◌≡◌, ap, List, map, None, Some, Result, Ok, Err, sym, ◌∙◌, subst}
+use Rattle.std.proofs.Common.{◌≡◌, ◌++◌, ap, List, map, None, Some, Result, Ok, Err, sym, ◌∙◌, subst}
 use Rattle.std.specs.Result.{result_err}
 use Rattle.pptext.specs.declared.tokens.Token.{Token}
 use Rattle.pptext.specs.declared.tokens.Fault.{Fault}
@@ -44,8 +44,8 @@ pub returns : goal.returns
 returns c =
     let inside = c.state.inside in
     let meter = c.expand.new.meter in
-    let out : Expansion = record { tokens = c.in_ok-expanded.expanded.tokens; fault = c.in_ok-expanded.expanded.fault; meter = meter } in
-    let expands = subst (λ (s : State). IsExpansion s.macros s.env s.meter c.args.tokens.now out) c.state.view_is c.in_ok-expanded.ensures in
+    let out : Expansion = record { tokens = c.in_ok-prefix.field-0.prefix.now ++ c.expand.new.scratch; fault = c.in_ok-prefix.field-0.fault; meter = meter } in
+    let expands = subst (λ (s : State). IsExpansion s.macros s.env s.meter c.args.tokens.now out) c.state.view_is c.in_ok-prefix.ensures in
     let after : State = record {
       macros = inside.macros.macros;
       items = c.extend.new.self;
@@ -57,7 +57,7 @@ returns c =
     } in
     let is = subst (λ (s : State). after ≡ emitted (with_meter s meter) (map item.Token out.tokens)) c.state.view_is
     (ap (λ (items : List Item). record after { items = items }) c.in_ok-extend.ensures) in
-    elim c.match-expanded-2.branch [
+    elim c.match-fault-2.branch [
       | in-None w ↦ emits c.args.state.now after c.args.tokens.now out _ expands is w.in-None.is w.result-is
-      | in-Some w ↦ emits_fault c.args.state.now after c.args.tokens.now out _ w.in-Some.fault expands is w.in-Some.is (w.result-is ∙ ap (λ (f : Fault). Err (Faulted f)) w.in-Some.fault-is)
+      | in-Some w ↦ emits_fault c.args.state.now after c.args.tokens.now out _ w.in-Some.fault expands is w.in-Some.is w.result-is
     ]
