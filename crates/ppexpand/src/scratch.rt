@@ -17,12 +17,13 @@ use std::marker::Model;
 /// before the first macro name. Contracts see the list of these tokens.
 #[derive(Drop)]
 pub struct Scratch<'x> {
-    pub(crate) expander: Expander<'x>,
+    /// On the heap, like the spare hide sets, since a scratch lies on the stack below all levels of arguments.
+    pub(crate) expander: Box<Expander<'x>>,
     pub(crate) emitted: Emitted<'x>,
     /// A vector for the stack of the next expansion.
     pub(crate) stack: Vec<Hidden<'x>>,
     /// Hide sets for the next scratch that is lent.
-    spare: Option<HideSets>,
+    spare: Option<Box<HideSets>>,
 }
 
 impl<'x> Model for Scratch<'x> {
@@ -41,41 +42,43 @@ impl<'x> Scratch<'x> {
     pub fn new(alloc: Global, hashing: Hashing) -> Result<Scratch<'x>, Memory>
         ensures { IfOk result (λ s. s ≡ []) }
     {
-        Ok(Scratch::over(alloc, HideSets::with_hasher(alloc, hashing)?))
+        Scratch::over(alloc, HideSets::with_hasher(alloc, hashing)?)
     }
 
     /// Creates a scratch without tokens over these hide sets.
-    fn over(alloc: Global, sets: HideSets) -> Scratch<'x>
-        ensures { result ≡ [] }
+    #[inline(never)]
+    fn over(alloc: Global, sets: HideSets) -> Result<Scratch<'x>, Memory>
+        ensures { IfOk result (λ s. s ≡ []) }
     {
-        Scratch {
-            expander: Expander {
-                replacer: Replacer {
-                    pool: VecPool::new(alloc),
-                    sets,
-                },
-                meter: Meter::new(None),
-            },
+        let replacer = Replacer {
+            pool: VecPool::new(alloc),
+            sets,
+        };
+        let meter = Meter::new(None);
+        Ok(Scratch {
+            expander: Box::new(alloc, Expander { replacer, meter })?,
             emitted: Emitted::new(alloc),
             stack: Vec::new(alloc),
             spare: None,
-        }
+        })
     }
 
     /// Returns a scratch without tokens, for tokens that are dropped before those of this one. It has the hide sets of the one that was
     /// returned last.
+    #[inline(never)]
     pub fn lend<'y>(&mut self) -> Result<Scratch<'y>, Memory>
         ensures lent { IfOk result (λ s. s ≡ []) }
         ensures same { self.new ≡ self.old }
     {
         let sets = match self.spare.take() {
-            Some(sets) => sets,
+            Some(sets) => Box::into_inner(sets),
             None => HideSets::with_hasher(self.alloc(), self.expander.replacer.sets.hashing())?,
         };
-        Ok(Scratch::over(self.alloc(), sets))
+        Scratch::over(self.alloc(), sets)
     }
 
-    /// Takes a scratch back that was lent.
+    /// Takes a scratch back that was lent. If an allocation fails, its hide sets aren't kept.
+    #[inline(never)]
     pub fn take_back(&mut self, lent: Scratch)
         ensures { self.new ≡ self.old }
     {
@@ -85,9 +88,9 @@ impl<'x> Scratch<'x> {
             stack: _,
             spare: _,
         } = lent;
-        let Expander { replacer, meter: _ } = expander;
+        let Expander { replacer, meter: _ } = Box::into_inner(expander);
         let Replacer { pool: _, sets } = replacer;
-        self.spare = Some(sets);
+        self.spare = Box::new(self.alloc(), sets).ok();
     }
 
     /// Returns the allocator.
