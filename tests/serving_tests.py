@@ -373,6 +373,16 @@ class Output(Folder):
             self.prints(data, DUMPED, *crew, "dump")
             self.prints(data, DEPENDENCIES, *crew, "deps")
 
+    def test_definitions_like_those_before(self):
+        lists = [["N 7"], ["N 7"], ["N 8"], ["N 8", "M"], ["N 8"], ["N  8"], [], [], ["N 7"]]
+        units = [dict(UNIT, define=define) for define in lists]
+        wanted = ""
+        for number, define in enumerate(lists):
+            value = define[0].split()[1] if define else ""
+            token = "65535:1:%d 0:1:1 n+ %s" % (define[0].index(value) + 9, value) if define else "0:1:1 0:1:1 i+ N"
+            wanted += "unit %d a.c\ntok %s\ndep 0 a.c\nok\n" % (number, token)
+        self.prints(listed([{"name": "a.c", "text": "N\n"}], units), wanted, "dump")
+
     def test_files_of_a_folder(self):
         write(self.top, SHARED)
         data = listed([{"name": name} for name in SHARED], SHARING, search=["inc"])

@@ -84,7 +84,7 @@ fn unit_of(alloc: Global, profile: Profile, file: usize, defines: &[&str]) -> Re
     }
     Ok(Unit {
         file,
-        defines: CommandMacros::read(alloc, defines, profile)?,
+        defines: CommandMacros::read(alloc, None, defines, profile)?,
         search: texts_of(alloc, &[])?,
     })
 }

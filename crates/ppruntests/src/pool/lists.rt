@@ -62,7 +62,7 @@ pub(crate) fn unit_of(alloc: Global, file: usize, defines: &[&str]) -> Result<Un
     }
     Ok(Unit {
         file,
-        defines: CommandMacros::read(alloc, defines, Profile::C11)?,
+        defines: CommandMacros::read(alloc, None, defines, Profile::C11)?,
         search: OwnedTexts::new(Vec::new(alloc)),
     })
 }

@@ -289,7 +289,7 @@ fn listed_units(
     let mut listed = Vec::new(alloc);
     for unit in units.into_vec() {
         let row = rows[listed.len()];
-        let unit = listed_unit(alloc, row, profile, unit)?;
+        let unit = listed_unit(alloc, row, profile, listed.last(), unit)?;
         let Ok(()) = listed.push(unit) else {
             return Err(Memory);
         };
@@ -298,7 +298,13 @@ fn listed_units(
 }
 
 /// Builds a unit of a valid draft.
-fn listed_unit(alloc: Global, row: usize, profile: Profile, unit: DraftUnit) -> Result<Unit, Memory>
+fn listed_unit(
+    alloc: Global,
+    row: usize,
+    profile: Profile,
+    before: Option<&Unit>,
+    unit: DraftUnit,
+) -> Result<Unit, Memory>
     requires { length (command_text unit.defines) ≤ longest }
     ensures { IfOk result (λ u. u ≡ spec.unit_in profile row unit) }
 {
@@ -307,9 +313,13 @@ fn listed_unit(alloc: Global, row: usize, profile: Profile, unit: DraftUnit) -> 
         defines,
         search,
     } = unit;
+    let before = match before {
+        Some(unit) => Some(&unit.defines),
+        None => None,
+    };
     Ok(Unit {
         file: row,
-        defines: CommandMacros::read(alloc, defines, profile)?,
+        defines: CommandMacros::read(alloc, before, defines, profile)?,
         search,
     })
 }
