@@ -22,7 +22,7 @@ use std::mem;
 const MAX_COPIED: usize = 12;
 
 /// The capacity, in tokens, above which a vector is not kept for later tokens.
-const MOST_KEPT: usize = 4096;
+pub(crate) const MOST_KEPT: usize = 4096;
 
 /// A piece of the emitted tokens: a span of a file, or tokens that were emitted one by one.
 #[derive(Drop)]

@@ -27,7 +27,7 @@ ghost use Rattle.ppexpand.specs.code.ProgramValues.{expanded_in, ExpansionsKnown
 ghost use Rattle.ppexpand.specs.code.ProgramValues.{ExpandsInvocationArguments, ClosedStepsTo, HasStepped, HasInvoked};
 
 use crate::context::Context;
-use crate::emitted::Emitted;
+use crate::emitted::{Emitted, MOST_KEPT};
 use crate::env::Env;
 use crate::expand_step::{Action, Invocation, Replacer};
 use crate::lists::put;
@@ -51,9 +51,6 @@ const DEEPEST: u32 = 256;
 
 /// The number of hide sets above which they are made anew for the next expansion of a file's tokens.
 const MOST_SETS: usize = 2048;
-
-/// The capacity, in tokens, above which a stack's vector is not kept for the next expansion.
-const MOST_KEPT: usize = 4096;
 
 /// Emits the tokens that replacements pushed, up to the first that names a macro or is an unmatched quote. Returns the macro that this
 /// token names. Returns `None` at a quote, or if no pushed token remains.
