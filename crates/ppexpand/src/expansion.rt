@@ -393,18 +393,21 @@ fn expand_tokens<'x, 'a: 'x>(
     expander: &mut Expander<'x>,
     stack: &mut Vec<Hidden<'x>>,
     context: &Context<'_, 'a>,
+    meter: &mut Meter,
     tokens: &'x [Token],
     emitted: &mut Emitted<'x>,
 ) -> Result<Option<BoxedFault>, Memory>
     requires level { context.now.level ≡ 0 }
     requires none { emitted.old ≡ [] }
-    ensures { IfOk result (λ r. (sets : HideSetPool) × ExpandsTo context.now.table.now.macros context.now.env.now 0 expander.old.meter (map unhidden tokens.now)
-        (record { tokens = hidings sets emitted.new; fault = r; meter = expander.new.meter })) }
+    ensures { IfOk result (λ r. (sets : HideSetPool) × ExpandsTo context.now.table.now.macros context.now.env.now 0 meter.old (map unhidden tokens.now)
+        (record { tokens = hidings sets emitted.new; fault = r; meter = meter.new })) }
 {
+    expander.meter = *meter;
     expander.renew_sets(context.table.hashing())?;
     let pushed = mem::replace(stack, Vec::new(*stack.allocator()));
     let mut list = TokenStack::over(pushed, tokens, expander.replacer.sets.empty());
     let outcome = expander.expand_list(context, &mut list, emitted);
+    *meter = expander.meter;
     keep_stack(stack, list.into_pushed());
     match outcome {
         Ok(()) => Ok(None),
@@ -426,15 +429,14 @@ fn expand_rest<'x, 'a: 'x>(
         (record { tokens = scratch.new; fault = r; meter = meter.new })) }
 {
     scratch.emitted.clear();
-    scratch.expander.meter = *meter;
     let fault = expand_tokens(
         &mut scratch.expander,
         &mut scratch.stack,
         context,
+        meter,
         tokens,
         &mut scratch.emitted,
     )?;
-    *meter = scratch.expander.meter;
     Ok(fault)
 }
 
