@@ -1,6 +1,6 @@
 -- Lemmas for the loop that expands the arguments of an invocation in order.
-use Rattle.std.proofs.Common.{◌≡◌, ℕ, zero, suc, ◌+◌, ◌<◌, ◌≤◌, Bool, true, false, ◌||◌, List, [], ◌∷◌, ◌++◌, map, drop, Option, Some, None, Ok, Err, Vec}
-use Rattle.std.proofs.Common.{Global, refl, sym, ap, ◌∙◌, subst, get_or, length, add-one, arith, if◌then◌else◌}
+use Rattle.std.proofs.Common.{◌≡◌, ℕ, zero, suc, ◌+◌, ◌<◌, ◌≤◌, Bool, true, false, List, [], ◌∷◌, ◌++◌, drop, Option, Some, None, Ok, Err, Vec}
+use Rattle.std.proofs.Common.{Global, refl, sym, ap, ◌∙◌, subst, length, add-one, arith, if◌then◌else◌}
 use Rattle.pptext.specs.declared.tokens.Token.{Token}
 use Rattle.pptext.specs.declared.tokens.Fault.{Fault}
 use Rattle.ppmacro.specs.Names.{Name, Macros}
@@ -17,10 +17,7 @@ use Rattle.ppmacro.specs.declared.hidden_token.Hidden.{Hidden}
 use Rattle.ppmacro.specs.declared.macros.Chain.{Chain}
 use Rattle.ppexpand.specs.declared.env.Env.{Env}
 use Rattle.ppexpand.specs.declared.meter.Meter.{Meter}
-use Rattle.ppmacro.specs.Patterns.{entry_chain}
-use Rattle.ppmacro.specs.declared.patterns.Entry.{Entry}
-use Rattle.std.specs.List.{list_any}
-use Rattle.ppexpand.specs.ExpansionStep.{Invocation, is_lone_parameter, pre_expands, to_expand, arguments_to_expand}
+use Rattle.ppexpand.specs.ExpansionStep.{Invocation, pre_expands, to_expand, arguments_to_expand}
 use Rattle.ppexpand.specs.Expansion.{Expands, ExpandsTo, ExpandsArguments}
 use Rattle.ppexpand.specs.code.ProgramValues.{given_in, expanded_in, ExpansionsKnown, ExpandsArgument, expands, raises}
 use Rattle.ppexpand.proofs.LoopInvariants.{ArgumentsFollow, arguments_start, arguments_unused, arguments_used, arguments_refused, arguments_end}
@@ -138,18 +135,3 @@ pub follows_all : (macros : Macros) (env : Env) (level : ℕ) (first meter : Met
     → ExpandsArguments macros env level invocation first all meter (Ok (expanded_in u vs done))
 follows_all macros env level first meter s u vs cs names i done invocation all end here = arguments_end macros env level invocation first all (expanded_in u vs done) meter
     (subst (ArgumentsFollow macros env level invocation first all (expanded_in u vs done) meter) (rest-end cs names (given_in s vs) i i end) here)
-
--- `pre_expands` of a parameter equals its entry in the list of flags
-pub pre_expanded-alone : (pre_expanded shown : List Bool) (count i : ℕ) (cs ds : List Chain) (space : Bool)
-    → shown ≡ pre_expanded
-    → cs ≡ ds
-    → ((j : ℕ) → j < count → get_or pre_expanded j false ≡ pre_expands j cs)
-    → i < count
-    → get_or shown i false ≡ space
-    → pre_expands i ds ≡ space
-pre_expanded-alone pre_expanded shown count i cs ds space same chains marks less is = ap (pre_expands i) (sym chains) ∙ sym (marks i less) ∙ ap (λ xs. get_or xs i false) (sym same) ∙ is
-
--- A parameter is pre-expanded if and only if some entry of the list is that parameter alone.
-pub pre_expanded-by-entries : (i : ℕ) (es : List Entry) → pre_expands i (map entry_chain es) ≡ list_any (λ e. is_lone_parameter i (entry_chain e).operands) es
-pre_expanded-by-entries i [] = refl
-pre_expanded-by-entries i (e ∷ es) = ap (λ b. is_lone_parameter i (entry_chain e).operands || b) (pre_expanded-by-entries i es)

@@ -1,8 +1,7 @@
 -- The expansion step of a list: the rules of macro replacement (6.10.3, 6.10.3.1, 6.10.3.4), by cases on whole
 -- lists whose tokens have hide sets.
 use Rattle.std.specs.Prelude.{ℕ, suc, ℤ, pos, ◌+ℤ◌, nat_abs, decimal, Bool, true, false, List, [], ◌∷◌, ◌++◌, Option, Some, None, Result, Ok}
-use Rattle.std.specs.Prelude.{Err, codes, ◌==◌, if◌then◌else◌}
-use Rattle.std.specs.List.{list_any}
+use Rattle.std.specs.Prelude.{Err, codes, if◌then◌else◌}
 use Rattle.std.specs.FinSet as set
 use Rattle.std.specs.FinMap as table
 use Rattle.pptext.specs.declared.tokens.Token.{Token}
@@ -14,6 +13,7 @@ use Rattle.pptext.specs.Tokens.{is_identifier, is_unmatched_quote, fault}
 use Rattle.ppmacro.specs.Names.{Name, HideSet, Macros}
 use Rattle.ppmacro.specs.Hiding.{Hiding}
 use Rattle.ppmacro.specs.Chains.{parameter_names, chains_of}
+pub use Rattle.ppmacro.specs.PreExpansion.{is_lone_parameter, pre_expands}
 use Rattle.ppmacro.specs.Substitution.{Arguments, argument_at, Replacement, with_space, macro_replacement}
 use Rattle.ppmacro.specs.declared.macros.PredefinedMacro.{PredefinedMacro}
 use Rattle.ppmacro.specs.declared.macros.PredefinedMacro.TheVariants.{File, Line, Date, Time, Stdc, StdcHosted, StdcVersion}
@@ -22,8 +22,6 @@ use Rattle.ppmacro.specs.declared.macros.MacroKind.{MacroKind}
 use Rattle.ppmacro.specs.declared.macros.MacroKind.TheVariants.{Predefined, ObjectLike, FunctionLike}
 use Rattle.ppmacro.specs.declared.macros.Macro.{Macro}
 use Rattle.ppmacro.specs.declared.macros.Chain.{Chain}
-use Rattle.ppmacro.specs.declared.macros.Operand.{Operand}
-use Rattle.ppmacro.specs.declared.macros.Operand.TheVariants.{Param}
 use Rattle.ppexpand.specs.declared.env.Env.{Env}
 use Rattle.ppexpand.specs.Arguments.{is_open, Gathered, Closed, UnmatchedQuote, Unclosed, gather, separators, fit_arguments}
 
@@ -151,14 +149,6 @@ expansion_step macros env (t ∷ rest) =
     if set.contains t.hide t.token.text then Emits t rest else named_step env t rest (macro_of macros t.token))
 
 -- ---- the arguments that are expanded (6.10.3.1)
-
-abbrev pub is_lone_parameter : ℕ → List Operand → Bool
-is_lone_parameter i (Param j ∷ []) = i == j
-is_lone_parameter i _ = false
-
--- whether the replacement list uses this parameter without `#` and `##`
-abbrev pub pre_expands : ℕ → List Chain → Bool
-pre_expands i cs = list_any (λ c. is_lone_parameter i c.operands) cs
 
 -- for each parameter from i on: its argument if it is to be expanded, and otherwise `None`; an absent variable argument counts as empty
 abbrev pub to_expand : ℕ → List Chain → List Name → List (List Hiding) → List (Option (List Hiding))

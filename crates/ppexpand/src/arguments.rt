@@ -6,12 +6,11 @@ ghost use Rattle.ppmacro.specs.Substituting.{ListsKnown};
 ghost use Rattle.ppexpand.specs.Arguments.{Closed, UnmatchedQuote, Unclosed, separates, fewer, separators, needed, gather, fit_arguments};
 ghost use Rattle.ppexpand.specs.code.ProgramValues.{given_in, fitting_in, FittingKnown, is_bare};
 
-use crate::lists::put;
 use crate::token_roles::{ArgumentRole, argument_role};
 use crate::token_stack::TokenStack;
 use crate::vec_pool::VecPool;
 use ppmacro::{Hidden, Variadic};
-use pptext::{Memory, Spelling};
+use pptext::{Memory, Spelling, push};
 use std::alloc::Global;
 use std::mem;
 
@@ -85,7 +84,7 @@ fn end_argument<'a>(
         0
     };
     let begun = pool.list(capacity)?;
-    put(arguments, mem::replace(argument, begun))
+    push(arguments, mem::replace(argument, begun))
 }
 
 /// Removes the arguments of an invocation and the matching `)` from the list, which begins after the `(`.
@@ -113,7 +112,7 @@ pub(crate) fn gather<'a>(
         match argument_role(&hidden) {
             ArgumentRole::Quote => return Ok(Gathered::UnmatchedQuote(hidden)),
             ArgumentRole::Close if depth == 0 => {
-                put(&mut arguments, argument)?;
+                push(&mut arguments, argument)?;
                 return Ok(Gathered::Closed(arguments, hidden));
             }
             ArgumentRole::Comma if separates(depth, commas) => {
@@ -128,7 +127,7 @@ pub(crate) fn gather<'a>(
             ArgumentRole::Comma => {}
             ArgumentRole::Inner => {}
         }
-        put(&mut argument, hidden)?;
+        push(&mut argument, hidden)?;
     }
     Ok(Gathered::Unclosed)
 }

@@ -9,11 +9,10 @@ ghost use Rattle.std.specs.Prelude.{◌≡◌, ◌∷◌, ◌++◌, [], flat_map
 ghost use Rattle.ppexpand.specs.Slices.{piece_list, slice_tokens};
 ghost use Rattle.ppmacro.specs.Substituting.{tokens_of};
 
-use crate::lists::put;
 use crate::token_slice::{SliceIter, TokenSlice};
 use crate::token_span::TokenSpan;
 use ppmacro::Hidden;
-use pptext::{Memory, Token};
+use pptext::{Memory, Token, push};
 use std::alloc::Global;
 use std::marker::Model;
 use std::mem;
@@ -86,7 +85,7 @@ fn end_piece<'a>(pieces: &mut Vec<Piece<'a>>, singles: &mut Vec<Hidden<'a>>) -> 
     if singles.is_empty() {
         return Ok(());
     }
-    put(pieces, Piece::Singles(exact_vec(singles)?))
+    push(pieces, Piece::Singles(exact_vec(singles)?))
 }
 
 impl<'a> Emitted<'a> {
@@ -128,7 +127,7 @@ impl<'a> Emitted<'a> {
             return push_span(&mut self.singles, span);
         }
         end_piece(&mut self.pieces, &mut self.singles)?;
-        put(&mut self.pieces, Piece::Span(span))
+        push(&mut self.pieces, Piece::Span(span))
     }
 
     /// Appends a token.
@@ -136,7 +135,7 @@ impl<'a> Emitted<'a> {
     pub(crate) fn push_single(&mut self, hidden: Hidden<'a>) -> Result<(), Memory>
         ensures { OnOk result (self.new ≡ self.old ++ hidden.entry ∷ []) }
     {
-        put(&mut self.singles, hidden)
+        push(&mut self.singles, hidden)
     }
 
     /// Returns the number of tokens that were emitted one by one since the last piece.
@@ -204,7 +203,7 @@ fn push_span<'a>(tokens: &mut Vec<Hidden<'a>>, span: TokenSpan<'a>) -> Result<()
 {
     let mut span = span;
     while let Some(hidden) = span.next() {
-        put(tokens, hidden)?;
+        push(tokens, hidden)?;
     }
     Ok(())
 }
@@ -225,7 +224,7 @@ fn copy_slice(tokens: &mut Vec<Token>, slice: SliceIter) -> Result<(), Memory>
 {
     let mut slice = slice;
     while let Some(token) = slice.next() {
-        put(tokens, token.to_token()?)?;
+        push(tokens, token.to_token()?)?;
     }
     Ok(())
 }

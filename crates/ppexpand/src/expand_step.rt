@@ -37,8 +37,8 @@ use crate::token_roles::{budget_fault, fault_at_expansion, is_open, is_quote, qu
 use crate::token_stack::TokenStack;
 use crate::vec_pool::VecPool;
 use ppmacro::{
-    ArgumentExpansion, Arguments, Hidden, HideSets, Macro, MacroKind, MacroName, Pattern,
-    PredefinedMacro, Set, Table, Variadic, substitute_pattern,
+    ArgumentExpansion, Arguments, Hidden, HideSets, MacroKind, MacroName, Pattern, PredefinedMacro,
+    PreparedMacro, Set, Table, Variadic, substitute_pattern,
 };
 use pptext::{Error, Memory, Place, Spelling, Token};
 use std::alloc::Global;
@@ -49,7 +49,7 @@ pub(crate) struct Invocation<'t, 'x, 'a> {
     /// The macro name token.
     pub(crate) name_token: Hidden<'x>,
     /// The macro.
-    pub(crate) definition: &'t Macro<'a>,
+    pub(crate) definition: &'t PreparedMacro<'a>,
     /// An argument for each parameter. An absent variable argument has no entry.
     pub(crate) arguments: Vec<Vec<Hidden<'x>>>,
     /// The intersection of the hide sets of the name and the `)`. These names and the macro's name are added to the hide set of each token of
@@ -80,7 +80,7 @@ pub(crate) struct Replacer<'x> {
 
 /// Returns the macro that a token names.
 #[inline(always)]
-pub(crate) fn macro_at<'t, 'a>(table: &'t Table<'a>, token: &Token) -> Option<&'t Macro<'a>>
+pub(crate) fn macro_at<'t, 'a>(table: &'t Table<'a>, token: &Token) -> Option<&'t PreparedMacro<'a>>
     ensures { option_copied result ≡ macro_of table.now.macros token.now }
 {
     if token.is_identifier() {
@@ -157,7 +157,7 @@ fn closed_invocation_step<'t, 'x, 'a: 'x>(
     alloc: Global,
     sets: &mut HideSets,
     name_token: Hidden<'x>,
-    definition: &'t Macro<'a>,
+    definition: &'t PreparedMacro<'a>,
     arguments: Option<Vec<Vec<Hidden<'x>>>>,
     close: &Hidden,
 ) -> Result<Action<'t, 'x, 'a>, Error>
@@ -186,7 +186,7 @@ fn closed_invocation_step<'t, 'x, 'a: 'x>(
 fn exhausted_step<'t, 'x, 'a: 'x>(
     alloc: Global,
     name_token: Hidden<'x>,
-    definition: &Macro<'a>,
+    definition: &PreparedMacro<'a>,
     list: &mut TokenStack<'x>,
 ) -> Result<Action<'t, 'x, 'a>, Error>
     ensures is { UnlessOutOfMemory result (λ r.
@@ -195,7 +195,7 @@ fn exhausted_step<'t, 'x, 'a: 'x>(
         (macro_step env (hiding sets name_token.entry) (hidings sets list.old) definition.now definition.now.kind)) }
     ensures known { IfOk result (λ n. (sets : HideSetPool) → HasSets sets name_token.entry → AllKnown sets list.old → ActionKnown sets list.new n) }
 {
-    if matches!(definition.kind, MacroKind::FunctionLike { .. }) {
+    if matches!(definition.kind(), MacroKind::FunctionLike { .. }) {
         let Some(following) = list.next() else {
             return Ok(Action::Emits(name_token));
         };
@@ -224,7 +224,7 @@ impl<'x> Replacer<'x> {
     /// The names of `base` and the macro's name are added to the hide set of each token.
     fn replace<'a: 'x>(
         &mut self,
-        pattern: &Pattern<'a>,
+        pattern: &Pattern<'_, 'a>,
         arguments: Arguments<'_, 'x>,
         base: Set,
         name_token: &Hidden,
@@ -288,7 +288,7 @@ impl<'x> Replacer<'x> {
         &mut self,
         base: Set,
         name_token: &Hidden<'x>,
-        definition: &Macro<'a>,
+        definition: &PreparedMacro<'a>,
         list: &mut TokenStack<'x>,
     ) -> Result<(), Error>
         requires base { IsKnown self.old.sets base }
@@ -318,7 +318,7 @@ impl<'x> Replacer<'x> {
     fn object_step<'t, 'a: 'x>(
         &mut self,
         name_token: &Hidden<'x>,
-        definition: &Macro<'a>,
+        definition: &PreparedMacro<'a>,
         list: &mut TokenStack<'x>,
     ) -> Result<Action<'t, 'x, 'a>, Error>
         requires name_token { HasSets self.old.sets name_token.now }
@@ -339,7 +339,7 @@ impl<'x> Replacer<'x> {
     fn invocation_step<'t, 'a: 'x>(
         &mut self,
         name_token: Hidden<'x>,
-        definition: &'t Macro<'a>,
+        definition: &'t PreparedMacro<'a>,
         names: &[Spelling],
         variadic: Variadic,
         list: &mut TokenStack<'x>,
@@ -373,7 +373,7 @@ impl<'x> Replacer<'x> {
     fn function_step<'t, 'a: 'x>(
         &mut self,
         name_token: Hidden<'x>,
-        definition: &'t Macro<'a>,
+        definition: &'t PreparedMacro<'a>,
         names: &[Spelling],
         variadic: Variadic,
         list: &mut TokenStack<'x>,
@@ -402,7 +402,7 @@ impl<'x> Replacer<'x> {
         &mut self,
         env: &Env,
         name_token: Hidden<'x>,
-        definition: &'t Macro<'a>,
+        definition: &'t PreparedMacro<'a>,
         list: &mut TokenStack<'x>,
     ) -> Result<Action<'t, 'x, 'a>, Error>
         requires name_token { HasSets self.old.sets name_token }
@@ -412,7 +412,7 @@ impl<'x> Replacer<'x> {
         ensures known { IfOk result (λ n. ActionKnown self.new.sets list.new n) }
         ensures keeps { KeepsSets self.old.sets self.new.sets }
     {
-        match &definition.kind {
+        match definition.kind() {
             MacroKind::Predefined(predefined) => {
                 Ok(self.predefined_step(env, &name_token, *predefined, list)?)
             }
@@ -437,7 +437,7 @@ impl<'x> Replacer<'x> {
         &mut self,
         context: &Context<'_, 'a>,
         meter: &mut Meter,
-        named: Option<&'t Macro<'a>>,
+        named: Option<&'t PreparedMacro<'a>>,
         list: &mut TokenStack<'x>,
     ) -> Result<Action<'t, 'x, 'a>, Error>
         requires named { option_copied named ≡ next_macro context.now.table.now.macros (tokens_of list.old) }
@@ -474,7 +474,7 @@ impl<'x> Replacer<'x> {
     pub(crate) fn finish_invocation<'a: 'x>(
         &mut self,
         invocation: &Invocation<'_, 'x, 'a>,
-        pattern: &Pattern<'a>,
+        pattern: &Pattern<'_, 'a>,
         expanded: &[ArgumentExpansion<'x>],
         list: &mut TokenStack<'x>,
     ) -> Result<(), Error>

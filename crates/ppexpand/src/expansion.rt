@@ -30,16 +30,14 @@ use crate::context::Context;
 use crate::emitted::{Emitted, MOST_KEPT};
 use crate::env::Env;
 use crate::expand_step::{Action, Invocation, Replacer};
-use crate::lists::put;
 use crate::meter::Meter;
-use crate::pre_expansion::pre_expanded_parameters;
 use crate::scratch::Scratch;
 use crate::token_roles::fault_at_expansion;
 use crate::token_span::{never_expands, split_unexpanded};
 use crate::token_stack::{Lookahead, TokenStack};
 use crate::vec_pool::VecPool;
-use ppmacro::{ArgumentExpansion, Hidden, HideSets, Macro, Pattern, Table, argument_of};
-use pptext::{BoxedFault, Error, Hashing, Memory, Token};
+use ppmacro::{ArgumentExpansion, Hidden, HideSets, Pattern, PreparedMacro, Table, argument_of};
+use pptext::{BoxedFault, Error, Hashing, Memory, Token, push};
 use std::alloc::Global;
 use std::mem;
 
@@ -58,7 +56,7 @@ fn emit_pushed<'t, 'x, 'a>(
     table: &'t Table<'a>,
     list: &mut TokenStack<'x>,
     emitted: &mut Emitted<'x>,
-) -> Result<Option<&'t Macro<'a>>, Memory>
+) -> Result<Option<&'t PreparedMacro<'a>>, Memory>
     ensures skipped { OnOk result (HasSkipped table.now.macros list.old emitted.old list.new emitted.new) }
     ensures named { IfOk result (λ r. IfSome r (λ m. Some m.now ≡ next_macro table.now.macros (tokens_of list.new))) }
 {
@@ -78,7 +76,7 @@ fn emit_unexpanded<'t, 'x, 'a>(
     table: &'t Table<'a>,
     list: &mut TokenStack<'x>,
     emitted: &mut Emitted<'x>,
-) -> Result<Option<&'t Macro<'a>>, Memory>
+) -> Result<Option<&'t PreparedMacro<'a>>, Memory>
     ensures skipped { OnOk result (HasSkipped table.now.macros list.old emitted.old list.new emitted.new) }
     ensures named { IfOk result (λ r. option_copied r ≡ next_macro table.now.macros (tokens_of list.new)) }
 {
@@ -112,12 +110,12 @@ fn recycle_arguments<'x>(pool: &mut VecPool<'x>, invocation: &mut Option<Invocat
 }
 
 /// Returns the replacement list of a macro. `hashing` is the table's, since the names of parameters come from the source.
-fn pattern_of<'a>(
+fn pattern_of<'p, 'a>(
     alloc: Global,
     _table: &Table<'a>,
     hashing: Hashing,
-    definition: &Macro<'a>,
-) -> Result<Pattern<'a>, Memory>
+    definition: &'p PreparedMacro<'a>,
+) -> Result<Pattern<'p, 'a>, Memory>
     requires { hashing ≡ _table.now.hashing }
     ensures { IfOk result (λ p. pattern_chains p ≡ chains_of definition.now) }
 {
@@ -154,7 +152,7 @@ impl<'x> Expander<'x> {
     fn begin_step<'t, 'a: 'x>(
         &mut self,
         context: &Context<'t, 'a>,
-        named: Option<&'t Macro<'a>>,
+        named: Option<&'t PreparedMacro<'a>>,
         list: &mut TokenStack<'x>,
         emitted: &mut Emitted<'x>,
         invocation: &mut Option<Invocation<'t, 'x, 'a>>,
@@ -230,20 +228,17 @@ impl<'x> Expander<'x> {
     }
 
     /// Pre-expands the arguments that the replacement list uses without `#` and `##`, and appends the expansions to `expanded` by parameter.
-    ///
-    /// Stops at the first fault. `pattern` is the replacement list of the macro.
+    /// Stops at the first fault.
     #[cycle(expansion)]
     fn expand_arguments<'a: 'x>(
         &mut self,
         context: &Context<'_, 'a>,
         invocation: &Invocation<'_, 'x, 'a>,
-        pattern: &Pattern<'a>,
         expanded: &mut Vec<ArgumentExpansion<'x>>,
     ) -> Result<(), Error>
         requires level { context.now.level ≤ 256 }
         requires hashing { self.old.replacer.sets.hashing ≡ context.now.table.now.hashing }
         requires known { InvocationKnown self.old.replacer.sets invocation.now.name_token invocation.now.arguments.items invocation.now.base }
-        requires chains { pattern_chains pattern.now ≡ chains_of invocation.now.definition.now }
         requires none { expanded.old.items ≡ [] }
         ensures is { UnlessOutOfMemory result (λ r. (following : List Hidden) → ExpandsInvocationArguments context.now.table.now.macros context.now.env.now context.now.level
             (invocation_in self.old.replacer.sets invocation.now.name_token invocation.now.definition.now invocation.now.arguments.items invocation.now.base following) self.old.meter self.new.meter
@@ -251,20 +246,16 @@ impl<'x> Expander<'x> {
         ensures known { OnOk result (ExpansionsKnown self.new.replacer.sets expanded.new.items) }
         ensures keeps { KeepsSets self.old.replacer.sets self.new.replacer.sets }
     {
-        let pre_expanded = pre_expanded_parameters(
-            self.replacer.pool.alloc(),
-            invocation.definition,
-            pattern,
-        )?;
+        let pre_expanded = invocation.definition.expanded();
         for (parameter, is_pre_expanded) in pre_expanded.iter().enumerate() {
             if !*is_pre_expanded {
-                put(expanded, ArgumentExpansion::Unused)?;
+                push(expanded, ArgumentExpansion::Unused)?;
                 continue;
             }
             let name_token = &invocation.name_token;
             let tokens = argument_of(invocation.arguments.as_slice(), parameter);
             let expansion = self.expand_argument(context, name_token, tokens)?;
-            put(expanded, expansion)?;
+            push(expanded, expansion)?;
         }
         Ok(())
     }
@@ -294,7 +285,7 @@ impl<'x> Expander<'x> {
             invocation.definition,
         )?;
         let mut expanded = self.replacer.pool.expansions();
-        self.expand_arguments(context, invocation, &pattern, &mut expanded)?;
+        self.expand_arguments(context, invocation, &mut expanded)?;
         let replaced = self
             .replacer
             .finish_invocation(invocation, &pattern, expanded.as_slice(), list);
@@ -311,7 +302,7 @@ impl<'x> Expander<'x> {
     fn advance<'t, 'a: 'x>(
         &mut self,
         context: &Context<'t, 'a>,
-        named: Option<&'t Macro<'a>>,
+        named: Option<&'t PreparedMacro<'a>>,
         list: &mut TokenStack<'x>,
         emitted: &mut Emitted<'x>,
         invocation: &mut Option<Invocation<'t, 'x, 'a>>,

@@ -10,7 +10,6 @@ mod expansion;
 mod laws;
 mod lists;
 mod meter;
-mod pre_expansion;
 mod predefined;
 mod scratch;
 mod token_roles;

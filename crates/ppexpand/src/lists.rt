@@ -1,17 +1,8 @@
 //! Appends to vectors.
-ghost use Rattle.std.specs.Prelude.{◌≡◌, ◌∷◌, ◌++◌, [], OnOk};
+ghost use Rattle.std.specs.Prelude.{◌≡◌, ◌++◌, OnOk};
 
 use ppmacro::Hidden;
 use pptext::Memory;
-
-/// Appends an item.
-#[inline(always)]
-pub(crate) fn put<T: Drop>(items: &mut Vec<T>, item: T) -> Result<(), Memory>
-    ensures { OnOk result (items.new.items ≡ items.old.items ++ item ∷ []) }
-{
-    items.push(item)?;
-    Ok(())
-}
 
 /// Appends copies of tokens.
 pub(crate) fn put_clones<'a>(

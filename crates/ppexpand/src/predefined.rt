@@ -5,10 +5,9 @@ ghost use Rattle.ppmacro.specs.HideSets.{set_at, hiding};
 ghost use Rattle.ppexpand.specs.ExpansionStep.{presumed_line, string_literal, predefined_kind, predefined_text, predefined_value};
 
 use crate::env::Env;
-use crate::lists::put;
 use itoa::Buffer;
 use ppmacro::{Hidden, PredefinedMacro, Set};
-use pptext::{Kind, Memory, Place, Spelling, Token};
+use pptext::{Kind, Memory, Place, Spelling, Token, push};
 use std::alloc::Global;
 
 /// Returns the token kind of a predefined macro's replacement.
@@ -30,7 +29,7 @@ fn string_literal(alloc: Global, text: &[u8]) -> Result<Vec<u8>, Memory>
 {
     let mut literal = Vec::from_slice(alloc, b"\"")?;
     literal.extend_from_slice(text)?;
-    put(&mut literal, b'"')?;
+    push(&mut literal, b'"')?;
     Ok(literal)
 }
 

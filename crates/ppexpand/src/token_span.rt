@@ -6,7 +6,7 @@ ghost use Rattle.ppmacro.specs.Substituting.{tokens_of};
 ghost use Rattle.ppexpand.specs.code.Lists.{with_set, never_expands, next_macro, NeverExpand};
 
 use crate::expand_step::macro_at;
-use ppmacro::{Hidden, Macro, Set, Table};
+use ppmacro::{Hidden, PreparedMacro, Set, Table};
 use pptext::Token;
 use std::marker::Model;
 
@@ -36,7 +36,10 @@ pub(crate) fn never_expands(table: &Table, token: &Token) -> bool
 }
 
 /// Returns how many of the first tokens are emitted unchanged, and the macro that the token after them names.
-fn unexpanded_len<'t, 'b>(table: &'t Table<'b>, tokens: &[Token]) -> (usize, Option<&'t Macro<'b>>)
+fn unexpanded_len<'t, 'b>(
+    table: &'t Table<'b>,
+    tokens: &[Token],
+) -> (usize, Option<&'t PreparedMacro<'b>>)
     ensures within { result.0 ≤ length tokens.now }
     ensures unexpanded { AllByRecursion (λ t. never_expands table.now.macros t ≡ true) (take result.0 tokens.now) }
     ensures named { option_copied result.1 ≡ next_macro table.now.macros (drop result.0 tokens.now) }
@@ -102,7 +105,7 @@ impl<'a> TokenSpan<'a> {
     }
 
     /// Returns the macro that the first token names.
-    pub(crate) fn next_macro<'t, 'b>(&self, table: &'t Table<'b>) -> Option<&'t Macro<'b>>
+    pub(crate) fn next_macro<'t, 'b>(&self, table: &'t Table<'b>) -> Option<&'t PreparedMacro<'b>>
         ensures { option_copied result ≡ next_macro table.now.macros (tokens_of self.now) }
     {
         macro_at(table, self.tokens.first()?)
@@ -112,7 +115,7 @@ impl<'a> TokenSpan<'a> {
     pub(crate) fn take_unexpanded<'t, 'b>(
         &mut self,
         table: &'t Table<'b>,
-    ) -> (TokenSpan<'a>, Option<&'t Macro<'b>>)
+    ) -> (TokenSpan<'a>, Option<&'t PreparedMacro<'b>>)
         ensures laid_out { self.old ≡ result.0 ++ self.new }
         ensures unexpanded { NeverExpand table.now.macros result.0 }
         ensures named { option_copied result.1 ≡ next_macro table.now.macros (tokens_of self.new) }

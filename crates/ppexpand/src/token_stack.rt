@@ -5,10 +5,10 @@ ghost use Rattle.ppmacro.specs.Substituting.{tokens_of};
 ghost use Rattle.ppexpand.specs.code.Lists.{spaced, with_set, never_expands, next_macro, NeverExpand};
 
 use crate::expand_step::macro_at;
-use crate::lists::{put, put_clones};
+use crate::lists::put_clones;
 use crate::token_span::TokenSpan;
-use ppmacro::{Hidden, Macro, Set, Table};
-use pptext::{Memory, Token};
+use ppmacro::{Hidden, PreparedMacro, Set, Table};
+use pptext::{Memory, Token, push};
 use std::marker::Model;
 
 /// The tokens that are still to be expanded. Contracts see them as a list that begins with the next token.
@@ -39,7 +39,7 @@ pub(crate) enum Lookahead<'t, 'x, 'a> {
     /// A token that is emitted unchanged. It is popped.
     Emits(Hidden<'x>),
     /// A token that names this macro.
-    Names(&'t Macro<'a>),
+    Names(&'t PreparedMacro<'a>),
     /// Not known: the token comes from the file, or it is an unmatched quote.
     Unknown,
 }
@@ -104,7 +104,7 @@ impl<'a> TokenStack<'a> {
     pub(crate) fn push(&mut self, hidden: Hidden<'a>) -> Result<(), Memory>
         ensures { OnOk result (self.new ≡ hidden.entry ∷ self.old) }
     {
-        put(&mut self.pushed, hidden)
+        push(&mut self.pushed, hidden)
     }
 
     /// Pushes tokens, the last one first.
@@ -159,7 +159,7 @@ impl<'a> TokenStack<'a> {
     pub(crate) fn take_unexpanded<'t, 'b>(
         &mut self,
         table: &'t Table<'b>,
-    ) -> (TokenSpan<'a>, Option<&'t Macro<'b>>)
+    ) -> (TokenSpan<'a>, Option<&'t PreparedMacro<'b>>)
         ensures laid_out { self.old ≡ result.0 ++ self.new }
         ensures unexpanded { NeverExpand table.now.macros result.0 }
         ensures named { option_copied result.1 ≡ next_macro table.now.macros (tokens_of self.new) }

@@ -1,9 +1,8 @@
 //! A pool of vectors, which expansions reuse.
 ghost use Rattle.std.specs.Prelude.{◌≡◌, [], IfOk};
 
-use crate::lists::put;
 use ppmacro::{ArgumentExpansion, Hidden};
-use pptext::Memory;
+use pptext::{Memory, push};
 use std::alloc::Global;
 
 /// The most vectors of one kind in the pool. Few nested invocations have more arguments together.
@@ -74,7 +73,7 @@ impl<'x> VecPool<'x> {
     /// Puts a vector of tokens that are no longer used in the pool, if there is memory for it.
     pub(crate) fn keep_list(&mut self, list: Vec<Hidden<'x>>) {
         if self.lists.len() < MOST && list.capacity() <= LARGE {
-            let _kept = put(&mut self.lists, list);
+            let _kept = push(&mut self.lists, list);
         }
     }
 
@@ -85,7 +84,7 @@ impl<'x> VecPool<'x> {
             self.keep_list(list);
         }
         if self.arguments.len() < MOST && arguments.capacity() <= LARGE {
-            let _kept = put(&mut self.arguments, arguments);
+            let _kept = push(&mut self.arguments, arguments);
         }
     }
 
@@ -98,7 +97,7 @@ impl<'x> VecPool<'x> {
             }
         }
         if self.expansions.len() < MOST && expansions.capacity() <= LARGE {
-            let _kept = put(&mut self.expansions, expansions);
+            let _kept = push(&mut self.expansions, expansions);
         }
     }
 }

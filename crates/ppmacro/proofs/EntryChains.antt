@@ -9,7 +9,7 @@ use Rattle.ppmacro.specs.declared.macros.Operand.TheVariants as operand
 use Rattle.ppmacro.specs.declared.patterns.Entry.{Entry}
 use Rattle.ppmacro.specs.declared.patterns.Entry.TheVariants.{Tok, Param}
 use Rattle.ppmacro.specs.Chains.{ChainPart, parts_at, parts_after, plain_part, parameter_of, is_function_like, begins_joined, group_parts, hash_sign, lenient_parameter, with_variadic}
-use Rattle.ppmacro.specs.Patterns.{is_operator, entry_at, entry_of, entry_chain}
+use Rattle.ppmacro.specs.Entries.{is_operator, entry_at, entry_of, entry_chain}
 use Rattle.ppmacro.proofs.ChainLemmas.{group_parts-alone}
 
 no_hash : (b h : Bool) → h ≡ false → (b && h) ≡ false

@@ -56,3 +56,9 @@ pub mod EntryChains
 pub mod VariadicOperands
 -- The origin, the hide set and the leading-space flag of each token of a replacement.
 pub mod TokenOrigins
+-- Lists of entries by the parameters that their tokens name.
+pub mod PlainLists
+-- A `#define` line by itself, whatever the table has.
+pub mod TableFreeDefinitions
+-- A `#define` line of a file and what was read of it.
+pub mod DefineLines

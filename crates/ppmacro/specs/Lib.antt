@@ -1,6 +1,8 @@
 pub mod Names
 pub mod PasteFree
+pub mod Entries
 pub mod Patterns
+pub mod PreExpansion
 pub mod PairCache
 pub mod HideSetPool
 pub mod HashOperators
@@ -8,6 +10,7 @@ pub mod Chains
 pub mod Hiding
 pub mod HideSets
 pub mod Define
+pub mod DefineLines
 pub mod ParsedParameters
 pub mod Predefined
 pub mod Lexing

@@ -7,4 +7,5 @@ pub mod NameFilter
 pub mod ChainParts
 pub mod Hashed
 pub mod Defining
+pub mod PreparedDefinitions
 pub mod Replacing

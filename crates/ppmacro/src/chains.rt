@@ -15,7 +15,7 @@ ghost use Rattle.ppmacro.specs.code.ChainParts.{with_first_part, append_parts};
 ghost use Rattle.pptext.specs.declared.tokens.Token.{Token};
 
 use crate::hash_operators::{is_hash, is_paste};
-use crate::macros::{Chain, Chains, Macro, MacroKind, Operand, Operands, Variadic};
+use crate::macros::{Chain, Chains, MacroKind, Operand, Operands, Variadic};
 use crate::name_key::NameKey;
 use crate::parameter_index::{MAX_SCANNED, index_names};
 use crate::replacement_list::BodyToken;
@@ -306,17 +306,17 @@ fn end_in_variadic(kind: &MacroKind, chains: &mut [Chain])
     }
 }
 
-/// Returns the chains of a definition's replacement list. Many parameters are indexed with hash function `hashing`.
+/// Returns the chains of a replacement list of a macro of this kind. Many parameters are indexed with hash function `hashing`.
 pub(crate) fn chains_of<'a>(
     alloc: Global,
-    definition: &Macro<'a>,
+    kind: &MacroKind,
+    body: &'a [Token],
     hashing: Hashing,
 ) -> Result<Chains<'a>, Memory>
-    ensures { IfOk result (λ c. c ≡ chains_of definition.now) }
+    ensures { IfOk result (λ c. c ≡ chains_of (record { kind = kind.now; body = body.now })) }
 {
-    let body = definition.body.as_slice();
-    let kind = Parameters::new(alloc, &definition.kind, body.len(), hashing)?;
-    let mut chains = chains_in(alloc, &kind, hashing, body)?;
-    end_in_variadic(&definition.kind, chains.as_mut_slice());
+    let parameters = Parameters::new(alloc, kind, body.len(), hashing)?;
+    let mut chains = chains_in(alloc, &parameters, hashing, body)?;
+    end_in_variadic(kind, chains.as_mut_slice());
     Ok(Chains::new(chains))
 }

@@ -2,18 +2,21 @@
 //!
 //! A line is checked whole before the table changes, so the table is as it was after a fault. The checks come in the order of the
 //! specification, which decides the fault of a line that breaks several rules: the name, the parameter list, the replacement list,
-//! and last the definition that the name has.
+//! and last the definition that the name has. All but the last need no table. So a file's lines are read once for all units
+//! (`define_lines`), and only the last check is made for each.
 //!
 //! All faults of a definition but the first have the macro's name as their text, and all are located at the `#`. So the private
 //! functions pass `Defined`, which has both.
-ghost use Rattle.std.specs.Prelude.{◌≡◌, IfOk, OnOk, OnErr};
+ghost use Rattle.std.specs.Prelude.{◌≡◌, ◌&&◌, IfOk, OnErr};
 ghost use Rattle.std.specs.Option.{option_map};
 ghost use Rattle.std.specs.FinMap as finite_map;
 ghost use Rattle.ppmacro.specs.declared.macros.MacroKind.TheVariants.{ObjectLike};
 ghost use Rattle.pptext.specs.Tokens.{fault};
 ghost use Rattle.pptext.specs.Errors.{Raises, Returns, UnlessOutOfMemory};
-ghost use Rattle.ppmacro.specs.Define.{read_parameter_list, read_definition, function_like, refusal_of, check_body, number_of, with_macro_name, check_define, after_define, undefined, after_undef, Leaves};
-ghost use Rattle.ppmacro.specs.code.Defining.{named_by};
+ghost use Rattle.ppmacro.specs.Define.{misplaces_hash, read_parameter_list, read_definition, function_like, refusal_of, check_body, number_of, with_macro_name, check_define, insert_definition, after_define, undefined, after_undef, Leaves};
+ghost use Rattle.ppmacro.specs.code.Defining.{named_by, unless_conflicting};
+ghost use Rattle.ppmacro.specs.Chains.{is_function_like};
+ghost use Rattle.ppmacro.specs.Names.{Name};
 
 mod body_checks;
 mod parameter_lists;
@@ -29,6 +32,7 @@ use self::reserved_names::is_reserved;
 use crate::chains::is_function_like;
 use crate::macros::{Macro, MacroKind};
 use crate::name_key::NameKey;
+use crate::prepared_macro::PreparedMacro;
 use crate::replacement_list::ReplacementList;
 use crate::tables::Table;
 use pptext::{Error, Hashing, Memory, Place, Profile, Token};
@@ -38,8 +42,8 @@ use std::marker::Model;
 /// A definition with the macro's name.
 #[derive(Drop)]
 pub(crate) struct Named<'a> {
-    name: NameKey<'a>,
-    definition: Macro<'a>,
+    pub(crate) name: NameKey<'a>,
+    pub(crate) definition: Macro<'a>,
 }
 
 impl<'a> Model for Named<'a> {
@@ -126,46 +130,56 @@ fn read_definition<'a>(
     function_like(alloc, profile, defined, &line[1..], hashing)
 }
 
-/// Returns the number of the fault of a definition, if it is invalid. In GNU C a name may be redefined with any definition.
+/// Returns whether there is a `#` operator without a parameter directly after it. In an object-like macro `#` is no operator.
+fn misplaces_operator_hash(
+    alloc: Global,
+    kind: &MacroKind,
+    body: &[Token],
+    hashing: Hashing,
+) -> Result<bool, Memory>
+    ensures { IfOk result (λ r. r ≡ (is_function_like kind.now && misplaces_hash kind.now body.now)) }
+{
+    if !is_function_like(kind) {
+        return Ok(false);
+    }
+    misplaces_hash(alloc, kind, body, hashing)
+}
+
+/// Returns the number of the fault of a definition that no other definition of its name causes, if it has one.
 fn refusal_of(
     alloc: Global,
-    profile: Profile,
-    table: &Table,
-    name: &[u8],
-    definition: &Macro,
+    kind: &MacroKind,
+    body: &[Token],
+    hashing: Hashing,
 ) -> Result<Option<u8>, Memory>
-    ensures { IfOk result (λ r. r ≡ option_map number_of (refusal_of profile table.now.macros name.now definition.now)) }
+    ensures { IfOk result (λ r. (profile : Profile) (name : Name) → r ≡ option_map number_of (refusal_of profile finite_map.empty name (record { kind = kind.now; body = body.now }))) }
 {
-    let kind = &definition.kind;
-    let body = definition.body.as_slice();
     if misplaces_variable_arguments(kind, body) {
         return Ok(Some(15));
     }
     if misplaces_paste(body) {
         return Ok(Some(13));
     }
-    if is_function_like(kind) && misplaces_hash(alloc, kind, body, table.hashing())? {
+    if misplaces_operator_hash(alloc, kind, body, hashing)? {
         return Ok(Some(14));
-    }
-    if !profile.is_gnu() && is_conflicting(table, name, definition) {
-        return Ok(Some(16));
     }
     Ok(None)
 }
 
 /// Returns the definition of a permitted name from the tokens after the name, or its fault.
-fn check_body<'a>(
+fn read_body<'a>(
     alloc: Global,
     profile: Profile,
-    table: &Table,
     defined: Defined<'a>,
     line: &'a [Token],
+    hashing: Hashing,
 ) -> Result<Named<'a>, Error>
-    ensures { UnlessOutOfMemory result (λ r. r ≡ with_macro_name defined.entry.at defined.entry.name.now.text (check_body profile table.now.macros defined.entry.name.now.text (read_definition profile line.now))) }
+    ensures { UnlessOutOfMemory result (λ r. r ≡ with_macro_name defined.entry.at defined.entry.name.now.text (check_body profile finite_map.empty defined.entry.name.now.text (read_definition profile line.now))) }
 {
-    let definition = read_definition(alloc, profile, defined, line, table.hashing())?;
-    let name = defined.name.text.as_bytes();
-    match refusal_of(alloc, profile, table, name, &definition)? {
+    let definition = read_definition(alloc, profile, defined, line, hashing)?;
+    let kind = &definition.kind;
+    let body = definition.body.as_slice();
+    match refusal_of(alloc, kind, body, hashing)? {
         Some(number) => Err(defined.refuse(alloc, number)),
         None => Ok(Named {
             name: NameKey::of(defined.name),
@@ -174,15 +188,16 @@ fn check_body<'a>(
     }
 }
 
-/// Returns the definition from the tokens after `define`, or its fault. `at` is the location of `#`.
-fn check_define<'a>(
+/// Returns the definition from the tokens after `define`, or its fault, as if its name had no other definition. `at` is the
+/// location of `#`. Many parameters are indexed with hash function `hashing`.
+pub(crate) fn read_define<'a>(
     alloc: Global,
     profile: Profile,
-    table: &Table,
     at: Place,
     line: &'a [Token],
+    hashing: Hashing,
 ) -> Result<Named<'a>, Error>
-    ensures { UnlessOutOfMemory result (λ r. r ≡ check_define profile table.now.macros at line.now) }
+    ensures { UnlessOutOfMemory result (λ r. r ≡ check_define profile finite_map.empty at line.now) }
 {
     let Some(name) = line.first() else {
         return Err(Error::new(alloc, 9, at, b"define"));
@@ -193,17 +208,28 @@ fn check_define<'a>(
     if is_reserved(profile, name.text.as_bytes()) {
         return Err(Error::of_token(alloc, 10, at, name));
     }
-    check_body(alloc, profile, table, Defined { name, at }, &line[1..])
+    read_body(alloc, profile, Defined { name, at }, &line[1..], hashing)
 }
 
-/// Inserts a definition into the table.
-fn insert_definition<'a>(table: &mut Table<'a>, named: Named<'a>) -> Result<(), Memory>
-    ensures ok { OnOk result (table.new.macros ≡ finite_map.insert table.old.macros named.entry.name named.entry.definition) }
+/// Inserts a definition into the table, unless the name has a different one. `at` is the location of `#`.
+pub(crate) fn insert_definition<'a>(
+    alloc: Global,
+    table: &mut Table<'a>,
+    profile: Profile,
+    at: Place,
+    name: &'a [u8],
+    definition: PreparedMacro<'a>,
+) -> Result<(), Error>
+    ensures defined { UnlessOutOfMemory result (λ r. Leaves table.old.macros table.new.macros r
+        (insert_definition table.old.macros (unless_conflicting profile table.old.macros at (record { name = name.now; definition = definition.entry })))) }
     ensures hashing { table.new.hashing ≡ table.old.hashing }
-    ensures err { OnErr result (table.new ≡ table.old) }
+    ensures unchanged { OnErr result (table.new ≡ table.old) }
 {
-    let Named { name, definition } = named;
-    table.insert(name.bytes, definition)
+    if !profile.is_gnu() && is_conflicting(table, name, &definition) {
+        return Err(Error::new(alloc, 16, at, name));
+    }
+    table.insert(name, definition)?;
+    Ok(())
 }
 
 /// Defines a macro (6.10.3). `at` is the location of `#`, and `line` holds the tokens after `define`. An identical definition
@@ -237,9 +263,11 @@ pub fn define<'a>(
     ensures hashing { table.new.hashing ≡ table.old.hashing }
     ensures unchanged { OnErr result (table.new ≡ table.old) }
 {
-    let named = check_define(alloc, profile, table, at, line)?;
-    insert_definition(table, named)?;
-    Ok(())
+    let hashing = table.hashing();
+    let Named { name, definition } = read_define(alloc, profile, at, line, hashing)?;
+    let Macro { kind, body } = definition;
+    let prepared = PreparedMacro::new(alloc, kind, body.as_slice(), hashing)?;
+    insert_definition(alloc, table, profile, at, name.bytes, prepared)
 }
 
 /// Returns the name that the tokens after `undef` remove, or the fault. `at` is the location of `#`.

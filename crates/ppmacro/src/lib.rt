@@ -2,7 +2,9 @@
 #![tactic(auto)]
 
 mod chains;
+mod define_lines;
 mod defining;
+mod definition;
 mod hash_operators;
 mod hidden_token;
 mod hide_sets;
@@ -13,20 +15,24 @@ mod name_filter;
 mod name_key;
 mod parameter_index;
 mod patterns;
+mod pre_expansion;
+mod prepared_macro;
+mod prepared_source;
 mod replacement_list;
 mod substituting;
 mod tables;
 mod token_hide_set;
 
+pub use define_lines::{DefineLine, define_line};
 pub use defining::{define, undef};
 pub use hidden_token::{ArgumentExpansion, Hidden};
 pub use hide_sets::{HideSets, Set};
 pub use invocation::{Arguments, MacroName};
 pub use laws::{lays_out_chains, lenient_in_gnu_alone, reads_parameter_lists, traces_origins};
-pub use macros::{
-    Chain, Chains, Macro, MacroKind, Names, Operand, Operands, PredefinedMacro, Variadic,
-};
-pub use patterns::{Entry, Pattern};
+pub use macros::{Chain, Chains, MacroKind, Names, Operand, Operands, PredefinedMacro, Variadic};
+pub use patterns::{Entry, Pattern, PlainList};
+pub use prepared_macro::PreparedMacro;
+pub use prepared_source::PreparedSource;
 pub use replacement_list::{BodyToken, ReplacementList};
 pub use substituting::{
     argument_of, decides_each_kind, paste, push_escaped, stringize, substitute, substitute_pattern,

@@ -9,17 +9,14 @@
 ghost use Rattle.std.specs.Prelude.{◌≡◌, OnOk, IfOk, IfSome, ◌++◌, ◌∷◌, [], map, if◌then◌else◌};
 ghost use Rattle.std.specs.List.{list_any};
 ghost use Rattle.std.specs.Option.{option_copied};
-ghost use Rattle.ppmacro.specs.Chains.{is_comma, variadic_after, ending_in_variadic, chains_of};
+ghost use Rattle.ppmacro.specs.Chains.{is_comma, variadic_after, ending_in_variadic};
 ghost use Rattle.ppmacro.specs.declared.macros.Operand.TheVariants.{VariadicAfterComma};
-ghost use Rattle.ppmacro.specs.PasteFree.{is_object_like, lone_tokens, lone_chain};
-ghost use Rattle.ppmacro.specs.Patterns.{pattern_chains};
+ghost use Rattle.ppmacro.specs.PasteFree.{is_object_like};
 ghost use Rattle.ppmacro.specs.HashOperators.{is_paste};
 
-use crate::chains::chains_of;
 use crate::hash_operators::is_paste;
-use crate::patterns::{Pattern, pattern_of};
 use crate::replacement_list::{BodyToken, ReplacementList};
-use pptext::{Hashing, Memory, Place, Sequence, Spelling, Token};
+use pptext::{Memory, Place, Sequence, Spelling, Token};
 use std::alloc::Global;
 use std::marker::Model;
 use std::{mem, slice};
@@ -62,7 +59,7 @@ pub enum MacroKind {
     },
 }
 
-/// The kind and the replacement list of a macro.
+/// The kind and the replacement list of a macro, as its definition says them.
 #[derive(Drop)]
 pub struct Macro<'a> {
     pub kind: MacroKind,
@@ -205,52 +202,15 @@ pub struct Chain<'a> {
 pub type Chains<'a> = Sequence<Chain<'a>>;
 
 /// Returns whether a macro is object-like. Predefined macros aren't.
-fn is_object_like(kind: &MacroKind) -> bool
+pub(crate) fn is_object_like(kind: &MacroKind) -> bool
     ensures { result ≡ is_object_like kind.now }
 {
     matches!(kind, MacroKind::ObjectLike)
 }
 
 /// Returns whether the tokens contain `##`.
-fn has_paste(tokens: &[Token]) -> bool
+pub(crate) fn has_paste(tokens: &[Token]) -> bool
     ensures { result ≡ list_any is_paste tokens.now }
 {
     tokens.iter().any(|token| is_paste(token))
-}
-
-impl<'a> Macro<'a> {
-    /// Returns the replacement list of an object-like macro without `##`. Each token is a chain of its own.
-    pub fn lone_tokens(&self) -> Option<&'a [Token]>
-        ensures is { option_copied result ≡ lone_tokens self.now }
-        ensures chains { IfSome result (λ body. chains_of self.now ≡ map lone_chain body.now) }
-    {
-        let body = self.body.as_slice();
-        if !is_object_like(&self.kind) || has_paste(body) {
-            return None;
-        }
-        Some(body)
-    }
-
-    /// Returns the chains of the replacement list. The hash function for parameters has a fixed key: see `chains_with_hasher` for
-    /// untrusted names.
-    pub fn chains(&self, alloc: Global) -> Result<Chains<'a>, Memory>
-        ensures { IfOk result (λ c. c ≡ chains_of self.now) }
-    {
-        self.chains_with_hasher(alloc, Hashing::fixed())
-    }
-
-    /// Returns the chains of the replacement list. Many parameters are indexed with hash function `hashing`.
-    pub fn chains_with_hasher(&self, alloc: Global, hashing: Hashing) -> Result<Chains<'a>, Memory>
-        ensures { IfOk result (λ c. c ≡ chains_of self.now) }
-    {
-        chains_of(alloc, self, hashing)
-    }
-
-    /// Returns the replacement list for `substitute_pattern`: chains only if it contains `#` or `##`. Many parameters are indexed
-    /// with hash function `hashing`.
-    pub fn pattern(&self, alloc: Global, hashing: Hashing) -> Result<Pattern<'a>, Memory>
-        ensures { IfOk result (λ p. pattern_chains p ≡ chains_of self.now) }
-    {
-        pattern_of(alloc, self, hashing)
-    }
 }

@@ -1,15 +1,14 @@
 //! Replacement lists in the form that substitution reads. Most contain neither `#` nor `##` and need no chains.
-ghost use Rattle.std.specs.Prelude.{◌≡◌, ◌++◌, IfOk, OnOk, map};
+ghost use Rattle.std.specs.Prelude.{◌≡◌, ◌<◌, length, slice_index_or};
 ghost use Rattle.std.specs.List.{list_any};
-ghost use Rattle.ppmacro.specs.Chains.{parameter_of, chains_of};
-ghost use Rattle.ppmacro.specs.Patterns.{is_operator, entry_of, entry_chain, pattern_chains};
+ghost use Rattle.ppmacro.specs.Entries.{entries_at, is_operator};
+ghost use Rattle.ppmacro.specs.declared.patterns.Entry as spec;
 
-use crate::chains::{Parameters, chains_of, parameter_of};
 use crate::hash_operators::{is_hash, is_paste};
-use crate::macros::{Chains, Macro};
+use crate::macros::Chains;
 use crate::replacement_list::BodyToken;
-use pptext::{Hashing, Kind, Memory, Token};
-use std::alloc::Global;
+use pptext::{Kind, Token};
+use std::marker::Model;
 
 /// A token or a parameter of a replacement list without `#` and `##`.
 #[derive(Drop)]
@@ -20,11 +19,60 @@ pub enum Entry<'a> {
     Param(bool, usize),
 }
 
+/// A replacement list without `#` and `##`: its tokens, and the parameter that each names. Contracts see the entries.
+#[derive(Drop)]
+pub struct PlainList<'p, 'a> {
+    uses: &'p [Option<usize>],
+    body: &'a [Token],
+}
+
+impl<'p, 'a> Model for PlainList<'p, 'a> {
+    ghost use Rattle.std.specs.Prelude.{◌≡◌, List, length};
+    ghost use Rattle.ppmacro.specs.declared.patterns.Entry.{Entry};
+    ghost use Rattle.ppmacro.specs.Entries.{entries_at};
+
+    ghost Value = { List Entry };
+
+    ghost view = { λ l. entries_at l.uses.now l.body.now };
+
+    ghost invariant = { λ l. length l.uses.now ≡ length l.body.now };
+}
+
+impl<'p, 'a> PlainList<'p, 'a> {
+    /// Bundles the tokens of a replacement list with the parameter that each names.
+    pub(crate) fn new(uses: &'p [Option<usize>], body: &'a [Token]) -> PlainList<'p, 'a>
+        requires { length uses.now ≡ length body.now }
+        ensures { result ≡ entries_at uses.now body.now }
+    {
+        PlainList { uses, body }
+    }
+
+    /// Returns the number of entries.
+    pub(crate) fn len(&self) -> usize
+        ensures { result ≡ length self.now }
+    {
+        self.body.len()
+    }
+
+    /// Returns the entry at an index.
+    pub(crate) fn at(&self, index: usize) -> Entry<'a>
+        requires { index < length self.now }
+        ensures { (default : spec.Entry) → result ≡ slice_index_or self.now index default }
+    {
+        let (uses, body) = (self.uses, self.body);
+        let token = &body[index];
+        match uses[index] {
+            Some(parameter) => Entry::Param(token.space, parameter),
+            None => Entry::Tok(BodyToken::new(token)),
+        }
+    }
+}
+
 /// A replacement list.
 #[derive(Drop)]
-pub enum Pattern<'a> {
+pub enum Pattern<'p, 'a> {
     /// A list without `#` and `##`.
-    Plain(Vec<Entry<'a>>),
+    Plain(PlainList<'p, 'a>),
     /// The chains of another list.
     Pasted(Chains<'a>),
 }
@@ -45,78 +93,8 @@ fn is_operator(token: &Token) -> bool
 }
 
 /// Returns whether the tokens contain `#` or `##`.
-fn has_operator(tokens: &[Token]) -> bool
+pub(crate) fn has_operator(tokens: &[Token]) -> bool
     ensures { result ≡ list_any is_operator tokens.now }
 {
     tokens.iter().any(|token| is_operator(token))
-}
-
-/// Returns the entry for a token.
-fn entry_of<'a>(kind: &Parameters, token: &'a Token) -> Entry<'a>
-    ensures { result ≡ entry_of kind.now.kind token.now }
-{
-    match parameter_of(kind, token) {
-        Some(index) => Entry::Param(token.space, index),
-        None => Entry::Tok(BodyToken::new(token)),
-    }
-}
-
-/// Appends the entries for tokens.
-fn push_entries<'a>(
-    entries: &mut Vec<Entry<'a>>,
-    kind: &Parameters,
-    tokens: &'a [Token],
-) -> Result<(), Memory>
-    ensures { OnOk result (entries.new.items ≡ entries.old.items ++ map (entry_of kind.now.kind) tokens.now) }
-{
-    for token in tokens {
-        entries.push(entry_of(kind, token))?;
-    }
-    Ok(())
-}
-
-/// Returns the entries for the tokens of a replacement list. The parameters are indexed with `_hashing`, which only the contract
-/// reads.
-fn entries_of<'a>(
-    alloc: Global,
-    kind: &Parameters,
-    _hashing: Hashing,
-    body: &'a [Token],
-) -> Result<Vec<Entry<'a>>, Memory>
-    requires { kind.now.hashing ≡ _hashing }
-    ensures { IfOk result (λ v. v.items ≡ map (entry_of kind.now.kind) body.now) }
-{
-    let mut entries = Vec::with_capacity(alloc, body.len())?;
-    push_entries(&mut entries, kind, body)?;
-    Ok(entries)
-}
-
-/// Returns the entries of a definition's replacement list. Many parameters are indexed with hash function `hashing`.
-fn entries_in<'a>(
-    alloc: Global,
-    definition: &Macro<'a>,
-    hashing: Hashing,
-) -> Result<Vec<Entry<'a>>, Memory>
-    ensures { IfOk result (λ v. v.items ≡ map (entry_of definition.now.kind) definition.now.body) }
-{
-    let body = definition.body.as_slice();
-    let kind = Parameters::new(alloc, &definition.kind, body.len(), hashing)?;
-    entries_of(alloc, &kind, hashing, body)
-}
-
-/// Returns a definition's replacement list. Many parameters are indexed with hash function `hashing`. Not inlined, to keep its
-/// frame off the stack while arguments are nested.
-#[inline(never)]
-pub(crate) fn pattern_of<'a>(
-    alloc: Global,
-    definition: &Macro<'a>,
-    hashing: Hashing,
-) -> Result<Pattern<'a>, Memory>
-    ensures { IfOk result (λ p. pattern_chains p ≡ chains_of definition.now) }
-{
-    if has_operator(definition.body.as_slice()) {
-        return Ok(Pattern::Pasted(chains_of(alloc, definition, hashing)?));
-    }
-    // Fast path: entries are cheaper than chains.
-    Ok(Pattern::Plain(entries_in(alloc, definition, hashing)?))
 }

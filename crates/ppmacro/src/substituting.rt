@@ -35,7 +35,7 @@ use crate::hidden_token::Hidden;
 use crate::hide_sets::HideSets;
 use crate::invocation::{Arguments, MacroName};
 use crate::macros::{Chain, Operand};
-use pptext::{Error, Memory, Place, Token};
+use pptext::{Error, Memory, Place, Token, push};
 use std::alloc::Global;
 
 /// Returns whether there are at least two operands, so that `##` joins them.
@@ -124,7 +124,7 @@ fn push_spaced<'a>(
         return Ok(pending);
     };
     tokens.reserve(more.len())?;
-    push_one(tokens, copy_with_space(first, pending)?)?;
+    push(tokens, copy_with_space(first, pending)?)?;
     push_all(tokens, others)?;
     Ok(false)
 }
@@ -141,7 +141,7 @@ fn push_token<'a>(
 {
     let mut hidden = Hidden::new(token, sets.empty());
     hidden.set_space(space);
-    push_one(tokens, hidden)
+    push(tokens, hidden)
 }
 
 /// Appends the tokens of a chain. The first gets the leading-space flag `space`. Returns the leading-space flag that is pending
@@ -216,15 +216,6 @@ fn chains_tokens<'x, 'a: 'x>(
         first = false;
     }
     Ok((tokens, pending))
-}
-
-/// Appends a token.
-#[inline(always)]
-fn push_one<'a>(tokens: &mut Vec<Hidden<'a>>, hidden: Hidden<'a>) -> Result<(), Memory>
-    ensures { OnOk result (tokens.new.items ≡ tokens.old.items ++ hidden.entry ∷ []) }
-{
-    tokens.push(hidden)?;
-    Ok(())
 }
 
 /// Returns what a macro's name or invocation is replaced by (6.10.3.1 to 6.10.3.3), and whether white space is pending for the

@@ -4,8 +4,8 @@
 //! most of these without a hash and without a comparison. For the others it guesses the index of the macro, and one comparison
 //! confirms it. Only a wrong guess needs a hash.
 //!
-//! The table borrows names and replacement lists from the files that define them. A definition allocates an entry and the names of
-//! its parameters, and nothing else.
+//! The table borrows names, definitions and replacement lists from the files that define them. A definition of a file takes an entry
+//! and nothing else.
 //!
 //! Names are hashed with the key that the table is made with, and each contract promises that the key stays.
 ghost use Rattle.std.specs.Prelude.{◌≡◌, IfOk, OnOk, OnErr};
@@ -13,10 +13,10 @@ ghost use Rattle.std.specs.Option.{option_copied};
 ghost use Rattle.std.specs.FinMap as table;
 ghost use Rattle.ppmacro.specs.Predefined.{predefined_as, predefined};
 
-use crate::macros::{Macro, MacroKind, PredefinedMacro};
+use crate::macros::PredefinedMacro;
 use crate::name_filter::NameFilter;
 use crate::name_key::NameKey;
-use crate::replacement_list::ReplacementList;
+use crate::prepared_macro::PreparedMacro;
 use indexmap::IndexMap;
 use pptext::{Hashing, Memory};
 use std::alloc::Global;
@@ -30,7 +30,7 @@ const INITIAL_CAPACITY: usize = 7_000;
 /// Most identifiers name no macro, and a filter rejects most of these at once.
 #[derive(Drop)]
 pub struct Table<'a> {
-    macros: IndexMap<NameKey<'a>, Macro<'a>, Hashing>,
+    macros: IndexMap<NameKey<'a>, PreparedMacro<'a>, Hashing>,
     filter: NameFilter,
 }
 
@@ -115,16 +115,13 @@ impl<'a> Table<'a> {
         ensures macros { OnOk result (self.new.macros ≡ table.insert self.old.macros name.now (predefined_as predefined)) }
         ensures hashing { self.new.hashing ≡ self.old.hashing }
     {
-        let definition = Macro {
-            kind: MacroKind::Predefined(predefined),
-            body: ReplacementList::new(&[]),
-        };
+        let definition = PreparedMacro::predefined(*self.macros.allocator(), predefined)?;
         self.insert(name, definition)
     }
 
     /// Returns the macro of a name.
     #[inline(always)]
-    pub fn get(&self, name: &[u8]) -> Option<&Macro<'a>>
+    pub fn get(&self, name: &[u8]) -> Option<&PreparedMacro<'a>>
         ensures { option_copied result ≡ table.get self.now.macros name.now }
     {
         // Fast path: the filter rejects most names without a call.
@@ -137,7 +134,7 @@ impl<'a> Table<'a> {
 
     /// Returns the macro of a name. Tries the index `position` first, which needs no hash.
     #[inline(never)]
-    fn look_up(&self, position: usize, name: &[u8]) -> Option<&Macro<'a>>
+    fn look_up(&self, position: usize, name: &[u8]) -> Option<&PreparedMacro<'a>>
         ensures { option_copied result ≡ table.get self.now.macros name.now }
     {
         let Some((key, found)) = self.macros.get_index(position) else {
@@ -151,7 +148,7 @@ impl<'a> Table<'a> {
 
     /// Returns the macro of a name, by its hash.
     #[inline(never)]
-    fn find(&self, name: &[u8]) -> Option<&Macro<'a>>
+    fn find(&self, name: &[u8]) -> Option<&PreparedMacro<'a>>
         ensures { option_copied result ≡ table.get self.now.macros name.now }
     {
         let Some(index) = self.macros.get_index_of(&NameKey { bytes: name }) else {
@@ -164,7 +161,11 @@ impl<'a> Table<'a> {
     }
 
     /// Inserts a macro. It replaces an earlier macro with that name.
-    pub(crate) fn insert(&mut self, name: &'a [u8], definition: Macro<'a>) -> Result<(), Memory>
+    pub(crate) fn insert(
+        &mut self,
+        name: &'a [u8],
+        definition: PreparedMacro<'a>,
+    ) -> Result<(), Memory>
         ensures ok { OnOk result (self.new.macros ≡ table.insert self.old.macros name.now definition.entry) }
         ensures hashing { self.new.hashing ≡ self.old.hashing }
         ensures err { OnErr result (self.new ≡ self.old) }

@@ -1,9 +1,9 @@
 -- The contents that a pass has observed, by row.
-use Rattle.std.proofs.Common.{Option, zero, suc, take, ◌-◌, ◌+◌, ◌++◌, replicate, length-append, ◌≡◌, ℕ, ◌<◌, ◌≤◌, List, [], ◌∷◌, length, get_or, set}
+use Rattle.std.proofs.Common.{Option, zero, suc, take, ◌-◌, ◌+◌, replicate, ◌≡◌, ℕ, ◌<◌, ◌≤◌, List, length, get_or, set}
 use Rattle.std.proofs.Common.{Some, None, refl, sym, ◌∙◌, ap, arith, inl, inr, subst}
 use Rattle.std.specs.Option.{option_map}
 use Rattle.std.proofs.lemmas.Grind.{common_steps}
-use Rattle.std.proofs.lemmas.List.{map-append, replicate_more, map-set, get_or_past, get_or_read, get_or-set_other, length-set}
+use Rattle.std.proofs.lemmas.List.{map-set, get_or_past, get_or_read, get_or-set_other, length-set}
 use Rattle.std.proofs.Math.ListN.{get_or-map}
 use Rattle.std.proofs.Math.Seq.{map-set_same}
 use Rattle.std.proofs.lemmas.Bool.{cases_lt, cases_eq}

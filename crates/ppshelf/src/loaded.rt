@@ -14,16 +14,19 @@ ghost use Rattle.ppshelf.specs.Files.{max_rows};
 ghost use Rattle.ppshelf.specs.code.ShelfRows.{LoadedView, IsPlaced};
 
 use crate::disk::{Disk, ReadFault};
-use pptext::{Fault, LONGEST, Memory, Profile, Source, read_source, split_memory};
+use ppmacro::PreparedSource;
+use pptext::{Error, Fault, Hashing, LONGEST, Memory, Profile, read_source};
 use std::alloc::Global;
 use std::marker::{Model, PhantomData};
 
-/// A file of a shelf: its row, its name, and the profile by which it is read.
+/// A file of a shelf: its row, its name, and the profile by which it is read. Its model is these.
 #[derive(Drop)]
 pub(crate) struct FileId<'a> {
     pub(crate) row: usize,
     pub(crate) name: &'a str,
     pub(crate) profile: Profile,
+    /// The hash function for names of parameters, which affects no result.
+    pub(crate) hashing: Hashing,
 }
 
 impl<'a> Model for FileId<'a> {
@@ -38,7 +41,7 @@ impl<'a> Model for FileId<'a> {
 #[derive(Drop)]
 pub(crate) struct Parsed {
     bytes: Vec<u8>,
-    lines: Result<Source, Fault>,
+    lines: Result<PreparedSource, Fault>,
 }
 
 /// The content of one row: the bytes of its file with the result of phases 1 to 3, or that the file can't be read or
@@ -91,7 +94,11 @@ fn parse_bytes(alloc: Global, file: &FileId<'_>, bytes: Vec<u8>) -> Result<Parse
     ensures bytes { IfOk result (λ p. p.bytes.items ≡ bytes.items) }
     ensures reading { IfOk result (λ p. Reads file.now.profile file.now.row p.bytes.items p.lines) }
 {
-    let lines = split_memory(read_source(alloc, bytes.as_slice(), file.row as u32, file.profile))?;
+    let lines = match read_source(alloc, bytes.as_slice(), file.row as u32, file.profile) {
+        Ok(source) => Ok(PreparedSource::new(alloc, source, file.profile, file.hashing)?),
+        Err(Error::Fault(fault)) => Err(fault.into_fault()),
+        Err(Error::Memory) => return Err(Memory),
+    };
     Ok(Parsed { bytes, lines })
 }
 
@@ -168,7 +175,7 @@ impl<D: Disk> Loaded<D> {
     }
 
     /// Returns the file's lines or its first fault, or None if it can't be read or is too long.
-    pub fn lines(&self) -> Option<Result<&Source, &Fault>>
+    pub fn lines(&self) -> Option<Result<&PreparedSource, &Fault>>
         ensures { MatchOption result (self.now.content ≡ unreadable) (λ r. MatchResult r
             (λ s. IsRead self.now.profile self.now.row self.now.content (Ok s.now))
             (λ f. IsRead self.now.profile self.now.row self.now.content (Err f.now))) }

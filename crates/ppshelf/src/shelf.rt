@@ -231,6 +231,7 @@ impl<D: Disk> Shelf<D> {
             row,
             name: self.names.get(row),
             profile: self.profile,
+            hashing: self.names.hashing(),
         }
     }
 
@@ -256,10 +257,15 @@ impl<D: Disk> Shelf<D> {
         ensures len { length self.new.filled ≡ length self.old.names }
         ensures full { OnOk result (IsFull self.new) }
     {
-        let (alloc, profile) = (self.alloc, self.profile);
+        let (alloc, profile, hashing) = (self.alloc, self.profile, self.names.hashing());
         for row in 0..self.rows.len() {
             let name = self.names.get(row);
-            let file = FileId { row, name, profile };
+            let file = FileId {
+                row,
+                name,
+                profile,
+                hashing,
+            };
             self.rows[row].fill(alloc, &file, disk)?;
         }
         Ok(())
@@ -282,11 +288,16 @@ impl<D: Disk> Shelf<D> {
         ensures len { length self.new.filled ≡ length self.old.names }
         ensures full { OnOk result (IsFull self.new) }
     {
-        let (alloc, profile) = (self.alloc, self.profile);
+        let (alloc, profile, hashing) = (self.alloc, self.profile, self.names.hashing());
         let mut row = 0;
         for bytes in contents.into_vec() {
             let name = self.names.get(row);
-            let file = FileId { row, name, profile };
+            let file = FileId {
+                row,
+                name,
+                profile,
+                hashing,
+            };
             self.rows[row].put(alloc, &file, bytes.into_vec())?;
             row += 1;
         }

@@ -133,7 +133,10 @@ type Lines = Result<(usize, Option<Directive>), u8>;
 /// Returns the result of reading a content, if it is readable.
 fn lines_in<D: Disk>(loaded: &Loaded<D>) -> Option<Lines> {
     match loaded.lines()? {
-        Ok(source) => Some(Ok((source.lines().len(), second_directive(source.lines())))),
+        Ok(prepared) => {
+            let lines = prepared.source().lines();
+            Some(Ok((lines.len(), second_directive(lines))))
+        }
         Err(fault) => Some(Err(fault.number)),
     }
 }

@@ -4,11 +4,12 @@ mod definitions;
 mod hide_sets;
 mod keys;
 mod parts;
+mod replacement_lists;
 mod substitution;
 mod two_sets;
 
 use crate::defining::{directed, source_of};
-use ppmacro::{Hidden, HideSets, Macro, MacroKind, Set, Table, Variadic};
+use ppmacro::{Hidden, HideSets, MacroKind, PreparedMacro, Set, Table, Variadic};
 use pptext::{Memory, Place, Source, Token};
 use std::alloc::{AllocError, Global};
 use std::process::Abort;
@@ -38,7 +39,7 @@ fn table_of<'a>(rt: &impl Abort, alloc: Global, source: &'a Source) -> Result<Ta
 }
 
 /// Returns the macro that a `#define` line names.
-fn macro_of<'t, 'a>(table: &'t Table<'a>, line: &[Token]) -> Option<&'t Macro<'a>> {
+fn macro_of<'t, 'a>(table: &'t Table<'a>, line: &[Token]) -> Option<&'t PreparedMacro<'a>> {
     let name = line.get(2)?;
     table.get(name.text.as_bytes())
 }
@@ -123,11 +124,11 @@ fn shown(alloc: Global, table: &Table, name: &str) -> Result<Vec<u8>, AllocError
         text.extend_from_slice(b"none")?;
         return Ok(text);
     };
-    if matches!(definition.kind, MacroKind::Predefined(_)) {
+    if matches!(definition.kind(), MacroKind::Predefined(_)) {
         text.extend_from_slice(b"predefined")?;
     }
-    push_parameters(&mut text, &definition.kind)?;
-    for token in definition.body.as_slice() {
+    push_parameters(&mut text, definition.kind())?;
+    for token in definition.body() {
         push_spelled(&mut text, token)?;
     }
     Ok(text)

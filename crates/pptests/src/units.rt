@@ -7,7 +7,7 @@ mod judging;
 
 use crate::showing::{assert_shown, push_fault, push_place};
 use ppshelf::{File, MAX_ROWS, MemoryDisk, Pass, Shelf};
-use pptext::{Fault, Memory, Profile, Token};
+use pptext::{Fault, Hashing, Memory, Profile, Token};
 use ppunit::{
     CommandMacros, Item, ItemRef, ItemSlice, Items, OwnedText, OwnedTexts, Setting, Unit, UnitOut,
     fits_command, preprocess, unit_ok,
@@ -84,7 +84,7 @@ fn unit_of(alloc: Global, profile: Profile, file: usize, defines: &[&str]) -> Re
     }
     Ok(Unit {
         file,
-        defines: CommandMacros::read(alloc, None, defines, profile)?,
+        defines: CommandMacros::read(alloc, None, defines, profile, Hashing::fixed())?,
         search: texts_of(alloc, &[])?,
     })
 }

@@ -1,6 +1,5 @@
 -- Steps that fail: how a fault or a failed allocation is returned, also by a public call.
 use Rattle.std.proofs.Common.{◌≡◌, Result, Ok, Err, IfOk, sym, subst}
-use Rattle.std.proofs.lemmas.Result.{IfOk-at_ok}
 use Rattle.std.specs.Result.{IsErrAnd}
 use Rattle.pptext.specs.declared.tokens.Fault.{Fault}
 use Rattle.pptext.specs.declared.error.Error.{Error}

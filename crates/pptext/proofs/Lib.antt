@@ -62,3 +62,5 @@ pub mod Readings
 pub mod GroupFaults
 -- Each test of `Kinds` decides the language of its name (6.4), and `kind_of` gives the one kind of each text.
 pub mod TextKinds
+-- The lines of a file by index, and their tokens.
+pub mod IndexedLines

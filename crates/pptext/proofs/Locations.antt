@@ -2,7 +2,6 @@
 use Rattle.std.proofs.Common.{◌≡◌, ℕ, zero, suc, ◌+◌, ◌<◌, ◌==◌, Bool, true, false, List, [], ◌∷◌, length, drop, get_or, if◌then◌else◌, refl, ap, ◌∙◌, arith, ◌≤◌, ◌&&◌, length-append, None, Some}
 use Rattle.std.proofs.Common.{Ok, Err, ◌-◌, not, ◌++◌, take, sym, length-drop}
 use Rattle.std.proofs.lemmas.Bool.Decides.{nat_tests}
-use Rattle.std.specs.List.{All}
 use Rattle.std.specs.Prelude.{Option, Result}
 use Rattle.std.proofs.lemmas.List.{drop_more, take-append-drop, take-take, drop-take, length-map}
 use Rattle.pptext.specs.declared.tokens.Place.{Place}

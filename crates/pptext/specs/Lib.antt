@@ -12,6 +12,7 @@ pub mod Tree
 pub mod GroupFaults
 pub mod Guard
 pub mod Sources
+pub mod IndexedLines
 pub mod Errors
 pub mod Laws
 pub mod KindTests

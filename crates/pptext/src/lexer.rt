@@ -25,6 +25,7 @@ use crate::scanning::literals::UnmatchedQuotes;
 use crate::scanning::{is_blank, starts_identifier, word_len};
 use crate::sources::{Line, Profile};
 use crate::tokens::{Kind, Place, Spelling, Token};
+use crate::vectors::push;
 use memchr::{memchr, memmem};
 use std::alloc::AllocError;
 use std::marker::Model;
@@ -238,13 +239,16 @@ fn push_token(
     ensures { OnOk result (tokens.new.items ≡ tokens.old.items ++ record { text = take n text.now; at = place; used = place; kind = kind; space = space } ∷ []) }
 {
     match Spelling::prefix_in_place(text, n) {
-        Some(spelling) => Ok(tokens.push(Token {
-            kind,
-            text: spelling,
-            space,
-            at: place,
-            used: place,
-        })?),
+        Some(text) => push(
+            tokens,
+            Token {
+                kind,
+                text,
+                space,
+                at: place,
+                used: place,
+            },
+        ),
         None => push_long_token(text, tokens, n, kind, space, place),
     }
 }

@@ -19,8 +19,6 @@ pub mod OpeningUniqueness
 pub mod UnitUniqueness
 -- The value of a unit, from the reading of its definitions and the walk over its lines.
 pub mod UnitValue
--- The lines of a file by index, and their tokens.
-pub mod IndexedLines
 -- The length of the file that holds a unit's definitions. A unit that passes the test has a file of the file table and
 -- definitions with the table's profile.
 pub mod UnitTest

@@ -21,7 +21,7 @@ use Rattle.ppshelf.specs.Files.{Files}
 use Rattle.ppunit.specs.code.Walk.{line_at, EnclosingSections, lines_to_end, AreEnclosingSections, HasPartsAt, Advances, IsTextLine, StartsWithoutTextLine}
 use Rattle.ppunit.proofs.FirstLineCases.{lay_run, text_directive, branches_differ, First, text, control, opening, ending}
 use Rattle.ppunit.proofs.WalkSteps.{ends_front, ends_stop, AdvancesFrom, advances, first_at, run_result}
-use Rattle.ppunit.proofs.IndexedLines.{at_index, from_index}
+use Rattle.pptext.proofs.IndexedLines.{at_index, from_index}
 
 -- ---- a text run without tokens, for example of blank lines, emits nothing
 

@@ -1,8 +1,7 @@
 -- The length of the file that holds a unit's definitions. A unit that passes the test has a file of the file table and
 -- definitions with the table's profile.
-use Rattle.std.proofs.Common.{◌≡◌, ℕ, ◌+◌, ◌<◌, ◌≤◌, List, ◌∷◌, length, length-append, get_or, drop, sym, ap, ◌∙◌, arith, nat_le, true, false, refl, nat_lt}
+use Rattle.std.proofs.Common.{◌≡◌, ℕ, ◌<◌, ◌≤◌, List, length, ◌∙◌, arith, nat_le, true, false, refl, nat_lt}
 use Rattle.std.proofs.lemmas.Bool.Decides.{nat_tests}
-use Rattle.std.proofs.lemmas.List.{at_drop_more, drop_all}
 use Rattle.ppunit.specs.Unit.{command_text, IsUnitOf}
 use Rattle.std.proofs.lemmas.Bool.{and_parts}
 use Rattle.pptext.specs.declared.sources.Profile.{Profile}

@@ -8,7 +8,7 @@ use Rattle.ppunit.specs.States.{State, Context, Progress, running, stopped}
 use Rattle.ppunit.specs.Group.{ExecutesGroup}
 use Rattle.ppshelf.specs.Files.{Files, Extends}
 use Rattle.ppunit.specs.code.Walk.{line_at, EnclosingSections, lines_to_end, AreEnclosingSections, HasPartsAt, Ends, Advances}
-use Rattle.ppunit.proofs.IndexedLines.{at_index, from_index}
+use Rattle.pptext.proofs.IndexedLines.{at_index, from_index}
 use Rattle.ppunit.proofs.FirstLineCases.{First, first_of}
 
 -- ---- from the end of the rest to the end of the whole

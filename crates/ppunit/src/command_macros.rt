@@ -5,8 +5,9 @@ ghost use Rattle.pptext.specs.Sources.{Reads};
 ghost use Rattle.ppshelf.specs.Content.{longest};
 ghost use Rattle.ppunit.specs.Unit.{command_file, command_text, command_line};
 
+use ppmacro::PreparedSource;
 use ppshelf::MAX_ROWS;
-use pptext::{Error, Fault, Memory, OwnedText, OwnedTexts, Profile, Source, read_source};
+use pptext::{Error, Fault, Hashing, Memory, OwnedText, OwnedTexts, Profile, read_source};
 use std::alloc::Global;
 use std::fmt;
 use std::marker::Model;
@@ -21,7 +22,7 @@ pub(crate) const COMMAND_FILE: u32 = MAX_ROWS as u32;
 struct CommandFile {
     texts: OwnedTexts,
     profile: Profile,
-    lines: Result<Source, Fault>,
+    lines: Result<PreparedSource, Fault>,
 }
 
 impl Model for CommandFile {
@@ -59,13 +60,14 @@ impl fmt::Debug for CommandMacros {
 
 impl CommandMacros {
     /// Reads the file that has, for each definition, a line of `#define `, the text, and a new-line. The file may have at most
-    /// `LONGEST` bytes: see `fits_command`. Shares the lines of `before`, if that has the same definitions and profile. Fails if
-    /// an allocation fails.
+    /// `LONGEST` bytes: see `fits_command`. Shares the lines of `before`, if that has the same definitions and profile. Many
+    /// parameters of a macro are indexed with hash function `hashing`. Fails if an allocation fails.
     pub fn read(
         alloc: Global,
         before: Option<&CommandMacros>,
         texts: OwnedTexts,
         profile: Profile,
+        hashing: Hashing,
     ) -> Result<CommandMacros, Memory>
         requires { length (command_text texts) ≤ longest }
         ensures { IfOk result (λ d. d ≡ record { texts = texts; profile = profile }) }
@@ -75,7 +77,7 @@ impl CommandMacros {
                 return before.share();
             }
         }
-        CommandMacros::read_file(alloc, texts, profile)
+        CommandMacros::read_file(alloc, texts, profile, hashing)
     }
 
     /// Reads the file of these definitions.
@@ -83,13 +85,14 @@ impl CommandMacros {
         alloc: Global,
         texts: OwnedTexts,
         profile: Profile,
+        hashing: Hashing,
     ) -> Result<CommandMacros, Memory>
         requires { length (command_text texts) ≤ longest }
         ensures { IfOk result (λ d. d ≡ record { texts = texts; profile = profile }) }
     {
         let text = command_text(alloc, &texts)?;
         let lines = match read_source(alloc, text.as_slice(), COMMAND_FILE, profile) {
-            Ok(source) => Ok(source),
+            Ok(source) => Ok(PreparedSource::new(alloc, source, profile, hashing)?),
             Err(Error::Fault(fault)) => Err(fault.into_fault()),
             Err(Error::Memory) => return Err(Memory),
         };
@@ -133,7 +136,7 @@ impl CommandMacros {
     }
 
     /// Returns the lines of the file that holds the definitions, or its fault.
-    pub(crate) fn lines(&self) -> &Result<Source, Fault>
+    pub(crate) fn lines(&self) -> &Result<PreparedSource, Fault>
         ensures { Reads self.now.profile command_file (command_text self.now.texts) result.now }
     {
         &self.file.lines

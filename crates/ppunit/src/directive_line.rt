@@ -1,14 +1,15 @@
 //! The parts of a directive line (6.10).
-ghost use Rattle.std.specs.Prelude.{◌≡◌, ◌<◌, ◌++◌, length, IfOk, OnOk};
+ghost use Rattle.std.specs.Prelude.{◌≡◌, ◌<◌, ◌++◌, length, IfOk, OnOk, ◌^◌};
 ghost use Rattle.std.specs.Option.{option_copied};
 ghost use Rattle.std.specs.Result.{result_err};
 ghost use Rattle.pptext.specs.Errors.{Raises, UnlessOutOfMemory};
 ghost use Rattle.pptext.specs.Tree.{hash_place, name_of};
 ghost use Rattle.ppmacro.specs.Substitution.{spelled_space};
+ghost use Rattle.pptext.specs.IndexedLines.{line_at, IsTextLine};
 ghost use Rattle.ppunit.specs.DirectiveLines as spec;
 ghost use Rattle.ppunit.specs.Quotes as quotes;
 
-use pptext::{Directive, Error, Memory, Place, Token};
+use pptext::{Directive, Error, Memory, Place, Source, Token};
 use std::alloc::Global;
 use std::marker::Model;
 
@@ -36,6 +37,18 @@ impl<'x> DirectiveTokens<'x> {
         ensures { result ≡ tokens.now }
     {
         DirectiveTokens { tokens }
+    }
+
+    /// Returns the tokens of the directive line at `index` of a file.
+    pub(crate) fn at(source: &'x Source, index: usize) -> DirectiveTokens<'x>
+        requires index { index < length source.now }
+        requires directive { ¬ IsTextLine (line_at source.now index) }
+        ensures few { length source.now < 2 ^ 64 }
+        ensures tokens { result ≡ (line_at source.now index).tokens }
+    {
+        // For proofs: a directive line has a token.
+        let _line = source.line(index);
+        DirectiveTokens::new(source.line_tokens(index))
     }
 
     /// Returns the location of the `#`.

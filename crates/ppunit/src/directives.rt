@@ -2,6 +2,7 @@
 ghost use Rattle.std.specs.Prelude.{◌≡◌, IfOk, Some, true};
 ghost use Rattle.std.specs.Result.{result_err};
 ghost use Rattle.pptext.specs.Errors.{Raises, UnlessOutOfMemory};
+ghost use Rattle.ppmacro.specs.DefineLines.{IsDefineLine};
 ghost use Rattle.ppunit.specs.Directives as spec;
 ghost use Rattle.ppunit.specs.DirectiveLines as spec_lines;
 ghost use Rattle.ppunit.specs.code.Lines.{directed, IsControl};
@@ -11,7 +12,7 @@ use crate::directive_line::{DirectiveLine, DirectiveTokens, line_fault, push_spa
 use crate::line_control::renumber;
 use crate::states::State;
 use ppexpand::{Expanded, expand};
-use ppmacro::{define, undef};
+use ppmacro::{DefineLine, define, define_line, undef};
 use pptext::{Directive, Error, Memory, Profile, Token};
 use std::alloc::Global;
 
@@ -123,6 +124,23 @@ fn control_any<'x>(
     }
 }
 
+/// Executes a `#define` line that was read before. Fails with its fault.
+pub(crate) fn define_as_read<'x>(
+    alloc: Global,
+    state: &mut State<'x>,
+    profile: Profile,
+    line: &DirectiveLine<'x>,
+    define: DefineLine<'x>,
+) -> Result<(), Error>
+    requires { IsDefineLine (directed line.now.directive line.now.tokens line.now.number) define }
+    ensures { UnlessOutOfMemory result (λ r.
+        spec.ExecutesDirective profile line.now.row (Some line.now.directive) state.old (directed line.now.directive line.now.tokens line.now.number)
+        (record { state = state.new; fault = result_err r })) }
+{
+    let _row = line.row;
+    define_line(alloc, &mut state.macros, profile, define)
+}
+
 /// Executes a control line without unmatched quotes that opens no file. Fails with the line's fault.
 pub(crate) fn control<'x>(
     alloc: Global,
@@ -135,15 +153,5 @@ pub(crate) fn control<'x>(
         spec.ExecutesDirective profile line.entry.row (Some line.entry.directive) state.old (directed line.entry.directive line.entry.tokens line.entry.number)
         (record { state = state.new; fault = result_err r })) }
 {
-    // Most control lines define a macro.
-    if line.directive == Directive::Define {
-        return define(
-            alloc,
-            &mut state.macros,
-            profile,
-            line.tokens.hash_place(),
-            line.tokens.operands(),
-        );
-    }
     control_any(alloc, state, profile, line)
 }

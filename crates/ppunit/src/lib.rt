@@ -11,7 +11,6 @@ mod include_stack;
 mod including;
 mod items;
 mod laws;
-mod line_access;
 mod line_control;
 mod line_walk;
 mod open_file;

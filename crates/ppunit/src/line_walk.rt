@@ -8,7 +8,7 @@
 //! The specification speaks of group trees, and the walk of line indices. `specs/code/Walk` relates them: a line index
 //! stands for the parts that are left and the if-sections around them (`HasPartsAt`), and each step promises that all
 //! that is reached from the next line is reached from this one (`Advances`).
-ghost use Rattle.std.specs.Prelude.{◌≡◌, ◌<◌, ◌≤◌, ◌+◌, ℕ, suc, Bool, true, false, if◌then◌else◌, None, Some, IfOk};
+ghost use Rattle.std.specs.Prelude.{◌≡◌, ◌<◌, ◌≤◌, ◌+◌, ℕ, suc, Bool, true, false, if◌then◌else◌, None, Some, IfOk, IfSome};
 ghost use Rattle.std.specs.Prelude.{List, ◌++◌, drop, length};
 ghost use Rattle.std.specs.List.{AllByRecursion};
 ghost use Rattle.std.specs.Result.{result_err};
@@ -17,6 +17,7 @@ ghost use Rattle.pptext.specs.Errors.{UnlessOutOfMemory};
 ghost use Rattle.pptext.specs.Tree.{GroupParts, Branches, branch_lines, AreBranches};
 ghost use Rattle.pptext.specs.Classes.{opens_section, ends_group};
 ghost use Rattle.pptext.specs.declared.sources.Directive.{Directive};
+ghost use Rattle.ppmacro.specs.DefineLines.{IsDefineLine};
 ghost use Rattle.ppshelf.specs.Files.{Files};
 ghost use Rattle.ppunit.specs.Group.{ExecutesControlLine, ExecutesInclude};
 ghost use Rattle.ppunit.specs.States.{Context, Progress, with_meter};
@@ -27,13 +28,13 @@ ghost use Rattle.ppunit.specs.code.Walk.{line_at, IsTextLine, StartsWithoutTextL
 
 use crate::conditions::decide;
 use crate::directive_line::{DirectiveLine, DirectiveTokens, line_fault, refuse_unmatched_quote};
-use crate::directives::{control, emit_text, error};
+use crate::directives::{control, define_as_read, emit_text, error};
 use crate::include_stack::Stack;
 use crate::including::read_include_name;
-use crate::line_access::{line, line_count, tokens_at, tokens_between};
 use crate::open_file::{Entered, LocatedFile, OpenFile, UnitContext, find_file};
 use crate::preprocessor::Preprocessor;
 use crate::states::State;
+use ppmacro::DefineLine;
 use ppshelf::Disk;
 use pptext::{Class, Directive, Error, Source, Token};
 use std::marker::Model;
@@ -50,9 +51,9 @@ fn text_end(source: &Source, start: usize) -> usize
         → StartsWithoutTextLine rest
         → (result ≡ start + length lines) × (drop result source.now ≡ rest) }
 {
-    let lines = line_count(source);
+    let lines = source.line_count();
     let mut end = start + 1;
-    while end < lines && line(source, end).directive.is_none() {
+    while end < lines && source.line(end).directive.is_none() {
         end += 1;
     }
     end
@@ -72,13 +73,19 @@ fn takes_branch<'x, D: Disk>(
     ensures rest { state.new ≡ with_meter state.old state.new.meter }
     ensures takes_branch { UnlessOutOfMemory result (λ taken. TakesBranch (search_in_unit context.now) row state.old (line_at source.now index) state.new.meter taken) }
 {
-    let Some(directive) = line(source, index).directive else {
+    let Some(directive) = source.line(index).directive else {
         return Ok(true);
     };
     if !directive.begins_elif_group() {
         return Ok(true);
     }
-    decide(context, state, row, directive, &tokens_at(source, index))
+    decide(
+        context,
+        state,
+        row,
+        directive,
+        &DirectiveTokens::at(source, index),
+    )
 }
 
 /// Returns the index of the line at which execution continues if the group after the line at `start` isn't taken: the
@@ -99,7 +106,7 @@ fn find_branch<'x, D: Disk>(
         → FindsBranch (search_in_unit context.now) row source.now state.old state.new bs qs k next) }
 {
     let mut index = start;
-    while let Some(next) = line(source, index).next_branch {
+    while let Some(next) = source.line(index).next_branch {
         if takes_branch(context, state, row, source, next)? {
             return Ok(next + 1);
         }
@@ -118,7 +125,7 @@ fn section_end(source: &Source, branch: usize) -> usize
         → drop result source.now ≡ rest }
 {
     let mut index = branch;
-    while let Some(next) = line(source, index).next_branch {
+    while let Some(next) = source.line(index).next_branch {
         index = next;
     }
     index + 1
@@ -142,7 +149,13 @@ fn execute_if_line<'x, D: Disk>(
     ensures advances { (files : Files) (depth : ℕ)
         → UnlessOutOfMemory result (λ next. Advances (context_over context.now) files depth row source.now index state.old state.new next) }
 {
-    if decide(context, state, row, directive, &tokens_at(source, index))? {
+    if decide(
+        context,
+        state,
+        row,
+        directive,
+        &DirectiveTokens::at(source, index),
+    )? {
         return Ok(index + 1);
     }
     find_branch(context, state, row, source, index)
@@ -161,7 +174,7 @@ fn execute_text_lines<'x>(
         → UnlessOutOfMemory result (λ next. Advances context files depth row source.now index state.old state.new next) }
 {
     let end = text_end(source, index);
-    emit_text(state, tokens_between(source, index, end))?;
+    emit_text(state, source.tokens_between(index, end))?;
     Ok(end)
 }
 
@@ -267,6 +280,39 @@ impl<'x, 'a: 'x, D: Disk> Preprocessor<'_, 'x, 'a, D> {
         }
     }
 
+    /// Executes a control line. `define` is what it says if it is a `#define` line that was read before. Returns the file that it
+    /// enters, if it enters one.
+    fn execute_line(
+        &mut self,
+        depth: u32,
+        line: DirectiveLine<'x>,
+        define: Option<DefineLine<'x>>,
+    ) -> Result<Option<Entered<'a>>, Error>
+        requires depth { depth ≤ 200 }
+        requires opens { opens_section line.directive ≡ false }
+        requires ends { ends_group line.directive ≡ false }
+        requires define { IfSome define (IsDefineLine (directed line.directive line.tokens line.number)) }
+        ensures keeps_context { KeepsContext self.old self.new }
+        ensures control { UnlessOutOfMemory result (λ outcome.
+            Leads (context_over self.old.context.now) self.new.pass.now.files (suc depth)
+            (λ (more : Files) (m : Progress). ExecutesControlLine (context_over self.old.context.now more) depth line.entry.row self.old.state (directed line.entry.directive line.entry.tokens line.entry.number) m)
+            self.new.state outcome) }
+    {
+        // Fast path: most control lines define a macro.
+        let Some(define) = define else {
+            return self.execute_control_line(depth, line);
+        };
+        let context = self.context;
+        define_as_read(
+            context.alloc,
+            &mut self.state,
+            context.profile(),
+            &line,
+            define,
+        )?;
+        Ok(None)
+    }
+
     /// Executes consecutive text lines or one directive line. Returns where execution continues.
     fn step(&mut self, depth: u32, file: &OpenFile<'x>) -> Result<NextLine<'a>, Error>
         requires depth { depth ≤ 200 }
@@ -276,9 +322,14 @@ impl<'x, 'a: 'x, D: Disk> Preprocessor<'_, 'x, 'a, D> {
         ensures step { UnlessOutOfMemory result (λ found.
             Steps (context_over self.old.context.now) self.new.pass.now.files depth file.now.row file.now.lines file.now.index self.old.state self.new.state found) }
     {
-        let OpenFile { row, source, index } = *file;
+        let OpenFile {
+            row,
+            source,
+            index,
+            prepared,
+        } = *file;
         let context = self.context;
-        let Some(directive) = line(source, index).directive else {
+        let Some(directive) = source.line(index).directive else {
             return Ok(in_same_file(execute_text_lines(&mut self.state, source, index)?));
         };
         if directive.opens_section() {
@@ -288,15 +339,16 @@ impl<'x, 'a: 'x, D: Disk> Preprocessor<'_, 'x, 'a, D> {
         if directive.ends_group() {
             return Ok(in_same_file(section_end(source, index)));
         }
-        let tokens = tokens_at(source, index);
-        let number = line(source, index).number;
+        let tokens = DirectiveTokens::at(source, index);
+        let number = source.line(index).number;
         let directive_line = DirectiveLine {
             row,
             directive,
             tokens,
             number,
         };
-        let entered = self.execute_control_line(depth, directive_line)?;
+        let define = prepared.define_line(index);
+        let entered = self.execute_line(depth, directive_line, define)?;
         Ok(NextLine {
             index: index + 1,
             entered,
@@ -315,7 +367,7 @@ impl<'x, 'a: 'x, D: Disk> Preprocessor<'_, 'x, 'a, D> {
         let mut suspended = Stack::new(context.alloc);
         let mut file = first;
         loop {
-            if file.index < line_count(file.source) {
+            if file.index < file.source.line_count() {
                 match self.step(suspended.depth(), &file) {
                     Ok(next) => {
                         let NextLine { index, entered } = next;

@@ -23,10 +23,10 @@ ghost use Rattle.ppunit.specs.code.Walk.{Leads};
 
 use crate::guards::is_left_out;
 use crate::including::IncludeName;
-use crate::line_access::line_count;
 use crate::preprocessor::Preprocessor;
 use crate::states::{FileContext, State, literal};
 use ppexpand::Env;
+use ppmacro::PreparedSource;
 use ppshelf::{Directories, Disk, Pass, Shelf, resolve, resolve_next};
 use pptext::{Error, Memory, Place, Profile, Source};
 use std::alloc::Global;
@@ -119,28 +119,35 @@ pub(crate) struct OpenFile<'a> {
     pub row: usize,
     pub source: &'a Source,
     pub index: usize,
+    /// The same file, with what its `#define` lines define.
+    pub prepared: &'a PreparedSource,
 }
 
 impl<'a> Model for OpenFile<'a> {
+    ghost use Rattle.std.specs.Prelude.{◌≡◌};
     ghost use Rattle.ppunit.specs.code.Opening.{OpenFile};
 
     ghost Value = { OpenFile };
 
     ghost view = { λ f. record { row = f.row; lines = f.source.now; index = f.index } };
+
+    ghost invariant = { λ f. f.prepared.now ≡ f.source.now };
 }
 
 impl<'a> OpenFile<'a> {
     /// Creates a file that is before its first line.
-    pub(crate) fn new(row: usize, source: &'a Source) -> OpenFile<'a>
-        ensures file { result ≡ record { row = row; lines = source.now; index = 0 } }
-        ensures few { length source.now < 2 ^ 64 }
+    pub(crate) fn new(row: usize, prepared: &'a PreparedSource) -> OpenFile<'a>
+        ensures file { result ≡ record { row = row; lines = prepared.now; index = 0 } }
+        ensures few { length prepared.now < 2 ^ 64 }
     {
+        let source = prepared.source();
         // For proofs: the number of lines fits.
-        let _lines = line_count(source);
+        let _lines = source.line_count();
         OpenFile {
             row,
             source,
             index: 0,
+            prepared,
         }
     }
 }
@@ -277,11 +284,11 @@ fn begin<'a>(
     state: &mut State,
     opening: LocatedFile,
     name: &str,
-    source: &'a Source,
+    source: &'a PreparedSource,
 ) -> Result<Option<Entered<'a>>, Memory>
     ensures { IfOk result (λ entered. Begins name.now opening.row opening.directory source.now state.old state.new entered) }
 {
-    if is_left_out(state, source) {
+    if is_left_out(state, source.source()) {
         return Ok(None);
     }
     let env = file_env(alloc, &state.file_context.env, name)?;
@@ -293,7 +300,7 @@ fn begin<'a>(
 
 impl<'a, D: Disk> Preprocessor<'_, '_, 'a, D> {
     /// Returns the lines of the file at index `row`. Fault 6 if it can't be read, or the fault of its own lines.
-    fn source_of(&mut self, at: Place, row: usize) -> Result<&'a Source, Error>
+    fn source_of(&mut self, at: Place, row: usize) -> Result<&'a PreparedSource, Error>
         requires { row < length self.old.context.now.shelf.names }
         ensures keeps_context { KeepsContext self.old self.new }
         ensures state { self.new.state ≡ self.old.state }

@@ -4,7 +4,8 @@ ghost use Rattle.std.specs.FinMap as finite_map;
 ghost use Rattle.std.specs.Cmp.Lexicographic.{pointwise};
 ghost use Rattle.ppmacro.specs.Define.{same_token, same_body, same_variadic, same_kind, is_conflicting};
 
-use crate::macros::{Macro, MacroKind, Variadic};
+use crate::macros::{MacroKind, Variadic};
+use crate::prepared_macro::PreparedMacro;
 use crate::tables::Table;
 use pptext::Token;
 
@@ -79,12 +80,11 @@ fn same_kind(left: &MacroKind, right: &MacroKind) -> bool
 }
 
 /// Returns whether a name has a different definition.
-pub(crate) fn is_conflicting(table: &Table, name: &[u8], definition: &Macro) -> bool
+pub(crate) fn is_conflicting(table: &Table, name: &[u8], definition: &PreparedMacro) -> bool
     ensures { result ≡ is_conflicting (finite_map.get table.now.macros name.now) definition.now }
 {
     let Some(before) = table.get(name) else {
         return false;
     };
-    !(same_kind(&before.kind, &definition.kind)
-        && same_body(before.body.as_slice(), definition.body.as_slice()))
+    !(same_kind(before.kind(), definition.kind()) && same_body(before.body(), definition.body()))
 }

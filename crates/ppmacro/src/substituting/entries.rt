@@ -4,7 +4,8 @@ ghost use Rattle.std.specs.FinSet as set;
 ghost use Rattle.pptext.specs.declared.tokens.Place.{Place};
 ghost use Rattle.pptext.specs.Errors.{Returns};
 ghost use Rattle.ppmacro.specs.HideSets.{set_at, IsKnown, hidings, AllKnown, KeepsSets};
-ghost use Rattle.ppmacro.specs.Patterns.{entry_chain, pattern_chains};
+ghost use Rattle.ppmacro.specs.Entries.{entry_chain};
+ghost use Rattle.ppmacro.specs.Patterns.{pattern_chains};
 ghost use Rattle.ppmacro.specs.Substitution.{chain_tokens, chains_tokens, chains_replacement};
 ghost use Rattle.ppmacro.specs.Substituting.{ArgumentsKnown, arguments_in, as_replacement};
 ghost use Rattle.ppmacro.specs.code.Replacing.{pushed};
@@ -12,7 +13,7 @@ ghost use Rattle.ppmacro.specs.code.Replacing.{pushed};
 use crate::hidden_token::Hidden;
 use crate::hide_sets::HideSets;
 use crate::invocation::{Arguments, MacroName};
-use crate::patterns::{Entry, Pattern};
+use crate::patterns::{Entry, Pattern, PlainList};
 use crate::substituting::hsadd::hsadd_names;
 use crate::substituting::operands::expansion;
 use crate::substituting::{push_spaced, push_token, space_before, substitute};
@@ -38,10 +39,10 @@ fn count_of(arguments: Arguments, entry: &Entry) -> usize {
 }
 
 /// Returns the number of tokens that all entries contribute.
-fn count_all(arguments: Arguments, entries: &[Entry]) -> usize {
+fn count_all(arguments: Arguments, list: &PlainList) -> usize {
     let mut count: usize = 0;
-    for entry in entries {
-        count = count.saturating_add(count_of(arguments, entry));
+    for index in 0..list.len() {
+        count = count.saturating_add(count_of(arguments, &list.at(index)));
     }
     count
 }
@@ -83,19 +84,20 @@ fn entries_tokens<'x, 'a: 'x>(
     sets: &HideSets,
     arguments: Arguments<'_, 'x>,
     space: bool,
-    entries: &[Entry<'a>],
+    list: &PlainList<'_, 'a>,
 ) -> Result<(Vec<Hidden<'x>>, bool), Memory>
     requires { ArgumentsKnown sets.now arguments.given.now arguments.expanded.now }
     ensures is { IfOk result (λ m. (used : Place) → Ok (as_replacement sets.now m.0.items m.1)
-        ≡ chains_tokens (arguments_in sets.now arguments.entry.given.now arguments.entry.expanded.now) used space true (map entry_chain entries.now)) }
+        ≡ chains_tokens (arguments_in sets.now arguments.entry.given.now arguments.entry.expanded.now) used space true (map entry_chain list.now)) }
     ensures known { IfOk result (λ m. AllKnown sets.now m.0.items) }
 {
-    let mut tokens = Vec::with_capacity(alloc, count_all(arguments, entries))?;
+    let mut tokens = Vec::with_capacity(alloc, count_all(arguments, list))?;
     let mut pending = space;
     let mut first = true;
-    for entry in entries {
-        let leading = space_before(pending, first, space_of(entry));
-        pending = push_entry(sets, arguments, leading, entry, &mut tokens)?;
+    for index in 0..list.len() {
+        let entry = list.at(index);
+        let leading = space_before(pending, first, space_of(&entry));
+        pending = push_entry(sets, arguments, leading, &entry, &mut tokens)?;
         first = false;
     }
     Ok((tokens, pending))
@@ -104,7 +106,7 @@ fn entries_tokens<'x, 'a: 'x>(
 /// Returns the replacement of an invocation, and the leading-space flag that is pending afterwards.
 fn substitute_entries<'x, 'a: 'x>(
     alloc: Global,
-    entries: &[Entry<'a>],
+    list: &PlainList<'_, 'a>,
     arguments: Arguments<'_, 'x>,
     macro_name: &MacroName,
     sets: &mut HideSets,
@@ -112,7 +114,7 @@ fn substitute_entries<'x, 'a: 'x>(
     requires arguments { ArgumentsKnown sets.old arguments.given.now arguments.expanded.now }
     requires base { IsKnown sets.old macro_name.now.base }
     ensures is { IfOk result (λ m. Ok (as_replacement sets.new m.0.items m.1)
-        ≡ chains_replacement (map entry_chain entries.now) (arguments_in sets.old arguments.entry.given.now arguments.entry.expanded.now)
+        ≡ chains_replacement (map entry_chain list.now) (arguments_in sets.old arguments.entry.given.now arguments.entry.expanded.now)
         (set.insert (set_at sets.old macro_name.now.base) macro_name.now.name.now) macro_name.now.used macro_name.now.space) }
     ensures known { IfOk result (λ m. AllKnown sets.new m.0.items) }
     ensures keeps { KeepsSets sets.old sets.new }
@@ -123,7 +125,7 @@ fn substitute_entries<'x, 'a: 'x>(
         used,
         space,
     } = *macro_name;
-    let (mut tokens, pending) = entries_tokens(alloc, sets, arguments, space, entries)?;
+    let (mut tokens, pending) = entries_tokens(alloc, sets, arguments, space, list)?;
     hsadd_names(sets, &mut tokens, base, name, used)?;
     Ok((tokens, pending))
 }
@@ -131,7 +133,7 @@ fn substitute_entries<'x, 'a: 'x>(
 /// Returns what `substitute` returns for the chains of a pattern. Builds no chains if there are none.
 pub fn substitute_pattern<'x, 'a: 'x>(
     alloc: Global,
-    pattern: &Pattern<'a>,
+    pattern: &Pattern<'_, 'a>,
     arguments: Arguments<'_, 'x>,
     macro_name: &MacroName,
     sets: &mut HideSets,
@@ -145,11 +147,8 @@ pub fn substitute_pattern<'x, 'a: 'x>(
     ensures keeps { KeepsSets sets.old sets.new }
 {
     match pattern {
-        Pattern::Plain(entries) => {
-            let entries = entries.as_slice();
-            let tokens_and_pending = substitute_entries(
-                alloc, entries, arguments, macro_name, sets,
-            )?;
+        Pattern::Plain(list) => {
+            let tokens_and_pending = substitute_entries(alloc, list, arguments, macro_name, sets)?;
             Ok(tokens_and_pending)
         }
         Pattern::Pasted(chains) => {

@@ -10,7 +10,7 @@ use crate::hide_sets::HideSets;
 use crate::invocation::Arguments;
 use crate::macros::Operand;
 use crate::substituting::stringizing::stringize;
-use pptext::{Error, Memory, Place, Token};
+use pptext::{Error, Memory, Place, Token, push};
 use std::alloc::Global;
 
 /// Returns the argument of the parameter with this index. An absent argument has no tokens.
@@ -123,14 +123,6 @@ pub(crate) fn operand_tokens<'x, 'a: 'x>(
     }
 }
 
-/// Appends a list.
-fn push_list<'a>(lists: &mut Vec<Vec<Hidden<'a>>>, tokens: Vec<Hidden<'a>>) -> Result<(), Memory>
-    ensures { OnOk result (lists.new.items ≡ lists.old.items ++ tokens.entry ∷ []) }
-{
-    lists.push(tokens)?;
-    Ok(())
-}
-
 /// Returns the tokens of each operand of a chain, or the first fault 20.
 pub(crate) fn operands_tokens<'x, 'a: 'x>(
     alloc: Global,
@@ -148,7 +140,7 @@ pub(crate) fn operands_tokens<'x, 'a: 'x>(
     let mut lists = Vec::new(alloc);
     for operand in operands {
         let tokens = operand_tokens(alloc, sets, next_to_paste, arguments, used, operand)?;
-        push_list(&mut lists, tokens)?;
+        push(&mut lists, tokens)?;
     }
     Ok(lists)
 }

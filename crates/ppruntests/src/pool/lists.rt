@@ -6,7 +6,7 @@ ghost use Rattle.ppunit.specs.Unit.{IsUnitOf};
 
 use super::stage::Stage;
 use ppshelf::{MAX_ROWS, Shelf};
-use pptext::{Fault, Profile};
+use pptext::{Fault, Hashing, Profile};
 use ppunit::{CommandMacros, Item, OwnedText, OwnedTexts, Setting, Unit, UnitOut, fits_command};
 use std::alloc::{AllocError, Global};
 use std::test::Fail;
@@ -62,7 +62,7 @@ pub(crate) fn unit_of(alloc: Global, file: usize, defines: &[&str]) -> Result<Un
     }
     Ok(Unit {
         file,
-        defines: CommandMacros::read(alloc, None, defines, Profile::C11)?,
+        defines: CommandMacros::read(alloc, None, defines, Profile::C11, Hashing::fixed())?,
         search: OwnedTexts::new(Vec::new(alloc)),
     })
 }

@@ -244,7 +244,7 @@ fn listed(alloc: Global, draft: Draft, findings: Findings, inline: bool) -> Resu
         rows,
         profile,
     } = findings;
-    let units = listed_units(alloc, rows.as_slice(), profile, units)?;
+    let units = listed_units(alloc, rows.as_slice(), profile, names.hashing(), units)?;
     let contents = listed_contents(alloc, files, inline)?;
     Ok(List {
         setting: listed_setting(setting, profile),
@@ -280,6 +280,7 @@ fn listed_units(
     alloc: Global,
     rows: &[usize],
     profile: Profile,
+    hashing: Hashing,
     units: Sequence<DraftUnit>,
 ) -> Result<Units, Memory>
     requires rows { length rows.now ≡ length units }
@@ -289,7 +290,7 @@ fn listed_units(
     let mut listed = Vec::new(alloc);
     for unit in units.into_vec() {
         let row = rows[listed.len()];
-        let unit = listed_unit(alloc, row, profile, listed.last(), unit)?;
+        let unit = listed_unit(alloc, row, profile, hashing, listed.last(), unit)?;
         let Ok(()) = listed.push(unit) else {
             return Err(Memory);
         };
@@ -302,6 +303,7 @@ fn listed_unit(
     alloc: Global,
     row: usize,
     profile: Profile,
+    hashing: Hashing,
     before: Option<&Unit>,
     unit: DraftUnit,
 ) -> Result<Unit, Memory>
@@ -319,7 +321,7 @@ fn listed_unit(
     };
     Ok(Unit {
         file: row,
-        defines: CommandMacros::read(alloc, before, defines, profile)?,
+        defines: CommandMacros::read(alloc, before, defines, profile, hashing)?,
         search,
     })
 }

@@ -1,7 +1,7 @@
 //! Tests of `#define` and `#undef` (6.10.3, 6.10.3.5).
 use super::{HASH, shown, table_of};
 use crate::defining::{define_valid, direct, drawn, source_of};
-use ppmacro::Table;
+use ppmacro::{PreparedSource, Table, define_line};
 use pptext::{Error, Hashing, Memory, Profile, Source, Token};
 use std::alloc::Global;
 use std::process::Abort;
@@ -307,7 +307,7 @@ fn defines_compares_and_refuses(rt: HostRuntime) -> Result<(), Fail> {
 
 /// Returns the line of the one token of `X`.
 fn line_of_x(table: &Table) -> Option<u32> {
-    match table.get(b"X")?.body.as_slice() {
+    match table.get(b"X")?.body() {
         [token] => Some(token.at.line),
         _ => None,
     }
@@ -398,6 +398,76 @@ fn compares_and_reserves_across_profiles(rt: HostRuntime) -> Result<(), Fail> {
         let gnu = source_of(&rt, rt.alloc(), gnu.as_bytes())?;
         let line = source_of(&rt, rt.alloc(), line.as_bytes())?;
         assert_refused_after_gnu(&rt, rt.alloc(), (&gnu, &line), number)?;
+    }
+    Ok(())
+}
+
+/// Returns the number of the fault of a directive line that was read with its file, or 0.
+fn number_of(answer: Result<(), Error>) -> Result<u8, Memory> {
+    match answer {
+        Ok(()) => Ok(0),
+        Err(Error::Fault(fault)) => Ok(fault.into_fault().number),
+        Err(Error::Memory) => Err(Memory),
+    }
+}
+
+/// Executes the directive lines of a file in a table, `#define` lines as they were read with the file. Returns the number of the
+/// last line's fault, or 0.
+fn direct_prepared<'a>(
+    alloc: Global,
+    table: &mut Table<'a>,
+    profile: Profile,
+    prepared: &'a PreparedSource,
+) -> Result<u8, Memory> {
+    let source = prepared.source();
+    let mut number = 0;
+    for index in 0..source.line_count() {
+        let tokens = source.line_tokens(index);
+        let is_same = source.line(index).end - source.line(index).start == tokens.len()
+            && source.tokens_between(index, index + 1).len() == tokens.len();
+        number = match prepared.define_line(index) {
+            Some(line) if is_same => number_of(define_line(alloc, table, profile, line))?,
+            _ => number_of(direct(alloc, table, profile, tokens))?,
+        };
+    }
+    Ok(number)
+}
+
+/// Asserts the effect of a line after other lines of its file, all read with the file in the profile `read`.
+fn assert_prepared(
+    rt: &impl Abort,
+    alloc: Global,
+    (profile, read): (Profile, Profile),
+    source: Source,
+    name: &str,
+    wanted: Result<&str, u8>,
+) -> Result<(), Memory> {
+    let prepared = PreparedSource::new(alloc, source, read, Hashing::fixed())?;
+    let mut table = Table::new(alloc)?;
+    let number = direct_prepared(alloc, &mut table, profile, &prepared)?;
+    match wanted {
+        Ok(definition) => {
+            assert!(rt; number == 0, "{name}");
+            assert!(rt;
+                shown(alloc, &table, name)?.as_slice() == definition.as_bytes(),
+                "{name}"
+            );
+        }
+        Err(wanted) => assert!(rt; number == wanted, "{name}"),
+    }
+    Ok(())
+}
+
+#[test]
+fn lines_read_with_their_file_define_the_same(rt: HostRuntime) -> Result<(), Fail> {
+    for &(profile, cases) in TABLES {
+        for &(lines, line, name, wanted) in cases {
+            let text = format!(in rt.alloc(); "{lines}\n{line}\n")?;
+            for read in [profile, Profile::C11, Profile::Gnu] {
+                let source = source_of(&rt, rt.alloc(), text.as_bytes())?;
+                assert_prepared(&rt, rt.alloc(), (profile, read), source, name, wanted)?;
+            }
+        }
     }
     Ok(())
 }

@@ -4,12 +4,12 @@ ghost use Rattle.ppmacro.specs.HideSets.{IsKnown, AllKnown};
 ghost use Rattle.ppmacro.specs.Substituting.{ListsKnown, ArgumentsKnown};
 ghost use Rattle.ppmacro.specs.declared.hidden_token.ArgumentExpansion.TheVariants.{Owned};
 
-use super::{HASH, has, is_hidden_by, macro_of, push_spelled, set_of, sources_of, table_of};
+use super::{HASH, has, is_hidden_by, macro_of, push_spelled, set_of, sources_of};
 use crate::defining::{define_valid, source_of};
 use crate::showing::{assert_shown, push_fault, push_fields};
 use ppmacro::{
-    ArgumentExpansion, Arguments, Chain, Hidden, HideSets, Macro, MacroName, Pattern, Set, Table,
-    decides_each_kind, paste, stringize, substitute, substitute_pattern,
+    ArgumentExpansion, Arguments, Chain, Hidden, HideSets, MacroName, Pattern, PreparedMacro, Set,
+    Table, decides_each_kind, paste, stringize, substitute, substitute_pattern,
 };
 use pptext::{Error, Memory, Place, Profile, Source, Token};
 use std::alloc::Global;
@@ -130,7 +130,7 @@ fn replaced_by_pattern<'x, 'a: 'x>(
     rt: &impl Abort,
     alloc: Global,
     sets: &mut HideSets,
-    pattern: &Pattern<'a>,
+    pattern: &Pattern<'_, 'a>,
     texts: &'x [Source],
     (hide, base, space): (Set, Set, bool),
 ) -> Replaced<'x> {
@@ -158,7 +158,7 @@ fn replaced<'x, 'a: 'x>(
     rt: &impl Abort,
     alloc: Global,
     sets: &mut HideSets,
-    (table, named, by): (&Table<'a>, &Macro<'a>, By),
+    (table, named, by): (&Table<'a>, &PreparedMacro<'a>, By),
     texts: &'x [Source],
     with: (Set, Set, bool),
 ) -> Replaced<'x> {
@@ -244,7 +244,7 @@ fn told_over(
     rt: &impl Abort,
     alloc: Global,
     sets: &mut HideSets,
-    of: (&Table, &Macro),
+    of: (&Table, &PreparedMacro),
     texts: &[Source],
     (by, hides, space): With,
 ) -> Result<Vec<u8>, Memory> {
@@ -267,7 +267,7 @@ fn told_over(
 fn text_of(
     rt: &impl Abort,
     alloc: Global,
-    of: (&Table, &Macro),
+    of: (&Table, &PreparedMacro),
     texts: &[Source],
     with: With,
 ) -> Result<Vec<u8>, Memory> {
@@ -640,57 +640,6 @@ fn puts_a_variable_argument_after_the_comma(rt: HostRuntime) -> Result<(), Fail>
             (by, true, false),
             wanted,
         )?;
-    }
-    Ok(())
-}
-
-/// Returns the number of tokens in a macro's list, if the list replaces the name unchanged, and whether the macro's pattern has
-/// chains.
-fn list_and_chains(
-    rt: &impl Abort,
-    alloc: Global,
-    line: &Source,
-) -> Result<(Option<usize>, bool), Fail> {
-    let table = table_of(rt, alloc, line)?;
-    let named = macro_of(&table, line.tokens()).ok_or("no macro")?;
-    let pattern = named.pattern(alloc, table.hashing())?;
-    let lone = match named.lone_tokens() {
-        Some(body) => Some(body.len()),
-        None => None,
-    };
-    Ok((lone, matches!(&pattern, Pattern::Pasted(_))))
-}
-
-/// Macros, the number of tokens in the list if it replaces the name unchanged, and whether the pattern has chains.
-const LISTED: &[(&str, Option<usize>, bool)] = &[
-    ("#define O (1-1)", Some(5), false),
-    ("#define H # x", Some(2), true),
-    ("#define E", Some(0), false),
-    ("#define P a ## b", None, true),
-    ("#define D a %:%: b", None, true),
-    ("#define F() a", None, false),
-    ("#define G(x) x", None, false),
-    ("#define I(x) x", None, false),
-    ("#define D(x, y) y(x, y) x", None, false),
-    ("#define N(x) 0", None, false),
-    ("#define E(x)", None, false),
-    ("#define M(x) - x -", None, false),
-    ("#define L(x) x", None, false),
-    ("#define V(x, ...) x __VA_ARGS__", None, false),
-    ("#define P(x) x ## 1", None, true),
-    ("#define S(x) %: x", None, true),
-    ("#define R(x, ...) x, ## __VA_ARGS__", None, true),
-];
-
-/// The list of an object-like macro without `##` replaces the name unchanged. A list without `#` and `##` needs no chains.
-#[test]
-fn makes_chains_where_tokens_are_made(rt: HostRuntime) -> Result<(), Fail> {
-    for &(line, lone, joined) in LISTED {
-        let source = source_of(&rt, rt.alloc(), line.as_bytes())?;
-        assert!(rt;
-            list_and_chains(&rt, rt.alloc(), &source)? == (lone, joined),
-            "{line}"
-        );
     }
     Ok(())
 }

@@ -1,5 +1,5 @@
 //! Tests of tokens, spellings and faults.
-use pptext::{Error, Fault, Kind, Place, Spelling, Token, Tokens, split_memory};
+use pptext::{Error, Fault, Kind, Place, Spelling, Token, Tokens, push, split_memory};
 use std::alloc::{AllocError, Global};
 use std::test::Fail;
 
@@ -124,5 +124,21 @@ fn keeps_short_and_long_spellings(rt: HostRuntime) -> Result<(), Fail> {
         }
         assert!(rt; extended == spelling && Spelling::from_slice(rt.alloc(), bytes)? == spelling);
     }
+    Ok(())
+}
+
+/// Returns the bytes from 0 to before `end`, which are pushed one by one onto a vector without capacity.
+fn pushed(alloc: Global, end: u8) -> Result<Vec<u8>, AllocError> {
+    let mut bytes = Vec::new(alloc);
+    for byte in 0..end {
+        push(&mut bytes, byte)?;
+    }
+    Ok(bytes)
+}
+
+#[test]
+fn pushes_in_order(rt: HostRuntime) -> Result<(), Fail> {
+    assert!(rt; pushed(rt.alloc(), 0)?.is_empty());
+    assert!(rt; pushed(rt.alloc(), 6)?.as_slice() == [0, 1, 2, 3, 4, 5].as_slice());
     Ok(())
 }

@@ -1,9 +1,10 @@
 -- Positions in the lines of a file, and of the files that it includes, as positions in the tree of its groups. Only
 -- contracts of private functions and models of private types cite this.
 use Rattle.std.specs.Prelude.{◌≡◌, ℕ, suc, ◌+◌, ◌<◌, ◌≤◌, ◌^◌, Bool, true, false, Option, None, Some, Result, Ok, Err}
-use Rattle.std.specs.Prelude.{List, [], ◌∷◌, ◌++◌, length, drop, map, slice_index_or}
+use Rattle.std.specs.Prelude.{List, [], ◌∷◌, ◌++◌, length, drop, map}
 use Rattle.pptext.specs.declared.tokens.Fault.{Fault}
 use Rattle.pptext.specs.declared.sources.Directive.{Directive}
+pub use Rattle.pptext.specs.IndexedLines.{no_line, line_at, IsTextLine}
 use Rattle.pptext.specs.Lines.{LogicalLine}
 use Rattle.pptext.specs.Sources.{next_branch}
 use Rattle.pptext.specs.Tree.{GroupParts, Branches, part_lines, branch_lines, AreGroupParts, AreBranches, Tree, role, branch_after}
@@ -16,12 +17,6 @@ use Rattle.ppunit.specs.Conditions.{DecidesFreely, Decides}
 use Rattle.ppunit.specs.Group.{depth_limit, ExecutesGroup, ExecutesBranches, ExecutesControlLine}
 use Rattle.ppunit.specs.code.Opening.{OpenFile, Entered}
 use Rattle.ppunit.specs.Unit.{Defines}
-
-abbrev pub no_line : LogicalLine
-no_line = record { tokens = []; number = 0; directive = None }
-
-abbrev pub line_at : List LogicalLine → ℕ → LogicalLine
-line_at lines index = slice_index_or lines index no_line
 
 -- The if-sections around a group, the innermost first: the branches after the group, and the parts after the section.
 abbrev pub EnclosingSections : Type 0
@@ -183,9 +178,6 @@ FindsBranch search row lines s t bs qs k (Err f) =
     → search_of context ≡ search
     → (depth : ℕ)
     → ExecutesBranches context depth row s bs (stopped t f)
-
-abbrev pub IsTextLine : LogicalLine → Type 0
-IsTextLine line = line.directive ≡ None
 
 -- the first line isn't a text line
 abbrev pub StartsWithoutTextLine : List LogicalLine → Type 0

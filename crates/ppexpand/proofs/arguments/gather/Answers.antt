@@ -21,7 +21,7 @@ shown_mark variant.Inner = Inner
 pub returns-in-Close-clause-known : goal.returns-in-Close-clause-known
 returns-in-Close-clause-known c = λ sets known.
     let list : AllKnown sets (c.in-Some.hidden ∷ c.next.new.self) = subst (AllKnown sets) c.in-Some.ensures (c.loop-hidden.invariant.list_known sets known) in (
-      rw c.in_ok-put-in-Close.ensures (lists_known-push _ _ (c.loop-hidden.invariant.arguments_known sets known) (c.loop-hidden.invariant.argument_known sets known)),
+      rw c.in_ok-push-in-Close.ensures (lists_known-push _ _ (c.loop-hidden.invariant.arguments_known sets known) (c.loop-hidden.invariant.argument_known sets known)),
       list.each.0,
       record { each = list.each.1 },
     )
@@ -71,13 +71,13 @@ loop-hidden-preserved c =
     record {
       same = λ sets.
           (let here = ap (λ hs. resumed (given_in sets prefix.arguments.items) (hidings sets prefix.argument.items) (gather prefix.depth prefix.commas (hidings sets hs))) c.in-Some.ensures in
-          rw (c.in_ok-put.ensures, hidings-push sets prefix.argument.items c.in-Some.hidden)
+          rw (c.in_ok-push.ensures, hidings-push sets prefix.argument.items c.in-Some.hidden)
           (resumed-token (given_in sets prefix.arguments.items) (hidings sets prefix.argument.items) (hiding sets c.in-Some.hidden) _
           ∙ ap (resumed (given_in sets prefix.arguments.items) (hidings sets prefix.argument.items)) (sym (step sets))
           ∙ sym here
           ∙ c.loop-hidden.invariant.same sets));
       arguments_known = c.loop-hidden.invariant.arguments_known;
-      argument_known = λ sets known. rw c.in_ok-put.ensures (known-push _ _ (c.loop-hidden.invariant.argument_known sets known) (list sets known).each.0);
+      argument_known = λ sets known. rw c.in_ok-push.ensures (known-push _ _ (c.loop-hidden.invariant.argument_known sets known) (list sets known).each.0);
       list_known = λ sets known. record { each = (list sets known).each.1 };
-      within = rw c.in_ok-put.ensures (omega (arith, length-append prefix.argument.items (c.in-Some.hidden ∷ []), within));
+      within = rw c.in_ok-push.ensures (omega (arith, length-append prefix.argument.items (c.in-Some.hidden ∷ []), within));
     }

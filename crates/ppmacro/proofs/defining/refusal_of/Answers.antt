@@ -1,5 +1,10 @@
-use Rattle.std.proofs.Common.{rules}
+use Rattle.std.proofs.Common.{sym, ◌∙◌}
+use Rattle.ppmacro.proofs.TableFreeDefinitions.{unrefusable}
 use Rattle.ppmacro.proofs.defining.refusal_of.Goals as goal
 
-pub returns-then-is_conflicting : goal.returns-then-is_conflicting
-returns-then-is_conflicting c = search rules
+pub returns : goal.returns
+returns c = λ profile name.
+    sym (unrefusable profile name (record { kind = c.args.kind.now; body = c.args.body.now })
+    (sym c.misplaces_variable_arguments.ensures ∙ c.if-misplaces_variable_arguments.false)
+    (sym c.misplaces_paste.ensures ∙ c.if-misplaces_paste.false)
+    (sym c.in_ok-misplaces_operator_hash.ensures ∙ c.if-branch.false))

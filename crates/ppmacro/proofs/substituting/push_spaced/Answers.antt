@@ -30,7 +30,7 @@ returns-clause-tokens c = λ s.
     let first = c.in-Some.first.now in
     let others = c.in-Some.others.now in
     let whole : c.push_all.new.tokens.items ≡ (front ++ marked c.args.pending first ∷ []) ++ others =
-    c.in_ok-push_all.ensures ∙ ap (λ hs. hs ++ others) (c.in_ok-push_one.ensures ∙ (λ i. c.in_ok-reserve.ensures.items i ++ c.in_ok-copy_with_space.ensures i ∷ [])) in
+    c.in_ok-push_all.ensures ∙ ap (λ hs. hs ++ others) (c.in_ok-push.ensures ∙ (λ i. c.in_ok-reserve.ensures.items i ++ c.in_ok-copy_with_space.ensures i ∷ [])) in
     ap (hidings s) whole
     ∙ tokens-following s front c.args.pending first others
     ∙ ap (λ hs. hidings s front ++ (space_first c.args.pending (hidings s hs)).tokens) (sym c.in-Some.ensures.cases.0)
@@ -41,7 +41,7 @@ returns-clause-known c = λ s known more.
     let first = c.in-Some.first.now in
     let others = c.in-Some.others.now in
     let whole : c.push_all.new.tokens.items ≡ (front ++ marked c.args.pending first ∷ []) ++ others =
-    c.in_ok-push_all.ensures ∙ ap (λ hs. hs ++ others) (c.in_ok-push_one.ensures ∙ (λ i. c.in_ok-reserve.ensures.items i ++ c.in_ok-copy_with_space.ensures i ∷ [])) in
+    c.in_ok-push_all.ensures ∙ ap (λ hs. hs ++ others) (c.in_ok-push.ensures ∙ (λ i. c.in_ok-reserve.ensures.items i ++ c.in_ok-copy_with_space.ensures i ∷ [])) in
     subst (AllKnown s) (sym whole) (known-rest s front c.args.pending first others known (subst (AllKnown s) c.in-Some.ensures.cases.0 more))
 
 pub returns-clause-pending : goal.returns-clause-pending

@@ -15,15 +15,15 @@ returns-in_err-decide-clause-advances g c files depth =
     subst (λ (z : State). Advances (context_over c.args.context.now) files depth c.args.row c.args.source.now c.args.index c.args.state.now z (Err fault)) (sym c.in_err-decide.ensures.rest)
     (enter_refused (context_over c.args.context.now) (search_in_unit c.args.context.now) files depth c.args.row c.args.source.now c.args.index c.args.state.now c.decide.new.state.meter c.args.directive fault
     c.requires.index c.requires.line c.requires.opens (λ more. refl)
-    (decides_at (search_in_unit c.args.context.now) c.args.row c.args.state.now (line_at c.args.source.now c.args.index) c.args.directive c.tokens_at.result c.decide.new.state.meter (Err fault)
-    c.requires.line c.tokens_at.ensures.tokens decides)))
+    (decides_at (search_in_unit c.args.context.now) c.args.row c.args.state.now (line_at c.args.source.now c.args.index) c.args.directive c.at.result c.decide.new.state.meter (Err fault)
+    c.requires.line c.at.ensures.tokens decides)))
 
 pub returns-then-branch-clause-advances : goal.returns-then-branch-clause-advances
 returns-then-branch-clause-advances g c files depth =
     let decides = subst (λ (z : Bool). Decides (search_in_unit c.args.context.now) c.args.row c.args.state.now (line_at c.args.source.now c.args.index) c.decide.new.state.meter (Ok z))
     c.if-branch.true
-    (decides_at (search_in_unit c.args.context.now) c.args.row c.args.state.now (line_at c.args.source.now c.args.index) c.args.directive c.tokens_at.result c.decide.new.state.meter
-    (Ok c.in_ok-decide.field-0) c.requires.line c.tokens_at.ensures.tokens c.in_ok-decide.ensures.decides) in
+    (decides_at (search_in_unit c.args.context.now) c.args.row c.args.state.now (line_at c.args.source.now c.args.index) c.args.directive c.at.result c.decide.new.state.meter
+    (Ok c.in_ok-decide.field-0) c.requires.line c.at.ensures.tokens c.in_ok-decide.ensures.decides) in
     subst (λ (z : State). Advances (context_over c.args.context.now) files depth c.args.row c.args.source.now c.args.index c.args.state.now z (Ok (c.args.index + 1)))
     (sym c.in_ok-decide.ensures.rest)
     (enter_taken (context_over c.args.context.now) (search_in_unit c.args.context.now) files depth c.args.row c.args.source.now c.args.index c.args.state.now c.decide.new.state.meter c.args.directive c.requires.index
@@ -33,8 +33,8 @@ pub returns-clause-advances : goal.returns-clause-advances
 returns-clause-advances g c files depth =
     let decides = subst (λ (z : Bool). Decides (search_in_unit c.args.context.now) c.args.row c.args.state.now (line_at c.args.source.now c.args.index) c.decide.new.state.meter (Ok z))
     c.if-branch.false
-    (decides_at (search_in_unit c.args.context.now) c.args.row c.args.state.now (line_at c.args.source.now c.args.index) c.args.directive c.tokens_at.result c.decide.new.state.meter
-    (Ok c.in_ok-decide.field-0) c.requires.line c.tokens_at.ensures.tokens c.in_ok-decide.ensures.decides) in
+    (decides_at (search_in_unit c.args.context.now) c.args.row c.args.state.now (line_at c.args.source.now c.args.index) c.args.directive c.at.result c.decide.new.state.meter
+    (Ok c.in_ok-decide.field-0) c.requires.line c.at.ensures.tokens c.in_ok-decide.ensures.decides) in
     on_settled c.find_branch.result
     (λ next found. enter_skipped (context_over c.args.context.now) (search_in_unit c.args.context.now) files depth c.args.row c.args.source.now c.args.index c.args.state.now c.find_branch.new.state
     c.decide.new.state.meter c.args.directive next c.requires.index c.requires.line c.requires.opens (λ more. refl) decides found)

@@ -4,7 +4,6 @@ use Rattle.std.proofs.lemmas.List.{length-append}
 use Rattle.pptext.proofs.ErrorReturns.{stopped, if_settled-weaker, raised}
 use Rattle.ppmacro.specs.HideSets.{hidings, AllKnown}
 use Rattle.ppmacro.specs.Chains.{parameter_names, chains_of}
-use Rattle.ppmacro.specs.Patterns.{pattern_chains}
 use Rattle.ppmacro.specs.Substitution.{argument_at}
 use Rattle.ppmacro.specs.Substituting.{lists_of, expansion_if_computed}
 use Rattle.ppmacro.specs.declared.hidden_token.ArgumentExpansion.TheVariants.{Unused}
@@ -13,7 +12,7 @@ use Rattle.ppexpand.specs.ExpansionStep.{ReplacementFault, Replaced, finish_invo
 use Rattle.ppexpand.specs.Expansion.{ExpandsArguments}
 use Rattle.ppexpand.specs.code.ProgramValues.{expanded_in, owned_tokens, ExpansionsKnown, ExpandsArgument, deep, ClosedStepsTo, fault_in_arguments, finishes}
 use Rattle.ppexpand.proofs.GrowingHideSets.{invocation_of, invocation_of-keeps, invocation_known-keeps, given_known-keeps, expanded_known-keeps, expanded_known-push}
-use Rattle.ppexpand.proofs.ArgumentLemmas.{arguments_first, argument_expands, argument_raises, argument-known, follows_unused, follows_used, follows_refused, follows_all, pre_expanded-alone}
+use Rattle.ppexpand.proofs.ArgumentLemmas.{arguments_first, argument_expands, argument_raises, argument-known, follows_unused, follows_used, follows_refused, follows_all}
 use Rattle.ppexpand.proofs.SkippedTokens.{unhidden-expands, next-known, more-known, follows_skip, skip_falls}
 use Rattle.ppexpand.proofs.LoopInvariants.{more_follows, more_falls, end_follows, invocation_taken, invocation_raises, begun_raises}
 use Rattle.ppexpand.proofs.expansion.Expander.+expansion.Goals as goal
@@ -193,10 +192,9 @@ expand_arguments-loop-parameter-preserved-then-not-is_pre_expanded m c =
     let cs = chains_of c.args.invocation.now.definition.now in
     let names = parameter_names c.args.invocation.now.definition.now.kind in
     let done = c.loop-parameter.expanded.items in
-    let less : i < length names = subst (λ n. i < n) (ap length c.deref-is_pre_expanded-items.ensures.value ∙ c.in_ok-pre_expanded.ensures.len) c.loop-parameter-test.true in
-    let unused : pre_expands i cs ≡ false = pre_expanded-alone c.in_ok-pre_expanded.pre_expanded.items c.deref-is_pre_expanded-items.result.now (length names) i (pattern_chains c.args.pattern.now) cs false
-    c.deref-is_pre_expanded-items.ensures.value c.requires.chains c.in_ok-pre_expanded.ensures.pre_expanded less c.if-not-is_pre_expanded.true in
-    let appended = c.in_ok-put.ensures in
+    let less : i < length names = subst (λ n. i < n) c.expanded-pre_expanded.ensures.len c.loop-parameter-test.true in
+    let unused : pre_expands i cs ≡ false = sym (c.expanded-pre_expanded.ensures.pre_expanded i c.loop-parameter-test.true) ∙ c.if-not-is_pre_expanded.true in
+    let appended = c.in_ok-push.ensures in
     record {
       low = c.loop-parameter.invariant.low;
       known = subst (ExpansionsKnown u) (sym appended) (expanded_known-push done Unused c.loop-parameter.invariant.known (record { each = tt }));
@@ -204,7 +202,7 @@ expand_arguments-loop-parameter-preserved-then-not-is_pre_expanded m c =
       keeps = c.loop-parameter.invariant.keeps;
       follows = λ following.
           (let invocation = invocation_of s c.args.invocation.now following in
-          follows_unused macros env level c.args.self.now.meter c.loop-parameter.self.meter c.loop-parameter.self.meter s u u vs cs names i done c.put.new.items.items invocation (arguments_to_expand invocation)
+          follows_unused macros env level c.args.self.now.meter c.loop-parameter.self.meter c.loop-parameter.self.meter s u u vs cs names i done c.push.new.items.items invocation (arguments_to_expand invocation)
           less c.loop-parameter.invariant.count unused appended (c.loop-parameter.invariant.follows following));
     }
 
@@ -234,9 +232,8 @@ expand_arguments-returns-in_err-expansion-clause-is m c =
     let cs = chains_of c.args.invocation.now.definition.now in
     let names = parameter_names c.args.invocation.now.definition.now.kind in
     let done = c.loop-parameter.expanded.items in
-    let less : i < length names = subst (λ n. i < n) (ap length c.deref-is_pre_expanded-items.ensures.value ∙ c.in_ok-pre_expanded.ensures.len) c.loop-parameter-test.true in
-    let is_used : pre_expands i cs ≡ true = pre_expanded-alone c.in_ok-pre_expanded.pre_expanded.items c.deref-is_pre_expanded-items.result.now (length names) i (pattern_chains c.args.pattern.now) cs true
-    c.deref-is_pre_expanded-items.ensures.value c.requires.chains c.in_ok-pre_expanded.ensures.pre_expanded less c.if-not-is_pre_expanded.false in
+    let less : i < length names = subst (λ n. i < n) c.expanded-pre_expanded.ensures.len c.loop-parameter-test.true in
+    let is_used : pre_expands i cs ≡ true = sym (c.expanded-pre_expanded.ensures.pre_expanded i c.loop-parameter-test.true) ∙ c.if-not-is_pre_expanded.false in
     let tokens_are : c.argument_of-tokens.result.now ≡ argument_at (lists_of vs) i = c.argument_of-tokens.ensures ∙ ap (λ gs. argument_at (lists_of gs) i) c.as_slice.ensures.value in
     let argument : hidings u c.argument_of-tokens.result.now ≡ hidings s (argument_at (lists_of vs) i) =
     ap (hidings u) tokens_are ∙ hidings-keeps (argument_at (lists_of vs) i) c.loop-parameter.invariant.keeps (argument-known s vs i c.requires.known.arguments) in
@@ -259,9 +256,8 @@ expand_arguments-loop-parameter-preserved m c =
     let cs = chains_of c.args.invocation.now.definition.now in
     let names = parameter_names c.args.invocation.now.definition.now.kind in
     let done = c.loop-parameter.expanded.items in
-    let less : i < length names = subst (λ n. i < n) (ap length c.deref-is_pre_expanded-items.ensures.value ∙ c.in_ok-pre_expanded.ensures.len) c.loop-parameter-test.true in
-    let is_used : pre_expands i cs ≡ true = pre_expanded-alone c.in_ok-pre_expanded.pre_expanded.items c.deref-is_pre_expanded-items.result.now (length names) i (pattern_chains c.args.pattern.now) cs true
-    c.deref-is_pre_expanded-items.ensures.value c.requires.chains c.in_ok-pre_expanded.ensures.pre_expanded less c.if-not-is_pre_expanded.false in
+    let less : i < length names = subst (λ n. i < n) c.expanded-pre_expanded.ensures.len c.loop-parameter-test.true in
+    let is_used : pre_expands i cs ≡ true = sym (c.expanded-pre_expanded.ensures.pre_expanded i c.loop-parameter-test.true) ∙ c.if-not-is_pre_expanded.false in
     let tokens_are : c.argument_of-tokens.result.now ≡ argument_at (lists_of vs) i = c.argument_of-tokens.ensures ∙ ap (λ gs. argument_at (lists_of gs) i) c.as_slice.ensures.value in
     let w = c.expand_argument.new.self.replacer.sets in
     let keeps = c.in_ok-expansion.ensures.keeps in
@@ -275,7 +271,7 @@ expand_arguments-loop-parameter-preserved m c =
     let here_is : option_map (hidings w) (expansion_if_computed (argument_at (lists_of vs) i) e) ≡ Some tokens =
     subst (λ g. option_map (hidings w) (expansion_if_computed g e) ≡ Some tokens) tokens_are made_is.1 in
     let tokens_known : AllKnown w (owned_tokens e) = c.in_ok-expansion.ensures.known in
-    let appended = c.in_ok-put-2.ensures in
+    let appended = c.in_ok-push-2.ensures in
     let given_known = given_known-keeps vs c.loop-parameter.invariant.keeps c.requires.known.arguments in
     record {
       low = c.loop-parameter.invariant.low;
@@ -284,7 +280,7 @@ expand_arguments-loop-parameter-preserved m c =
       keeps = keeps-after c.loop-parameter.invariant.keeps keeps;
       follows = λ following.
           (let invocation = invocation_of s c.args.invocation.now following in
-          follows_used macros env level c.args.self.now.meter c.loop-parameter.self.meter c.expand_argument.new.self.meter s u w vs cs names i done c.put-in-loop-parameter.new.items.items invocation (arguments_to_expand invocation)
+          follows_used macros env level c.args.self.now.meter c.loop-parameter.self.meter c.expand_argument.new.self.meter s u w vs cs names i done c.push-in-loop-parameter.new.items.items invocation (arguments_to_expand invocation)
           e tokens less c.loop-parameter.invariant.count is_used appended keeps given_known c.loop-parameter.invariant.known here_is one (c.loop-parameter.invariant.follows following));
     }
 
@@ -300,7 +296,7 @@ expand_arguments-returns-clause-is m c =
     let names = parameter_names c.args.invocation.now.definition.now.kind in
     let done = c.loop-parameter.expanded.items in
     let end : length names ≤ i =
-    subst (λ n. n ≤ i) (ap length c.deref-is_pre_expanded-items.ensures.value ∙ c.in_ok-pre_expanded.ensures.len) (omega (arith, c.loop-parameter-test.false)) in
+    subst (λ n. n ≤ i) c.expanded-pre_expanded.ensures.len (omega (arith, c.loop-parameter-test.false)) in
     (λ following.
     let invocation = invocation_of s c.args.invocation.now following in
     follows_all macros env level c.args.self.now.meter c.loop-parameter.self.meter s u vs (chains_of c.args.invocation.now.definition.now) names

@@ -40,12 +40,12 @@ loop-operand-preserved c =
     let rest = operands_tokens c.args.next_to_paste args c.args.used (drop (i + 1) os) in
     record {
       same =
-          ap (λ ws. following (map (hidings s) (lists_of ws)) rest) c.in_ok-push_list.ensures
+          ap (λ ws. following (map (hidings s) (lists_of ws)) rest) c.in_ok-push.ensures
           ∙ ap (λ ts. following ts rest) (lists-more s vs tokens)
           ∙ following-more front (hidings s tokens.items) (operand_tokens c.args.next_to_paste args c.args.used o) rest c.in_ok-tokens.ensures.is
           ∙ ap (λ ps. following front (operands_tokens c.args.next_to_paste args c.args.used ps)) (sym (drop-item os i o c.loop-operand-test.true c.operand-item.is))
           ∙ c.loop-operand.invariant.same;
-      known = subst (ListsKnown s) (sym c.in_ok-push_list.ensures) (known-more s vs tokens c.loop-operand.invariant.known c.in_ok-tokens.ensures.known);
+      known = subst (ListsKnown s) (sym c.in_ok-push.ensures) (known-more s vs tokens c.loop-operand.invariant.known c.in_ok-tokens.ensures.known);
     }
 
 pub returns-in_err-tokens-clause-is : goal.returns-in_err-tokens-clause-is

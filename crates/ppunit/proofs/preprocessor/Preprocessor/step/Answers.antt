@@ -43,17 +43,17 @@ returns-then-ends_group-clause-step g c =
 pub returns-in_err-entered-clause-step : goal.returns-in_err-entered-clause-step
 returns-in_err-entered-clause-step g c =
     rw (← c.file.view_is) (stopped _ _ _ _ c.from_residual-in_err-entered.ensures.1 c.in_err-entered.ensures.control
-    (stops_control (context_over c.args.self.now.context.now) c.execute_control_line.new.self.pass.now.files c.args.depth c.file.inside.row c.file.inside.source.now
-    c.file.inside.index c.args.self.now.state c.execute_control_line.new.self.state c.in-Some.directive c.tokens_at-tokens.result c.line-2.result.now.number
+    (stops_control (context_over c.args.self.now.context.now) c.execute_line.new.self.pass.now.files c.args.depth c.file.inside.row c.file.inside.source.now
+    c.file.inside.index c.args.self.now.state c.execute_line.new.self.state c.in-Some.directive c.at-tokens.result c.line-2.result.now.number
     (rw (← c.file.view_is) at c.requires.index) (sym c.line.ensures.directive ∙ c.in-Some.is) (sym c.opens_section.ensures ∙ c.if-opens_section.false)
-    (sym c.ends_group.ensures ∙ c.if-ends_group.false) c.tokens_at-tokens.ensures.tokens c.line-2.ensures.number))
+    (sym c.ends_group.ensures ∙ c.if-ends_group.false) c.at-tokens.ensures.tokens c.line-2.ensures.number))
 
 pub returns-clause-step : goal.returns-clause-step
 returns-clause-step g c =
-    rw (← c.file.view_is) (steps_control (context_over c.args.self.now.context.now) c.execute_control_line.new.self.pass.now.files c.args.depth c.file.inside.row c.file.inside.source.now
-    c.file.inside.index c.args.self.now.state c.execute_control_line.new.self.state c.in-Some.directive c.tokens_at-tokens.result c.line-2.result.now.number
+    rw (← c.file.view_is) (steps_control (context_over c.args.self.now.context.now) c.execute_line.new.self.pass.now.files c.args.depth c.file.inside.row c.file.inside.source.now
+    c.file.inside.index c.args.self.now.state c.execute_line.new.self.state c.in-Some.directive c.at-tokens.result c.line-2.result.now.number
     (rw (← c.file.view_is) at c.requires.index) (sym c.line.ensures.directive ∙ c.in-Some.is) (sym c.opens_section.ensures ∙ c.if-opens_section.false)
-    (sym c.ends_group.ensures ∙ c.if-ends_group.false) c.tokens_at-tokens.ensures.tokens c.line-2.ensures.number c.in_ok-entered.entered
+    (sym c.ends_group.ensures ∙ c.if-ends_group.false) c.at-tokens.ensures.tokens c.line-2.ensures.number c.in_ok-entered.entered
     c.in_ok-entered.ensures.control)
 
 pub line-requires : goal.line-requires
@@ -62,8 +62,8 @@ line-requires g c = rw (← c.file.view_is) at c.requires.index
 pub line-requires-2 : goal.line-requires-2
 line-requires-2 g c = rw (← c.file.view_is) at c.requires.index
 
-pub tokens_at-tokens-requires-clause-index : goal.tokens_at-tokens-requires-clause-index
-tokens_at-tokens-requires-clause-index g c = rw (← c.file.view_is) at c.requires.index
+pub at-tokens-requires-clause-index : goal.at-tokens-requires-clause-index
+at-tokens-requires-clause-index g c = rw (← c.file.view_is) at c.requires.index
 
 pub section_end-requires : goal.section_end-requires
 section_end-requires g c = rw (← c.file.view_is) at c.requires.index
@@ -83,8 +83,8 @@ execute_if_line-requires-clause-line g c = sym c.line.ensures.directive ∙ c.in
 pub execute_if_line-requires-clause-opens : goal.execute_if_line-requires-clause-opens
 execute_if_line-requires-clause-opens g c = sym c.opens_section.ensures ∙ c.if-opens_section.true
 
-pub execute_control_line-requires-clause-opens : goal.execute_control_line-requires-clause-opens
-execute_control_line-requires-clause-opens g c = sym c.opens_section.ensures ∙ c.if-opens_section.false
+pub execute_line-requires-clause-opens : goal.execute_line-requires-clause-opens
+execute_line-requires-clause-opens g c = sym c.opens_section.ensures ∙ c.if-opens_section.false
 
-pub execute_control_line-requires-clause-ends : goal.execute_control_line-requires-clause-ends
-execute_control_line-requires-clause-ends g c = sym c.ends_group.ensures ∙ c.if-ends_group.false
+pub execute_line-requires-clause-ends : goal.execute_line-requires-clause-ends
+execute_line-requires-clause-ends g c = sym c.ends_group.ensures ∙ c.if-ends_group.false

@@ -1,0 +1,49 @@
+-- Definitions in the form that expansion reads, and `#define` lines that are read once for all units.
+use Rattle.std.specs.Prelude.{◌≡◌, ◌≤◌, ◌<◌, ◌==◌, ◌&&◌, not, ℕ, Bool, false, List, Option, Some, None, Ok, Err, IfSome, MatchResult, Box, length, map, drop, get_or}
+use Rattle.std.specs.List.{list_any}
+use Rattle.std.specs.Global.{Global}
+use Rattle.std.specs.FinMap as table
+use Rattle.pptext.specs.declared.tokens.Place.{Place}
+use Rattle.pptext.specs.declared.tokens.Token.{Token}
+use Rattle.pptext.specs.Lines.{LogicalLine}
+use Rattle.pptext.specs.IndexedLines.{line_at}
+use Rattle.pptext.specs.declared.sources.Profile.{Profile}
+use Rattle.ppmacro.specs.HashOperators.{is_paste}
+use Rattle.ppmacro.specs.Chains.{parameter_names, parameter_of, chains_of}
+use Rattle.ppmacro.specs.PasteFree.{is_object_like}
+use Rattle.ppmacro.specs.Entries.{is_operator}
+use Rattle.ppmacro.specs.PreExpansion.{pre_expands}
+use Rattle.ppmacro.specs.Define.{check_define}
+use Rattle.ppmacro.specs.DefineLines.{DefineLine, IsDefineLine}
+use Rattle.ppmacro.specs.declared.definition.Definition.{Definition}
+use Rattle.ppmacro.specs.declared.define_lines.Defined.{Defined}
+use Rattle.ppmacro.specs.declared.define_lines.ReadDefinition.{ReadDefinition}
+
+-- Whether a token that names this parameter, if any, names parameter i.
+abbrev pub is_use : ℕ → Option ℕ → Bool
+is_use i None = false
+is_use i (Some j) = i == j
+
+-- A definition says what expansion needs to know of this replacement list.
+pub record IsPrepared (d : Definition) (body : List Token) : Type 0 where
+  pub uses : IfSome d.uses (λ v. (v.items ≡ map (parameter_of d.kind) body) × (list_any is_operator body ≡ false))
+  pub lone : d.lone ≡ (is_object_like d.kind && not (list_any is_paste body))
+  pub count : length d.expanded.items ≡ length (parameter_names d.kind)
+  pub expanded : (i : ℕ) → i < length (parameter_names d.kind) → get_or d.expanded.items i false ≡ pre_expands i (chains_of (record { kind = d.kind; body = body }))
+
+-- What is the definition of a line without a fault, as if its name had no other definition. The replacement list is the end of the line.
+pub record IsDefinedBy (profile : Profile) (at : Place) (line : List Token) (d : Defined) : Type 0 where
+  pub some : 0 < length line
+  pub within : d.body_at ≤ length line
+  pub defines : (t : Token) → check_define profile table.empty at line
+      ≡ Ok (record { name = (get_or line 0 t).text; definition = record { kind = d.definition.kind; body = drop d.body_at line } })
+  pub prepared : IsPrepared d.definition (drop d.body_at line)
+
+-- What a line says by itself.
+abbrev pub IsReadFrom : ReadDefinition → Place → List Token → Type 0
+IsReadFrom r at line = MatchResult r.outcome (IsDefinedBy r.profile at line) (λ f. check_define r.profile table.empty at line ≡ Err f)
+
+-- The lines of a file with what was read of each.
+abbrev pub AreReadFrom : List LogicalLine → List (Option (Box ReadDefinition Global)) → Type 0
+AreReadFrom lines reads = (length reads ≡ length lines)
+    × ((i : ℕ) → i < length lines → IfSome (get_or reads i None) (λ r. (d : DefineLine) × IsDefineLine (line_at lines i) d × IsReadFrom r.value d.at d.tokens))

@@ -1,0 +1,186 @@
+//! The macros of a table.
+//!
+//! A macro borrows the tokens of its replacement list, and mostly its definition too: a `#define` line of a file is read once for
+//! all units that share the file. Only a definition that comes from elsewhere is the macro's own.
+ghost use Rattle.std.specs.Prelude.{◌≡◌, ◌<◌, ℕ, false, IfOk, IfSome, get_or, length, map};
+ghost use Rattle.std.specs.Option.{option_copied};
+ghost use Rattle.ppmacro.specs.Chains.{chains_of, parameter_names};
+ghost use Rattle.ppmacro.specs.PasteFree.{lone_chain, lone_tokens};
+ghost use Rattle.ppmacro.specs.Patterns.{pattern_chains};
+ghost use Rattle.ppmacro.specs.PreExpansion.{pre_expands};
+ghost use Rattle.ppmacro.specs.Predefined.{predefined_as};
+ghost use Rattle.ppmacro.specs.code.PreparedDefinitions.{IsPrepared};
+
+use crate::chains::chains_of;
+use crate::definition::Definition;
+use crate::macros::{Chains, MacroKind, PredefinedMacro};
+use crate::patterns::{Pattern, PlainList};
+use pptext::{Hashing, Memory, Token};
+use std::alloc::Global;
+use std::marker::Model;
+
+/// A definition that a macro borrows or has.
+#[derive(Drop)]
+enum DefinitionStorage<'a> {
+    Shared(&'a Definition),
+    Own(Box<Definition>),
+}
+
+/// The definition of a macro. Contracts see the definition.
+#[derive(Drop)]
+struct MacroDefinition<'a> {
+    storage: DefinitionStorage<'a>,
+}
+
+impl<'a> Model for MacroDefinition<'a> {
+    ghost use Rattle.ppmacro.specs.declared.definition.Definition.{Definition};
+    ghost use Rattle.ppmacro.specs.declared.prepared_macro.DefinitionStorage.TheVariants.{Shared, Own};
+
+    ghost Value = { Definition };
+
+    ghost view = { λ d. elim d.storage [ Shared definition ↦ definition.now | Own definition ↦ definition.value ] };
+}
+
+impl<'a> MacroDefinition<'a> {
+    /// Returns the definition.
+    fn get(&self) -> &Definition
+        ensures { result.now ≡ self.now }
+    {
+        match &self.storage {
+            DefinitionStorage::Shared(definition) => definition,
+            DefinitionStorage::Own(definition) => definition,
+        }
+    }
+}
+
+/// A macro of a table. Contracts see its kind and its replacement list.
+#[derive(Drop)]
+pub struct PreparedMacro<'a> {
+    definition: MacroDefinition<'a>,
+    body: &'a [Token],
+}
+
+impl<'a> Model for PreparedMacro<'a> {
+    ghost use Rattle.ppmacro.specs.declared.macros.Macro.{Macro};
+    ghost use Rattle.ppmacro.specs.code.PreparedDefinitions.{IsPrepared};
+
+    ghost Value = { Macro };
+
+    ghost view = { λ m. record { kind = m.definition.kind; body = m.body.now } };
+
+    ghost invariant = { λ m. IsPrepared m.definition m.body.now };
+}
+
+impl<'a> PreparedMacro<'a> {
+    /// Returns the macro that has this definition and this replacement list.
+    pub(crate) fn shared(definition: &'a Definition, body: &'a [Token]) -> PreparedMacro<'a>
+        requires { IsPrepared definition.now body.now }
+        ensures { result ≡ record { kind = definition.now.kind; body = body.now } }
+    {
+        let storage = DefinitionStorage::Shared(definition);
+        PreparedMacro {
+            definition: MacroDefinition { storage },
+            body,
+        }
+    }
+
+    /// Returns the macro that has this definition, as its own, and this replacement list.
+    fn own(
+        alloc: Global,
+        definition: Definition,
+        body: &'a [Token],
+    ) -> Result<PreparedMacro<'a>, Memory>
+        requires { IsPrepared definition body.now }
+        ensures { IfOk result (λ m. m ≡ record { kind = definition.kind; body = body.now }) }
+    {
+        let storage = DefinitionStorage::Own(Box::new(alloc, definition)?);
+        Ok(PreparedMacro {
+            definition: MacroDefinition { storage },
+            body,
+        })
+    }
+
+    /// Returns the macro of this kind with this replacement list. Many parameters are indexed with hash function `hashing`.
+    pub(crate) fn new(
+        alloc: Global,
+        kind: MacroKind,
+        body: &'a [Token],
+        hashing: Hashing,
+    ) -> Result<PreparedMacro<'a>, Memory>
+        ensures { IfOk result (λ m. m ≡ record { kind = kind; body = body.now }) }
+    {
+        let definition = Definition::new(alloc, kind, body, hashing)?;
+        PreparedMacro::own(alloc, definition, body)
+    }
+
+    /// Returns a predefined macro.
+    pub(crate) fn predefined(
+        alloc: Global,
+        predefined: PredefinedMacro,
+    ) -> Result<PreparedMacro<'a>, Memory>
+        ensures { IfOk result (λ m. m ≡ predefined_as predefined) }
+    {
+        let kind = MacroKind::Predefined(predefined);
+        PreparedMacro::own(alloc, Definition::without_parameters(alloc, kind, &[]), &[])
+    }
+
+    /// Returns the kind.
+    pub fn kind(&self) -> &MacroKind
+        ensures { result.now ≡ self.now.kind }
+    {
+        &self.definition.get().kind
+    }
+
+    /// Returns the replacement list.
+    pub fn body(&self) -> &'a [Token]
+        ensures { result.now ≡ self.now.body }
+    {
+        self.body
+    }
+
+    /// Returns, for each parameter, whether the replacement list uses it without `#` and `##`.
+    pub fn expanded(&self) -> &[bool]
+        ensures len { length result.now ≡ length (parameter_names self.now.kind) }
+        ensures pre_expanded { (i : ℕ) → i < length result.now → get_or result.now i false ≡ pre_expands i (chains_of self.now) }
+    {
+        self.definition.get().expanded.as_slice()
+    }
+
+    /// Returns the replacement list of an object-like macro without `##`. Each token is a chain of its own.
+    pub fn lone_tokens(&self) -> Option<&'a [Token]>
+        ensures is { option_copied result ≡ lone_tokens self.now }
+        ensures chains { IfSome result (λ body. chains_of self.now ≡ map lone_chain body.now) }
+    {
+        if self.definition.get().lone {
+            Some(self.body)
+        } else {
+            None
+        }
+    }
+
+    /// Returns the chains of the replacement list. The hash function for parameters has a fixed key: see `chains_with_hasher` for
+    /// untrusted names.
+    pub fn chains(&self, alloc: Global) -> Result<Chains<'a>, Memory>
+        ensures { IfOk result (λ c. c ≡ chains_of self.now) }
+    {
+        self.chains_with_hasher(alloc, Hashing::fixed())
+    }
+
+    /// Returns the chains of the replacement list. Many parameters are indexed with hash function `hashing`.
+    pub fn chains_with_hasher(&self, alloc: Global, hashing: Hashing) -> Result<Chains<'a>, Memory>
+        ensures { IfOk result (λ c. c ≡ chains_of self.now) }
+    {
+        chains_of(alloc, self.kind(), self.body, hashing)
+    }
+
+    /// Returns the replacement list for `substitute_pattern`: chains, unless it is that of a function-like macro without `#` and `##`.
+    /// Many parameters are indexed with hash function `hashing`.
+    pub fn pattern(&self, alloc: Global, hashing: Hashing) -> Result<Pattern<'_, 'a>, Memory>
+        ensures { IfOk result (λ p. pattern_chains p ≡ chains_of self.now) }
+    {
+        match &self.definition.get().uses {
+            Some(uses) => Ok(Pattern::Plain(PlainList::new(uses.as_slice(), self.body))),
+            None => Ok(Pattern::Pasted(self.chains_with_hasher(alloc, hashing)?)),
+        }
+    }
+}

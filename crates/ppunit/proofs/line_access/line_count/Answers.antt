@@ -1,6 +1,0 @@
-use Rattle.std.proofs.Common.{length, ap, ◌∙◌}
-use Rattle.ppunit.proofs.IndexedLines.{spans_length}
-use Rattle.ppunit.proofs.line_access.line_count.Goals as goal
-
-pub returns : goal.returns
-returns c = ap length c.lines.ensures.spans ∙ spans_length 0 0 c.args.source.now
