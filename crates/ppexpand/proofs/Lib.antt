@@ -38,3 +38,7 @@ pub mod ArgumentLemmas
 pub mod SpaceFlags
 -- Consecutive tokens that are emitted unchanged.
 pub mod SkippedTokens
+-- Expansion steps of a list, several at a time.
+pub mod PassedSteps
+-- The expansion step of a list whose next token names an object-like macro without `##`.
+pub mod LoneSteps

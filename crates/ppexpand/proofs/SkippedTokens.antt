@@ -1,5 +1,5 @@
 -- Consecutive tokens that are emitted unchanged.
-use Rattle.std.proofs.Common.{◌≡◌, ℕ, suc, ◌≤◌, Bool, true, false, not, ◌&&◌, List, [], ◌∷◌, ◌++◌, map, Option, Some, None}
+use Rattle.std.proofs.Common.{◌≡◌, ℕ, suc, Bool, true, false, not, ◌&&◌, List, [], ◌∷◌, ◌++◌, map, Option, Some, None}
 use Rattle.std.proofs.Common.{is_some, refl, sym, ap, ◌∙◌, subst, arith, append_assoc, append-nil, true≢false}
 use Rattle.std.specs.FinSet as set
 use Rattle.std.specs.List.{AllByRecursion}
@@ -21,10 +21,8 @@ use Rattle.ppexpand.specs.Expansion.{Outcome, step_in_budget, Expands, ExpandsTo
 use Rattle.ppexpand.specs.declared.meter.Meter.{Meter}
 use Rattle.ppexpand.specs.code.Lists.{with_set, never_expands, NeverExpand}
 use Rattle.ppexpand.specs.code.Skipping.{HasSkipped}
+use Rattle.ppexpand.specs.code.ProgramValues.{Takes}
 use Rattle.ppexpand.proofs.StepLemmas.{expansion_step-unnamed, done-in_budget, emits-in_budget}
-use Rattle.ppexpand.proofs.OutcomeExistence.{total}
-use Rattle.ppexpand.proofs.OutcomeUniqueness.{same_outcome}
-use Rattle.ppexpand.proofs.LoopInvariants.{Follows, turns_left}
 
 pub unhidden-with_set : (macros : Macros) (n : ℕ) (ts : List Token) → AllByRecursion (λ t. never_expands macros t ≡ true) ts → NeverExpand macros (map (with_set n) ts)
 unhidden-with_set macros n [] h = record { each = tt }
@@ -44,12 +42,6 @@ expansion_step-unhidden macros env meter t rest h =
     let parts = both_false (is_unmatched_quote t.token) (is_some (macro_of macros t.token)) h in
     let none : macro_of macros t.token ≡ None = none_by (macro_of macros t.token) parts.1 in
     ap (in_budget meter (t ∷ rest)) (expansion_step-unnamed macros env t rest parts.0 none) ∙ emits-in_budget meter (t ∷ rest) t rest
-
--- the list has this outcome after at least n steps
-pub record Takes (macros : Macros) (env : Env) (level : ℕ) (meter : Meter) (n : ℕ) (list : List Hiding) (out : Outcome) : Type 0 where
-  pub steps : ℕ
-  pub more : n ≤ steps
-  pub is : Expands macros env level meter steps list out
 
 -- ---- skipped tokens
 
@@ -84,27 +76,6 @@ module _ (macros : Macros) (env : Env) (level : ℕ) (meter : Meter) (s : HideSe
       → Takes macros env level meter n (hidings s list) (record { tokens = hidings s k.skipped ++ out.tokens; fault = out.fault; meter = out.meter })
   skipped_after list emitted next more k n out d =
       subst (λ l. Takes macros env level meter n (hidings s l) (record { tokens = hidings s k.skipped ++ out.tokens; fault = out.fault; meter = out.meter })) (sym k.laid_out) (skips k.skipped next k.unexpanded n out d)
-
-  -- Skipping tokens preserves `Follows`.
-  pub follows_skip : (first : Meter) (start : List Hiding) (list emitted next more : List Hidden) → HasSkipped macros list emitted next more
-      → Follows macros env level first start (hidings s emitted) meter (hidings s list)
-      → Follows macros env level first start (hidings s more) meter (hidings s next)
-  follows_skip first start list emitted next more k so_far n out d =
-      let onward = skipped_after list emitted next more k n out d in
-      let whole = so_far onward.steps _ onward.is in
-      let tokens : hidings s emitted ++ (hidings s k.skipped ++ out.tokens) ≡ hidings s more ++ out.tokens =
-      sym (append_assoc (hidings s emitted) (hidings s k.skipped) out.tokens) ∙ ap (λ hs. hs ++ out.tokens) (sym (ap (hidings s) k.emits ∙ map-append (hiding s) emitted k.skipped)) in
-      (whole.0, subst (λ ts. Expands macros env level first whole.0 start (record { tokens = ts; fault = out.fault; meter = out.meter })) tokens whole.1)
-
-  -- Skipping tokens does not increase the number of remaining steps.
-  pub skip_falls : (list emitted next more : List Hidden) → HasSkipped macros list emitted next more → turns_left macros env level meter (hidings s next) ≤ turns_left macros env level meter (hidings s list)
-  skip_falls list emitted next more k =
-      let here = total macros env level meter (hidings s list) in
-      let there = total macros env level meter (hidings s next) in
-      let onward = skipped_after list emitted next more k there.0 there.1 there.2 in
-      let same = (same_outcome macros env onward.is here.0 here.1 here.2).0 in
-      let more = onward.more in
-      rw (← same) (omega arith)
 
 pub next-known : {macros : Macros} (s : HideSetPool) (list emitted next more : List Hidden) → HasSkipped macros list emitted next more → AllKnown s list → AllKnown s next
 next-known s list emitted next more k h = known-rest k.skipped next (subst (AllKnown s) k.laid_out h)

@@ -14,7 +14,6 @@ ghost use Rattle.ppmacro.specs.declared.hidden_token.Hidden.{Hidden};
 ghost use Rattle.ppmacro.specs.HideSets.{set_at, IsKnown, HasSets, hide_of, hiding, hidings, AllKnown, KeepsSets};
 ghost use Rattle.ppmacro.specs.Substituting.{ArgumentsKnown, arguments_in, tokens_of};
 ghost use Rattle.ppmacro.specs.Chains.{chains_of};
-ghost use Rattle.ppmacro.specs.PasteFree.{lone_chain};
 ghost use Rattle.ppmacro.specs.Patterns.{pattern_chains};
 ghost use Rattle.ppmacro.specs.Substitution.{Arguments as ArgumentTokens, unhidden, with_space, hsadd, macro_replacement, chains_replacement};
 ghost use Rattle.ppexpand.specs.Arguments.{gather, separators};
@@ -40,7 +39,7 @@ use ppmacro::{
     ArgumentExpansion, Arguments, Hidden, HideSets, MacroKind, MacroName, Pattern, PredefinedMacro,
     PreparedMacro, Set, Table, Variadic, substitute_pattern,
 };
-use pptext::{Error, Memory, Place, Spelling, Token};
+use pptext::{Error, Memory, Spelling, Token};
 use std::alloc::Global;
 
 /// An invocation of a function-like macro, removed from its list.
@@ -88,68 +87,6 @@ pub(crate) fn macro_at<'t, 'a>(table: &'t Table<'a>, token: &Token) -> Option<&'
     } else {
         None
     }
-}
-
-/// Returns a token of a replacement list with this leading-space flag, this hide set, and this expansion location.
-fn replacement_token<'a>(
-    token: &'a Token,
-    space: bool,
-    names_to_hide: Set,
-    used: Place,
-) -> Hidden<'a>
-    ensures is { (sets : HideSetPool) → hiding sets result ≡ hsadd (set_at sets names_to_hide) used (with_space space (unhidden token.now)) }
-    ensures known { (sets : HideSetPool) → IsKnown sets names_to_hide → HasSets sets result }
-{
-    let mut hidden = Hidden::new(token, names_to_hide);
-    hidden.set_space(space);
-    hidden.set_use(used, names_to_hide);
-    hidden
-}
-
-/// Pushes tokens of a replacement list, each with its own leading-space flag.
-fn push_replacement<'x, 'a: 'x>(
-    body: &'a [Token],
-    names_to_hide: Set,
-    used: Place,
-    list: &mut TokenStack<'x>,
-) -> Result<(), Memory>
-    ensures is { OnOk result ((sets : HideSetPool) → hidings sets list.new
-        ≡ map (λ t. hsadd (set_at sets names_to_hide) used (unhidden t)) body.now ++ hidings sets list.old) }
-    ensures known { OnOk result ((sets : HideSetPool) → IsKnown sets names_to_hide → AllKnown sets list.old → AllKnown sets list.new) }
-{
-    let mut rest = body;
-    while let Some((last, others)) = rest.split_last() {
-        list.push(replacement_token(last, last.space, names_to_hide, used))?;
-        rest = others;
-    }
-    Ok(())
-}
-
-/// Pushes the tokens of a replacement list without `##`. The hide set of each is the names of `base` and the macro's name.
-fn replace_by<'x, 'a: 'x>(
-    sets: &mut HideSets,
-    body: &'a [Token],
-    base: Set,
-    name_token: &Hidden,
-    list: &mut TokenStack<'x>,
-) -> Result<(), Memory>
-    requires base { IsKnown sets.old base }
-    requires list { AllKnown sets.old list.old }
-    ensures is { OnOk result ((arguments : ArgumentTokens) → Replaced (hidings sets.new list.new)
-        ≡ replaced_by (chains_replacement (map lone_chain body.now) arguments
-        (set.insert (set_at sets.old base) name_token.now.token.text) name_token.now.token.used name_token.now.token.space)
-        (hidings sets.old list.old)) }
-    ensures known { OnOk result (AllKnown sets.new list.new) }
-    ensures keeps { KeepsSets sets.old sets.new }
-{
-    let Some((first, others)) = body.split_first() else {
-        list.space_next(name_token.space());
-        return Ok(());
-    };
-    let names_to_hide = sets.with(base, name_token.text())?;
-    push_replacement(others, names_to_hide, name_token.used(), list)?;
-    list.push(replacement_token(first, name_token.space(), names_to_hide, name_token.used()))?;
-    Ok(())
 }
 
 /// Returns the action for an invocation whose `)` is found, or fault 18.
@@ -300,11 +237,6 @@ impl<'x> Replacer<'x> {
         ensures known { OnOk result (AllKnown self.new.sets list.new) }
         ensures keeps { KeepsSets self.old.sets self.new.sets }
     {
-        // Fast path: most object-like macros have no `##`.
-        if let Some(body) = definition.lone_tokens() {
-            replace_by(&mut self.sets, body, base, name_token, list)?;
-            return Ok(());
-        }
         let chains = definition.chains(self.pool.alloc())?;
         let pattern = Pattern::Pasted(chains);
         let none = Arguments {

@@ -30,6 +30,7 @@ use crate::context::Context;
 use crate::emitted::{Emitted, MOST_KEPT};
 use crate::env::Env;
 use crate::expand_step::{Action, Invocation, Replacer};
+use crate::lone_steps::pass_lone;
 use crate::meter::Meter;
 use crate::scratch::Scratch;
 use crate::token_roles::fault_at_expansion;
@@ -71,8 +72,8 @@ fn emit_pushed<'t, 'x, 'a>(
 
 /// Emits tokens from the start of the list that are neither macro names nor unmatched quotes, but not always all of them. Returns the macro that the token after them names, if
 /// it names one.
-#[inline(never)]
-fn emit_unexpanded<'t, 'x, 'a>(
+#[inline(always)]
+pub(crate) fn emit_unexpanded<'t, 'x, 'a>(
     table: &'t Table<'a>,
     list: &mut TokenStack<'x>,
     emitted: &mut Emitted<'x>,
@@ -346,8 +347,17 @@ impl<'x> Expander<'x> {
         ensures keeps { KeepsSets self.old.replacer.sets self.new.replacer.sets }
     {
         loop {
-            // Fast path: most tokens name no macro.
-            let named = emit_unexpanded(context.table, list, emitted)?;
+            // Fast path: most steps need no arguments.
+            let named = pass_lone(
+                context,
+                &mut self.replacer.sets,
+                &mut self.meter,
+                list,
+                emitted,
+            )?;
+            if list.is_empty() {
+                return Ok(());
+            }
             // The invocation is dropped at the end of the step.
             let continues = {
                 let mut invocation = None;

@@ -9,6 +9,7 @@ mod expand_step;
 mod expansion;
 mod laws;
 mod lists;
+mod lone_steps;
 mod meter;
 mod predefined;
 mod scratch;

@@ -29,6 +29,7 @@ impl<'a> Model for TokenSpan<'a> {
 }
 
 /// Returns whether a token is emitted unchanged, whatever its hide set is.
+#[inline(always)]
 pub(crate) fn never_expands(table: &Table, token: &Token) -> bool
     ensures { result ≡ never_expands table.now.macros token.now }
 {
@@ -75,6 +76,13 @@ impl<'a> TokenSpan<'a> {
         ensures { tokens_of self.now ≡ result.now }
     {
         self.tokens
+    }
+
+    /// Returns true only if there are no tokens.
+    pub(crate) fn is_empty(&self) -> bool
+        ensures { result ≡ true → self.now ≡ [] }
+    {
+        self.tokens.is_empty()
     }
 
     /// Returns the number of tokens.

@@ -83,6 +83,13 @@ impl<'a> TokenStack<'a> {
         self.pushed
     }
 
+    /// Returns true only if there are no tokens.
+    pub(crate) fn is_empty(&self) -> bool
+        ensures { result ≡ true → self.now ≡ [] }
+    {
+        self.pushed.is_empty() && self.below.is_empty()
+    }
+
     /// Pops the next token.
     pub(crate) fn next(&mut self) -> Option<Hidden<'a>>
         ensures { MatchOption result ((self.old ≡ []) × (self.new ≡ [])) (λ h. self.old ≡ h ∷ self.new) }
@@ -167,7 +174,7 @@ impl<'a> TokenStack<'a> {
         if let Some(last) = self.pushed.last() {
             return (self.below.none(), macro_at(table, last.token()));
         }
-        if self.pending {
+        if self.pending || self.below.is_empty() {
             return (self.below.none(), self.below.next_macro(table));
         }
         self.below.take_unexpanded(table)

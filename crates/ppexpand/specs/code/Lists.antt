@@ -1,9 +1,12 @@
 -- Parts of lists of tokens with hide sets: vocabulary of the code. No definition rests on this file.
-use Rattle.std.specs.Prelude.{◌≡◌, ℕ, Bool, true, false, not, ◌&&◌, List, [], ◌∷◌, Option, None, is_some}
+use Rattle.std.specs.Prelude.{◌≡◌, ℕ, Bool, true, false, not, ◌&&◌, List, [], ◌∷◌, ◌++◌, map, Option, None, Some, is_some}
 use Rattle.std.specs.List.{AllByRecursion}
+use Rattle.pptext.specs.declared.tokens.Place.{Place}
 use Rattle.pptext.specs.declared.tokens.Token.{Token}
 use Rattle.pptext.specs.Tokens.{is_unmatched_quote}
 use Rattle.ppmacro.specs.Names.{Macros}
+use Rattle.ppmacro.specs.Chains.{chains_of}
+use Rattle.ppmacro.specs.PasteFree.{lone_chain, lone_tokens}
 use Rattle.ppmacro.specs.declared.hidden_token.Hidden.{Hidden}
 use Rattle.ppmacro.specs.declared.macros.Macro.{Macro}
 use Rattle.ppexpand.specs.ExpansionStep.{macro_of}
@@ -30,3 +33,19 @@ pub record NeverExpand (macros : Macros) (hs : List Hidden) : Type 0 where
 abbrev pub next_macro : Macros → List Token → Option Macro
 next_macro macros [] = None
 next_macro macros (t ∷ ts) = macro_of macros t
+
+-- a token of a replacement list with the number of a hide set and with an expansion location
+abbrev pub placed : ℕ → Place → Token → Hidden
+placed hide used t = record { token = record t { used = used }; hide = hide; extra = None }
+
+-- a list after its first token, which is dropped, was replaced by tokens without `##`: `space` is the leading-space flag of the dropped token
+abbrev pub lone_replaced : ℕ → Place → Bool → List Token → List Hidden → List Hidden
+lone_replaced hide used space [] rest = spaced space rest
+lone_replaced hide used space (t ∷ ts) rest = placed hide used (record t { space = space }) ∷ map (placed hide used) ts ++ rest
+
+-- the next token names an object-like macro without `##` that has this replacement list
+pub record NamesLone (macros : Macros) (list : List Token) (body : List Token) : Type 0 where
+  pub macro : Macro
+  pub named : next_macro macros list ≡ Some macro
+  pub lone : lone_tokens macro ≡ Some body
+  pub chains : chains_of macro ≡ map lone_chain body

@@ -1,5 +1,5 @@
 -- The values of the program's types: vocabulary of the code. No definition rests on this file.
-use Rattle.std.specs.Prelude.{◌≡◌, ℕ, suc, ◌<◌, ◌≤◌, List, [], ◌∷◌, ◌++◌, map, Bool, true, false, length, ◌==◌, Option, Some, None, Result, Ok, Err}
+use Rattle.std.specs.Prelude.{◌≡◌, ℕ, suc, ◌+◌, ◌<◌, ◌≤◌, List, [], ◌∷◌, ◌++◌, map, Bool, true, false, length, ◌==◌, Option, Some, None, Result, Ok, Err}
 use Rattle.std.specs.Prelude.{Vec}
 use Rattle.std.specs.Global.{Global}
 use Rattle.std.specs.FinSet as set
@@ -193,3 +193,18 @@ HasStepped macros env level meter list emitted (Err f) meter_after next emitted_
 abbrev pub HasInvoked : Macros → Env → Meter → List Hiding → List Hiding → Invocation → Result Bool Fault → Meter → List Hiding → Type 0
 HasInvoked macros env meter list emitted invocation r meter_after emitted_after =
     (step_in_budget macros env meter list ≡ Invoked invocation) × (r ≡ Ok true) × (meter_after ≡ spend_one meter) × (emitted_after ≡ emitted)
+
+-- the list has this outcome after at least n steps
+pub record Takes (macros : Macros) (env : Env) (level : ℕ) (meter : Meter) (n : ℕ) (list : List Hiding) (out : Outcome) : Type 0 where
+  pub steps : ℕ
+  pub more : n ≤ steps
+  pub is : Expands macros env level meter steps list out
+
+-- at least this many expansion steps lead from a list to another, and append the tokens that they emit
+pub record HasPassed (least : ℕ) (macros : Macros) (env : Env) (level : ℕ) (meter : Meter) (list emitted : List Hiding) (meter_after : Meter)
+    (next emitted_after : List Hiding) : Type 0 where
+  pub tokens : List Hiding
+  pub emits : emitted_after ≡ emitted ++ tokens
+  pub takes : (n : ℕ) (out : Outcome)
+      → Expands macros env level meter_after n next out
+      → Takes macros env level meter (least + n) list (record { tokens = tokens ++ out.tokens; fault = out.fault; meter = out.meter })

@@ -13,7 +13,8 @@ use Rattle.ppexpand.specs.Expansion.{ExpandsArguments}
 use Rattle.ppexpand.specs.code.ProgramValues.{expanded_in, owned_tokens, ExpansionsKnown, ExpandsArgument, deep, ClosedStepsTo, fault_in_arguments, finishes}
 use Rattle.ppexpand.proofs.GrowingHideSets.{invocation_of, invocation_of-keeps, invocation_known-keeps, given_known-keeps, expanded_known-keeps, expanded_known-push}
 use Rattle.ppexpand.proofs.ArgumentLemmas.{arguments_first, argument_expands, argument_raises, argument-known, follows_unused, follows_used, follows_refused, follows_all}
-use Rattle.ppexpand.proofs.SkippedTokens.{unhidden-expands, next-known, more-known, follows_skip, skip_falls}
+use Rattle.ppexpand.proofs.SkippedTokens.{unhidden-expands}
+use Rattle.ppexpand.proofs.PassedSteps.{follows_pass, pass_falls, follows_nothing}
 use Rattle.ppexpand.proofs.LoopInvariants.{more_follows, more_falls, end_follows, invocation_taken, invocation_raises, begun_raises}
 use Rattle.ppexpand.proofs.expansion.Expander.+expansion.Goals as goal
 
@@ -314,29 +315,44 @@ expand_list-loop-named-init m c = record {
 }
 
 pub expand_list-advance-continues-requires : goal.expand_list-advance-continues-requires
-expand_list-advance-continues-requires m c =
-    let sets = c.loop-named.self.replacer.sets in
-    let skipped = c.in_ok-named.ensures.skipped in
-    let list_known = next-known sets _ _ _ _ skipped c.loop-named.invariant.list_known in
-    let emitted_known = more-known sets _ _ _ _ skipped c.loop-named.invariant.list_known c.loop-named.invariant.emitted_known in (
-      omega arith,
-      (
-        c.loop-named.invariant.low,
-        (c.loop-named.invariant.keeps.hashing ∙ c.requires.hashing, (c.in_ok-named.ensures.named, (list_known, emitted_known))),
-      ),
-    )
+expand_list-advance-continues-requires m c = (
+  omega arith,
+  (
+    c.loop-named.invariant.low,
+    (
+      c.in_ok-named.ensures.keeps.hashing ∙ c.loop-named.invariant.keeps.hashing ∙ c.requires.hashing,
+      (c.in_ok-named.ensures.named, (c.in_ok-named.ensures.list_known, c.in_ok-named.ensures.emitted_known)),
+    ),
+  ),
+)
+
+pub expand_list-returns-then-is_empty-clause-outcome : goal.expand_list-returns-then-is_empty-clause-outcome
+expand_list-returns-then-is_empty-clause-outcome m c =
+    let macros = c.args.context.now.table.now.macros in
+    let env = c.args.context.now.env.now in
+    let level = c.args.context.now.level in
+    let before = c.loop-named.self.replacer.sets in
+    let sets = c.pass_lone.new.sets in
+    let start = hidings c.args.self.now.replacer.sets c.args.list.now in
+    let list = c.pass_lone.new.list in
+    let emitted = c.pass_lone.new.emitted in
+    let here = follows_pass macros env level c.args.self.now.meter start 0 c.loop-named.self.meter (hidings before c.loop-named.list) (hidings before c.loop-named.emitted) c.pass_lone.new.meter
+    (hidings sets list) (hidings sets emitted) c.in_ok-named.ensures.passed c.loop-named.invariant.follows in
+    follows_nothing macros env level c.args.self.now.meter start (hidings sets emitted) c.pass_lone.new.meter (hidings sets list) (ap (hidings sets) (c.is_empty.ensures c.if-is_empty.true)) here
 
 pub expand_list-returns-then-not-branch-clause-outcome : goal.expand_list-returns-then-not-branch-clause-outcome
 expand_list-returns-then-not-branch-clause-outcome m c =
     let macros = c.args.context.now.table.now.macros in
     let env = c.args.context.now.env.now in
     let level = c.args.context.now.level in
-    let sets = c.loop-named.self.replacer.sets in
+    let before = c.loop-named.self.replacer.sets in
+    let sets = c.pass_lone.new.sets in
     let start = hidings c.args.self.now.replacer.sets c.args.list.now in
-    let list = c.emit_unexpanded.new.list in
-    let emitted = c.emit_unexpanded.new.emitted in
-    let here = follows_skip macros env level c.loop-named.self.meter sets c.args.self.now.meter start c.loop-named.list c.loop-named.emitted list emitted c.in_ok-named.ensures.skipped c.loop-named.invariant.follows in
-    end_follows macros env level c.args.self.now.meter start (hidings sets emitted) c.loop-named.self.meter (hidings sets list) None c.advance-continues.new.self.meter
+    let list = c.pass_lone.new.list in
+    let emitted = c.pass_lone.new.emitted in
+    let here = follows_pass macros env level c.args.self.now.meter start 0 c.loop-named.self.meter (hidings before c.loop-named.list) (hidings before c.loop-named.emitted) c.pass_lone.new.meter
+    (hidings sets list) (hidings sets emitted) c.in_ok-named.ensures.passed c.loop-named.invariant.follows in
+    end_follows macros env level c.args.self.now.meter start (hidings sets emitted) c.pass_lone.new.meter (hidings sets list) None c.advance-continues.new.self.meter
     (hidings c.advance-continues.new.self.replacer.sets c.advance-continues.new.emitted) here (rw c.if-not-branch.true at c.in_ok-continues.ensures.progress)
 
 pub expand_list-returns-in_err-continues-clause-outcome : goal.expand_list-returns-in_err-continues-clause-outcome
@@ -344,13 +360,15 @@ expand_list-returns-in_err-continues-clause-outcome m c =
     let macros = c.args.context.now.table.now.macros in
     let env = c.args.context.now.env.now in
     let level = c.args.context.now.level in
-    let sets = c.loop-named.self.replacer.sets in
+    let before = c.loop-named.self.replacer.sets in
+    let sets = c.pass_lone.new.sets in
     let start = hidings c.args.self.now.replacer.sets c.args.list.now in
-    let list = c.emit_unexpanded.new.list in
-    let emitted = c.emit_unexpanded.new.emitted in
-    let here = follows_skip macros env level c.loop-named.self.meter sets c.args.self.now.meter start c.loop-named.list c.loop-named.emitted list emitted c.in_ok-named.ensures.skipped c.loop-named.invariant.follows in
+    let list = c.pass_lone.new.list in
+    let emitted = c.pass_lone.new.emitted in
+    let here = follows_pass macros env level c.args.self.now.meter start 0 c.loop-named.self.meter (hidings before c.loop-named.list) (hidings before c.loop-named.emitted) c.pass_lone.new.meter
+    (hidings sets list) (hidings sets emitted) c.in_ok-named.ensures.passed c.loop-named.invariant.follows in
     stopped _ _ _ _ c.from_residual-in_err-continues.ensures.1 c.in_err-continues.ensures.progress (λ f ended.
-    end_follows macros env level c.args.self.now.meter start (hidings sets emitted) c.loop-named.self.meter (hidings sets list) (Some f) c.advance-continues.new.self.meter
+    end_follows macros env level c.args.self.now.meter start (hidings sets emitted) c.pass_lone.new.meter (hidings sets list) (Some f) c.advance-continues.new.self.meter
     (hidings c.advance-continues.new.self.replacer.sets c.advance-continues.new.emitted) here ended)
 
 pub expand_list-loop-named-preserved : goal.expand_list-loop-named-preserved
@@ -358,17 +376,19 @@ expand_list-loop-named-preserved m c =
     let macros = c.args.context.now.table.now.macros in
     let env = c.args.context.now.env.now in
     let level = c.args.context.now.level in
-    let sets = c.loop-named.self.replacer.sets in
+    let before = c.loop-named.self.replacer.sets in
+    let sets = c.pass_lone.new.sets in
     let start = hidings c.args.self.now.replacer.sets c.args.list.now in
-    let list = c.emit_unexpanded.new.list in
-    let emitted = c.emit_unexpanded.new.emitted in
-    let here = follows_skip macros env level c.loop-named.self.meter sets c.args.self.now.meter start c.loop-named.list c.loop-named.emitted list emitted c.in_ok-named.ensures.skipped c.loop-named.invariant.follows in
+    let list = c.pass_lone.new.list in
+    let emitted = c.pass_lone.new.emitted in
+    let here = follows_pass macros env level c.args.self.now.meter start 0 c.loop-named.self.meter (hidings before c.loop-named.list) (hidings before c.loop-named.emitted) c.pass_lone.new.meter
+    (hidings sets list) (hidings sets emitted) c.in_ok-named.ensures.passed c.loop-named.invariant.follows in
     record {
       low = c.loop-named.invariant.low;
       list_known = c.in_ok-continues.ensures.list_known c.if-not-branch.false;
       emitted_known = c.in_ok-continues.ensures.emitted_known;
-      keeps = keeps-after c.loop-named.invariant.keeps c.in_ok-continues.ensures.keeps;
-      follows = more_follows macros env level c.args.self.now.meter start (hidings sets emitted) c.loop-named.self.meter (hidings sets list) c.advance-continues.new.self.meter
+      keeps = keeps-after (keeps-after c.loop-named.invariant.keeps c.in_ok-named.ensures.keeps) c.in_ok-continues.ensures.keeps;
+      follows = more_follows macros env level c.args.self.now.meter start (hidings sets emitted) c.pass_lone.new.meter (hidings sets list) c.advance-continues.new.self.meter
           (hidings c.advance-continues.new.self.replacer.sets c.advance-continues.new.list) (hidings c.advance-continues.new.self.replacer.sets c.advance-continues.new.emitted) here (rw c.if-not-branch.false at c.in_ok-continues.ensures.progress);
     }
 
@@ -377,10 +397,12 @@ expand_list-loop-named-smaller m c =
     let macros = c.args.context.now.table.now.macros in
     let env = c.args.context.now.env.now in
     let level = c.args.context.now.level in
-    let sets = c.loop-named.self.replacer.sets in
-    let list = c.emit_unexpanded.new.list in
-    let emitted = c.emit_unexpanded.new.emitted in
-    let meter_after = more_falls macros env level c.loop-named.self.meter (hidings sets list) (hidings sets emitted) c.advance-continues.new.self.meter
+    let before = c.loop-named.self.replacer.sets in
+    let sets = c.pass_lone.new.sets in
+    let list = c.pass_lone.new.list in
+    let emitted = c.pass_lone.new.emitted in
+    let meter_after = more_falls macros env level c.pass_lone.new.meter (hidings sets list) (hidings sets emitted) c.advance-continues.new.self.meter
     (hidings c.advance-continues.new.self.replacer.sets c.advance-continues.new.list) (hidings c.advance-continues.new.self.replacer.sets c.advance-continues.new.emitted) (rw c.if-not-branch.false at c.in_ok-continues.ensures.progress) in
-    let skipped = skip_falls macros env level c.loop-named.self.meter sets c.loop-named.list c.loop-named.emitted list emitted c.in_ok-named.ensures.skipped in
-    omega (arith, meter_after, skipped)
+    let passed = pass_falls macros env level 0 c.loop-named.self.meter (hidings before c.loop-named.list) (hidings before c.loop-named.emitted) c.pass_lone.new.meter (hidings sets list) (hidings sets emitted)
+    c.in_ok-named.ensures.passed in
+    omega (arith, meter_after, passed)
