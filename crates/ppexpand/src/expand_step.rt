@@ -6,16 +6,15 @@
 //!
 //! Each function has the name of the rule in `specs/ExpansionStep.antt` that it computes, and its contract says so. The code has the
 //! number of a hide set where the rules have the set, so each contract also says that the numbers are known in `sets`, before and after.
-ghost use Rattle.std.specs.Prelude.{◌≡◌, IfOk, OnOk, List, ◌∷◌, ◌++◌, Some, None, map};
+ghost use Rattle.std.specs.Prelude.{◌≡◌, IfOk, OnOk, List, ◌∷◌, Some, None};
 ghost use Rattle.std.specs.Option.{option_copied};
 ghost use Rattle.std.specs.FinSet as set;
 ghost use Rattle.ppmacro.specs.HideSetPool.{HideSetPool};
 ghost use Rattle.ppmacro.specs.declared.hidden_token.Hidden.{Hidden};
 ghost use Rattle.ppmacro.specs.HideSets.{set_at, IsKnown, HasSets, hide_of, hiding, hidings, AllKnown, KeepsSets};
 ghost use Rattle.ppmacro.specs.Substituting.{ArgumentsKnown, arguments_in, tokens_of};
-ghost use Rattle.ppmacro.specs.Chains.{chains_of};
 ghost use Rattle.ppmacro.specs.Patterns.{pattern_chains};
-ghost use Rattle.ppmacro.specs.Substitution.{Arguments as ArgumentTokens, unhidden, with_space, hsadd, macro_replacement, chains_replacement};
+ghost use Rattle.ppmacro.specs.Substitution.{macro_replacement, chains_replacement};
 ghost use Rattle.ppexpand.specs.Arguments.{gather, separators};
 ghost use Rattle.ppexpand.specs.declared.env.Env.{Env};
 ghost use Rattle.ppexpand.specs.ExpansionStep.{Replaced, macro_of, replaced_by, no_arguments, predefined_value, closed_invocation_step, invocation_step, function_step, macro_step};
@@ -237,13 +236,11 @@ impl<'x> Replacer<'x> {
         ensures known { OnOk result (AllKnown self.new.sets list.new) }
         ensures keeps { KeepsSets self.old.sets self.new.sets }
     {
-        let chains = definition.chains(self.pool.alloc())?;
-        let pattern = Pattern::Pasted(chains);
         let none = Arguments {
             given: &[],
             expanded: &[],
         };
-        self.replace(&pattern, none, base, name_token, list)
+        self.replace(&definition.pattern(), none, base, name_token, list)
     }
 
     /// Pushes the replacement of an object-like macro's name. Returns the action, or fault 19.
@@ -400,18 +397,14 @@ impl<'x> Replacer<'x> {
     }
 
     /// Pushes the replacement of an invocation whose arguments are expanded, or returns fault 19 or 20.
-    ///
-    /// `pattern` is the replacement list of the macro.
     #[inline(never)]
     pub(crate) fn finish_invocation<'a: 'x>(
         &mut self,
         invocation: &Invocation<'_, 'x, 'a>,
-        pattern: &Pattern<'_, 'a>,
         expanded: &[ArgumentExpansion<'x>],
         list: &mut TokenStack<'x>,
     ) -> Result<(), Error>
         requires invocation { InvocationKnown self.old.sets invocation.now.name_token invocation.now.arguments.items invocation.now.base }
-        requires chains { pattern_chains pattern.now ≡ chains_of invocation.now.definition.now }
         requires expanded { ExpansionsKnown self.old.sets expanded.now }
         requires list { AllKnown self.old.sets list.old }
         ensures is { UnlessOutOfMemory result (λ r. replaced_in self.new.sets list.new r
@@ -425,7 +418,7 @@ impl<'x> Replacer<'x> {
             expanded,
         };
         self.replace(
-            pattern,
+            &invocation.definition.pattern(),
             arguments,
             invocation.base,
             &invocation.name_token,

@@ -11,8 +11,6 @@
 ghost use Rattle.std.specs.Prelude.{◌≡◌, ℕ, ◌≤◌, ◌++◌, [], List, map, true, Some, Ok, IfOk, OnOk, MatchOption, IfSome};
 ghost use Rattle.std.specs.Result.{result_err, result_and};
 ghost use Rattle.pptext.specs.Errors.{UnlessOutOfMemory};
-ghost use Rattle.ppmacro.specs.Chains.{chains_of};
-ghost use Rattle.ppmacro.specs.Patterns.{pattern_chains};
 ghost use Rattle.std.specs.Option.{option_copied};
 ghost use Rattle.ppmacro.specs.Substituting.{tokens_of};
 ghost use Rattle.ppmacro.specs.HideSets.{hidings, AllKnown, KeepsSets};
@@ -21,7 +19,6 @@ ghost use Rattle.ppmacro.specs.Substitution.{unhidden};
 ghost use Rattle.ppmacro.specs.declared.hidden_token.Hidden.{Hidden};
 ghost use Rattle.ppexpand.specs.Expansion.{ExpandsTo, IsExpansion};
 ghost use Rattle.ppexpand.specs.code.Lists.{NeverExpand, never_expands, next_macro};
-ghost use Rattle.std.specs.List.{AllByRecursion};
 ghost use Rattle.ppexpand.specs.code.Skipping.{HasSkipped};
 ghost use Rattle.ppexpand.specs.code.ProgramValues.{expanded_in, ExpansionsKnown, invocation_in, InvocationKnown, replaced_in, owned_tokens, HasExpanded};
 ghost use Rattle.ppexpand.specs.code.ProgramValues.{ExpandsInvocationArguments, ClosedStepsTo, HasStepped, HasInvoked};
@@ -37,9 +34,8 @@ use crate::token_roles::fault_at_expansion;
 use crate::token_span::{never_expands, split_unexpanded};
 use crate::token_stack::{Lookahead, TokenStack};
 use crate::vec_pool::VecPool;
-use ppmacro::{ArgumentExpansion, Hidden, HideSets, Pattern, PreparedMacro, Table, argument_of};
+use ppmacro::{ArgumentExpansion, Hidden, HideSets, PreparedMacro, Table, argument_of};
 use pptext::{BoxedFault, Error, Hashing, Memory, Token, push};
-use std::alloc::Global;
 use std::mem;
 
 /// The largest level of a token list. A list given to `expand` is at level 0, an argument one level deeper than its invocation.
@@ -108,19 +104,6 @@ fn recycle_arguments<'x>(pool: &mut VecPool<'x>, invocation: &mut Option<Invocat
     if let Some(invocation) = invocation.take() {
         pool.keep_arguments(invocation.arguments);
     }
-}
-
-/// Returns the replacement list of a macro. `hashing` is the table's, since the names of parameters come from the source.
-fn pattern_of<'p, 'a>(
-    alloc: Global,
-    _table: &Table<'a>,
-    hashing: Hashing,
-    definition: &'p PreparedMacro<'a>,
-) -> Result<Pattern<'p, 'a>, Memory>
-    requires { hashing ≡ _table.now.hashing }
-    ensures { IfOk result (λ p. pattern_chains p ≡ chains_of definition.now) }
-{
-    definition.pattern(alloc, hashing)
 }
 
 /// The state of an expansion, shared by all levels.
@@ -279,17 +262,11 @@ impl<'x> Expander<'x> {
         ensures known { OnOk result (AllKnown self.new.replacer.sets list.new) }
         ensures keeps { KeepsSets self.old.replacer.sets self.new.replacer.sets }
     {
-        let pattern = pattern_of(
-            self.replacer.pool.alloc(),
-            context.table,
-            context.table.hashing(),
-            invocation.definition,
-        )?;
         let mut expanded = self.replacer.pool.expansions();
         self.expand_arguments(context, invocation, &mut expanded)?;
         let replaced = self
             .replacer
-            .finish_invocation(invocation, &pattern, expanded.as_slice(), list);
+            .finish_invocation(invocation, expanded.as_slice(), list);
         self.replacer.pool.keep_expansions(expanded);
         replaced
     }

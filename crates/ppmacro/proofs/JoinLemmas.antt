@@ -1,14 +1,14 @@
 -- Token lists that `##` joins, while hide sets are added to the pool.
-use Rattle.std.proofs.Common.{◌≡◌, ℕ, suc, zero, ◌+◌, ◌<◌, ◌≤◌, List, [], ◌∷◌, ◌++◌, map, drop, length, get_or, Option, Some, None}
+use Rattle.std.proofs.Common.{◌≡◌, ℕ, suc, zero, ◌<◌, ◌≤◌, List, [], ◌∷◌, ◌++◌, map, drop, length, get_or, Option, Some, None}
 use Rattle.std.proofs.Common.{Vec, Global, Result, Ok, Err, refl, sym, ap, ◌∙◌, slice_get, unwrap_or, arith}
-use Rattle.std.proofs.lemmas.List.{map-append, drop_more}
+use Rattle.std.proofs.lemmas.List.{map-append}
 use Rattle.std.specs.Option.{option_map}
 use Rattle.pptext.specs.declared.tokens.Place.{Place}
 use Rattle.pptext.specs.declared.tokens.Fault.{Fault}
 use Rattle.ppmacro.specs.HideSetPool.{HideSetPool}
 use Rattle.ppmacro.specs.Hiding.{Hiding}
 use Rattle.ppmacro.specs.HideSets.{hiding, hidings, HasSets, AllKnown, KeepsSets}
-use Rattle.ppmacro.specs.Substitution.{after_ok, pasted, join, join_all, argument_at, expanded_at}
+use Rattle.ppmacro.specs.Substitution.{after_ok, pasted, join, argument_at, expanded_at}
 use Rattle.ppmacro.specs.Substituting.{tokens_of, lists_of, expansion_if_computed, expansions_if_computed}
 use Rattle.ppmacro.specs.declared.hidden_token.Hidden.{Hidden}
 use Rattle.ppmacro.specs.declared.hidden_token.ArgumentExpansion.{ArgumentExpansion}
@@ -121,17 +121,3 @@ known-joined s t ls last first hidden rest k left right here =
 
 pub known-last : (s : HideSetPool) (ls : List Hidden) (last : Hidden) → AllKnown s (ls ++ last ∷ []) → HasSets s last
 known-last s ls last known = (known-rest ls (last ∷ []) known).each.0
-
--- ---- all lists
-
-pub join_all-more : (s t : HideSetPool) (left next : List Hiding) (right : List Hidden) (rest : List (List Hiding)) (used : Place)
-    → Ok next ≡ join left (hidings s right) used
-    → join_all next rest used ≡ join_all left (hidings s right ∷ rest) used
-join_all-more s t left next right rest used h = ap (λ r. after_ok r (λ ts. join_all ts rest used)) h
-
-pub join_all-refused : (left : List Hiding) (right : List Hiding) (rest : List (List Hiding)) (used : Place) (f : Fault) → Err f ≡ join left right used → Err f ≡ join_all left (right ∷ rest) used
-join_all-refused left right rest used f h = ap (λ r. after_ok r (λ ts. join_all ts rest used)) h
-
--- The lists from index i on are the list with index i and those after it.
-pub lists-drop : (vs : List (Vec Hidden Global)) (i : ℕ) (v : Vec Hidden Global) → i < length vs → v ≡ get_or vs i v → drop i vs ≡ v ∷ drop (i + 1) vs
-lists-drop vs i v h e = drop_more vs i v h ∙ ap (λ x. x ∷ drop (i + 1) vs) (sym e)

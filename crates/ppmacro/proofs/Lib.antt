@@ -54,6 +54,8 @@ pub mod ObjectLikeChains
 pub mod EntryChains
 -- Chains whose last operand may be a variable argument after a comma.
 pub mod VariadicOperands
+-- Operands that `##` joins one after another.
+pub mod JoinedOperands
 -- The origin, the hide set and the leading-space flag of each token of a replacement.
 pub mod TokenOrigins
 -- Lists of entries by the parameters that their tokens name.

@@ -11,7 +11,8 @@ use Rattle.ppmacro.specs.HashOperators.{is_paste}
 use Rattle.ppmacro.specs.declared.macros.MacroKind.{MacroKind}
 use Rattle.ppmacro.specs.declared.macros.MacroKind.TheVariants.{Predefined, ObjectLike, FunctionLike}
 use Rattle.ppmacro.specs.declared.macros.Operand.TheVariants.{Tok}
-use Rattle.ppmacro.specs.Chains.{ChainPart, OperandPart, parts_at, parts_after, plain_part, parameter_of, begins_joined, group_parts, hash_sign, with_variadic}
+use Rattle.ppmacro.specs.Chains.{ChainPart, HashSign, OperandPart, parts_at, parts_after, plain_part, stringized_part, parameter_of, is_function_like, is_operator_hash, begins_joined, group_parts, hash_sign, with_variadic, chains_of}
+use Rattle.ppmacro.specs.declared.macros.PredefinedMacro.{PredefinedMacro}
 use Rattle.ppmacro.specs.PasteFree.{is_object_like, lone_chain}
 use Rattle.ppmacro.specs.Substitution.{Arguments, unhidden, with_space, hsadd, chains_tokens, chains_replacement}
 use Rattle.ppmacro.proofs.ChainLemmas.{group_parts-alone}
@@ -45,6 +46,19 @@ all_alone (t ∷ ts) a =
 
 pub lone_chains : (ts : List Token) → list_any is_paste ts ≡ false → map (with_variadic None) (group_parts (parts_after ObjectLike None ts)) ≡ map lone_chain ts
 lone_chains ts a = map-id (group_parts (parts_after ObjectLike None ts)) ∙ all_alone ts a
+
+-- A predefined macro has no parameters, either.
+same_parts : (p : PredefinedMacro) (hash : Option HashSign) (ts : List Token) → parts_after (Predefined p) hash ts ≡ parts_after ObjectLike hash ts
+same_parts p hash [] = refl
+same_parts p (Some hash) (t ∷ ts) = ap (λ is. stringized_part (parameter_of ObjectLike t) hash t ∷ is) (same_parts p None ts)
+same_parts p None (t ∷ ts) =
+    λ i. parts_at (is_paste t) (is_operator_hash ObjectLike t) (plain_part (parameter_of ObjectLike t) t) (same_parts p None ts i) (same_parts p (Some (hash_sign t)) ts i)
+
+pub chains-alone : (kind : MacroKind) (ts : List Token) → is_function_like kind ≡ false → list_any is_paste ts ≡ false
+    → chains_of (record { kind = kind; body = ts }) ≡ map lone_chain ts
+chains-alone ObjectLike ts n a = lone_chains ts a
+chains-alone (Predefined p) ts n a = ap (λ is. map (with_variadic None) (group_parts is)) (same_parts p None ts) ∙ lone_chains ts a
+chains-alone (FunctionLike parameters variadic) ts n a = absurd (cc n)
 
 -- ---- the tokens of the chains
 

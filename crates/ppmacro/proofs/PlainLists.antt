@@ -1,33 +1,41 @@
 -- Lists of entries by the parameters that their tokens name.
-use Rattle.std.proofs.Common.{◌≡◌, not, ℕ, zero, suc, ◌<◌, ◌||◌, Bool, true, false, List, [], ◌∷◌, map, length, get_or, refl, ap, Option, Some, None, arith}
+use Rattle.std.proofs.Common.{◌≡◌, not, ℕ, zero, suc, ◌<◌, ◌||◌, Bool, true, false, List, [], ◌∷◌, map, length, get_or, slice_get, unwrap_or, refl, ap, Option, Some, None, arith}
 use Rattle.std.specs.List.{list_any}
 use Rattle.pptext.specs.declared.tokens.Token.{Token}
 use Rattle.ppmacro.specs.declared.macros.MacroKind.{MacroKind}
 use Rattle.ppmacro.specs.declared.macros.MacroKind.TheVariants.{Predefined, ObjectLike, FunctionLike}
-use Rattle.ppmacro.specs.PasteFree.{is_object_like}
+use Rattle.ppmacro.specs.PasteFree.{is_object_like, lone_chain}
 use Rattle.ppmacro.specs.declared.patterns.Entry.{Entry}
 use Rattle.ppmacro.specs.Chains.{is_function_like, parameter_of}
 use Rattle.ppmacro.specs.Entries.{entry_at, entry_of, entries_at, entry_chain}
 use Rattle.ppmacro.specs.PreExpansion.{is_lone_parameter, pre_expands}
+use Rattle.ppmacro.specs.declared.kept_chains.KeptChain.{KeptChain}
+use Rattle.ppmacro.specs.code.KeptChains.{chains_at, uses_alone}
 use Rattle.ppmacro.specs.code.PreparedDefinitions.{is_use}
 
 -- Each token is an entry.
-pub count-entries : (us : List (Option ℕ)) (ts : List Token) → length us ≡ length ts → length (entries_at us ts) ≡ length ts
-count-entries [] [] same = refl
-count-entries [] (t ∷ ts) same = same
-count-entries (u ∷ us) [] same = refl
-count-entries (u ∷ us) (t ∷ ts) same = ap suc (count-entries us ts (omega (arith, same)))
+pub count-entries : (us : List (Option ℕ)) (ts : List Token) → length (entries_at us ts) ≡ length ts
+count-entries [] [] = refl
+count-entries [] (t ∷ ts) = ap suc (count-entries [] ts)
+count-entries (u ∷ us) [] = refl
+count-entries (u ∷ us) (t ∷ ts) = ap suc (count-entries us ts)
 
-pub entry-at : (us : List (Option ℕ)) (ts : List Token) (i : ℕ) (u : Option ℕ) (t : Token) (e : Entry) → length us ≡ length ts → i < length ts
-    → entry_at (get_or us i u) (get_or ts i t) ≡ get_or (entries_at us ts) i e
-entry-at us [] i u t e same below = absurd (omega (arith, below))
-entry-at [] (v ∷ vs) i u t e same below = absurd (omega (arith, same))
-entry-at (w ∷ ws) (v ∷ vs) zero u t e same below = refl
-entry-at (w ∷ ws) (v ∷ vs) (suc i) u t e same below = entry-at ws vs i u t e (omega (arith, same)) (omega (arith, below))
+pub entry-at : (us : List (Option ℕ)) (ts : List Token) (i : ℕ) (t : Token) (e : Entry) → i < length ts
+    → entry_at (unwrap_or (slice_get us i) None) (get_or ts i t) ≡ get_or (entries_at us ts) i e
+entry-at us [] i t e below = absurd (omega (arith, below))
+entry-at [] (v ∷ vs) zero t e below = refl
+entry-at [] (v ∷ vs) (suc i) t e below = entry-at [] vs i t e (omega (arith, below))
+entry-at (w ∷ ws) (v ∷ vs) zero t e below = refl
+entry-at (w ∷ ws) (v ∷ vs) (suc i) t e below = entry-at ws vs i t e (omega (arith, below))
 
 pub entries-of : (kind : MacroKind) (ts : List Token) → entries_at (map (parameter_of kind) ts) ts ≡ map (entry_of kind) ts
 entries-of kind [] = refl
 entries-of kind (t ∷ ts) = ap (λ es. entry_of kind t ∷ es) (entries-of kind ts)
+
+-- If no token names a parameter, each is a chain of its own.
+pub entries-alone : (ts : List Token) → map entry_chain (entries_at [] ts) ≡ map lone_chain ts
+entries-alone [] = refl
+entries-alone (t ∷ ts) = ap (λ cs. lone_chain t ∷ cs) (entries-alone ts)
 
 -- A parameter is used if and only if a chain consists of it alone.
 use-alone : (i : ℕ) (u : Option ℕ) (t : Token) → is_use i u ≡ is_lone_parameter i (entry_chain (entry_at u t)).operands
@@ -37,6 +45,10 @@ use-alone i (Some j) t = refl
 pub uses-expand : (i : ℕ) (kind : MacroKind) (ts : List Token) → list_any (is_use i) (map (parameter_of kind) ts) ≡ pre_expands i (map entry_chain (map (entry_of kind) ts))
 uses-expand i kind [] = refl
 uses-expand i kind (t ∷ ts) = λ j. use-alone i (parameter_of kind t) t j || uses-expand i kind ts j
+
+pub chains-expand : (body : List Token) (i : ℕ) (cs : List KeptChain) → list_any (uses_alone body i) cs ≡ pre_expands i (chains_at body cs)
+chains-expand body i [] = refl
+chains-expand body i (c ∷ cs) = ap (λ b. uses_alone body i c || b) (chains-expand body i cs)
 
 pub not-object : (kind : MacroKind) → is_function_like kind ≡ true → is_object_like kind ≡ false
 not-object (Predefined b) is = refl

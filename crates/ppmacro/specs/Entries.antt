@@ -20,10 +20,11 @@ entry_at None t = Tok t
 abbrev pub entry_of : MacroKind → Token → Entry
 entry_of kind t = entry_at (parameter_of kind t) t
 
--- The entries for tokens that name these parameters.
+-- The entries for tokens that name these parameters. A token past the end of the parameters names none.
 abbrev pub entries_at : List (Option ℕ) → List Token → List Entry
+entries_at us [] = []
+entries_at [] (t ∷ ts) = entry_at None t ∷ entries_at [] ts
 entries_at (u ∷ us) (t ∷ ts) = entry_at u t ∷ entries_at us ts
-entries_at _ _ = []
 
 -- An entry as a chain.
 abbrev pub entry_chain : Entry → Chain

@@ -5,6 +5,8 @@ pub mod Operations
 pub mod PoolInvariant
 pub mod NameFilter
 pub mod ChainParts
+pub mod KeptOperands
+pub mod KeptChains
 pub mod Hashed
 pub mod Defining
 pub mod PreparedDefinitions

@@ -1,24 +1,26 @@
 //! The chains of a replacement list: sequences of operands that `##` joins (6.10.3.2, 6.10.3.3).
 //!
-//! A list is read once, from left to right, as parts: an operand, which is a token, a parameter, or `#` with a parameter; or `##`.
-//! An operand after `##` goes to the last chain, and another begins a chain. In GNU C the last operand of a chain may then become
+//! A list is read once, when its definition is read, from left to right, as parts: an operand, which is a token, a parameter, or `#`
+//! with a parameter; or `##`. An operand after `##` goes to the last chain, and another begins a chain. In GNU C the last operand of a chain may then become
 //! a variable argument after a comma.
 //!
 //! A macro may have many parameters, and a list may use them often. If there are many of both, the names are indexed. The index
 //! lives only while a list is read, and hashes with the key that the caller gives.
-ghost use Rattle.std.specs.Prelude.{◌≡◌, IfOk, OnOk, None, List, [], ◌∷◌, ◌++◌, map, false, position};
+ghost use Rattle.std.specs.Prelude.{◌≡◌, IfOk, OnOk, Some, None, List, [], ◌∷◌, ◌++◌, map, false, position, slice_get};
 ghost use Rattle.std.specs.Str.{bytes_eq};
 ghost use Rattle.std.specs.Option.{option_map};
 ghost use Rattle.ppmacro.specs.Chains as specification;
-ghost use Rattle.ppmacro.specs.Chains.{parameter_names, parameter_named, parameter_of, is_function_like, is_operator_hash, plain_part, stringized_part, parts_after, group_parts, lenient_parameter, with_variadic, chains_of};
+ghost use Rattle.ppmacro.specs.Chains.{parameter_names, parameter_named, parameter_of, is_function_like, is_operator_hash, plain_part, stringized_part, parts_after, group_parts, lenient_parameter, ending_in_variadic, with_variadic, chains_of};
 ghost use Rattle.ppmacro.specs.code.ChainParts.{with_first_part, append_parts};
+ghost use Rattle.ppmacro.specs.code.KeptOperands.{operand_at, operands_at};
+ghost use Rattle.ppmacro.specs.code.KeptChains.{chains_at, part_at};
 ghost use Rattle.pptext.specs.declared.tokens.Token.{Token};
 
 use crate::hash_operators::{is_hash, is_paste};
-use crate::macros::{Chain, Chains, MacroKind, Operand, Operands, Variadic};
+use crate::kept_chains::{KeptChain, KeptOperand, operand_at};
+use crate::macros::{MacroKind, Variadic, is_variadic};
 use crate::name_key::NameKey;
 use crate::parameter_index::{MAX_SCANNED, index_names};
-use crate::replacement_list::BodyToken;
 use indexmap::IndexSet;
 use pptext::{Hashing, Memory, Place, Spelling, Token};
 use std::alloc::Global;
@@ -43,8 +45,8 @@ impl Model for HashSign {
 
 /// A part of a replacement list: an operand with the leading-space flag of its first token, or `##`.
 #[derive(Drop)]
-pub(crate) enum ChainPart<'a> {
-    OperandPart(bool, Operand<'a>),
+pub(crate) enum ChainPart {
+    OperandPart(bool, KeptOperand),
     PastePart,
 }
 
@@ -155,41 +157,47 @@ pub(crate) fn is_operator_hash(kind: &Parameters, token: &Token) -> bool
     is_function_like(kind.kind) && is_hash(token)
 }
 
-/// Returns a token as an operand, with its leading-space flag.
-fn plain_operand<'a>(kind: &Parameters, token: &'a Token) -> (bool, Operand<'a>)
-    ensures { specification.OperandPart result.0 result.1 ≡ plain_part (parameter_of kind.now.kind token.now) token.now }
+/// Returns a token as an operand, with its leading-space flag. `index` is that of the token in the replacement list.
+fn plain_operand(kind: &Parameters, index: usize, token: &Token) -> (bool, KeptOperand)
+    ensures { (body : List Token) → slice_get body index ≡ Some token.now
+        → specification.OperandPart result.0 (operand_at body result.1) ≡ plain_part (parameter_of kind.now.kind token.now) token.now }
 {
-    let Some(index) = parameter_of(kind, token) else {
-        return (token.space, Operand::Tok(BodyToken::new(token)));
+    let Some(parameter) = parameter_of(kind, token) else {
+        return (token.space, KeptOperand::Tok(index));
     };
-    (token.space, Operand::Param(index))
+    (token.space, KeptOperand::Param(parameter))
 }
 
-/// Returns the token after a `#` as an operand, with the leading-space flag of the `#`.
-fn stringized_operand<'a>(
+/// Returns the token after a `#` as an operand, with the leading-space flag of the `#`. `index` is that of the token in the
+/// replacement list.
+fn stringized_operand(
     kind: &Parameters,
     hash: HashSign,
-    token: &'a Token,
-) -> (bool, Operand<'a>)
-    ensures { specification.OperandPart result.0 result.1 ≡ stringized_part (parameter_of kind.now.kind token.now) hash token.now }
+    index: usize,
+    token: &Token,
+) -> (bool, KeptOperand)
+    ensures { (body : List Token) → slice_get body index ≡ Some token.now
+        → specification.OperandPart result.0 (operand_at body result.1) ≡ stringized_part (parameter_of kind.now.kind token.now) hash token.now }
 {
-    let Some(index) = parameter_of(kind, token) else {
-        return (token.space, Operand::Tok(BodyToken::new(token)));
+    let Some(parameter) = parameter_of(kind, token) else {
+        return (token.space, KeptOperand::Tok(index));
     };
-    (hash.space, Operand::Str(index, hash.at))
+    (hash.space, KeptOperand::Str(parameter, hash.at))
 }
 
-/// Returns the next part. There is none at a `#`: it belongs to the token after it.
-fn next_part<'a>(
+/// Returns the next part. There is none at a `#`: it belongs to the token after it. `index` is that of the token in the
+/// replacement list.
+fn next_part(
     kind: &Parameters,
     hash: Option<HashSign>,
-    token: &'a Token,
-) -> Option<ChainPart<'a>>
-    ensures { (ts : List Token) → parts_after kind.now.kind hash (token.now ∷ ts) ≡ with_first_part kind.now.kind token.now
-        (option_map (elim [ ChainPart.OperandPart space operand ↦ specification.OperandPart space operand | ChainPart.PastePart ↦ specification.PastePart ]) result) ts }
+    index: usize,
+    token: &Token,
+) -> Option<ChainPart>
+    ensures { (body ts : List Token) → slice_get body index ≡ Some token.now
+        → parts_after kind.now.kind hash (token.now ∷ ts) ≡ with_first_part kind.now.kind token.now (option_map (part_at body) result) ts }
 {
     if let Some(sign) = hash {
-        let (space, operand) = stringized_operand(kind, sign, token);
+        let (space, operand) = stringized_operand(kind, sign, index, token);
         return Some(ChainPart::OperandPart(space, operand));
     }
     if is_paste(token) {
@@ -198,32 +206,28 @@ fn next_part<'a>(
     if is_operator_hash(kind, token) {
         return None;
     }
-    let (space, operand) = plain_operand(kind, token);
+    let (space, operand) = plain_operand(kind, index, token);
     Some(ChainPart::OperandPart(space, operand))
 }
 
 /// Appends a chain of one operand.
-fn begin_chain<'a>(
-    chains: &mut Vec<Chain<'a>>,
-    space: bool,
-    operand: Operand<'a>,
-) -> Result<(), Memory>
-    ensures { OnOk result (chains.new.items ≡ chains.old.items ++ record { space = space; operands = operand.entry ∷ [] } ∷ []) }
+fn begin_chain(chains: &mut Vec<KeptChain>, space: bool, operand: KeptOperand) -> Result<(), Memory>
+    ensures { OnOk result ((body : List Token) → chains_at body chains.new.items ≡ chains_at body chains.old.items ++ record { space = space; operands = operand_at body operand ∷ [] } ∷ []) }
 {
-    let operands = Operands::new(operand);
-    chains.push(Chain { space, operands })?;
+    let operands = Vec::from_array(*chains.allocator(), [operand])?;
+    chains.push(KeptChain { space, operands })?;
     Ok(())
 }
 
 /// Appends an operand to the last chain if `joined`, and otherwise as a new chain.
-fn put<'a>(
-    chains: &mut Vec<Chain<'a>>,
+fn put(
+    chains: &mut Vec<KeptChain>,
     joined: bool,
     space: bool,
-    operand: Operand<'a>,
+    operand: KeptOperand,
 ) -> Result<(), Memory>
-    ensures { OnOk result ((ps : List specification.ChainPart) →
-        append_parts false chains.new.items ps ≡ append_parts joined chains.old.items (specification.OperandPart space operand.entry ∷ ps)) }
+    ensures { OnOk result ((body : List Token) (ps : List specification.ChainPart) →
+        append_parts false (chains_at body chains.new.items) ps ≡ append_parts joined (chains_at body chains.old.items) (specification.OperandPart space (operand_at body operand) ∷ ps)) }
 {
     if !joined {
         return begin_chain(chains, space, operand);
@@ -231,20 +235,15 @@ fn put<'a>(
     let Some(last) = chains.len().checked_sub(1) else {
         return begin_chain(chains, space, operand);
     };
-    let alloc = *chains.allocator();
     let chain = &mut chains[last];
-    chain.operands.push(alloc, operand)?;
+    chain.operands.push(operand)?;
     Ok(())
 }
 
 /// Appends a part to the chains. Returns whether the part is `##`, so that the next operand is joined.
-fn put_part<'a>(
-    chains: &mut Vec<Chain<'a>>,
-    joined: bool,
-    item: ChainPart<'a>,
-) -> Result<bool, Memory>
-    ensures { IfOk result (λ j. (ps : List specification.ChainPart) → append_parts j chains.new.items ps ≡ append_parts joined chains.old.items
-        ((elim item.entry [ ChainPart.OperandPart space operand ↦ specification.OperandPart space operand | ChainPart.PastePart ↦ specification.PastePart ]) ∷ ps)) }
+fn put_part(chains: &mut Vec<KeptChain>, joined: bool, item: ChainPart) -> Result<bool, Memory>
+    ensures { IfOk result (λ j. (body : List Token) (ps : List specification.ChainPart) →
+        append_parts j (chains_at body chains.new.items) ps ≡ append_parts joined (chains_at body chains.old.items) (part_at body item ∷ ps)) }
 {
     let ChainPart::OperandPart(space, operand) = item else {
         return Ok(true);
@@ -255,20 +254,21 @@ fn put_part<'a>(
 
 /// Returns the chains of a replacement list, before `end_in_variadic`. The parameters are indexed with `_hashing`, which only the
 /// contract reads.
-fn chains_in<'a>(
+fn chains_in(
     alloc: Global,
     kind: &Parameters,
     _hashing: Hashing,
-    body: &'a [Token],
-) -> Result<Vec<Chain<'a>>, Memory>
+    body: &[Token],
+) -> Result<Vec<KeptChain>, Memory>
     requires { kind.now.hashing ≡ _hashing }
-    ensures { IfOk result (λ v. v.items ≡ group_parts (parts_after kind.now.kind None body.now)) }
+    ensures { IfOk result (λ v. chains_at body.now v.items ≡ group_parts (parts_after kind.now.kind None body.now)) }
 {
     let mut chains = Vec::with_capacity(alloc, body.len())?;
     let mut joined = false;
     let mut hash = None;
-    for token in body {
-        let Some(item) = next_part(kind, hash, token) else {
+    for index in 0..body.len() {
+        let token = &body[index];
+        let Some(item) = next_part(kind, hash, index, token) else {
             hash = Some(HashSign {
                 space: token.space,
                 at: token.at,
@@ -294,29 +294,44 @@ fn lenient_parameter(kind: &MacroKind) -> Option<usize>
     }
 }
 
-/// Turns the last operand of a chain into `VariadicAfterComma`, if it is the parameter that may be absent and follows a comma.
-fn end_in_variadic(kind: &MacroKind, chains: &mut [Chain])
-    ensures { chains.new ≡ map (with_variadic (lenient_parameter kind.now)) chains.old }
+/// Turns the last operand of a chain into `VariadicAfterComma`, if it is the parameter with this index and follows a comma.
+fn end_chain_in_variadic(body: &[Token], operands: &mut Vec<KeptOperand>, index: usize)
+    ensures { operands_at body.now operands.new.items ≡ ending_in_variadic index (operands_at body.now operands.old.items) }
+{
+    let count = operands.len();
+    if count < 2 {
+        return;
+    }
+    let before = operand_at(body, &operands[count - 2]);
+    let last = operand_at(body, &operands[count - 1]);
+    if is_variadic(&before, &last, index) {
+        operands[count - 1] = KeptOperand::VariadicAfterComma(index);
+    }
+}
+
+/// Turns the last operand of each chain into `VariadicAfterComma`, if it is the parameter that may be absent and follows a comma.
+fn end_in_variadic(kind: &MacroKind, body: &[Token], chains: &mut [KeptChain])
+    ensures { chains_at body.now chains.new ≡ map (with_variadic (lenient_parameter kind.now)) (chains_at body.now chains.old) }
 {
     let Some(index) = lenient_parameter(kind) else {
         return;
     };
     for chain in chains.iter_mut() {
-        chain.operands.end_in_variadic(index);
+        end_chain_in_variadic(body, &mut chain.operands, index);
     }
 }
 
 /// Returns the chains of a replacement list of a macro of this kind. Many parameters are indexed with hash function `hashing`.
-pub(crate) fn chains_of<'a>(
+pub(crate) fn chains_of(
     alloc: Global,
     kind: &MacroKind,
-    body: &'a [Token],
+    body: &[Token],
     hashing: Hashing,
-) -> Result<Chains<'a>, Memory>
-    ensures { IfOk result (λ c. c ≡ chains_of (record { kind = kind.now; body = body.now })) }
+) -> Result<Vec<KeptChain>, Memory>
+    ensures { IfOk result (λ v. chains_at body.now v.items ≡ chains_of (record { kind = kind.now; body = body.now })) }
 {
     let parameters = Parameters::new(alloc, kind, body.len(), hashing)?;
     let mut chains = chains_in(alloc, &parameters, hashing, body)?;
-    end_in_variadic(kind, chains.as_mut_slice());
-    Ok(Chains::new(chains))
+    end_in_variadic(kind, body, chains.as_mut_slice());
+    Ok(chains)
 }

@@ -1,25 +1,34 @@
 //! Definitions in the form that expansion reads.
 //!
 //! What substitution needs of a replacement list, beside its tokens, is found when the definition is read: which parameter each
-//! token names, and which arguments are expanded. So an invocation looks no name up. A list with `#` or `##` is read as chains at
-//! each invocation; few lists are.
+//! token names, or, in a list with `#` or `##`, its chains, and which arguments are expanded. So an invocation looks no name up.
 ghost use Rattle.std.specs.Prelude.{◌≡◌, IfOk, OnOk, ◌++◌, map, false, true};
 ghost use Rattle.ppmacro.specs.Chains.{is_function_like, parameter_of};
 ghost use Rattle.ppmacro.specs.code.PreparedDefinitions.{IsPrepared};
 
 use crate::chains::{Parameters, chains_of, parameter_names, parameter_of};
+use crate::kept_chains::KeptChain;
 use crate::macros::{MacroKind, has_paste, is_object_like};
 use crate::patterns::has_operator;
 use crate::pre_expansion::{parameters_in_chains, parameters_in_uses};
 use pptext::{Hashing, Memory, Token};
 use std::alloc::Global;
 
+/// What a replacement list says, beside its tokens.
+#[derive(Drop)]
+pub enum ListForm {
+    /// Each token is a chain of its own. Has the parameter that each token names. A token past the end names none, so the vector
+    /// is empty for a macro without parameters.
+    Plain(Vec<Option<usize>>),
+    /// The chains.
+    Pasted(Vec<KeptChain>),
+}
+
 /// What a definition says apart from the tokens of its replacement list.
 #[derive(Drop)]
 pub struct Definition {
     pub(crate) kind: MacroKind,
-    /// The parameter that each token of the replacement list names, for a function-like macro whose list has neither `#` nor `##`.
-    pub(crate) uses: Option<Vec<Option<usize>>>,
+    pub(crate) form: ListForm,
     /// Whether it is an object-like macro whose list has no `##`.
     pub(crate) lone: bool,
     /// For each parameter, whether the replacement list uses it without `#` and `##`, so that its argument is expanded (6.10.3.1).
@@ -56,19 +65,34 @@ fn uses_of(
 }
 
 impl Definition {
-    /// Returns the definition of an object-like or a predefined macro with this replacement list.
-    pub(crate) fn without_parameters(alloc: Global, kind: MacroKind, body: &[Token]) -> Definition
+    /// Returns the definition of an object-like macro or a predefined macro with this replacement list.
+    fn without_parameters(
+        alloc: Global,
+        kind: MacroKind,
+        body: &[Token],
+        hashing: Hashing,
+    ) -> Result<Definition, Memory>
         requires { is_function_like kind ≡ false }
-        ensures kind { result.kind ≡ kind }
-        ensures prepared { IsPrepared result body.now }
+        ensures kind { IfOk result (λ d. d.kind ≡ kind) }
+        ensures prepared { IfOk result (λ d. IsPrepared d body.now) }
     {
-        let lone = is_object_like(&kind) && !has_paste(body);
-        Definition {
-            kind,
-            uses: None,
-            lone,
-            expanded: Vec::new(alloc),
+        let expanded = Vec::new(alloc);
+        if has_paste(body) {
+            let form = ListForm::Pasted(chains_of(alloc, &kind, body, hashing)?);
+            return Ok(Definition {
+                kind,
+                form,
+                lone: false,
+                expanded,
+            });
         }
+        let lone = is_object_like(&kind);
+        Ok(Definition {
+            kind,
+            form: ListForm::Plain(Vec::new(alloc)),
+            lone,
+            expanded,
+        })
     }
 
     /// Returns the definition of a function-like macro with this replacement list. Many parameters are indexed with hash function
@@ -86,10 +110,10 @@ impl Definition {
         let count = parameter_names(&kind).len();
         if has_operator(body) {
             let chains = chains_of(alloc, &kind, body, hashing)?;
-            let expanded = parameters_in_chains(alloc, count, chains.as_slice())?;
+            let expanded = parameters_in_chains(alloc, count, body, chains.as_slice())?;
             return Ok(Definition {
                 kind,
-                uses: None,
+                form: ListForm::Pasted(chains),
                 lone: false,
                 expanded,
             });
@@ -98,7 +122,7 @@ impl Definition {
         let expanded = parameters_in_uses(alloc, count, uses.as_slice())?;
         Ok(Definition {
             kind,
-            uses: Some(uses),
+            form: ListForm::Plain(uses),
             lone: false,
             expanded,
         })
@@ -119,7 +143,7 @@ impl Definition {
             MacroKind::FunctionLike { .. } => {
                 Definition::with_parameters(alloc, kind, body, hashing)
             }
-            _ => Ok(Definition::without_parameters(alloc, kind, body)),
+            _ => Definition::without_parameters(alloc, kind, body, hashing),
         }
     }
 }

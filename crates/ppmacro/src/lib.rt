@@ -9,6 +9,7 @@ mod hash_operators;
 mod hidden_token;
 mod hide_sets;
 mod invocation;
+mod kept_chains;
 mod laws;
 mod macros;
 mod name_filter;
@@ -29,12 +30,12 @@ pub use hidden_token::{ArgumentExpansion, Hidden};
 pub use hide_sets::{HideSets, Set};
 pub use invocation::{Arguments, MacroName};
 pub use laws::{lays_out_chains, lenient_in_gnu_alone, reads_parameter_lists, traces_origins};
-pub use macros::{Chain, Chains, MacroKind, Names, Operand, Operands, PredefinedMacro, Variadic};
-pub use patterns::{Entry, Pattern, PlainList};
+pub use macros::{Chain, MacroKind, Names, Operand, Operands, PredefinedMacro, Variadic};
+pub use patterns::{Entry, PastedList, Pattern, PlainList};
 pub use prepared_macro::PreparedMacro;
 pub use prepared_source::PreparedSource;
 pub use replacement_list::{BodyToken, ReplacementList};
 pub use substituting::{
-    argument_of, decides_each_kind, paste, push_escaped, stringize, substitute, substitute_pattern,
+    argument_of, decides_each_kind, paste, push_escaped, stringize, substitute_pattern,
 };
 pub use tables::Table;

@@ -2,24 +2,21 @@
 //!
 //! A macro has its replacement list as it stands in the file, and not in the form that substitution reads: most macros of a unit
 //! are never used, and reading a list costs more than keeping it. An invocation asks for the cheapest form that fits. `lone_tokens`
-//! are for an object-like macro without `##`, `pattern` is for all others, and `chains` are the general form, to which the
-//! contracts of the other two refer.
-//!
-//! A chain of one operand, the usual case, needs no allocation.
-ghost use Rattle.std.specs.Prelude.{◌≡◌, OnOk, IfOk, IfSome, ◌++◌, ◌∷◌, [], map, if◌then◌else◌};
+//! are for an object-like macro without `##`, and `pattern` is for all others. The contracts of both refer to the chains.
+ghost use Rattle.std.specs.Prelude.{◌≡◌, ◌<◌, length, get_or, if◌then◌else◌};
 ghost use Rattle.std.specs.List.{list_any};
-ghost use Rattle.std.specs.Option.{option_copied};
-ghost use Rattle.ppmacro.specs.Chains.{is_comma, variadic_after, ending_in_variadic};
+ghost use Rattle.ppmacro.specs.Chains.{is_comma, variadic_after};
+ghost use Rattle.ppmacro.specs.code.KeptOperands.{operands_at};
+ghost use Rattle.ppmacro.specs.declared.macros.Operand as spec;
 ghost use Rattle.ppmacro.specs.declared.macros.Operand.TheVariants.{VariadicAfterComma};
 ghost use Rattle.ppmacro.specs.PasteFree.{is_object_like};
 ghost use Rattle.ppmacro.specs.HashOperators.{is_paste};
 
 use crate::hash_operators::is_paste;
+use crate::kept_chains::{KeptOperand, operand_at};
 use crate::replacement_list::{BodyToken, ReplacementList};
-use pptext::{Memory, Place, Sequence, Spelling, Token};
-use std::alloc::Global;
+use pptext::{Place, Sequence, Spelling, Token};
 use std::marker::Model;
-use std::{mem, slice};
 
 /// The predefined macros (6.10.8.1).
 #[derive(Clone, Copy, Debug, PartialEq, Eq)]
@@ -85,7 +82,7 @@ impl<'a> Default for Operand<'a> {
 
     ghost is_default = { λ o. o ≡ Param 0 };
 
-    /// Returns the operand that `mem::take` leaves; it is overwritten.
+    /// Returns the operand that stands for a missing token.
     fn default() -> Operand<'a> {
         Operand::Param(0)
     }
@@ -102,7 +99,7 @@ fn is_comma(operand: &Operand) -> bool
 }
 
 /// Returns whether the last operand is this parameter and follows a comma.
-fn is_variadic(before: &Operand, last: &Operand, index: usize) -> bool
+pub(crate) fn is_variadic(before: &Operand, last: &Operand, index: usize) -> bool
     ensures { variadic_after index before.now last.now ≡ (if result then VariadicAfterComma index else last.now) }
 {
     match last {
@@ -111,95 +108,55 @@ fn is_variadic(before: &Operand, last: &Operand, index: usize) -> bool
     }
 }
 
-/// Turns the last operand into `VariadicAfterComma`, if it is this parameter and follows a comma.
-fn end_in_variadic(operands: &mut [Operand], index: usize)
-    ensures { operands.new ≡ ending_in_variadic index operands.old }
-{
-    let count = operands.len();
-    if count < 2 {
-        return;
-    }
-    if is_variadic(&operands[count - 2], &operands[count - 1], index) {
-        operands[count - 1] = Operand::VariadicAfterComma(index);
-    }
-}
-
-/// One operand without memory of its own, or a list of operands.
+/// The operands of a chain, beside the replacement list. Contracts see the list of operands.
 #[derive(Drop)]
-pub(crate) enum OperandStorage<'a> {
-    One(Operand<'a>),
-    Many(Vec<Operand<'a>>),
+pub struct Operands<'p, 'a> {
+    kept: &'p [KeptOperand],
+    body: &'a [Token],
 }
 
-/// A list of operands. Contracts see the list. One operand, the usual case, needs no allocation.
-#[derive(Drop)]
-pub struct Operands<'a> {
-    storage: OperandStorage<'a>,
-}
-
-impl<'a> Model for Operands<'a> {
-    ghost use Rattle.std.specs.Prelude.{List, [], ◌∷◌};
+impl<'p, 'a> Model for Operands<'p, 'a> {
+    ghost use Rattle.std.specs.Prelude.{List};
     ghost use Rattle.ppmacro.specs.declared.macros.Operand.{Operand};
-    ghost use Rattle.ppmacro.specs.declared.macros.OperandStorage.TheVariants.{One, Many};
+    ghost use Rattle.ppmacro.specs.code.KeptOperands.{operands_at};
 
     ghost Value = { List Operand };
 
-    ghost view = { λ s. elim s.storage [ One o ↦ o ∷ [] | Many os ↦ os.items ] };
+    ghost view = { λ s. operands_at s.body.now s.kept.now };
 }
 
-impl<'a> Operands<'a> {
-    /// Creates a list of one operand.
-    pub(crate) fn new(operand: Operand<'a>) -> Operands<'a>
-        ensures { result ≡ operand.entry ∷ [] }
+impl<'p, 'a> Operands<'p, 'a> {
+    /// Bundles kept operands with their replacement list.
+    pub(crate) fn new(kept: &'p [KeptOperand], body: &'a [Token]) -> Operands<'p, 'a>
+        ensures { result ≡ operands_at body.now kept.now }
     {
-        Operands {
-            storage: OperandStorage::One(operand),
-        }
+        Operands { kept, body }
     }
 
-    /// Appends an operand.
-    pub(crate) fn push(&mut self, alloc: Global, operand: Operand<'a>) -> Result<(), Memory>
-        ensures ok { OnOk result (self.new ≡ self.old ++ operand.entry ∷ []) }
+    /// Returns the number of operands.
+    pub fn len(&self) -> usize
+        ensures { result ≡ length self.now }
     {
-        match &mut self.storage {
-            OperandStorage::Many(operands) => operands.push(operand)?,
-            OperandStorage::One(first) => {
-                let operands = Vec::from_array(alloc, [mem::take(first), operand])?;
-                self.storage = OperandStorage::Many(operands);
-            }
-        }
-        Ok(())
+        self.kept.len()
     }
 
-    /// Turns the last operand into `VariadicAfterComma`, if it is this parameter and follows a comma.
-    pub(crate) fn end_in_variadic(&mut self, index: usize)
-        ensures { self.new ≡ ending_in_variadic index self.old }
+    /// Returns the operand at an index.
+    pub fn at(&self, index: usize) -> Operand<'a>
+        requires { index < length self.now }
+        ensures { (default : spec.Operand) → result ≡ get_or self.now index default }
     {
-        if let OperandStorage::Many(operands) = &mut self.storage {
-            end_in_variadic(operands.as_mut_slice(), index);
-        }
-    }
-
-    /// Returns the operands.
-    pub fn as_slice(&self) -> &[Operand<'a>]
-        ensures { result.now ≡ self.now }
-    {
-        match &self.storage {
-            OperandStorage::One(operand) => slice::from_ref(operand),
-            OperandStorage::Many(operands) => operands.as_slice(),
-        }
+        let (kept, body) = (self.kept, self.body);
+        let operand = &kept[index];
+        operand_at(body, operand)
     }
 }
 
 /// Operands that `##` joins, with the leading-space flag of the first token.
 #[derive(Drop)]
-pub struct Chain<'a> {
+pub struct Chain<'p, 'a> {
     pub space: bool,
-    pub operands: Operands<'a>,
+    pub operands: Operands<'p, 'a>,
 }
-
-/// A list of chains. Contracts see the list.
-pub type Chains<'a> = Sequence<Chain<'a>>;
 
 /// Returns whether a macro is object-like. Predefined macros aren't.
 pub(crate) fn is_object_like(kind: &MacroKind) -> bool

@@ -1,11 +1,15 @@
-//! Replacement lists in the form that substitution reads. Most contain neither `#` nor `##` and need no chains.
-ghost use Rattle.std.specs.Prelude.{◌≡◌, ◌<◌, length, slice_index_or};
+//! Replacement lists in the form that substitution reads. Most contain neither `#` nor `##` and need no chains. Both forms are borrowed
+//! from the definition.
+ghost use Rattle.std.specs.Prelude.{◌≡◌, ◌<◌, None, length, get_or, slice_get, slice_index_or, unwrap_or};
 ghost use Rattle.std.specs.List.{list_any};
 ghost use Rattle.ppmacro.specs.Entries.{entries_at, is_operator};
+ghost use Rattle.ppmacro.specs.code.KeptChains.{chains_at};
 ghost use Rattle.ppmacro.specs.declared.patterns.Entry as spec;
+ghost use Rattle.ppmacro.specs.declared.macros.Chain as pasted;
 
 use crate::hash_operators::{is_hash, is_paste};
-use crate::macros::Chains;
+use crate::kept_chains::KeptChain;
+use crate::macros::{Chain, Operands};
 use crate::replacement_list::BodyToken;
 use pptext::{Kind, Token};
 use std::marker::Model;
@@ -27,21 +31,28 @@ pub struct PlainList<'p, 'a> {
 }
 
 impl<'p, 'a> Model for PlainList<'p, 'a> {
-    ghost use Rattle.std.specs.Prelude.{◌≡◌, List, length};
+    ghost use Rattle.std.specs.Prelude.{List};
     ghost use Rattle.ppmacro.specs.declared.patterns.Entry.{Entry};
     ghost use Rattle.ppmacro.specs.Entries.{entries_at};
 
     ghost Value = { List Entry };
 
     ghost view = { λ l. entries_at l.uses.now l.body.now };
+}
 
-    ghost invariant = { λ l. length l.uses.now ≡ length l.body.now };
+/// Returns the parameter that the token at an index names. A token past the end of `uses` names none.
+fn use_at(uses: &[Option<usize>], index: usize) -> Option<usize>
+    ensures { result ≡ unwrap_or (slice_get uses.now index) None }
+{
+    match uses.get(index) {
+        Some(used) => *used,
+        None => None,
+    }
 }
 
 impl<'p, 'a> PlainList<'p, 'a> {
-    /// Bundles the tokens of a replacement list with the parameter that each names.
+    /// Bundles the tokens of a replacement list with the parameter that each names. A token past the end of `uses` names none.
     pub(crate) fn new(uses: &'p [Option<usize>], body: &'a [Token]) -> PlainList<'p, 'a>
-        requires { length uses.now ≡ length body.now }
         ensures { result ≡ entries_at uses.now body.now }
     {
         PlainList { uses, body }
@@ -61,9 +72,55 @@ impl<'p, 'a> PlainList<'p, 'a> {
     {
         let (uses, body) = (self.uses, self.body);
         let token = &body[index];
-        match uses[index] {
+        match use_at(uses, index) {
             Some(parameter) => Entry::Param(token.space, parameter),
             None => Entry::Tok(BodyToken::new(token)),
+        }
+    }
+}
+
+/// Another replacement list: the chains that its definition keeps, and its tokens. Contracts see the chains.
+#[derive(Drop)]
+pub struct PastedList<'p, 'a> {
+    chains: &'p [KeptChain],
+    body: &'a [Token],
+}
+
+impl<'p, 'a> Model for PastedList<'p, 'a> {
+    ghost use Rattle.std.specs.Prelude.{List};
+    ghost use Rattle.ppmacro.specs.declared.macros.Chain.{Chain};
+    ghost use Rattle.ppmacro.specs.code.KeptChains.{chains_at};
+
+    ghost Value = { List Chain };
+
+    ghost view = { λ l. chains_at l.body.now l.chains.now };
+}
+
+impl<'p, 'a> PastedList<'p, 'a> {
+    /// Bundles the chains of a replacement list with its tokens.
+    pub(crate) fn new(chains: &'p [KeptChain], body: &'a [Token]) -> PastedList<'p, 'a>
+        ensures { result ≡ chains_at body.now chains.now }
+    {
+        PastedList { chains, body }
+    }
+
+    /// Returns the number of chains.
+    pub fn len(&self) -> usize
+        ensures { result ≡ length self.now }
+    {
+        self.chains.len()
+    }
+
+    /// Returns the chain at an index.
+    pub fn at(&self, index: usize) -> Chain<'p, 'a>
+        requires { index < length self.now }
+        ensures { (default : pasted.Chain) → result ≡ get_or self.now index default }
+    {
+        let (chains, body) = (self.chains, self.body);
+        let chain = &chains[index];
+        Chain {
+            space: chain.space,
+            operands: Operands::new(chain.operands.as_slice(), body),
         }
     }
 }
@@ -73,8 +130,8 @@ impl<'p, 'a> PlainList<'p, 'a> {
 pub enum Pattern<'p, 'a> {
     /// A list without `#` and `##`.
     Plain(PlainList<'p, 'a>),
-    /// The chains of another list.
-    Pasted(Chains<'a>),
+    /// Another list.
+    Pasted(PastedList<'p, 'a>),
 }
 
 /// Returns whether a token is `#` or `##`.

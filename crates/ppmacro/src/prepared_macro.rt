@@ -11,10 +11,9 @@ ghost use Rattle.ppmacro.specs.PreExpansion.{pre_expands};
 ghost use Rattle.ppmacro.specs.Predefined.{predefined_as};
 ghost use Rattle.ppmacro.specs.code.PreparedDefinitions.{IsPrepared};
 
-use crate::chains::chains_of;
-use crate::definition::Definition;
-use crate::macros::{Chains, MacroKind, PredefinedMacro};
-use crate::patterns::{Pattern, PlainList};
+use crate::definition::{Definition, ListForm};
+use crate::macros::{MacroKind, PredefinedMacro};
+use crate::patterns::{PastedList, Pattern, PlainList};
 use pptext::{Hashing, Memory, Token};
 use std::alloc::Global;
 use std::marker::Model;
@@ -121,7 +120,7 @@ impl<'a> PreparedMacro<'a> {
         ensures { IfOk result (λ m. m ≡ predefined_as predefined) }
     {
         let kind = MacroKind::Predefined(predefined);
-        PreparedMacro::own(alloc, Definition::without_parameters(alloc, kind, &[]), &[])
+        PreparedMacro::new(alloc, kind, &[], Hashing::fixed())
     }
 
     /// Returns the kind.
@@ -158,29 +157,15 @@ impl<'a> PreparedMacro<'a> {
         }
     }
 
-    /// Returns the chains of the replacement list. The hash function for parameters has a fixed key: see `chains_with_hasher` for
-    /// untrusted names.
-    pub fn chains(&self, alloc: Global) -> Result<Chains<'a>, Memory>
-        ensures { IfOk result (λ c. c ≡ chains_of self.now) }
+    /// Returns the replacement list for `substitute_pattern`.
+    pub fn pattern(&self) -> Pattern<'_, 'a>
+        ensures { pattern_chains result ≡ chains_of self.now }
     {
-        self.chains_with_hasher(alloc, Hashing::fixed())
-    }
-
-    /// Returns the chains of the replacement list. Many parameters are indexed with hash function `hashing`.
-    pub fn chains_with_hasher(&self, alloc: Global, hashing: Hashing) -> Result<Chains<'a>, Memory>
-        ensures { IfOk result (λ c. c ≡ chains_of self.now) }
-    {
-        chains_of(alloc, self.kind(), self.body, hashing)
-    }
-
-    /// Returns the replacement list for `substitute_pattern`: chains, unless it is that of a function-like macro without `#` and `##`.
-    /// Many parameters are indexed with hash function `hashing`.
-    pub fn pattern(&self, alloc: Global, hashing: Hashing) -> Result<Pattern<'_, 'a>, Memory>
-        ensures { IfOk result (λ p. pattern_chains p ≡ chains_of self.now) }
-    {
-        match &self.definition.get().uses {
-            Some(uses) => Ok(Pattern::Plain(PlainList::new(uses.as_slice(), self.body))),
-            None => Ok(Pattern::Pasted(self.chains_with_hasher(alloc, hashing)?)),
+        match &self.definition.get().form {
+            ListForm::Plain(uses) => Pattern::Plain(PlainList::new(uses.as_slice(), self.body)),
+            ListForm::Pasted(chains) => {
+                Pattern::Pasted(PastedList::new(chains.as_slice(), self.body))
+            }
         }
     }
 }

@@ -6,7 +6,7 @@
 //! and the location of the macro name.
 //!
 //! Most chains are one token or one parameter. Their tokens go straight to the result, without a list of their own.
-ghost use Rattle.std.specs.Prelude.{◌≡◌, ◌++◌, ◌∷◌, IfOk, OnOk, [], true, not, ◌||◌, ◌&&◌};
+ghost use Rattle.std.specs.Prelude.{◌≡◌, ◌≤◌, ◌⊎◌, ◌++◌, ◌∷◌, IfOk, OnOk, [], true, not, ◌||◌, ◌&&◌, length, take};
 ghost use Rattle.std.specs.FinSet as set;
 ghost use Rattle.ppmacro.specs.HideSetPool.{HideSetPool};
 ghost use Rattle.ppmacro.specs.HideSets.{set_at, IsKnown, hidings, AllKnown, KeepsSets};
@@ -25,37 +25,34 @@ mod stringizing;
 
 pub use self::entries::substitute_pattern;
 use self::hsadd::hsadd_names;
-use self::joining::{join_all, push_all};
+use self::joining::push_all;
 pub use self::lexing::decides_each_kind;
 pub use self::operands::argument_of;
-use self::operands::{expansion, operands_tokens};
+use self::operands::{check_literals, expansion, join_operands};
 pub use self::pasting::paste;
 pub use self::stringizing::{push_escaped, stringize};
 use crate::hidden_token::Hidden;
 use crate::hide_sets::HideSets;
 use crate::invocation::{Arguments, MacroName};
-use crate::macros::{Chain, Operand};
+use crate::macros::{Chain, Operand, Operands};
+use crate::patterns::PastedList;
 use pptext::{Error, Memory, Place, Token, push};
 use std::alloc::Global;
 
-/// Returns whether there are at least two operands, so that `##` joins them.
-fn is_joined(operands: &[Operand]) -> bool
-    ensures { result ≡ is_joined operands.now }
-{
-    matches!(operands, [_, _, ..])
-}
-
-/// Splits the operands of a chain into those that `##` joins and the argument index of a variable argument after a comma.
-fn split_variadic<'s, 'a>(operands: &'s [Operand<'a>]) -> (&'s [Operand<'a>], Option<usize>)
-    ensures front { result.0.now ≡ before_variadic operands.now }
+/// Splits the operands of a chain: returns the number of those that `##` joins, and the argument index of a variable argument after
+/// a comma.
+fn split_variadic(operands: &Operands) -> (usize, Option<usize>)
+    ensures front { take result.0 operands.now ≡ before_variadic operands.now }
+    ensures count { result.0 ≤ length operands.now }
     ensures variadic { result.1 ≡ variadic_of operands.now }
 {
-    let Some((last, front)) = operands.split_last() else {
-        return (operands, None);
+    let count = operands.len();
+    let Some(last) = count.checked_sub(1) else {
+        return (count, None);
     };
-    match last {
-        Operand::VariadicAfterComma(index) => (front, Some(*index)),
-        _ => (operands, None),
+    match operands.at(last) {
+        Operand::VariadicAfterComma(index) => (last, Some(index)),
+        _ => (count, None),
     }
 }
 
@@ -79,24 +76,25 @@ fn append_variadic<'a>(
     }
 }
 
-/// Returns the tokens of a chain. Each `#` comes first, then `##` from the left, and then the variable argument after a comma.
+/// Returns the tokens of a chain that isn't one operand. Each `#` comes first, then `##` from the left, and then the variable
+/// argument after a comma.
 fn chain_tokens<'x, 'a: 'x>(
     alloc: Global,
     sets: &mut HideSets,
     arguments: Arguments<'_, 'x>,
     used: Place,
-    chain: &Chain<'a>,
+    chain: &Chain<'_, 'a>,
 ) -> Result<Vec<Hidden<'x>>, Error>
-    requires { ArgumentsKnown sets.old arguments.given.now arguments.expanded.now }
+    requires arguments { ArgumentsKnown sets.old arguments.given.now arguments.expanded.now }
+    requires joined { is_joined chain.now.operands ≡ true ⊎ chain.now.operands ≡ [] }
     ensures is { Returns result (λ v. hidings sets.new v.items) (chain_tokens (arguments_in sets.old arguments.entry.given.now arguments.entry.expanded.now) used chain.now) }
     ensures known { IfOk result (λ v. AllKnown sets.new v.items) }
     ensures keeps { KeepsSets sets.old sets.new }
 {
-    let operands = chain.operands.as_slice();
-    let next_to_paste = is_joined(operands);
-    let (front, variadic) = split_variadic(operands);
-    let lists = operands_tokens(alloc, sets, next_to_paste, arguments, used, front)?;
-    let mut tokens = join_all(alloc, sets, lists.as_slice(), used)?;
+    let operands = &chain.operands;
+    let (count, variadic) = split_variadic(operands);
+    check_literals(alloc, sets, arguments, used, operands, count)?;
+    let mut tokens = join_operands(alloc, sets, arguments, used, operands, count)?;
     append_variadic(&mut tokens, arguments.given, variadic)?;
     Ok(tokens)
 }
@@ -144,6 +142,68 @@ fn push_token<'a>(
     push(tokens, hidden)
 }
 
+/// Appends the tokens of a list, which are moved. The first gets the pending leading-space flag. Returns the flag that is pending
+/// afterwards.
+fn append_spaced<'a>(
+    tokens: &mut Vec<Hidden<'a>>,
+    pending: bool,
+    more: Vec<Hidden<'a>>,
+) -> Result<bool, Memory>
+    ensures tokens { IfOk result (λ p. (s : HideSetPool) → hidings s tokens.new.items ≡ hidings s tokens.old.items ++ (space_first pending (hidings s more.entry.items)).tokens) }
+    ensures pending { IfOk result (λ p. (s : HideSetPool) → p ≡ (space_first pending (hidings s more.entry.items)).pending) }
+    ensures known { OnOk result ((s : HideSetPool) → AllKnown s tokens.old.items → AllKnown s more.entry.items → AllKnown s tokens.new.items) }
+{
+    let mut more = more;
+    let Some(first) = more.first_mut() else {
+        return Ok(pending);
+    };
+    first.set_space(pending);
+    tokens.append(&mut more)?;
+    Ok(false)
+}
+
+/// Appends the tokens of a chain of one operand. The first gets the leading-space flag `space`. Returns the leading-space flag that
+/// is pending afterwards, or fault 20.
+fn push_operand<'x, 'a: 'x>(
+    sets: &HideSets,
+    arguments: Arguments<'_, 'x>,
+    used: Place,
+    space: bool,
+    operand: &Operand<'a>,
+    tokens: &mut Vec<Hidden<'x>>,
+) -> Result<bool, Error>
+    requires arguments { ArgumentsKnown sets.now arguments.given.now arguments.expanded.now }
+    requires tokens { AllKnown sets.now tokens.old.items }
+    ensures is { Returns result (as_replacement sets.now tokens.new.items)
+        (pushed (hidings sets.now tokens.old.items) space
+        (chain_tokens (arguments_in sets.now arguments.entry.given.now arguments.entry.expanded.now) used (record { space = space; operands = operand.now ∷ [] }))) }
+    ensures known { OnOk result (AllKnown sets.now tokens.new.items) }
+{
+    match operand {
+        Operand::Tok(token) => {
+            push_token(sets, tokens, space, token.token())?;
+            Ok(false)
+        }
+        Operand::Param(index) => {
+            let argument = expansion(arguments.given, arguments.expanded, *index);
+            let pending = push_spaced(tokens, space, argument)?;
+            Ok(pending)
+        }
+        Operand::Str(index, at) => {
+            let alloc = *tokens.allocator();
+            let argument = argument_of(arguments.given, *index);
+            let mut literal = stringize(alloc, argument, *at, used, sets)?;
+            literal.set_space(space);
+            push(tokens, literal)?;
+            Ok(false)
+        }
+        Operand::VariadicAfterComma(index) => {
+            let pending = push_spaced(tokens, space, argument_of(arguments.given, *index))?;
+            Ok(pending)
+        }
+    }
+}
+
 /// Appends the tokens of a chain. The first gets the leading-space flag `space`. Returns the leading-space flag that is pending
 /// afterwards, or fault 19 or 20.
 fn push_chain<'x, 'a: 'x>(
@@ -151,7 +211,7 @@ fn push_chain<'x, 'a: 'x>(
     arguments: Arguments<'_, 'x>,
     used: Place,
     space: bool,
-    chain: &Chain<'a>,
+    chain: &Chain<'_, 'a>,
     tokens: &mut Vec<Hidden<'x>>,
 ) -> Result<bool, Error>
     requires arguments { ArgumentsKnown sets.old arguments.given.now arguments.expanded.now }
@@ -162,26 +222,13 @@ fn push_chain<'x, 'a: 'x>(
     ensures keeps { KeepsSets sets.old sets.new }
 {
     // Most chains are one token or one parameter; their tokens need no list of their own.
-    if let [operand] = chain.operands.as_slice() {
-        match operand {
-            Operand::Tok(token) => {
-                push_token(sets, tokens, space, token.token())?;
-                return Ok(false);
-            }
-            Operand::Param(index) => {
-                let pending = push_spaced(
-                    tokens,
-                    space,
-                    expansion(arguments.given, arguments.expanded, *index),
-                )?;
-                return Ok(pending);
-            }
-            Operand::Str(_, _) | Operand::VariadicAfterComma(_) => {}
-        }
+    if chain.operands.len() == 1 {
+        let operand = chain.operands.at(0);
+        return push_operand(sets, arguments, used, space, &operand, tokens);
     }
     let alloc = *tokens.allocator();
     let more = chain_tokens(alloc, sets, arguments, used, chain)?;
-    let pending = push_spaced(tokens, space, more.as_slice())?;
+    let pending = append_spaced(tokens, space, more)?;
     Ok(pending)
 }
 
@@ -199,7 +246,7 @@ fn chains_tokens<'x, 'a: 'x>(
     arguments: Arguments<'_, 'x>,
     used: Place,
     space: bool,
-    chains: &[Chain<'a>],
+    chains: &PastedList<'_, 'a>,
 ) -> Result<(Vec<Hidden<'x>>, bool), Error>
     requires { ArgumentsKnown sets.old arguments.given.now arguments.expanded.now }
     ensures is { Returns result (λ m. as_replacement sets.new m.0.items m.1)
@@ -210,22 +257,19 @@ fn chains_tokens<'x, 'a: 'x>(
     let mut tokens = Vec::with_capacity(alloc, chains.len())?;
     let mut pending = space;
     let mut first = true;
-    for chain in chains {
+    for index in 0..chains.len() {
+        let chain = chains.at(index);
         let leading = space_before(pending, first, chain.space);
-        pending = push_chain(sets, arguments, used, leading, chain, &mut tokens)?;
+        pending = push_chain(sets, arguments, used, leading, &chain, &mut tokens)?;
         first = false;
     }
     Ok((tokens, pending))
 }
 
-/// Returns what a macro's name or invocation is replaced by (6.10.3.1 to 6.10.3.3), and whether white space is pending for the
-/// token after it. `chains` are the chains of the macro.
-///
-/// If a `#` or `##` fails, returns the first of these faults, at the location of the macro name: 19, two pasted tokens aren't
-/// one token, with both spellings as its text; 20, a stringized argument isn't a string literal, with that text.
-pub fn substitute<'x, 'a: 'x>(
+/// Returns what `substitute_pattern` returns for a list with `#` or `##`.
+pub(crate) fn substitute_chains<'x, 'a: 'x>(
     alloc: Global,
-    chains: &[Chain<'a>],
+    chains: &PastedList<'_, 'a>,
     arguments: Arguments<'_, 'x>,
     macro_name: &MacroName,
     sets: &mut HideSets,

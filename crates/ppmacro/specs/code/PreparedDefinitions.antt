@@ -9,13 +9,17 @@ use Rattle.pptext.specs.Lines.{LogicalLine}
 use Rattle.pptext.specs.IndexedLines.{line_at}
 use Rattle.pptext.specs.declared.sources.Profile.{Profile}
 use Rattle.ppmacro.specs.HashOperators.{is_paste}
-use Rattle.ppmacro.specs.Chains.{parameter_names, parameter_of, chains_of}
+use Rattle.ppmacro.specs.Chains.{parameter_names, chains_of}
 use Rattle.ppmacro.specs.PasteFree.{is_object_like}
-use Rattle.ppmacro.specs.Entries.{is_operator}
+use Rattle.ppmacro.specs.Entries.{entries_at, entry_chain}
 use Rattle.ppmacro.specs.PreExpansion.{pre_expands}
 use Rattle.ppmacro.specs.Define.{check_define}
 use Rattle.ppmacro.specs.DefineLines.{DefineLine, IsDefineLine}
+use Rattle.ppmacro.specs.declared.macros.Chain.{Chain}
 use Rattle.ppmacro.specs.declared.definition.Definition.{Definition}
+use Rattle.ppmacro.specs.declared.definition.ListForm.{ListForm}
+use Rattle.ppmacro.specs.declared.definition.ListForm.TheVariants.{Plain, Pasted}
+use Rattle.ppmacro.specs.code.KeptChains.{chains_at}
 use Rattle.ppmacro.specs.declared.define_lines.Defined.{Defined}
 use Rattle.ppmacro.specs.declared.define_lines.ReadDefinition.{ReadDefinition}
 
@@ -24,9 +28,14 @@ abbrev pub is_use : ℕ → Option ℕ → Bool
 is_use i None = false
 is_use i (Some j) = i == j
 
+-- The chains of a replacement list in the form of a definition.
+abbrev pub form_chains : List Token → ListForm → List Chain
+form_chains body (Plain v) = map entry_chain (entries_at v.items body)
+form_chains body (Pasted v) = chains_at body v.items
+
 -- A definition says what expansion needs to know of this replacement list.
 pub record IsPrepared (d : Definition) (body : List Token) : Type 0 where
-  pub uses : IfSome d.uses (λ v. (v.items ≡ map (parameter_of d.kind) body) × (list_any is_operator body ≡ false))
+  pub chains : form_chains body d.form ≡ chains_of (record { kind = d.kind; body = body })
   pub lone : d.lone ≡ (is_object_like d.kind && not (list_any is_paste body))
   pub count : length d.expanded.items ≡ length (parameter_names d.kind)
   pub expanded : (i : ℕ) → i < length (parameter_names d.kind) → get_or d.expanded.items i false ≡ pre_expands i (chains_of (record { kind = d.kind; body = body }))

@@ -9,7 +9,7 @@
 //! and most are empty or equal, which needs no lookup.
 //!
 //! Numbers of nodes have 32 bits. A pool that is full refuses new nodes, like a failed allocation, and still finds the others.
-ghost use Rattle.std.specs.Prelude.{◌≡◌, Some, None, Ok, ◌<◌, ◌||◌, ◌+◌, ◌*◌, ℕ, IfOk, IfSome, OnErr, ◌≤◌, [], length, nat_eq};
+ghost use Rattle.std.specs.Prelude.{◌≡◌, Some, None, Ok, ◌<◌, ◌||◌, ◌+◌, ◌*◌, ℕ, IfOk, OnErr, ◌≤◌, [], length, nat_eq};
 ghost use Rattle.std.specs.Int.RustNames.{bit_or};
 ghost use Rattle.std.specs.HashSet.{hasher_of};
 ghost use Rattle.ppmacro.specs.code.Nodes.{node_at, word, word_with, member, IsPool, KeepsNodes, PointsBelow, IsBounded, initial_nodes};

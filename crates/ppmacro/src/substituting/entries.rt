@@ -1,5 +1,5 @@
 //! Substitution in a replacement list without `#` and `##` (6.10.3.1).
-ghost use Rattle.std.specs.Prelude.{◌≡◌, ◌||◌, ◌&&◌, not, IfOk, OnOk, Ok, true, map};
+ghost use Rattle.std.specs.Prelude.{◌≡◌, IfOk, OnOk, Ok, true, map};
 ghost use Rattle.std.specs.FinSet as set;
 ghost use Rattle.pptext.specs.declared.tokens.Place.{Place};
 ghost use Rattle.pptext.specs.Errors.{Returns};
@@ -16,7 +16,7 @@ use crate::invocation::{Arguments, MacroName};
 use crate::patterns::{Entry, Pattern, PlainList};
 use crate::substituting::hsadd::hsadd_names;
 use crate::substituting::operands::expansion;
-use crate::substituting::{push_spaced, push_token, space_before, substitute};
+use crate::substituting::{push_spaced, push_token, space_before, substitute_chains};
 use pptext::{Error, Memory};
 use std::alloc::Global;
 
@@ -130,7 +130,11 @@ fn substitute_entries<'x, 'a: 'x>(
     Ok((tokens, pending))
 }
 
-/// Returns what `substitute` returns for the chains of a pattern. Builds no chains if there are none.
+/// Returns what a macro's name or invocation is replaced by (6.10.3.1 to 6.10.3.3), and whether white space is pending for the
+/// token after it. `pattern` is the replacement list of the macro.
+///
+/// If a `#` or `##` fails, returns the first of these faults, at the location of the macro name: 19, two pasted tokens aren't
+/// one token, with both spellings as its text; 20, a stringized argument isn't a string literal, with that text.
 pub fn substitute_pattern<'x, 'a: 'x>(
     alloc: Global,
     pattern: &Pattern<'_, 'a>,
@@ -151,9 +155,6 @@ pub fn substitute_pattern<'x, 'a: 'x>(
             let tokens_and_pending = substitute_entries(alloc, list, arguments, macro_name, sets)?;
             Ok(tokens_and_pending)
         }
-        Pattern::Pasted(chains) => {
-            let chains = chains.as_slice();
-            substitute(alloc, chains, arguments, macro_name, sets)
-        }
+        Pattern::Pasted(chains) => substitute_chains(alloc, chains, arguments, macro_name, sets),
     }
 }

@@ -1,10 +1,9 @@
 //! Joins lists of tokens with `##` (6.10.3.3).
-ghost use Rattle.std.specs.Prelude.{◌≡◌, ◌++◌, ◌∷◌, IfOk, OnOk, IsTrue, [], map};
+ghost use Rattle.std.specs.Prelude.{◌≡◌, ◌++◌, ◌∷◌, IfOk, OnOk, IsTrue, []};
 ghost use Rattle.pptext.specs.Continuations.{ContinuesToken};
 ghost use Rattle.ppmacro.specs.HideSets.{hiding, hidings, HasSets, AllKnown, KeepsSets};
-ghost use Rattle.ppmacro.specs.Substitution.{pasted, join, join_all};
+ghost use Rattle.ppmacro.specs.Substitution.{pasted, join};
 ghost use Rattle.pptext.specs.Errors.{Returns};
-ghost use Rattle.ppmacro.specs.Substituting.{lists_of, ListsKnown};
 ghost use Rattle.ppmacro.specs.code.Replacing.{HasSpelledKind, EndsWithSpelledKind};
 
 use crate::hidden_token::Hidden;
@@ -69,7 +68,7 @@ fn paste_onto<'a>(
 
 /// Joins the last token of one list with the first of the other, or returns fault 19. `has_spelled_kind`, as a parameter and as the result:
 /// the last token is the result of a paste.
-fn join<'a>(
+pub(crate) fn join<'a>(
     alloc: Global,
     sets: &mut HideSets,
     left: &mut Vec<Hidden<'a>>,
@@ -99,31 +98,4 @@ fn join<'a>(
     let hidden = paste_onto(alloc, sets, last, has_spelled_kind, first, used)?;
     push_joined(left, hidden, &right[1..])?;
     Ok(right.len() == 1)
-}
-
-/// Joins lists from the left, or returns fault 19.
-pub(crate) fn join_all<'a>(
-    alloc: Global,
-    sets: &mut HideSets,
-    lists: &[Vec<Hidden<'a>>],
-    used: Place,
-) -> Result<Vec<Hidden<'a>>, Error>
-    requires { ListsKnown sets.old lists.now }
-    ensures is { Returns result (λ v. hidings sets.new v.items) (join_all [] (map (hidings sets.old) (lists_of lists.now)) used) }
-    ensures known { IfOk result (λ v. AllKnown sets.new v.items) }
-    ensures keeps { KeepsSets sets.old sets.new }
-{
-    let mut left = Vec::new(alloc);
-    let mut has_spelled_kind = false;
-    for right in lists {
-        has_spelled_kind = join(
-            alloc,
-            sets,
-            &mut left,
-            has_spelled_kind,
-            right.as_slice(),
-            used,
-        )?;
-    }
-    Ok(left)
 }

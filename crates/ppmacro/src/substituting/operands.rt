@@ -1,17 +1,20 @@
 //! The tokens of an operand (6.10.3.1, 6.10.3.2).
-ghost use Rattle.std.specs.Prelude.{◌≡◌, ◌++◌, IfOk, OnOk, [], ◌∷◌, map, Ok, unwrap_or};
-ghost use Rattle.ppmacro.specs.HideSets.{hidings, AllKnown};
-ghost use Rattle.ppmacro.specs.Substitution.{argument_at, expanded_at, unhidden, after_ok, stringized, operand_tokens, operands_tokens};
+ghost use Rattle.std.specs.Prelude.{◌≡◌, ◌≤◌, IfOk, OnOk, IsTrue, [], Ok, true, length, take, unwrap_or};
+ghost use Rattle.ppmacro.specs.HideSets.{hidings, AllKnown, KeepsSets};
+ghost use Rattle.ppmacro.specs.Substitution.{argument_at, expanded_at, after_ok, join, operand_tokens};
 ghost use Rattle.pptext.specs.Errors.{Returns};
-ghost use Rattle.ppmacro.specs.Substituting.{lists_of, expansion_if_computed, expansions_if_computed, ArgumentsKnown, arguments_in, tokens_of, ListsKnown};
+ghost use Rattle.ppmacro.specs.Substituting.{lists_of, expansion_if_computed, expansions_if_computed, ArgumentsKnown, arguments_in};
+ghost use Rattle.ppmacro.specs.code.Replacing.{EndsWithSpelledKind, join_operands, operands_fault};
 
 use crate::hidden_token::{ArgumentExpansion, Hidden};
 use crate::hide_sets::HideSets;
 use crate::invocation::Arguments;
-use crate::macros::Operand;
+use crate::macros::{Operand, Operands};
+use crate::substituting::joining::join;
 use crate::substituting::stringizing::stringize;
-use pptext::{Error, Memory, Place, Token, push};
+use pptext::{Error, Place};
 use std::alloc::Global;
+use std::slice;
 
 /// Returns the argument of the parameter with this index. An absent argument has no tokens.
 pub fn argument_of<'g, 'a>(given: &'g [Vec<Hidden<'a>>], index: usize) -> &'g [Hidden<'a>]
@@ -56,91 +59,120 @@ pub(crate) fn expansion<'g, 'a>(
     expansion_tokens(argument_of(given, index), expansion)
 }
 
-/// Returns a list of one token.
-fn one_token<'a>(alloc: Global, hidden: Hidden<'a>) -> Result<Vec<Hidden<'a>>, Memory>
-    ensures { IfOk result (λ v. v.items ≡ hidden.entry ∷ []) }
-{
-    let mut tokens = Vec::new(alloc);
-    tokens.push(hidden)?;
-    Ok(tokens)
-}
-
-/// Returns a token of the replacement list, as a list.
-fn source_token<'a>(
+/// Returns fault 20 if an operand is a `#` whose text isn't a string literal.
+fn check_literal(
     alloc: Global,
     sets: &HideSets,
-    token: &'a Token,
-) -> Result<Vec<Hidden<'a>>, Memory>
-    ensures is { IfOk result (λ v. hidings sets.now v.items ≡ unhidden token.now ∷ []) }
-    ensures known { IfOk result (λ v. AllKnown sets.now v.items) }
-{
-    one_token(alloc, Hidden::new(token, sets.empty()))
-}
-
-/// Returns the string literal of an argument, as a list, or fault 20.
-fn literal<'a>(
-    alloc: Global,
-    sets: &HideSets,
-    argument: &[Hidden],
-    at: Place,
+    arguments: Arguments,
     used: Place,
-) -> Result<Vec<Hidden<'a>>, Error>
-    ensures is { Returns result (λ v. hidings sets.now v.items) (after_ok (stringized (tokens_of argument.now) at used) (λ t. Ok (t ∷ []))) }
-    ensures known { IfOk result (λ v. AllKnown sets.now v.items) }
+    operand: &Operand,
+) -> Result<(), Error>
+    ensures { Returns result (λ u. u) (after_ok (operand_tokens true (arguments_in sets.now arguments.entry.given.now arguments.entry.expanded.now) used operand.now) (λ ts. Ok tt)) }
 {
-    let hidden = stringize(alloc, argument, at, used, sets)?;
-    Ok(one_token(alloc, hidden)?)
+    let Operand::Str(index, at) = operand else {
+        return Ok(());
+    };
+    let _literal = stringize(alloc, argument_of(arguments.given, *index), *at, used, sets)?;
+    Ok(())
 }
 
-/// Returns the tokens of an operand, or fault 20. `next_to_paste`: it is next to `##`, where an argument isn't expanded.
-pub(crate) fn operand_tokens<'x, 'a: 'x>(
+/// Returns the first fault 20 of the first `count` operands.
+pub(crate) fn check_literals(
     alloc: Global,
     sets: &HideSets,
-    next_to_paste: bool,
+    arguments: Arguments,
+    used: Place,
+    operands: &Operands,
+    count: usize,
+) -> Result<(), Error>
+    requires { count ≤ length operands.now }
+    ensures { Returns result (λ u. u) (operands_fault (arguments_in sets.now arguments.entry.given.now arguments.entry.expanded.now) used (take count operands.now)) }
+{
+    for index in 0..count {
+        check_literal(alloc, sets, arguments, used, &operands.at(index))?;
+    }
+    Ok(())
+}
+
+/// Joins the tokens of an operand, which is next to `##`, to those before it, or returns fault 19 or 20. `has_spelled_kind`, as a
+/// parameter and as the result: the last token is the result of a paste.
+fn join_operand<'x, 'a: 'x>(
+    sets: &mut HideSets,
     arguments: Arguments<'_, 'x>,
     used: Place,
+    left: &mut Vec<Hidden<'x>>,
+    has_spelled_kind: bool,
     operand: &Operand<'a>,
-) -> Result<Vec<Hidden<'x>>, Error>
-    requires { ArgumentsKnown sets.now arguments.given.now arguments.expanded.now }
-    ensures is { Returns result (λ v. hidings sets.now v.items)
-        (operand_tokens next_to_paste (arguments_in sets.now arguments.entry.given.now arguments.entry.expanded.now) used operand.now) }
-    ensures known { IfOk result (λ v. AllKnown sets.now v.items) }
+) -> Result<bool, Error>
+    requires arguments { ArgumentsKnown sets.old arguments.given.now arguments.expanded.now }
+    requires left { AllKnown sets.old left.old.items }
+    requires has_spelled_kind { IsTrue has_spelled_kind → EndsWithSpelledKind left.old.items }
+    ensures is { Returns result (λ _. hidings sets.new left.new.items)
+        (after_ok (operand_tokens true (arguments_in sets.old arguments.entry.given.now arguments.entry.expanded.now) used operand.now) (λ ts. join (hidings sets.old left.old.items) ts used)) }
+    ensures known { OnOk result (AllKnown sets.new left.new.items) }
+    ensures has_spelled_kind { IfOk result (λ w. IsTrue w → EndsWithSpelledKind left.new.items) }
+    ensures keeps { KeepsSets sets.old sets.new }
 {
-    let Arguments { given, expanded } = arguments;
+    let alloc = *left.allocator();
     match operand {
-        Operand::Tok(token) => Ok(source_token(alloc, sets, token.token())?),
-        Operand::Str(index, at) => literal(alloc, sets, argument_of(given, *index), *at, used),
-        Operand::Param(index) => {
-            if next_to_paste {
-                return Ok(Vec::from_clones(alloc, argument_of(given, *index))?);
-            }
-            Ok(Vec::from_clones(alloc, expansion(given, expanded, *index))?)
+        Operand::Tok(token) => {
+            let hidden = Hidden::new(token.token(), sets.empty());
+            join(
+                alloc,
+                sets,
+                left,
+                has_spelled_kind,
+                slice::from_ref(&hidden),
+                used,
+            )
         }
-        Operand::VariadicAfterComma(index) => Ok(Vec::from_clones(
-            alloc,
-            argument_of(given, *index),
-        )?),
+        Operand::Str(index, at) => {
+            let argument = argument_of(arguments.given, *index);
+            let hidden = stringize(alloc, argument, *at, used, sets)?;
+            join(
+                alloc,
+                sets,
+                left,
+                has_spelled_kind,
+                slice::from_ref(&hidden),
+                used,
+            )
+        }
+        Operand::Param(index) | Operand::VariadicAfterComma(index) => {
+            let argument = argument_of(arguments.given, *index);
+            join(alloc, sets, left, has_spelled_kind, argument, used)
+        }
     }
 }
 
-/// Returns the tokens of each operand of a chain, or the first fault 20.
-pub(crate) fn operands_tokens<'x, 'a: 'x>(
+/// Returns the tokens of the first `count` operands, joined from the left, or returns fault 19 or 20.
+pub(crate) fn join_operands<'x, 'a: 'x>(
     alloc: Global,
-    sets: &HideSets,
-    next_to_paste: bool,
+    sets: &mut HideSets,
     arguments: Arguments<'_, 'x>,
     used: Place,
-    operands: &[Operand<'a>],
-) -> Result<Vec<Vec<Hidden<'x>>>, Error>
-    requires { ArgumentsKnown sets.now arguments.given.now arguments.expanded.now }
-    ensures is { Returns result (λ v. map (hidings sets.now) (lists_of v.items))
-        (operands_tokens next_to_paste (arguments_in sets.now arguments.entry.given.now arguments.entry.expanded.now) used operands.now) }
-    ensures known { IfOk result (λ v. ListsKnown sets.now v.items) }
+    operands: &Operands<'_, 'a>,
+    count: usize,
+) -> Result<Vec<Hidden<'x>>, Error>
+    requires arguments { ArgumentsKnown sets.old arguments.given.now arguments.expanded.now }
+    requires count { count ≤ length operands.now }
+    ensures is { Returns result (λ v. hidings sets.new v.items)
+        (join_operands (arguments_in sets.old arguments.entry.given.now arguments.entry.expanded.now) used [] (take count operands.now)) }
+    ensures known { IfOk result (λ v. AllKnown sets.new v.items) }
+    ensures keeps { KeepsSets sets.old sets.new }
 {
-    let mut lists = Vec::new(alloc);
-    for operand in operands {
-        let tokens = operand_tokens(alloc, sets, next_to_paste, arguments, used, operand)?;
-        push(&mut lists, tokens)?;
+    let mut left = Vec::new(alloc);
+    let mut has_spelled_kind = false;
+    for index in 0..count {
+        let operand = operands.at(index);
+        has_spelled_kind = join_operand(
+            sets,
+            arguments,
+            used,
+            &mut left,
+            has_spelled_kind,
+            &operand,
+        )?;
     }
-    Ok(lists)
+    Ok(left)
 }

@@ -3,7 +3,9 @@ use super::substitution::{USED, assert_made, hidden};
 use super::{HASH, macro_of, push_spelled, set_of, table_of};
 use crate::defining::source_of;
 use crate::showing::{assert_shown, push_token};
-use ppmacro::{Chain, Hidden, HideSets, Operand, ReplacementList, argument_of, push_escaped};
+use ppmacro::{
+    Chain, Hidden, HideSets, Operand, Pattern, ReplacementList, argument_of, push_escaped,
+};
 use pptext::{Kind, Memory, Source, Spelling, Token};
 use std::alloc::{AllocError, Global};
 use std::process::Abort;
@@ -73,8 +75,8 @@ fn hidden_tokens_are_those_of_the_file(rt: HostRuntime) -> Result<(), Fail> {
 
 /// Appends the operands of a chain that are tokens of the replacement list to a text.
 fn push_leaves(text: &mut Vec<u8>, chain: &Chain) -> Result<(), AllocError> {
-    for operand in chain.operands.as_slice() {
-        if let Operand::Tok(leaf) = operand {
+    for index in 0..chain.operands.len() {
+        if let Operand::Tok(leaf) = chain.operands.at(index) {
             push_spelled(text, leaf.token())?;
         }
     }
@@ -86,8 +88,11 @@ fn leaves_in(rt: &impl Abort, alloc: Global, line: &Source) -> Result<Vec<u8>, F
     let table = table_of(rt, alloc, line)?;
     let named = macro_of(&table, line.tokens()).ok_or("no macro")?;
     let mut text = Vec::new(alloc);
-    for chain in named.chains_with_hasher(alloc, table.hashing())?.as_slice() {
-        push_leaves(&mut text, chain)?;
+    let Pattern::Pasted(chains) = named.pattern() else {
+        return Err("no chains".into());
+    };
+    for index in 0..chains.len() {
+        push_leaves(&mut text, &chains.at(index))?;
     }
     Ok(text)
 }

@@ -8,8 +8,8 @@ use super::{HASH, has, is_hidden_by, macro_of, push_spelled, set_of, sources_of}
 use crate::defining::{define_valid, source_of};
 use crate::showing::{assert_shown, push_fault, push_fields};
 use ppmacro::{
-    ArgumentExpansion, Arguments, Chain, Hidden, HideSets, MacroName, Pattern, PreparedMacro, Set,
-    Table, decides_each_kind, paste, stringize, substitute, substitute_pattern,
+    ArgumentExpansion, Arguments, Hidden, HideSets, MacroName, Pattern, PreparedMacro, Set, Table,
+    decides_each_kind, paste, stringize, substitute_pattern,
 };
 use pptext::{Error, Memory, Place, Profile, Source, Token};
 use std::alloc::Global;
@@ -73,12 +73,12 @@ fn as_they_are<'a>(
         .collect(alloc)
 }
 
-/// Returns the result of `substitute` for the name `f`. If an allocation fails, asserts that the set `base` contains `b`, and
+/// Returns the result of `substitute_pattern` for the name `f`. If an allocation fails, asserts that the set `base` contains `b`, and
 /// calls again.
 fn substituted<'x, 'a: 'x>(
     rt: &impl Abort,
     alloc: Global,
-    chains: &[Chain<'a>],
+    pattern: &Pattern<'_, 'a>,
     arguments: Arguments<'_, 'x>,
     name: &MacroName,
     sets: &mut HideSets,
@@ -87,12 +87,12 @@ fn substituted<'x, 'a: 'x>(
     requires base { IsKnown sets.old name.now.base }
 {
     let base = name.base;
-    let answer = substitute(alloc, chains, arguments, name, sets);
+    let answer = substitute_pattern(alloc, pattern, arguments, name, sets);
     if !matches!(&answer, Err(Error::Memory)) {
         return answer;
     }
     assert!(rt; has(rt, sets, base, b"b") && !has(rt, sets, base, b"f"));
-    substitute(alloc, chains, arguments, name, sets)
+    substitute_pattern(alloc, pattern, arguments, name, sets)
 }
 
 /// Returns the macro name token `f` of an invocation.
@@ -107,72 +107,28 @@ fn named_f(base: Set, space: bool) -> MacroName<'static>
     }
 }
 
-/// Returns the replacement by the chains of a macro, and the pending flag. No argument names a macro; each token of an argument
-/// has the hide set `hide`.
-fn replaced_by<'x, 'a: 'x>(
-    rt: &impl Abort,
-    alloc: Global,
-    sets: &mut HideSets,
-    chains: &[Chain<'a>],
-    texts: &'x [Source],
-    (hide, base, space): (Set, Set, bool),
-) -> Replaced<'x> {
-    assert!(rt; sets.knows(hide) && sets.knows(base));
-    let given = lists_of(alloc, sets, hide, texts)?;
-    let expanded = as_they_are(alloc, lists_of(alloc, sets, hide, texts)?)?;
-    let (given, expanded) = (given.as_slice(), expanded.as_slice());
-    let arguments = Arguments { given, expanded };
-    substituted(rt, alloc, chains, arguments, &named_f(base, space), sets)
-}
-
-/// Returns the replacement by `substitute_pattern`, and the pending flag.
-fn replaced_by_pattern<'x, 'a: 'x>(
-    rt: &impl Abort,
-    alloc: Global,
-    sets: &mut HideSets,
-    pattern: &Pattern<'_, 'a>,
-    texts: &'x [Source],
-    (hide, base, space): (Set, Set, bool),
-) -> Replaced<'x> {
-    assert!(rt; sets.knows(hide) && sets.knows(base));
-    let given = lists_of(alloc, sets, hide, texts)?;
-    let expanded = as_they_are(alloc, lists_of(alloc, sets, hide, texts)?)?;
-    let (given, expanded) = (given.as_slice(), expanded.as_slice());
-    let arguments = Arguments { given, expanded };
-    substitute_pattern(alloc, pattern, arguments, &named_f(base, space), sets)
-}
-
-/// The form of a macro that a substitution uses.
-#[derive(Clone, Copy)]
-enum By {
-    Chains,
-    Pattern,
-}
-
-/// How an invocation is substituted: by which form, whether the arguments' tokens are hidden by `g`, and whether the macro name
-/// has a leading-space flag.
-type With = (By, bool, bool);
-
-/// Returns the replacement of an invocation.
+/// Returns the replacement by a macro, and the pending flag. No argument names a macro; each token of an argument has the hide set
+/// `hide`.
 fn replaced<'x, 'a: 'x>(
     rt: &impl Abort,
     alloc: Global,
     sets: &mut HideSets,
-    (table, named, by): (&Table<'a>, &PreparedMacro<'a>, By),
+    named: &PreparedMacro<'a>,
     texts: &'x [Source],
-    with: (Set, Set, bool),
+    (hide, base, space): (Set, Set, bool),
 ) -> Replaced<'x> {
-    match by {
-        By::Chains => {
-            let chains = named.chains(alloc)?;
-            replaced_by(rt, alloc, sets, chains.as_slice(), texts, with)
-        }
-        By::Pattern => {
-            let pattern = named.pattern(alloc, table.hashing())?;
-            replaced_by_pattern(rt, alloc, sets, &pattern, texts, with)
-        }
-    }
+    assert!(rt; sets.knows(hide) && sets.knows(base));
+    let given = lists_of(alloc, sets, hide, texts)?;
+    let expanded = as_they_are(alloc, lists_of(alloc, sets, hide, texts)?)?;
+    let (given, expanded) = (given.as_slice(), expanded.as_slice());
+    let arguments = Arguments { given, expanded };
+    let pattern = named.pattern();
+    substituted(rt, alloc, &pattern, arguments, &named_f(base, space), sets)
 }
+
+/// How an invocation is substituted: whether the arguments' tokens are hidden by `g`, and whether the macro name has a leading-space
+/// flag.
+type With = (bool, bool);
 
 /// Returns whether a token's expansion location is that of the macro name, and its hide set contains the added names `b` and `f`.
 fn is_gained(rt: &impl Abort, sets: &HideSets, hidden: &Hidden) -> bool {
@@ -244,22 +200,14 @@ fn told_over(
     rt: &impl Abort,
     alloc: Global,
     sets: &mut HideSets,
-    of: (&Table, &PreparedMacro),
+    named: &PreparedMacro,
     texts: &[Source],
-    (by, hides, space): With,
+    (hides, space): With,
 ) -> Result<Vec<u8>, Memory> {
     let names: &[u8] = if hides { b"g" } else { b"" };
     let hide = set_of(rt, sets, names)?;
     let base = set_of(rt, sets, b"b")?;
-    let (table, named) = of;
-    let answer = replaced(
-        rt,
-        alloc,
-        sets,
-        (table, named, by),
-        texts,
-        (hide, base, space),
-    );
+    let answer = replaced(rt, alloc, sets, named, texts, (hide, base, space));
     Ok(as_text(rt, alloc, sets, answer, hides)?)
 }
 
@@ -267,12 +215,12 @@ fn told_over(
 fn text_of(
     rt: &impl Abort,
     alloc: Global,
-    of: (&Table, &PreparedMacro),
+    named: &PreparedMacro,
     texts: &[Source],
     with: With,
 ) -> Result<Vec<u8>, Memory> {
     let mut sets = HideSets::new(alloc)?;
-    told_over(rt, alloc, &mut sets, of, texts, with)
+    told_over(rt, alloc, &mut sets, named, texts, with)
 }
 
 /// Returns the table after a `#define` line with the rules of this profile.
@@ -298,7 +246,7 @@ fn told_in(
 ) -> Result<Vec<u8>, Fail> {
     let table = table_by(rt, alloc, profile, line)?;
     let named = macro_of(&table, line.tokens()).ok_or("no macro")?;
-    Ok(text_of(rt, alloc, (&table, named), texts, with)?)
+    Ok(text_of(rt, alloc, named, texts, with)?)
 }
 
 /// Asserts the replacement of an invocation as text with the pending flag, or its fault. The macro is defined with the rules of
@@ -587,12 +535,10 @@ const PASTED: &[Case] = &[
 
 #[test]
 fn replaces_by_the_replacement_list(rt: HostRuntime) -> Result<(), Fail> {
-    for by in [By::Chains, By::Pattern] {
-        for cases in [REPLACED, MARKED, REFUSED, PATTERNS, PASTED] {
-            for &(line, texts, space, wanted) in cases {
-                let with = (by, false, space);
-                assert_text(&rt, rt.alloc(), Profile::C11, (line, texts), with, wanted)?;
-            }
+    for cases in [REPLACED, MARKED, REFUSED, PATTERNS, PASTED] {
+        for &(line, texts, space, wanted) in cases {
+            let with = (false, space);
+            assert_text(&rt, rt.alloc(), Profile::C11, (line, texts), with, wanted)?;
         }
     }
     Ok(())
@@ -600,11 +546,9 @@ fn replaces_by_the_replacement_list(rt: HostRuntime) -> Result<(), Fail> {
 
 #[test]
 fn lays_a_rest_or_takes_the_comma_away(rt: HostRuntime) -> Result<(), Fail> {
-    for by in [By::Chains, By::Pattern] {
-        for &(line, texts, space, wanted) in RESTS {
-            let with = (by, false, space);
-            assert_text(&rt, rt.alloc(), Profile::Gnu, (line, texts), with, wanted)?;
-        }
+    for &(line, texts, space, wanted) in RESTS {
+        let with = (false, space);
+        assert_text(&rt, rt.alloc(), Profile::Gnu, (line, texts), with, wanted)?;
     }
     Ok(())
 }
@@ -613,17 +557,14 @@ fn lays_a_rest_or_takes_the_comma_away(rt: HostRuntime) -> Result<(), Fail> {
 fn hides_and_places_what_it_gives(rt: HostRuntime) -> Result<(), Fail> {
     let line = "#define f(a,b) a a##a a##1 #a x b##a";
     let wanted = "y yy y1 \"y\" x y |- g1 g1 -1 -28 -31 g1";
-    for by in [By::Chains, By::Pattern] {
-        assert_text(
-            &rt,
-            rt.alloc(),
-            Profile::C11,
-            (line, &["y", ""]),
-            (by, true, false),
-            wanted,
-        )?;
-    }
-    Ok(())
+    assert_text(
+        &rt,
+        rt.alloc(),
+        Profile::C11,
+        (line, &["y", ""]),
+        (true, false),
+        wanted,
+    )
 }
 
 /// The tokens of a variable argument after a comma keep their hide sets, and the comma before them has the empty one.
@@ -631,17 +572,14 @@ fn hides_and_places_what_it_gives(rt: HostRuntime) -> Result<(), Fail> {
 fn puts_a_variable_argument_after_the_comma(rt: HostRuntime) -> Result<(), Fail> {
     let line = "#define e(f,a...) f,##a";
     let wanted = "1, 2+ |- g1 -20 g1 g2";
-    for by in [By::Chains, By::Pattern] {
-        assert_text(
-            &rt,
-            rt.alloc(),
-            Profile::Gnu,
-            (line, &["1", "2+"]),
-            (by, true, false),
-            wanted,
-        )?;
-    }
-    Ok(())
+    assert_text(
+        &rt,
+        rt.alloc(),
+        Profile::Gnu,
+        (line, &["1", "2+"]),
+        (true, false),
+        wanted,
+    )
 }
 
 /// Asserts a token as text, and which of the names `a`, `b` and `c` hide it.

@@ -20,7 +20,7 @@ returns-clause-is c =
     let invocation = c.args.invocation.now in
     let name = invocation.name_token.token in
     if_settled-weaker c.replace.result _ _ (λ r is. is
-    ∙ (λ i. replaced_by (chains_replacement (c.requires.chains i) (arguments_in s (c.as_slice.ensures.value i) c.args.expanded.now)
+    ∙ (λ i. replaced_by (chains_replacement (c.pattern.ensures i) (arguments_in s (c.as_slice.ensures.value i) c.args.expanded.now)
     (set.insert (set_at s invocation.base) name.text) name.used name.space)
     (hidings s c.args.list.now)))
     c.replace.ensures.is

@@ -13,4 +13,4 @@ returns-clause-is c =
     let name_token = c.args.name_token.now in
     subst (λ chains. UnlessOutOfMemory c.replace.result (λ r. replaced_in c.replace.new.self.sets c.replace.new.list r
     ≡ replaced_by (chains_replacement chains no_arguments (set.insert (set_at s c.args.base) name_token.token.text) name_token.token.used name_token.token.space) (hidings s c.args.list.now)))
-    c.in_ok-chains.ensures c.replace.ensures.is
+    c.pattern.ensures c.replace.ensures.is

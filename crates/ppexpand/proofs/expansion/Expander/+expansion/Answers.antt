@@ -76,7 +76,7 @@ advance-returns-clause-list_known m c = λ continues. c.in_ok-replace_invocation
 
 pub replace_invocation-returns-in_err-expand_arguments-clause-is : goal.replace_invocation-returns-in_err-expand_arguments-clause-is
 replace_invocation-returns-in_err-expand_arguments-clause-is m c =
-    stopped _ _ _ _ c.from_residual-in_err-expand_arguments.ensures.1 c.in_err-expand_arguments.ensures.is (λ f raised. fault_in_arguments (raised c.args.list.now))
+    stopped _ _ _ _ c.from_residual.ensures.1 c.in_err-expand_arguments.ensures.is (λ f raised. fault_in_arguments (raised c.args.list.now))
 
 pub replace_invocation-finish_invocation-replaced-requires-clause-invocation : goal.replace_invocation-finish_invocation-replaced-requires-clause-invocation
 replace_invocation-finish_invocation-replaced-requires-clause-invocation m c = invocation_known-keeps c.args.invocation.now c.in_ok-expand_arguments.ensures.keeps c.requires.invocation_known

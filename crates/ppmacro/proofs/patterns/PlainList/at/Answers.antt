@@ -4,20 +4,12 @@ use Rattle.ppmacro.specs.Entries.{entry_at}
 use Rattle.ppmacro.proofs.patterns.PlainList.at.Goals as goal
 
 pub bounds-body-index : goal.bounds-body-index
-bounds-body-index c = subst (λ n. c.args.index < n) (ap length (sym c.self.view_is) ∙ count-entries c.self.inside.uses.now c.self.inside.body.now c.self.invariant) c.requires
+bounds-body-index c = subst (λ n. c.args.index < n) (ap length (sym c.self.view_is) ∙ count-entries c.self.inside.uses.now c.self.inside.body.now) c.requires
 
 pub offset_bounds-body-index : goal.offset_bounds-body-index
 offset_bounds-body-index c =
-    let below = subst (λ n. c.args.index < n) (ap length (sym c.self.view_is) ∙ count-entries c.self.inside.uses.now c.self.inside.body.now c.self.invariant) c.requires in
+    let below = subst (λ n. c.args.index < n) (ap length (sym c.self.view_is) ∙ count-entries c.self.inside.uses.now c.self.inside.body.now) c.requires in
     omega (arith, below, c.self.told)
-
-pub offset_bounds-uses-index : goal.offset_bounds-uses-index
-offset_bounds-uses-index c =
-    let below = subst (λ n. c.args.index < n) (ap length (sym c.self.view_is) ∙ count-entries c.self.inside.uses.now c.self.inside.body.now c.self.invariant ∙ sym c.self.invariant) c.requires in
-    omega (arith, below, c.self.told)
-
-pub bounds : goal.bounds
-bounds c = subst (λ n. c.args.index < n) (ap length (sym c.self.view_is) ∙ count-entries c.self.inside.uses.now c.self.inside.body.now c.self.invariant ∙ sym c.self.invariant) c.requires
 
 pub returns-in-Some : goal.returns-in-Some
 returns-in-Some c = λ e.
@@ -25,8 +17,8 @@ returns-in-Some c = λ e.
     let us = c.self.inside.uses.now in
     let ts = c.self.inside.body.now in
     let t = c.index-body-index.result in
-    let below = subst (λ n. i < n) (ap length (sym c.self.view_is) ∙ count-entries us ts c.self.invariant) c.requires in
-    (λ j. entry_at (sym c.in-Some.is j) (c.index-body-index.is j)) ∙ entry-at us ts i None t e c.self.invariant below ∙ ap (λ es. get_or es i e) c.self.view_is
+    let below = subst (λ n. i < n) (ap length (sym c.self.view_is) ∙ count-entries us ts) c.requires in
+    (λ j. entry_at ((sym c.in-Some.is ∙ c.use_at.ensures) j) (c.index-body-index.is j)) ∙ entry-at us ts i t e below ∙ ap (λ es. get_or es i e) c.self.view_is
 
 pub returns-in-None : goal.returns-in-None
 returns-in-None c = λ e.
@@ -34,5 +26,5 @@ returns-in-None c = λ e.
     let us = c.self.inside.uses.now in
     let ts = c.self.inside.body.now in
     let t = c.index-body-index.result in
-    let below = subst (λ n. i < n) (ap length (sym c.self.view_is) ∙ count-entries us ts c.self.invariant) c.requires in
-    ap (entry_at None) c.new.ensures ∙ (λ j. entry_at (sym c.in-None.is j) (c.index-body-index.is j)) ∙ entry-at us ts i None t e c.self.invariant below ∙ ap (λ es. get_or es i e) c.self.view_is
+    let below = subst (λ n. i < n) (ap length (sym c.self.view_is) ∙ count-entries us ts) c.requires in
+    ap (entry_at None) c.new.ensures ∙ (λ j. entry_at ((sym c.in-None.is ∙ c.use_at.ensures) j) (c.index-body-index.is j)) ∙ entry-at us ts i t e below ∙ ap (λ es. get_or es i e) c.self.view_is
