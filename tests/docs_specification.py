@@ -33,7 +33,7 @@ MARKS = "PTL"
 EXTERNAL = {"intmax_t", "uintmax_t", "defined", "get_as", "set_as", "gnu"}
 
 # definitions that only contracts inside their crate cite, and that stand beside the public ones that they complete
-BESIDE = {"ppmacro/HiddenView: extended", "ppmacro/Patterns: entry_at", "ppmacro/Patterns: entry_of", "ppmacro/Patterns: is_operator"}
+BESIDE = {"ppmacro/HiddenView: extended", "ppmacro/Entries: is_operator"}
 
 
 class Facts:

@@ -9,10 +9,10 @@ ghost use Rattle.std.specs.Prelude.{◌≡◌, ◌∷◌, ◌++◌, [], flat_map
 ghost use Rattle.ppexpand.specs.Slices.{piece_list, slice_tokens};
 ghost use Rattle.ppmacro.specs.Substituting.{tokens_of};
 
-use crate::token_slice::{SliceIter, TokenSlice};
+use crate::token_slice::{Slices, TokenSlice};
 use crate::token_span::TokenSpan;
 use ppmacro::Hidden;
-use pptext::{Memory, Token, push};
+use pptext::{Memory, push};
 use std::alloc::Global;
 use std::marker::Model;
 use std::mem;
@@ -153,14 +153,11 @@ impl<'a> Emitted<'a> {
         Ok(mem::replace(&mut self.pieces, Vec::new(alloc)))
     }
 
-    /// Appends copies of the tokens to a vector.
-    pub(crate) fn copy_to(&self, tokens: &mut Vec<Token>) -> Result<(), Memory>
-        ensures { OnOk result (tokens.new.items ≡ tokens.old.items ++ tokens_of self.now) }
+    /// Returns an iterator over slices of the tokens, in order.
+    pub(crate) fn slices(&self) -> Slices<'_, 'a>
+        ensures { result ≡ tokens_of self.now }
     {
-        for piece in &self.pieces {
-            copy_slice(tokens, piece.tokens().iter())?;
-        }
-        copy_slice(tokens, TokenSlice::Hidden(self.singles.as_slice()).iter())
+        Slices::new(self.pieces.as_slice(), self.singles.as_slice())
     }
 
     /// Returns true only if no tokens were emitted.
@@ -216,15 +213,4 @@ fn push_piece<'a>(tokens: &mut Vec<Hidden<'a>>, piece: Piece<'a>) -> Result<(), 
         Piece::Span(span) => push_span(tokens, span),
         Piece::Singles(singles) => push_all(tokens, singles),
     }
-}
-
-/// Appends copies of the tokens of a slice.
-fn copy_slice(tokens: &mut Vec<Token>, slice: SliceIter) -> Result<(), Memory>
-    ensures { OnOk result (tokens.new.items ≡ tokens.old.items ++ slice.entry) }
-{
-    let mut slice = slice;
-    while let Some(token) = slice.next() {
-        push(tokens, token.to_token()?)?;
-    }
-    Ok(())
 }

@@ -30,6 +30,7 @@ use crate::expand_step::{Action, Invocation, Replacer};
 use crate::lone_steps::pass_lone;
 use crate::meter::Meter;
 use crate::scratch::Scratch;
+use crate::token_list::TokenList;
 use crate::token_roles::fault_at_expansion;
 use crate::token_span::{never_expands, split_unexpanded};
 use crate::token_stack::{Lookahead, TokenStack};
@@ -363,8 +364,8 @@ fn keep_stack<'x>(stack: &mut Vec<Hidden<'x>>, pushed: Vec<Hidden<'x>>) {
     }
 }
 
-/// Expands tokens of a file, with empty hide sets at first, and appends the emitted tokens to `emitted`. The list's stack uses the memory of
-/// `stack`.
+/// Expands the tokens of `stack` and then tokens of a file, with empty hide sets at first, and appends the emitted tokens to `emitted`. The
+/// vector of `stack` is kept for the next expansion.
 ///
 /// Returns the fault that stopped the expansion, if any.
 fn expand_tokens<'x, 'a: 'x>(
@@ -377,7 +378,7 @@ fn expand_tokens<'x, 'a: 'x>(
 ) -> Result<Option<BoxedFault>, Memory>
     requires level { context.now.level ≡ 0 }
     requires none { emitted.old ≡ [] }
-    ensures { IfOk result (λ r. (sets : HideSetPool) × ExpandsTo context.now.table.now.macros context.now.env.now 0 meter.old (map unhidden tokens.now)
+    ensures { IfOk result (λ r. (sets : HideSetPool) × ExpandsTo context.now.table.now.macros context.now.env.now 0 meter.old (map unhidden (tokens_of stack.old.items ++ tokens.now))
         (record { tokens = hidings sets emitted.new; fault = r; meter = meter.new })) }
 {
     expander.meter = *meter;
@@ -407,6 +408,7 @@ fn expand_rest<'x, 'a: 'x>(
         (record { tokens = scratch.new; fault = r; meter = meter.new })) }
 {
     scratch.emitted.clear();
+    scratch.stack.clear();
     let fault = expand_tokens(
         &mut scratch.expander,
         &mut scratch.stack,
@@ -415,6 +417,40 @@ fn expand_rest<'x, 'a: 'x>(
         tokens,
         &mut scratch.emitted,
     )?;
+    Ok(fault)
+}
+
+/// Expands a list of which some tokens are of no file, as `expand` does. The emitted tokens are those of the scratch. Returns the fault that
+/// stopped the expansion, if any.
+///
+/// # Errors
+///
+/// Returns `Memory` if an allocation fails.
+pub fn expand_list<'x, 'a: 'x>(
+    table: &Table<'a>,
+    env: &Env,
+    meter: &mut Meter,
+    list: TokenList<'x>,
+    scratch: &mut Scratch<'x>,
+) -> Result<Option<BoxedFault>, Memory>
+    ensures { IfOk result (λ r. IsExpansion table.now.macros env.now meter.old list.entry (record { tokens = scratch.new; fault = r; meter = meter.new })) }
+{
+    let context = Context {
+        table,
+        env,
+        level: 0,
+    };
+    scratch.emitted.clear();
+    let mut stack = list.into_tokens();
+    let fault = expand_tokens(
+        &mut scratch.expander,
+        &mut stack,
+        &context,
+        meter,
+        Default::default(),
+        &mut scratch.emitted,
+    )?;
+    scratch.stack = stack;
     Ok(fault)
 }
 

@@ -13,6 +13,7 @@ mod lone_steps;
 mod meter;
 mod predefined;
 mod scratch;
+mod token_list;
 mod token_roles;
 mod token_slice;
 mod token_span;
@@ -21,7 +22,7 @@ mod vec_pool;
 
 pub use emitted::Piece;
 pub use env::Env;
-pub use expansion::{Expanded, expand};
+pub use expansion::{Expanded, expand, expand_list};
 pub use laws::{
     budget_caps, budget_is_spent, expansion_terminates, finds_arguments, finds_no_arguments,
     leaves_fully_expanded_tokens, one_expansion, one_outcome, only_budgets_refuse,
@@ -29,5 +30,6 @@ pub use laws::{
 };
 pub use meter::Meter;
 pub use scratch::Scratch;
-pub use token_slice::{SliceIter, TokenRef, TokenSlice};
+pub use token_list::TokenList;
+pub use token_slice::{SliceIter, Slices, TokenRef, TokenSlice};
 pub use token_span::TokenSpan;

@@ -7,23 +7,24 @@ use crate::emitted::{Emitted, Piece};
 use crate::expand_step::Replacer;
 use crate::expansion::Expander;
 use crate::meter::Meter;
+use crate::token_list::TokenList;
+use crate::token_slice::{SliceIter, Slices};
 use crate::vec_pool::VecPool;
 use ppmacro::{Hidden, HideSets};
-use pptext::{Hashing, Memory, Token};
+use pptext::{Hashing, Memory, Token, push};
 use std::alloc::Global;
 use std::marker::Model;
+use std::mem;
 
 /// What the expansions of a unit reuse, hide sets and vectors, and the tokens that the last expansion emitted after the prefix of its list
 /// before the first macro name. Contracts see the list of these tokens.
 #[derive(Drop)]
 pub struct Scratch<'x> {
-    /// On the heap, like the spare hide sets, since a scratch lies on the stack below all levels of arguments.
+    /// On the heap, since a scratch lies on the stack below all levels of arguments.
     pub(crate) expander: Box<Expander<'x>>,
     pub(crate) emitted: Emitted<'x>,
     /// A vector for the stack of the next expansion.
     pub(crate) stack: Vec<Hidden<'x>>,
-    /// Hide sets for the next scratch that is lent.
-    spare: Option<Box<HideSets>>,
 }
 
 impl<'x> Model for Scratch<'x> {
@@ -42,14 +43,7 @@ impl<'x> Scratch<'x> {
     pub fn new(alloc: Global, hashing: Hashing) -> Result<Scratch<'x>, Memory>
         ensures { IfOk result (λ s. s ≡ []) }
     {
-        Scratch::over(alloc, HideSets::with_hasher(alloc, hashing)?)
-    }
-
-    /// Creates a scratch without tokens over these hide sets.
-    #[inline(never)]
-    fn over(alloc: Global, sets: HideSets) -> Result<Scratch<'x>, Memory>
-        ensures { IfOk result (λ s. s ≡ []) }
-    {
+        let sets = HideSets::with_hasher(alloc, hashing)?;
         let replacer = Replacer {
             pool: VecPool::new(alloc),
             sets,
@@ -59,38 +53,17 @@ impl<'x> Scratch<'x> {
             expander: Box::new(alloc, Expander { replacer, meter })?,
             emitted: Emitted::new(alloc),
             stack: Vec::new(alloc),
-            spare: None,
         })
     }
 
-    /// Returns a scratch without tokens, for tokens that are dropped before those of this one. It has the hide sets of the one that was
-    /// returned last.
-    #[inline(never)]
-    pub fn lend<'y>(&mut self) -> Result<Scratch<'y>, Memory>
-        ensures lent { IfOk result (λ s. s ≡ []) }
+    /// Returns an empty list for tokens to be expanded with this scratch, which lends its memory.
+    pub fn list(&mut self) -> TokenList<'x>
+        ensures none { result ≡ [] }
         ensures same { self.new ≡ self.old }
     {
-        let sets = match self.spare.take() {
-            Some(sets) => Box::into_inner(sets),
-            None => HideSets::with_hasher(self.alloc(), self.expander.replacer.sets.hashing())?,
-        };
-        Scratch::over(self.alloc(), sets)
-    }
-
-    /// Takes a scratch back that was lent. If an allocation fails, its hide sets aren't kept.
-    #[inline(never)]
-    pub fn take_back(&mut self, lent: Scratch)
-        ensures { self.new ≡ self.old }
-    {
-        let Scratch {
-            expander,
-            emitted: _,
-            stack: _,
-            spare: _,
-        } = lent;
-        let Expander { replacer, meter: _ } = Box::into_inner(expander);
-        let Replacer { pool: _, sets } = replacer;
-        self.spare = Box::new(self.alloc(), sets).ok();
+        let alloc = self.alloc();
+        let tokens = mem::replace(&mut self.stack, Vec::new(alloc));
+        TokenList::over(tokens, self.expander.replacer.sets.empty())
     }
 
     /// Returns the allocator.
@@ -120,13 +93,42 @@ impl<'x> Scratch<'x> {
         self.emitted.take_pieces()
     }
 
+    /// Returns an iterator over nonempty slices of the tokens, in order, as they are stored.
+    pub fn slices(&self) -> Slices<'_, 'x>
+        ensures { result ≡ self.now }
+    {
+        self.emitted.slices()
+    }
+
     /// Returns a copy of a prefix and of the tokens after it as one vector.
     pub fn to_vec(&self, prefix: &[Token]) -> Result<Vec<Token>, Memory>
         ensures { IfOk result (λ v. v.items ≡ prefix.now ++ self.now) }
     {
         let mut tokens = Vec::from_clones(self.alloc(), prefix)?;
         tokens.reserve(self.emitted.singles_len())?;
-        self.emitted.copy_to(&mut tokens)?;
+        copy_slices(&mut tokens, self.slices())?;
         Ok(tokens)
     }
+}
+
+/// Appends copies of the tokens of slices.
+fn copy_slices(tokens: &mut Vec<Token>, slices: Slices) -> Result<(), Memory>
+    ensures { OnOk result (tokens.new.items ≡ tokens.old.items ++ slices.entry) }
+{
+    let mut slices = slices;
+    while let Some(slice) = slices.next() {
+        copy_slice(tokens, slice.iter())?;
+    }
+    Ok(())
+}
+
+/// Appends copies of the tokens of a slice.
+fn copy_slice(tokens: &mut Vec<Token>, slice: SliceIter) -> Result<(), Memory>
+    ensures { OnOk result (tokens.new.items ≡ tokens.old.items ++ slice.entry) }
+{
+    let mut slice = slice;
+    while let Some(token) = slice.next() {
+        push(tokens, token.to_token()?)?;
+    }
+    Ok(())
 }

@@ -3,10 +3,12 @@
 //! Tokens are stored in two forms, as tokens of a file and as tokens with hide sets, so there are two kinds of borrowed tokens and slices
 //! (`TokenRef`, `TokenSlice`). The model of the iterator is the list of tokens that it has still to yield. So the contract of `next` only says
 //! that it removes the first token of that list.
-ghost use Rattle.std.specs.Prelude.{◌≡◌, ◌<◌, ◌≤◌, [], true, false, length, take, drop, IfOk};
+ghost use Rattle.std.specs.Prelude.{◌≡◌, ◌<◌, ◌≤◌, ◌++◌, [], true, false, length, take, drop, flat_map, IfOk};
 ghost use Rattle.std.specs.Iterator.{YieldsFirstBy, item_count};
-ghost use Rattle.ppexpand.specs.Slices.{slice_tokens, ref_token};
+ghost use Rattle.ppmacro.specs.Substituting.{tokens_of};
+ghost use Rattle.ppexpand.specs.Slices.{slice_tokens, ref_token, piece_list, YieldsSlice};
 
+use crate::emitted::Piece;
 use ppmacro::Hidden;
 use pptext::{Kind, Memory, Place, Token};
 use std::marker::Model;
@@ -175,5 +177,65 @@ impl<'r, 'a> Iterator for SliceIter<'r, 'a> {
                 Some(TokenRef::Hidden(first))
             }
         }
+    }
+}
+
+/// Iterates in order over nonempty slices of the emitted tokens of an expansion, without a copy. Contracts see the list of the tokens in the
+/// remaining slices.
+#[derive(Drop)]
+pub struct Slices<'r, 'a> {
+    pieces: &'r [Piece<'a>],
+    /// The tokens after the last piece.
+    last: &'r [Hidden<'a>],
+}
+
+impl<'r, 'a> Model for Slices<'r, 'a> {
+    ghost use Rattle.std.specs.Prelude.{List, flat_map, ◌++◌};
+    ghost use Rattle.pptext.specs.declared.tokens.Token.{Token};
+    ghost use Rattle.ppmacro.specs.Substituting.{tokens_of};
+
+    ghost Value = { List Token };
+
+    ghost use Rattle.ppexpand.specs.Slices.{piece_list};
+
+    ghost view = { λ s. tokens_of (flat_map piece_list s.pieces.now ++ s.last.now) };
+}
+
+impl<'r, 'a> Slices<'r, 'a> {
+    /// Creates an iterator over pieces and the tokens after them.
+    pub(crate) fn new(pieces: &'r [Piece<'a>], last: &'r [Hidden<'a>]) -> Slices<'r, 'a>
+        ensures { result ≡ tokens_of (flat_map piece_list pieces.now ++ last.now) }
+    {
+        Slices { pieces, last }
+    }
+}
+
+impl<'r, 'a> Iterator for Slices<'r, 'a> {
+    type Item = TokenSlice<'r, 'a>;
+
+    ghost next_gives = { YieldsSlice slice_tokens };
+
+    ghost remaining = { item_count (λ rest. rest) };
+
+    fn next(&mut self) -> Option<TokenSlice<'r, 'a>> {
+        while let Some((piece, pieces)) = self.pieces.split_first() {
+            *self = Slices {
+                pieces,
+                last: self.last,
+            };
+            let slice = piece.tokens();
+            if !slice.is_empty() {
+                return Some(slice);
+            }
+        }
+        let (last, none) = self.last.split_at(self.last.len());
+        if last.is_empty() {
+            return None;
+        }
+        *self = Slices {
+            pieces: self.pieces,
+            last: none,
+        };
+        Some(TokenSlice::Hidden(last))
     }
 }

@@ -44,13 +44,24 @@ pub(crate) enum Lookahead<'t, 'x, 'a> {
     Unknown,
 }
 
+/// Gives each token this hide set alone.
+fn set_hide(tokens: &mut [Hidden], hide: Set)
+    ensures { tokens.new ≡ map (with_set hide) (tokens_of tokens.old) }
+{
+    for hidden in tokens.iter_mut() {
+        let used = hidden.used();
+        hidden.set_use(used, hide);
+    }
+}
+
 impl<'a> TokenStack<'a> {
-    /// Creates a stack of tokens of a file, each with this hide set. It uses the memory of the vector.
-    pub(crate) fn over(pushed: Vec<Hidden<'a>>, tokens: &'a [Token], hide: Set) -> TokenStack<'a>
-        ensures { result ≡ map (with_set hide) tokens.now }
+    /// Creates a stack of these tokens and then tokens of a file, each with this hide set alone.
+    pub(crate) fn over(first: Vec<Hidden<'a>>, tokens: &'a [Token], hide: Set) -> TokenStack<'a>
+        ensures { result ≡ map (with_set hide) (tokens_of first.entry.items ++ tokens.now) }
     {
-        let mut pushed = pushed;
-        pushed.clear();
+        let mut pushed = first;
+        set_hide(pushed.as_mut_slice(), hide);
+        pushed.reverse();
         TokenStack {
             pushed,
             below: TokenSpan::new(tokens, hide),

@@ -5,10 +5,6 @@ use Rattle.pptext.specs.declared.tokens.Token.{Token}
 use Rattle.ppmacro.specs.Names.{Macros}
 use Rattle.ppexpr.specs.DefinedOperator.{is_defined, Operand, operand, defined_value, ReplacesDefined, nothing, other, defined_use}
 
--- Tokens with equal fields are equal.
-pub same_token : (u t : Token) → (u.text ≡ t.text) × ((u.at ≡ t.at) × ((u.used ≡ t.used) × ((u.kind ≡ t.kind) × (u.space ≡ t.space)))) → u ≡ t
-same_token u t e = λ i. record { text = e.0 i; at = e.1.0 i; used = e.1.1.0 i; kind = e.1.1.1.0 i; space = e.1.1.1.1 i }
-
 -- `vs` is `without_defined`, followed by `rest` with its uses of `defined` replaced
 pub record Ahead (macros : Macros) (without_defined rest vs : List Token) : Type 0 where
   pub us : List Token

@@ -18,7 +18,7 @@ pub mod MachineCorrectness
 pub mod TreeUniqueness
 -- The invariant of the loop that replaces the uses of `defined` by numbers.
 pub mod DefinedReplacement
--- The invariant of the loop that converts tokens to symbols.
+-- Symbols of tokens that are read in several parts.
 pub mod SymbolSteps
 -- The steps that evaluate a condition.
 pub mod ConditionSteps

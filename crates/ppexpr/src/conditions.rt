@@ -1,21 +1,25 @@
 //! Evaluates the controlling expression of `#if` or `#elif` (6.10.1).
 ghost use Rattle.std.specs.Prelude.{◌≡◌, ◌++◌, List};
 ghost use Rattle.std.specs.List.{list_any};
-ghost use Rattle.pptext.specs.Errors.{Raises, UnlessOutOfMemory};
+ghost use Rattle.pptext.specs.Errors.{Raises, Returns, UnlessOutOfMemory};
 ghost use Rattle.pptext.specs.declared.tokens.Token.{Token};
 ghost use Rattle.ppexpr.specs.DefinedOperator.{is_defined, ReplacesDefined};
+ghost use Rattle.ppexpr.specs.Tokens.{symbols_of};
 ghost use Rattle.ppexpr.specs.Conditions.{failure_fault, taken, EvaluatesShallow, EvaluatesSymbols, EvaluatesTokens, IsCondition};
 
 use crate::defined_only::evaluate_defined_only;
-use crate::defined_operator::{is_defined, without_defined};
+use crate::defined_operator::without_defined;
 use crate::nesting::is_too_nested;
 use crate::parsing::parse;
 use crate::symbols::{Failure, Symbol, Value};
-use crate::tokens::symbols_of;
-use ppexpand::{Env, Expanded, Meter, Scratch, expand};
+use crate::tokens::{has_defined, have_defined, push_all_symbols, push_symbols};
+use ppexpand::{Env, Expanded, Meter, Scratch, TokenSlice, expand, expand_list};
 use ppmacro::Table;
 use pptext::{Error, Place, Token};
 use std::alloc::Global;
+
+/// The number of symbols for which a condition has room at first. Few have more.
+const USUAL_SYMBOLS: usize = 32;
 
 /// Returns the error of an expression without a value.
 fn failure_error(alloc: Global, at: Place, failure: Failure) -> Error
@@ -58,34 +62,32 @@ fn evaluate_symbols(alloc: Global, at: Place, symbols: &[Symbol]) -> Result<bool
     evaluate_shallow(alloc, at, symbols)
 }
 
-/// Returns whether one of the tokens is `defined`.
-fn has_defined(tokens: &[Token]) -> bool
-    ensures { result ≡ list_any is_defined tokens.now }
+/// Returns whether one of the tokens of a prefix and of a scratch after it is `defined`.
+fn emits_defined(prefix: &[Token], scratch: &Scratch) -> bool
+    ensures { result ≡ list_any is_defined (prefix.now ++ scratch.now) }
 {
-    tokens.iter().any(|token| is_defined(token))
+    has_defined(TokenSlice::InFile(prefix)) || have_defined(scratch.slices())
 }
 
-/// Evaluates tokens after macro replacement.
-fn evaluate_tokens(alloc: Global, at: Place, tokens: &[Token]) -> Result<bool, Error>
-    ensures { UnlessOutOfMemory result (λ c. EvaluatesTokens at tokens.now c) }
+/// Returns the symbols of a prefix and of the tokens of a scratch after it, or the first fault from the left.
+fn symbols_of(at: Place, prefix: &[Token], scratch: &Scratch) -> Result<Vec<Symbol>, Error>
+    ensures { Returns result (λ v. v.items) (symbols_of at (prefix.now ++ scratch.now)) }
 {
-    if has_defined(tokens) {
-        return Err(Error::bare(alloc, 22, at));
-    }
-    let symbols = symbols_of(alloc, at, tokens)?;
-    evaluate_symbols(alloc, at, symbols.as_slice())
+    let mut symbols = Vec::with_capacity(scratch.alloc(), USUAL_SYMBOLS)?;
+    push_symbols(&mut symbols, at, TokenSlice::InFile(prefix))?;
+    push_all_symbols(&mut symbols, at, scratch.slices())?;
+    Ok(symbols)
 }
 
-/// Evaluates a prefix and the tokens of a scratch after it. Copies the tokens only if macros were replaced.
+/// Evaluates a prefix and the tokens of a scratch after it.
 fn evaluate_emitted(at: Place, prefix: &[Token], scratch: &Scratch) -> Result<bool, Error>
     ensures { UnlessOutOfMemory result (λ c. EvaluatesTokens at (prefix.now ++ scratch.now) c) }
 {
-    let alloc = scratch.alloc();
-    if scratch.is_empty() {
-        return evaluate_tokens(alloc, at, prefix);
+    if emits_defined(prefix, scratch) {
+        return Err(Error::bare(scratch.alloc(), 22, at));
     }
-    let tokens = scratch.to_vec(prefix)?;
-    evaluate_tokens(alloc, at, tokens.as_slice())
+    let symbols = symbols_of(at, prefix, scratch)?;
+    evaluate_symbols(scratch.alloc(), at, symbols.as_slice())
 }
 
 /// Replaces macros in tokens in which each use of `defined` is replaced, and evaluates the result.
@@ -108,21 +110,21 @@ fn evaluate_expansion<'x, 'a: 'x>(
 }
 
 /// Replaces each use of `defined` and then macros, and evaluates the result.
-fn evaluate_replaced(
-    table: &Table,
+fn evaluate_replaced<'x, 'a: 'x>(
+    table: &Table<'a>,
     env: &Env,
     meter: &mut Meter,
     at: Place,
-    tokens: &[Token],
-    scratch: &mut Scratch,
+    tokens: &'x [Token],
+    scratch: &mut Scratch<'x>,
 ) -> Result<bool, Error>
     ensures { UnlessOutOfMemory result (λ c. IsCondition table.now.macros env.now at tokens.now meter.old c meter.new) }
 {
-    let without_defined = without_defined(scratch.alloc(), table, at, tokens)?;
-    let mut lent = scratch.lend()?;
-    let taken = evaluate_expansion(table, env, meter, at, without_defined.as_slice(), &mut lent);
-    scratch.take_back(lent);
-    taken
+    let without_defined = without_defined(table, at, tokens, scratch)?;
+    match expand_list(table, env, meter, without_defined, scratch)? {
+        Some(fault) => Err(Error::Fault(fault)),
+        None => evaluate_emitted(at, &[], scratch),
+    }
 }
 
 /// Returns whether the group after `#if` or `#elif` is taken (6.10.1).
@@ -156,8 +158,8 @@ pub fn evaluate<'x, 'a: 'x>(
     if let Some(taken) = evaluate_defined_only(table, tokens) {
         return Ok(taken);
     }
-    // Most of the others have no use of `defined`, so that their tokens are not copied.
-    if has_defined(tokens) {
+    // Most of the others have no use of `defined`, so that they are expanded as they stand in the file.
+    if has_defined(TokenSlice::InFile(tokens)) {
         return evaluate_replaced(table, env, meter, at, tokens, scratch);
     }
     evaluate_expansion(table, env, meter, at, tokens, scratch)

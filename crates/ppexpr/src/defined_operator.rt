@@ -6,6 +6,7 @@ ghost use Rattle.pptext.specs.Errors.{UnlessOutOfMemory};
 ghost use Rattle.pptext.specs.Tokens.{fault};
 ghost use Rattle.ppexpr.specs.DefinedOperator.{is_defined, parenthesized, operand, defined_value, ReplacesDefined};
 
+use ppexpand::{Scratch, TokenList};
 use ppmacro::Table;
 use pptext::{Error, Kind, Place, Spelling, Token};
 use std::alloc::{AllocError, Global};
@@ -76,28 +77,29 @@ fn defined_value(
     })
 }
 
-/// Replaces each use of `defined` by a number. If a use has no operand, the error is fault 22 at `at`.
-pub(crate) fn without_defined(
-    alloc: Global,
+/// Replaces each use of `defined` by a number. The list is for the scratch. If a use has no operand, the error is fault 22 at `at`.
+pub(crate) fn without_defined<'x>(
     table: &Table,
     at: Place,
-    tokens: &[Token],
-) -> Result<Vec<Token>, Error>
-    ensures { UnlessOutOfMemory result (λ r. MatchResult r (λ v. ReplacesDefined table.now.macros tokens.now v.items)
+    tokens: &'x [Token],
+    scratch: &mut Scratch<'x>,
+) -> Result<TokenList<'x>, Error>
+    ensures { UnlessOutOfMemory result (λ r. MatchResult r (λ v. ReplacesDefined table.now.macros tokens.now v)
         (λ f. (f ≡ fault 22 at []) × ((us : List Token) → ¬ ReplacesDefined table.now.macros tokens.now us))) }
 {
-    let mut without_defined = Vec::with_capacity(alloc, tokens.len())?;
+    let alloc = scratch.alloc();
+    let mut without_defined = scratch.list();
     let mut rest = tokens;
     while let Some((first, following)) = rest.split_first() {
         if !is_defined(first) {
-            without_defined.push(first.clone()?)?;
+            without_defined.push_borrowed(first)?;
             rest = following;
             continue;
         }
         let Some((name, following)) = operand(following) else {
             return Err(Error::bare(alloc, 22, at));
         };
-        without_defined.push(defined_value(alloc, table, first, name)?)?;
+        without_defined.push_owned(defined_value(alloc, table, first, name)?)?;
         rest = following;
     }
     Ok(without_defined)

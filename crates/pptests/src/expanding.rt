@@ -2,7 +2,7 @@
 //! are in tests/row_tests.py and tests/token_tests.py, which compare the program's output.
 use crate::defining::{directed, env, source_of};
 use crate::showing::assert_shown;
-use ppexpand::{Expanded, Meter, Piece, Scratch, TokenRef, TokenSlice, expand};
+use ppexpand::{Expanded, Meter, Piece, Scratch, TokenRef, TokenSlice, expand, expand_list};
 use ppmacro::{Hidden, Table};
 use pptext::{BoxedFault, Hashing, Memory, Source, Token};
 use std::alloc::{AllocError, Global};
@@ -194,19 +194,54 @@ fn spelled(prefix: &[Token], scratch: &Scratch) -> Result<Vec<u8>, AllocError> {
     Ok(text)
 }
 
-/// Asserts that expansions by one scratch, and by one that it lends, are equal: nothing remains of the one before.
-fn assert_repeated(
+/// Asserts that the expansion of tokens by a scratch has these spellings.
+fn assert_spelled<'x>(
     rt: &impl Abort,
-    table: &Table,
-    tokens: &[Token],
-    scratch: &mut Scratch,
+    table: &Table<'x>,
+    tokens: &'x [Token],
+    scratch: &mut Scratch<'x>,
+    wanted: &str,
 ) -> Result<(), Memory> {
     let mut meter = Meter::new(None);
+    let Expanded { prefix, fault: _ } = expand(table, &env(0), &mut meter, tokens, scratch)?;
+    assert_shown(rt, spelled(prefix, scratch)?.as_slice(), wanted);
+    Ok(())
+}
+
+/// Asserts that the expansion of a list with the first token of a file, a copy of it, and the file's tokens has these spellings.
+fn assert_list_spelled<'x>(
+    rt: &impl Abort,
+    table: &Table<'x>,
+    tokens: &'x [Token],
+    scratch: &mut Scratch<'x>,
+    wanted: &str,
+) -> Result<(), Memory> {
+    let mut meter = Meter::new(None);
+    let mut list = scratch.list();
+    for first in tokens.iter().take(1) {
+        list.push_borrowed(first)?;
+        list.push_owned(first.clone()?)?;
+    }
+    for token in tokens {
+        list.push_borrowed(token)?;
+    }
+    let fault = expand_list(table, &env(0), &mut meter, list, scratch)?;
+    assert!(rt; fault.is_none());
+    assert_shown(rt, spelled(&[], scratch)?.as_slice(), wanted);
+    Ok(())
+}
+
+/// Asserts that expansions by one scratch are equal: nothing remains of the one before.
+fn assert_repeated<'x>(
+    rt: &impl Abort,
+    alloc: Global,
+    table: &Table<'x>,
+    tokens: &'x [Token],
+) -> Result<(), Memory> {
+    let mut scratch = Scratch::new(alloc, table.hashing())?;
     for _ in 0..3 {
-        let mut lent = scratch.lend()?;
-        let Expanded { prefix, fault: _ } = expand(table, &env(0), &mut meter, tokens, &mut lent)?;
-        assert_shown(rt, spelled(prefix, &lent)?.as_slice(), ".a.1.b.2.2.1");
-        scratch.take_back(lent);
+        assert_spelled(rt, table, tokens, &mut scratch, ".a.1.b.2.2.1")?;
+        assert_list_spelled(rt, table, tokens, &mut scratch, ".a.a.a.1.b.2.2.1")?;
     }
     Ok(())
 }
@@ -217,7 +252,6 @@ fn expands_again(rt: HostRuntime) -> Result<(), Fail> {
     let source = source_of(&rt, rt.alloc(), text.as_slice())?;
     let mut table = Table::new(rt.alloc())?;
     let tokens = directed(&rt, rt.alloc(), &mut table, &source)?;
-    let mut scratch = Scratch::new(rt.alloc(), table.hashing())?;
-    assert_repeated(&rt, &table, tokens, &mut scratch)?;
+    assert_repeated(&rt, rt.alloc(), &table, tokens)?;
     Ok(())
 }

@@ -9,6 +9,10 @@ use Rattle.ppunit.specs.States.{Search}
 use Rattle.ppunit.specs.Including.{name_of_expansion, if_possible_name}
 use Rattle.ppunit.specs.Probing.{is_has_include, opens, probe_result, closing, operator_number, parenthesized, first_and_rest, probed_after, probed}
 
+-- Tokens with equal fields are equal.
+pub same_token : (u t : Token) → (u.text ≡ t.text) × ((u.at ≡ t.at) × ((u.used ≡ t.used) × ((u.kind ≡ t.kind) × (u.space ≡ t.space)))) → u ≡ t
+same_token u t e = λ i. record { text = e.0 i; at = e.1.0 i; used = e.1.1.0 i; kind = e.1.1.1.0 i; space = e.1.1.1.1 i }
+
 -- the slice after an index
 pub rest_behind : (ts : List Token) (i : ℕ) → take (length ts - (i + 1)) (drop (i + 1) ts) ≡ drop (suc i) ts
 rest_behind ts i = let same : i + 1 ≡ suc i = omega arith in rw same (grind (arith, common_steps))

@@ -102,23 +102,22 @@ fn value<'x>(state: &mut State<'x>, at: Place, tokens: &'x [Token]) -> Result<bo
     )
 }
 
-/// Evaluates a condition whose tokens are dropped before those of the scratch.
+/// Evaluates a condition whose tokens are of no file, with a scratch of its own, since they are dropped before those of the unit's.
+#[inline(never)]
 fn evaluate_probed(
+    alloc: Global,
     table: &Table,
     env: &Env,
     meter: &mut Meter,
     at: Place,
     tokens: Vec<Token>,
-    scratch: &mut Scratch,
 ) -> Result<bool, Error>
     ensures { UnlessOutOfMemory result (λ taken.
         IsCondition table.now.macros env.now at tokens.items meter.old taken meter.new) }
 {
     let probed = tokens;
-    let mut lent = scratch.lend()?;
-    let taken = evaluate(table, env, meter, at, probed.as_slice(), &mut lent);
-    scratch.take_back(lent);
-    taken
+    let mut scratch = Scratch::new(alloc, table.hashing())?;
+    evaluate(table, env, meter, at, probed.as_slice(), &mut scratch)
 }
 
 /// Evaluates a condition in which each `__has_include` is replaced, with the meter of the unit.
@@ -128,11 +127,11 @@ fn value_of_probed(state: &mut State, at: Place, tokens: Vec<Token>) -> Result<b
         IsCondition state.old.macros state.old.env at tokens.items state.old.meter taken state.new.meter) }
 {
     evaluate_probed(
+        state.scratch.alloc(),
         &state.macros,
         &state.file_context.env,
         &mut state.meter,
         at,
         tokens,
-        &mut state.scratch,
     )
 }

@@ -1,11 +1,13 @@
-use Rattle.std.proofs.Common.{◌≡◌, ◌∙◌, ℕ, List, sym, ap, subst, map}
+use Rattle.std.proofs.Common.{◌≡◌, ◌∙◌, ℕ, List, ◌++◌, sym, ap, subst, map}
 use Rattle.ppmacro.specs.Names.{Macros}
 use Rattle.ppmacro.specs.Hiding.{Hiding}
 use Rattle.ppmacro.specs.HideSets.{hidings, AllKnown}
 use Rattle.ppmacro.specs.Substitution.{unhidden}
+use Rattle.ppmacro.specs.Substituting.{tokens_of}
 use Rattle.ppexpand.specs.declared.env.Env.{Env}
 use Rattle.ppexpand.specs.declared.meter.Meter.{Meter}
 use Rattle.ppexpand.specs.Expansion.{Outcome, ExpandsTo}
+use Rattle.ppexpand.specs.code.Lists.{with_set}
 use Rattle.ppexpand.proofs.SkippedTokens.{known-with_set, hidings-with_set}
 use Rattle.ppexpand.proofs.expansion.expand_tokens.Goals as goal
 
@@ -26,12 +28,16 @@ expand_list-outcome-requires-clause-known c =
 pub returns-in-Ok : goal.returns-in-Ok
 returns-in-Ok c =
     let s = c.renew_sets.new.self.replacer.sets in
-    let start : hidings s c.over-list.result ≡ map unhidden c.args.tokens.now = ap (hidings s) c.over-list.ensures ∙ hidings-with_set s c.empty.result c.args.tokens.now c.empty.ensures.set in
+    let tokens = tokens_of c.args.stack.now.items ++ c.args.tokens.now in
+    let start : hidings s c.over-list.result ≡ map unhidden tokens =
+    ap (hidings s) (c.over-list.ensures ∙ (λ i. map (with_set c.empty.result) (tokens_of (c.replace-pushed.ensures.value i).items ++ c.args.tokens.now))) ∙ hidings-with_set s c.empty.result tokens c.empty.ensures.set in
     (c.expand_list-outcome.new.self.replacer.sets, at_start _ _ _ _ _ _ _ _ c.requires.level c.renew_sets.ensures.meter start (rw c.in-Ok.is at c.expand_list-outcome.ensures.outcome))
 
 pub returns-in-Err-Fault : goal.returns-in-Err-Fault
 returns-in-Err-Fault c =
     let s = c.renew_sets.new.self.replacer.sets in
-    let start : hidings s c.over-list.result ≡ map unhidden c.args.tokens.now = ap (hidings s) c.over-list.ensures ∙ hidings-with_set s c.empty.result c.args.tokens.now c.empty.ensures.set in
+    let tokens = tokens_of c.args.stack.now.items ++ c.args.tokens.now in
+    let start : hidings s c.over-list.result ≡ map unhidden tokens =
+    ap (hidings s) (c.over-list.ensures ∙ (λ i. map (with_set c.empty.result) (tokens_of (c.replace-pushed.ensures.value i).items ++ c.args.tokens.now))) ∙ hidings-with_set s c.empty.result tokens c.empty.ensures.set in
     let raised = rw c.in-Err-Fault.field-0-is at (rw c.in-Err-Fault.is at c.expand_list-outcome.ensures.outcome) in
     (c.expand_list-outcome.new.self.replacer.sets, at_start _ _ _ _ _ _ _ _ c.requires.level c.renew_sets.ensures.meter start raised)

@@ -1,8 +1,7 @@
 use Rattle.std.proofs.Common.{◌∙◌, sym}
-use Rattle.ppexpr.proofs.DefinedReplacement.{same_token}
 use Rattle.ppunit.specs.code.Contexts.{search_in_unit}
 use Rattle.ppunit.proofs.OptionCases.{none_of}
-use Rattle.ppunit.proofs.HasIncludeNumbers.{rest_behind, probes_other, probes_number, probes_open, probes_unasked}
+use Rattle.ppunit.proofs.HasIncludeNumbers.{same_token, rest_behind, probes_other, probes_number, probes_open, probes_unasked}
 use Rattle.ppunit.proofs.probing.probe.Goals as goal
 
 pub loop-first-preserved-then-not-begins_operator : goal.loop-first-preserved-then-not-begins_operator

@@ -1,5 +1,5 @@
 use Rattle.std.proofs.Common.{◌≡◌, ◌++◌, length}
-use Rattle.ppexpand.proofs.emitted.copy_slice.Given as goal
+use Rattle.ppexpand.proofs.scratch.copy_slice.Given as goal
 
 abbrev pub invariant-loop-token : goal.invariant-loop-token
 invariant-loop-token l = l.tokens.items ++ l.slice ≡ l.initial.tokens.items ++ l.initial.slice
