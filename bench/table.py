@@ -33,6 +33,8 @@ from measure import MEGABYTE, PROGRAM, apart
 KEPT = ("__has_include __has_include_next __has_attribute __has_cpp_attribute __has_c_attribute __has_builtin __COUNTER__"
         " __INCLUDE_LEVEL__ __TIMESTAMP__ __BASE_FILE__ _Pragma").split()
 PLAIN = ["-std=c11", "-w", "-undef", "-nostdinc", *("-U" + name for name in KEPT)]
+# in a list of the profile `gnu` the operators are gcc's own, and so they are left to each compiler
+GNU = ["-std=gnu11", "-w", "-undef", "-nostdinc"]
 TASKS = {"dump": ["-E", "-P"], "deps": ["-M"]}
 OURS = "cppunits, %d worker%s"
 
@@ -80,7 +82,10 @@ def flag_of(definition):
 
 def flags_of(unit, whole):
     folders = [*unit.get("search", ()), *whole.get("search", ())]
-    return [*PLAIN, *map(flag_of, unit.get("define", ())), *("-I" + folder for folder in folders)]
+    plain, given = PLAIN, unit.get("define", ())
+    if whole.get("profile") == "gnu":
+        plain, given = GNU, [one for one in given if not one.startswith("__has_")]
+    return [*plain, *map(flag_of, given), *("-I" + folder for folder in folders)]
 
 
 def prepare(path, root, folder):
