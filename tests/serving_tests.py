@@ -419,8 +419,8 @@ class Workers(Folder):
 
     def test_each_worker_is_a_thread(self):
         """Would find that the options for workers and blocks are exchanged, which changes no output."""
-        doubling = "".join("#define A%d A%d A%d\n" % (n + 1, n, n) for n in range(12))
-        write(self.top, {"list.json": listed([{"name": "a.c", "text": doubling + "A12\n"}], [UNIT] * 200)})
+        doubling = "".join("#define A%d A%d A%d\n" % (n + 1, n, n) for n in range(15))
+        write(self.top, {"list.json": listed([{"name": "a.c", "text": doubling + "A15\n"}], [UNIT] * 200)})
         more = self.threads("--workers", "9", "--block", "3") - self.threads("--workers", "3", "--block", "9")
         self.assertEqual(more, 6)
 
