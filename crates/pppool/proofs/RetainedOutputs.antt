@@ -6,7 +6,6 @@ use Rattle.pppool.specs.code.Workers.{IsRetained}
 use Rattle.ppunit.specs.declared.units.Setting.{Setting}
 use Rattle.ppunit.specs.declared.units.UnitOut.{UnitOut}
 use Rattle.ppunit.specs.Laws.{Grows}
-use Rattle.ppunit.specs.Unit.{IsUnit}
 use Rattle.ppunit.specs.Units.{AreUnits}
 use Rattle.pppool.specs.declared.retention.Retain.{Retain}
 use Rattle.pppool.specs.declared.retention.Retain.TheVariants.{Everything}
@@ -20,13 +19,6 @@ pub kept_grows : Grows
     → IsRetained retain names new setting unit out
 kept_grows grows retain names old new setting unit out more is =
     record { whole = is.whole; value = (grows names old new setting unit is.whole more is.value).0; same = is.same }
-
--- `retained retain whole` satisfies `IsRetained` if `whole` is the unit's value.
-pub kept_of : (retain : Retain) (names : List (List ℕ)) (files : Files) (setting : Setting) (unit : UnitOfList) (whole out : UnitOut)
-    → IsUnit names files setting unit whole
-    → out ≡ retained retain whole
-    → IsRetained retain names files setting unit out
-kept_of retain names files setting unit whole out is same = record { whole = whole; value = is; same = same }
 
 map_whole : (outs : List UnitOut) → map (retained Everything) outs ≡ outs
 map_whole [] = refl

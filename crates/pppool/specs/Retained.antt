@@ -1,16 +1,13 @@
 -- What is kept of the units' outputs.
-use Rattle.std.specs.Prelude.{◌≡◌, ℕ, List, [], map}
+use Rattle.std.specs.Prelude.{◌≡◌, ℕ, List, map}
 use Rattle.ppshelf.specs.Files.{Files}
 use Rattle.ppunit.specs.declared.units.Unit.{Unit as UnitOfList}
 use Rattle.ppunit.specs.declared.units.Setting.{Setting}
 use Rattle.ppunit.specs.declared.units.UnitOut.{UnitOut}
+use Rattle.ppunit.specs.Unit.{without_items}
 use Rattle.ppunit.specs.Units.{AreUnits, AreInBudget, AreCapped}
 use Rattle.pppool.specs.declared.retention.Retain.{Retain}
 use Rattle.pppool.specs.declared.retention.Retain.TheVariants.{Everything, WithoutItems}
-
--- an output without its items
-abbrev pub without_items : UnitOut → UnitOut
-without_items out = record { items = []; deps = out.deps; fault = out.fault }
 
 -- what is kept of an output
 abbrev pub retained : Retain → UnitOut → UnitOut

@@ -3,15 +3,16 @@ ghost use Rattle.std.specs.Prelude.{◌≡◌, ℕ, ◌<◌, ◌≤◌, ◌/◌,
 ghost use Rattle.ppunit.specs.Unit.{IsUnitOf};
 ghost use Rattle.ppshelf.specs.Events.{times};
 ghost use Rattle.pppool.specs.Desk.{max_blocks, new_seat};
-ghost use Rattle.pppool.specs.code.Workers.{AreUnitResults, IsDone, result_units};
+ghost use Rattle.pppool.specs.code.Workers.{IsRetained, AreUnitResults, IsDone, result_units};
+ghost use Rattle.ppshelf.specs.Files.{Extends};
 
 use crate::desk::{Desk, DeskSeat};
 use crate::gate::Gate;
 use crate::limits::Block;
-use crate::retention::{Retain, retained};
+use crate::retention::Retain;
 use ppshelf::{Disk, Pass, Shelf};
 use pptext::Memory;
-use ppunit::{Setting, Unit, UnitOut, growth, preprocess};
+use ppunit::{Setting, Unit, UnitOut, growth, preprocess, preprocess_without_items};
 use std::alloc::Global;
 use std::marker::Model;
 
@@ -76,6 +77,26 @@ impl<D: Disk> Drop for Worker<'_, D> {
     }
 }
 
+/// Preprocesses a unit. Returns what is kept of its output.
+fn unit_output<'a, D: Disk, G: Gate>(
+    job: &Job<'a, '_, D, G>,
+    pass: &mut Pass<'a, D>,
+    unit: &'a Unit,
+) -> Result<UnitOut<'a>, Memory>
+    requires shelf { pass.old.shelf ≡ job.now.shelf.now }
+    requires profile { job.now.shelf.now.profile ≡ job.now.setting.now.profile }
+    requires unit { IsUnitOf (length job.now.shelf.now.names) job.now.setting.now.profile unit.now }
+    ensures shelf { pass.new.shelf ≡ job.now.shelf.now }
+    ensures grows { Extends pass.new.files pass.old.files }
+    ensures is { IfOk result (λ out. IsRetained job.now.retain job.now.shelf.now.names pass.new.files job.now.setting.now unit.now out) }
+{
+    let (alloc, shelf, disk, setting) = (job.alloc, job.shelf, job.disk, job.setting);
+    match job.retain {
+        Retain::Everything => preprocess(alloc, shelf, pass, disk, setting, unit),
+        Retain::WithoutItems => preprocess_without_items(alloc, shelf, pass, disk, setting, unit),
+    }
+}
+
 impl<'a, D: Disk> Worker<'a, D> {
     /// Preprocesses the unit with this number.
     fn work_unit<G: Gate>(&mut self, job: &Job<'a, '_, D, G>, unit: usize) -> Result<(), Memory>
@@ -92,16 +113,9 @@ impl<'a, D: Disk> Worker<'a, D> {
         ensures result_units { OnOk result (result_units self.new.results.items ≡ result_units self.old.results.items ++ unit ∷ []) }
     {
         job.gate.enter(unit);
-        let outcome = preprocess(
-            job.alloc,
-            job.shelf,
-            &mut self.pass,
-            job.disk,
-            job.setting,
-            &job.units[unit],
-        );
+        let outcome = unit_output(job, &mut self.pass, &job.units[unit]);
         growth();
-        let out = retained(job.alloc, job.retain, outcome?);
+        let out = outcome?;
         self.results.push(UnitResult { unit, out })?;
         Ok(())
     }

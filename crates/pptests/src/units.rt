@@ -10,7 +10,7 @@ use ppshelf::{File, MAX_ROWS, MemoryDisk, Pass, Shelf};
 use pptext::{Fault, Hashing, Memory, Profile, Token};
 use ppunit::{
     CommandMacros, Item, ItemRef, ItemSlice, Items, OwnedText, OwnedTexts, Setting, Unit, UnitOut,
-    fits_command, preprocess, unit_ok,
+    fits_command, preprocess, preprocess_without_items, unit_ok,
 };
 use std::alloc::{AllocError, Global};
 use std::process::Abort;
@@ -181,6 +181,16 @@ fn as_text(alloc: Global, out: &UnitOut) -> Result<Vec<u8>, Fail> {
     Ok(text)
 }
 
+/// Fails unless the other output has no items, and the files and the fault of this one.
+fn check_without_items(alloc: Global, out: &UnitOut, other: &UnitOut) -> Result<(), Fail> {
+    let mut wanted = Vec::new(alloc);
+    push_end(alloc, &mut wanted, out.deps.as_slice(), out.fault.as_ref())?;
+    if as_text(alloc, other)?.as_slice() != wanted.as_slice() {
+        return Err(Fail::new("items, other files or another fault"));
+    }
+    Ok(())
+}
+
 /// Preprocesses a unit. If an allocation fails, preprocesses it again with the same file table and pass.
 fn preprocess_again<'a>(
     alloc: Global,
@@ -220,6 +230,8 @@ fn given<'a>(
         return Err(Fail::new("no such unit"));
     }
     let out = preprocess_again(alloc, shelf, pass, disk, setting, unit)?;
+    let other = preprocess_without_items(alloc, shelf, pass, disk, setting, unit)?;
+    check_without_items(alloc, &out, &other)?;
     as_text(alloc, &out)
 }
 

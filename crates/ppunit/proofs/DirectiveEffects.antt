@@ -1,6 +1,6 @@
 -- A control line that opens no file and isn't `#error` has an effect. Only this file splits on the directives of these
 -- lines: the other lemmas cite what it says of effects.
-use Rattle.std.proofs.Common.{◌≡◌, ◌≢◌, ℕ, ◌≤◌, ◌⊎◌, inl, inr, List, [], ◌∷◌, Bool, true, false, Option, Some, None, Result, Ok, Err, refl, sym, ap, ◌∙◌, subst, arith, append-nil, if◌then◌else◌}
+use Rattle.std.proofs.Common.{◌≡◌, ◌≢◌, ℕ, ◌≤◌, ◌⊎◌, inl, inr, List, [], ◌∷◌, Bool, true, false, Option, Some, None, Result, Ok, Err, refl, sym, ap, ◌∙◌, subst, arith, if◌then◌else◌}
 use Rattle.pptext.specs.declared.tokens.Token.{Token}
 use Rattle.pptext.specs.declared.tokens.Fault.{Fault}
 use Rattle.pptext.specs.declared.sources.Directive.{Directive}
@@ -27,13 +27,14 @@ use Rattle.ppunit.specs.LineControl.{Presumed, presumed, renumbered}
 use Rattle.ppunit.specs.Directives.{ExecutesDirective, SetsLine, with_macros, renumbered_by, is_once, pragma_emitted, checks_quotes}
 use Rattle.ppunit.specs.Counts.{count_control_by}
 use Rattle.ppunit.specs.code.Effects.{Effect, affected, no_effect, only_fault, macros_effect, pragma_effect, immediate_effect, line_effect, HasEffect}
+use Rattle.ppunit.proofs.KeptItems.{kept-nothing}
 
 -- ---- the outcome of each effect
 
 -- a line that emits nothing
 nothing_emitted : (s : State) (macros : Macros) (env : Env) (f : Option Fault)
     → affected s (record { macros = macros; items = []; once = s.once; env = env; fault = f }) ≡ record { state = record s { macros = macros; env = env }; fault = f }
-nothing_emitted s macros env f = ap (λ items. record { state = record s { macros = macros; items = items; env = env }; fault = f }) (append-nil s.items)
+nothing_emitted s macros env f = ap (λ items. record { state = record s { macros = macros; items = items; env = env }; fault = f }) (kept-nothing s.keeps s.items)
 
 of_macros : (s : State) (r : Result Macros Fault) → affected s (macros_effect s r) ≡ with_macros s r
 of_macros s (Ok macros) = nothing_emitted s macros s.env None

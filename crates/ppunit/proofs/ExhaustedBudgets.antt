@@ -1,5 +1,5 @@
 -- If their budget is too small, lines, groups and units stop with fault 35, after a prefix of their full output.
-use Rattle.std.proofs.Common.{◌≡◌, ℕ, ◌<◌, List, [], ◌++◌, map, Bool, true, false, Option, Some, Result, Ok, Err, refl, sym, ap, ◌∙◌, subst, arith, append_assoc, append-nil, zero, suc, ◌+◌, ◌-◌, ◌≤◌}
+use Rattle.std.proofs.Common.{◌≡◌, ℕ, ◌<◌, List, [], ◌++◌, map, Bool, true, false, Option, Some, Result, Ok, Err, refl, sym, ap, ◌∙◌, subst, arith, append-nil, zero, suc, ◌+◌, ◌-◌, ◌≤◌}
 use Rattle.std.proofs.lemmas.List.{map-append}
 use Rattle.pptext.specs.declared.tokens.Place.{Place}
 use Rattle.pptext.specs.declared.tokens.Token.{Token}
@@ -13,7 +13,7 @@ use Rattle.ppexpand.specs.Expansion.{count_expansion}
 use Rattle.ppexpand.proofs.BudgetLemmas.{StopsEarly, Covers, expansion_short, covers_less}
 use Rattle.ppexpr.proofs.ConditionBudgets.{condition_short}
 use Rattle.ppunit.specs.declared.units.Item.{Item}
-use Rattle.ppunit.specs.States.{State, Progress, stopped, emitted, with_meter, Search, file_context, in_file_context, Context, with_dependency, with_one_spent}
+use Rattle.ppunit.specs.States.{State, Progress, stopped, emitted, kept, with_meter, Search, file_context, in_file_context, Context, with_dependency, with_one_spent}
 use Rattle.ppunit.specs.DirectiveLines.{operands, line_fault, text_tokens}
 use Rattle.ppunit.specs.LineControl.{presumed}
 use Rattle.ppunit.specs.Including.{IncludeName, begins_with_header, name_of_expansion_or}
@@ -31,6 +31,8 @@ use Rattle.ppunit.proofs.SufficientBudgets.{budgeted, holding, run_enough, asks_
 use Rattle.ppunit.proofs.SufficientBudgets.{group_rest, branches_rest, control_rest, defines_rest, group_enough, branches_enough, control_enough, defines_enough}
 use native.Mathlib.Decide.{dec_lt}
 use Rattle.ppunit.specs.declared.units.Item.TheVariants as item
+use Rattle.ppexpand.specs.Laws.{IsPrefix}
+use Rattle.ppunit.proofs.KeptItems.{kept-first}
 
 -- ---- if its budget is too small, a line stops with fault 35, after a prefix of its full output
 
@@ -59,11 +61,12 @@ run_short s tokens m b is g less =
     let items : List Item = map item.Token x.expansion.tokens in
     let more : List Item = map item.Token x.begins.0 in
     let made : map item.Token g.expanded.tokens ≡ items ++ more = ap (λ ts. map item.Token ts) x.begins.1 ∙ map-append item.Token x.expansion.tokens x.begins.0 in
-    let whole : m.state.items ≡ (s.items ++ items) ++ more = ap (λ r. r.state.items) g.is ∙ ap (λ l. s.items ++ l) made ∙ sym (append_assoc s.items items more) in
+    let whole : m.state.items ≡ kept s.keeps s.items (items ++ more) = ap (λ r. r.state.items) g.is ∙ ap (kept s.keeps s.items) made in
+    let begins : IsPrefix (kept s.keeps s.items items) m.state.items = subst (IsPrefix (kept s.keeps s.items items)) (sym whole) (kept-first s.keeps s.items items more) in
     let deps : m.state.deps ≡ s.deps = ap (λ r. r.state.deps) g.is in (
       emitted (with_meter s x.expansion.meter) items,
       x.fault,
-      record { number = x.number; before = ((more, whole), ([], deps ∙ sym (append-nil s.deps))) },
+      record { number = x.number; before = (begins, ([], deps ∙ sym (append-nil s.deps))) },
       record { expanded = x.expansion; expands = x.is; is = λ i. record { state = emitted (with_meter s x.expansion.meter) items; fault = (sym x.stopped) i } },
     )
 

@@ -2,7 +2,6 @@
 use Rattle.std.proofs.Common.{◌≡◌, ℕ, suc, ◌+◌, ◌≤◌, Bool, true, false, List, [], ◌∷◌, ◌++◌, Option, Some, None, Ok, refl, sym, ap, ◌∙◌, subst, IsTrue, ◌↔◌}
 use Rattle.std.specs.List.{AllByRecursion}
 use Rattle.std.proofs.lemmas.Bool.{false≢true}
-use Rattle.std.proofs.lemmas.List.{append-nil}
 use Rattle.pptext.specs.declared.tokens.Place.{Place}
 use Rattle.pptext.specs.declared.tokens.Token.{Token}
 use Rattle.pptext.specs.Lines.{LogicalLine}
@@ -26,6 +25,7 @@ use Rattle.ppunit.specs.code.Opening.{IsLeftOut}
 use Rattle.ppunit.proofs.FileTokens.{IsSpelledLine, source_spelled}
 use Rattle.ppunit.proofs.GuardLines.{guard_line}
 use Rattle.ppunit.proofs.TextRuns.{none_next}
+use Rattle.ppunit.proofs.KeptItems.{kept-nothing}
 
 -- ---- the file
 
@@ -42,7 +42,7 @@ nothing_gives s = (
   record {
     expanded = record { tokens = []; fault = None; meter = s.meter };
     expands = record { outcome = stops_with s.meter None; expands = (0, done (none_next s.macros s.env s.meter)); emitted = refl; fault_is = refl; meter_is = refl };
-    is = ap (λ (items : List Item). running (record s { items = items })) (sym (append-nil s.items));
+    is = ap (λ (items : List Item). running (record s { items = items })) (sym (kept-nothing s.keeps s.items));
   },
   refl,
 )

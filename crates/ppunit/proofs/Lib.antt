@@ -62,6 +62,10 @@ pub mod GuardLines
 pub mod GuardedFiles
 -- The budget is the count of phase 4 plus the remaining budget.
 pub mod BudgetSums
+-- Items of a unit, if they are kept.
+pub mod KeptItems
+-- Whether items are kept changes nothing else.
+pub mod UnkeptItems
 -- Phase 4 only appends to the items and the dependencies.
 pub mod OutputPrefixes
 -- Lines, groups and units have the same effect with any sufficient budget, and leave the rest of the budget.

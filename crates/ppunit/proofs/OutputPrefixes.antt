@@ -16,6 +16,7 @@ use Rattle.ppunit.specs.Group.{ExecutesGroup, ExecutesBranches, ExecutesControlL
 use Rattle.ppunit.specs.code.Effects.{line_effect, HasEffect}
 use Rattle.ppunit.proofs.DirectiveEffects.{effect_of}
 use Rattle.ppunit.specs.declared.units.Item.TheVariants as item
+use Rattle.ppunit.proofs.KeptItems.{kept-before}
 
 pub same_beginning : {A : Type 0} (xs : List A) → IsPrefix xs xs
 same_beginning xs = ([], sym (append-nil xs))
@@ -41,15 +42,15 @@ depends s row = (same_beginning s.items, joined (has_row row s.deps))
     joined false = (row ∷ [], refl)
 
 effect_before : {profile : Profile} {row : ℕ} {d : Option Directive} {s : State} {line : LogicalLine} {m : Progress} → HasEffect profile row d s line m → Before s m.state
-effect_before {s = s} (HasEffect.immediate {e = e} is gives) = subst (λ x. Before s x.state) (sym gives) ((e.items, refl), same_beginning s.deps)
+effect_before {s = s} (HasEffect.immediate {e = e} is gives) = subst (λ x. Before s x.state) (sym gives) (kept-before s.keeps s.items e.items, same_beginning s.deps)
 effect_before {s = s} {line = line} (HasEffect.expanding x is expands gives) =
-    subst (λ x. Before s x.state) (sym gives) (((line_effect s line x.fault (presumed x.tokens)).items, refl), same_beginning s.deps)
+    subst (λ x. Before s x.state) (sym gives) (kept-before s.keeps s.items (line_effect s line x.fault (presumed x.tokens)).items, same_beginning s.deps)
 
 pub control_by_before : (profile : Profile) (row : ℕ) (d : Option Directive) (s : State) (line : LogicalLine) (m : Progress) → ExecutesDirective profile row d s line m → Before s m.state
 control_by_before profile row d s line m g = effect_before (effect_of profile row d s line m g)
 
 run_before : (s : State) (tokens : List Token) (m : Progress) → EmitsText s tokens m → Before s m.state
-run_before s tokens m g = subst (λ x. Before s x.state) (sym g.is) ((map item.Token g.expanded.tokens, refl), same_beginning s.deps)
+run_before s tokens m g = subst (λ x. Before s x.state) (sym g.is) (kept-before s.keeps s.items (map item.Token g.expanded.tokens), same_beginning s.deps)
 
 module _ (context : Context) where
   mutual

@@ -1,5 +1,5 @@
 -- A walk over a text run, and the end of a text run. A run without tokens, for example of blank lines, emits nothing.
-use Rattle.std.proofs.Common.{◌≡◌, ℕ, List, [], ◌∷◌, length, nat_eq, Option, None, Some, refl, append-nil, sym, true, suc, arith, ◌≢◌, ◌+◌, ◌-◌, ◌<◌, ◌++◌, take, drop, ap, ◌∙◌, subst, ◌≤◌, add-one, Bool, false, if◌then◌else◌}
+use Rattle.std.proofs.Common.{◌≡◌, ℕ, List, [], ◌∷◌, length, nat_eq, Option, None, Some, refl, sym, true, suc, arith, ◌≢◌, ◌+◌, ◌-◌, ◌<◌, ◌++◌, take, drop, ap, ◌∙◌, subst, ◌≤◌, add-one, Bool, false, if◌then◌else◌}
 use Rattle.std.proofs.lemmas.Bool.{eqb-true}
 use Rattle.pptext.specs.declared.tokens.Token.{Token}
 use Rattle.ppmacro.specs.Names.{Macros}
@@ -22,6 +22,7 @@ use Rattle.ppunit.specs.code.Walk.{line_at, EnclosingSections, lines_to_end, Are
 use Rattle.ppunit.proofs.FirstLineCases.{lay_run, text_directive, branches_differ, First, text, control, opening, ending}
 use Rattle.ppunit.proofs.WalkSteps.{ends_front, ends_stop, AdvancesFrom, advances, first_at, run_result}
 use Rattle.pptext.proofs.IndexedLines.{at_index, from_index}
+use Rattle.ppunit.proofs.KeptItems.{kept-nothing}
 
 -- ---- a text run without tokens, for example of blank lines, emits nothing
 
@@ -44,7 +45,7 @@ without_tokens s = record {
     fault_is = refl;
     meter_is = refl;
   };
-  is = λ i. record { state = record s { items = sym (append-nil s.items) i }; fault = None };
+  is = λ i. record { state = record s { items = sym (kept-nothing s.keeps s.items) i }; fault = None };
 }
 
 pub empty_run : (s : State) (ts : List Token) → nat_eq (length ts) 0 ≡ true → EmitsText s ts (record { state = s; fault = None })

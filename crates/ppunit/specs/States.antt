@@ -1,5 +1,5 @@
 -- The state of phase 4 in a unit (5.1.1.2, 6.10).
-use Rattle.std.specs.Prelude.{ℕ, pos, List, [], ◌∷◌, ◌++◌, Option, Some, None}
+use Rattle.std.specs.Prelude.{ℕ, pos, Bool, true, false, List, [], ◌∷◌, ◌++◌, Option, Some, None}
 use Rattle.pptext.specs.declared.tokens.Fault.{Fault}
 use Rattle.pptext.specs.declared.sources.Profile.{Profile}
 use Rattle.ppmacro.specs.Substitution.{escaped_literal}
@@ -42,7 +42,9 @@ search_of context =
 -- the state of phase 4
 pub record State : Type 0 where
   pub macros : Macros
-  -- the items that were emitted
+  -- whether items are kept
+  pub keeps : Bool
+  -- the items that were emitted, if they are kept
   pub items : List Item
   -- the indices of the opened files, in the order of their first opening
   pub deps : List ℕ
@@ -74,8 +76,13 @@ running s = record { state = s; fault = None }
 abbrev pub stopped : State → Fault → Progress
 stopped s f = record { state = s; fault = Some f }
 
+-- the items after others were emitted
+abbrev pub kept : Bool → List Item → List Item → List Item
+kept true items more = items ++ more
+kept false items more = items
+
 abbrev pub emitted : State → List Item → State
-emitted s items = record s { items = s.items ++ items }
+emitted s items = record s { items = kept s.keeps s.items items }
 
 -- the state in which the file at index `row` is a dependency
 abbrev pub with_dependency : State → ℕ → State

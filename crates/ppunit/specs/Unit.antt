@@ -1,5 +1,5 @@
 -- The value of a unit: phases 1 to 4 of its definitions and its file.
-use Rattle.std.specs.Prelude.{◌≡◌, ℕ, ◌+◌, ◌<◌, pos, List, [], None, Ok, Err}
+use Rattle.std.specs.Prelude.{◌≡◌, ℕ, Bool, true, ◌+◌, ◌<◌, pos, List, [], None, Ok, Err}
 use Rattle.pptext.specs.declared.tokens.Place.{Place}
 use Rattle.pptext.specs.declared.tokens.Fault.{Fault}
 use Rattle.pptext.specs.declared.sources.Profile.{Profile}
@@ -17,11 +17,12 @@ use Rattle.ppunit.specs.States.{State, Context, Progress, running, stopped, outp
 use Rattle.ppunit.specs.Group.{ExecutesGroup, OpensFile}
 use Rattle.ppunit.specs.Counts.{count_group, count_opening}
 
--- a unit begins with the predefined names (6.10.8.1) and nothing else
-abbrev pub initial_state : Setting → State
-initial_state setting =
+-- a unit begins with the predefined names (6.10.8.1) and nothing else; the flag says whether its items are kept
+abbrev pub state_before : Bool → Setting → State
+state_before keeps setting =
     record {
       macros = predefined;
+      keeps = keeps;
       items = [];
       deps = [];
       once = [];
@@ -30,6 +31,9 @@ initial_state setting =
           { name = []; shift = pos 0; date = setting.date; time = setting.time };
       directory = None;
     }
+
+abbrev pub initial_state : Setting → State
+initial_state setting = state_before true setting
 
 -- the location of the file's first byte
 abbrev pub first_place : ℕ → Place
@@ -83,6 +87,16 @@ pub record IsUnit (names : List (List ℕ)) (files : Files) (setting : Setting) 
   pub progress : Progress
   pub translates : Translates (context_of_unit names files setting unit) unit.defines.texts unit.file (initial_state setting) progress
   pub is_output : out ≡ output progress
+
+-- an output without its items
+abbrev pub without_items : UnitOut → UnitOut
+without_items out = record { items = []; deps = out.deps; fault = out.fault }
+
+-- the value of a unit over these files, but for its items
+pub record IsUnitWithoutItems (names : List (List ℕ)) (files : Files) (setting : Setting) (unit : UnitOfList) (out : UnitOut) : Type 0 where
+  pub whole : UnitOut
+  pub value : IsUnit names files setting unit whole
+  pub is_output : out ≡ without_items whole
 
 -- the number of replacements and opened files of a unit, including the main file
 abbrev pub count : {names : List (List ℕ)} {files : Files} {setting : Setting} {unit : UnitOfList} {out : UnitOut}

@@ -1,4 +1,5 @@
 //! File indices and items. Their models are lists.
+ghost use Rattle.ppunit.specs.States.{kept};
 ghost use Rattle.ppunit.specs.code.Chunks.{chunk_items};
 ghost use Rattle.ppmacro.specs.Substituting.{tokens_of};
 ghost use Rattle.ppexpand.specs.Slices.{piece_list, slice_tokens};
@@ -168,12 +169,23 @@ impl<'a> Items<'a> {
         Ok(())
     }
 
-    /// Appends an expansion: a prefix, and the tokens of a scratch after it. They are removed from the scratch.
-    pub(crate) fn extend(
+    /// Appends an expansion if items are kept.
+    pub(crate) fn extend_if(
         &mut self,
+        keeps: bool,
         prefix: &'a [Token],
         scratch: &mut Scratch<'a>,
     ) -> Result<(), Memory>
+        ensures { OnOk result (self.new ≡ kept keeps self.old (map item.Token (prefix.now ++ scratch.old))) }
+    {
+        if !keeps {
+            return Ok(());
+        }
+        self.extend(prefix, scratch)
+    }
+
+    /// Appends an expansion: a prefix, and the tokens of a scratch after it. They are removed from the scratch.
+    fn extend(&mut self, prefix: &'a [Token], scratch: &mut Scratch<'a>) -> Result<(), Memory>
         ensures { OnOk result (self.new ≡ self.old ++ map item.Token (prefix.now ++ scratch.old)) }
     {
         self.push_in_file(prefix)?;

@@ -31,7 +31,9 @@ pub(crate) fn emit_text<'x>(state: &mut State<'x>, tokens: &'x [Token]) -> Resul
         tokens,
         &mut state.scratch,
     )?;
-    state.items.extend(prefix, &mut state.scratch)?;
+    state
+        .items
+        .extend_if(state.keeps, prefix, &mut state.scratch)?;
     match fault {
         None => Ok(()),
         Some(fault) => Err(Error::Fault(fault)),

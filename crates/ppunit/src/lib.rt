@@ -31,6 +31,6 @@ pub use laws::{
     some_value, stays_in_budget,
 };
 pub use pptext::{OwnedText, OwnedTexts};
-pub use preprocessing::preprocess;
+pub use preprocessing::{preprocess, preprocess_without_items};
 pub use units::{Item, Setting, Unit, UnitOut};
 pub use well_formed::{fits_command, is_date, is_one_line, is_time, setting_ok, unit_ok};

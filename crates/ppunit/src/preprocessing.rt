@@ -14,7 +14,7 @@ ghost use Rattle.ppshelf.specs.Files.{Files, Extends, Agree, AllPermitted};
 ghost use Rattle.ppunit.specs.States.{Progress, output};
 ghost use Rattle.ppunit.specs.code.Contexts.{context_over};
 ghost use Rattle.ppunit.specs.Group.{OpensFile};
-ghost use Rattle.ppunit.specs.Unit.{IsUnit, IsUnitOf, Translates, initial_state, first_place};
+ghost use Rattle.ppunit.specs.Unit.{IsUnit, IsUnitWithoutItems, IsUnitOf, Translates, state_before, first_place};
 ghost use Rattle.ppunit.specs.Capped.{IsInBudget, IsCappedOver};
 ghost use Rattle.ppunit.specs.code.Preprocessor.{KeepsContext};
 ghost use Rattle.ppunit.specs.code.Walk.{DefinesOver};
@@ -137,6 +137,7 @@ fn into_output<'x>(
         macros: _,
         once: _,
         meter: _,
+        keeps: _,
         items,
         deps,
         file_context: _,
@@ -145,12 +146,13 @@ fn into_output<'x>(
     unit_out(items, deps, outcome)
 }
 
-/// Returns the output of a unit over the files of `context`.
+/// Returns the output of a unit over the files of `context`, with its items if `keeps`.
 fn run_unit<'x, 'a: 'x, D: Disk>(
     context: &UnitContext<'a, '_, D>,
     pass: &mut Pass<'a, D>,
     setting: &Setting,
     unit: &'x Unit,
+    keeps: bool,
 ) -> Result<UnitOut<'x>, Memory>
     requires shelf { pass.old.shelf ≡ context.now.shelf }
     requires row { unit.now.file < length context.now.shelf.names }
@@ -159,10 +161,10 @@ fn run_unit<'x, 'a: 'x, D: Disk>(
     ensures grows { Extends pass.new.files pass.old.files }
     ensures value { IfOk result (λ out.
         (progress : Progress)
-        × Translates (context_over context.now pass.new.files) unit.now.defines.texts unit.now.file (initial_state setting.now) progress
+        × Translates (context_over context.now pass.new.files) unit.now.defines.texts unit.now.file (state_before keeps setting.now) progress
         × (out ≡ output progress)) }
 {
-    let state = State::new(context.alloc, setting, context.shelf().hashing())?;
+    let state = State::new(context.alloc, setting, context.shelf().hashing(), keeps)?;
     let mut preprocessor = Preprocessor {
         context,
         pass,
@@ -212,11 +214,47 @@ pub fn preprocess<'x, 'a: 'x, D: Disk>(
         setting: setting.search.as_slice(),
     };
     let context = UnitContext::new(alloc, shelf, disk, directories);
-    let output = run_unit(&context, pass, setting, unit);
+    let output = run_unit(&context, pass, setting, unit, true);
     // For proofs: file names are distinct, the contents are permitted, and the theorems about budgets hold.
     shelf.names_are_distinct();
     pass.contents_permitted();
     stays_in_budget();
     budget_caps_units();
     output
+}
+
+/// Executes translation phases 1 to 4 of a unit like `preprocess`, but keeps no items, which dependencies and faults don't need. The output
+/// is the one of `preprocess` without its items.
+///
+/// Fails only if an allocation fails or the disk returns `Memory`; the pass then has at least what it had observed before.
+pub fn preprocess_without_items<'x, 'a: 'x, D: Disk>(
+    alloc: Global,
+    shelf: &'a Shelf<D>,
+    pass: &mut Pass<'a, D>,
+    disk: &D,
+    setting: &Setting,
+    unit: &'x Unit,
+) -> Result<UnitOut<'x>, Memory>
+    requires shelf { pass.old.shelf ≡ shelf.now }
+    requires profile { shelf.now.profile ≡ setting.now.profile }
+    requires unit { IsUnitOf (length shelf.now.names) setting.now.profile unit.now }
+    ensures shelf { pass.new.shelf ≡ shelf.now }
+    ensures grows { Extends pass.new.files pass.old.files }
+    ensures is { IfOk result (λ out. IsUnitWithoutItems shelf.now.names pass.new.files setting.now unit.now out) }
+{
+    let directories = Directories {
+        unit: unit.search.as_slice(),
+        setting: setting.search.as_slice(),
+    };
+    let context = UnitContext::new(alloc, shelf, disk, directories);
+    let UnitOut {
+        items: _,
+        deps,
+        fault,
+    } = run_unit(&context, pass, setting, unit, false)?;
+    Ok(UnitOut {
+        items: Items::new(alloc),
+        deps,
+        fault,
+    })
 }

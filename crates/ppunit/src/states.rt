@@ -4,7 +4,7 @@ ghost use Rattle.std.specs.List.{list_any};
 ghost use Rattle.ppmacro.specs.Substitution.{escaped_literal};
 ghost use Rattle.ppexpand.specs.Budget.{is_exhausted};
 ghost use Rattle.ppunit.specs.States.{file_context, in_file_context, emitted, with_dependency, with_once, with_one_spent, literal};
-ghost use Rattle.ppunit.specs.Unit.{initial_state};
+ghost use Rattle.ppunit.specs.Unit.{initial_state, state_before};
 ghost use Rattle.ppunit.specs.declared.units.Item.TheVariants as item;
 
 use crate::collections::{Items, Rows};
@@ -30,6 +30,8 @@ pub(crate) struct FileContext {
 #[derive(Drop)]
 pub(crate) struct State<'x> {
     pub macros: Table<'x>,
+    /// Whether items are kept.
+    pub keeps: bool,
     pub items: Items<'x>,
     pub deps: Rows,
     pub once: Rows,
@@ -55,6 +57,7 @@ impl<'x> Model for State<'x> {
 
     ghost view = { λ s. record {
       macros = s.macros.macros;
+      keeps = s.keeps;
       items = s.items;
       deps = s.deps;
       once = s.once;
@@ -65,27 +68,35 @@ impl<'x> Model for State<'x> {
 }
 
 impl<'x> State<'x> {
-    /// Creates a state that has the predefined names and no items. Macro names are hashed by `hashing`.
+    /// Creates a state that has the predefined names and no items, and keeps items if `keeps`. Macro names are hashed by `hashing`.
     pub(crate) fn new(
         alloc: Global,
         setting: &Setting,
         hashing: Hashing,
+        keeps: bool,
     ) -> Result<State<'x>, Memory>
-        ensures { IfOk result (λ s. s ≡ initial_state setting.now) }
+        ensures { IfOk result (λ s. s ≡ state_before keeps setting.now) }
     {
         let macros = Table::with_hasher(alloc, hashing)?;
         let env = initial_env(alloc, setting)?;
         let scratch = Scratch::new(alloc, hashing)?;
-        Ok(State::initial(macros, Meter::new(setting.budget), env, scratch))
+        Ok(State::initial(macros, Meter::new(setting.budget), env, scratch, keeps))
     }
 
     /// Creates a state with no items and no opened files.
-    fn initial(macros: Table<'x>, meter: Meter, env: Env, scratch: Scratch<'x>) -> State<'x>
-        ensures { result ≡ record { macros = macros.entry.macros; items = []; deps = []; once = []; meter = meter; env = env; directory = None } }
+    fn initial(
+        macros: Table<'x>,
+        meter: Meter,
+        env: Env,
+        scratch: Scratch<'x>,
+        keeps: bool,
+    ) -> State<'x>
+        ensures { result ≡ record { macros = macros.entry.macros; keeps = keeps; items = []; deps = []; once = []; meter = meter; env = env; directory = None } }
     {
         let alloc = scratch.alloc();
         State {
             macros,
+            keeps,
             items: Items::new(alloc),
             deps: Rows::new(alloc),
             once: Rows::new(alloc),
@@ -117,6 +128,9 @@ impl<'x> State<'x> {
     pub(crate) fn emit_pragma(&mut self, at: Place, tokens: &'x [Token]) -> Result<(), Memory>
         ensures { OnOk result (self.new ≡ emitted self.old (item.Pragma at tokens.now ∷ [])) }
     {
+        if !self.keeps {
+            return Ok(());
+        }
         self.items.push_pragma(at, tokens)
     }
 

@@ -1,6 +1,6 @@
 -- The effect of a control line that opens no file and isn't `#error` (6.10.3 to 6.10.7), apart from what it spends of
 -- the budget. Only proofs cite this: each `ExecutesDirective` has such an effect.
-use Rattle.std.specs.Prelude.{◌≡◌, ℕ, List, [], ◌∷◌, ◌++◌, if◌then◌else◌, Option, None, Some, Result, Ok, Err}
+use Rattle.std.specs.Prelude.{◌≡◌, ℕ, List, [], ◌∷◌, if◌then◌else◌, Option, None, Some, Result, Ok, Err}
 use Rattle.pptext.specs.declared.tokens.Fault.{Fault}
 use Rattle.pptext.specs.declared.tokens.Token.{Token}
 use Rattle.pptext.specs.declared.sources.Directive.{Directive}
@@ -16,7 +16,7 @@ use Rattle.ppexpand.specs.Expansion.{IsExpansion}
 use Rattle.ppunit.specs.declared.units.Item.{Item}
 use Rattle.ppunit.specs.declared.units.Item.TheVariants as item
 use Rattle.ppunit.specs.Dependencies.{with_row}
-use Rattle.ppunit.specs.States.{State, Progress, with_meter}
+use Rattle.ppunit.specs.States.{kept, State, Progress, with_meter}
 use Rattle.ppunit.specs.DirectiveLines.{operands, line_fault, named_fault}
 use Rattle.ppunit.specs.LineControl.{Presumed, presumed, renumbered}
 use Rattle.ppunit.specs.Directives.{is_once}
@@ -32,7 +32,7 @@ pub record Effect : Type 0 where
 
 -- the outcome of a line with this effect: the dependencies, the budget and the directory stay
 abbrev pub affected : State → Effect → Progress
-affected s e = record { state = record s { macros = e.macros; items = s.items ++ e.items; once = e.once; env = e.env }; fault = e.fault }
+affected s e = record { state = record s { macros = e.macros; items = kept s.keeps s.items e.items; once = e.once; env = e.env }; fault = e.fault }
 
 abbrev pub no_effect : State → Effect
 no_effect s = record { macros = s.macros; items = []; once = s.once; env = s.env; fault = None }

@@ -48,7 +48,8 @@ returns c =
     let expands = subst (λ (s : State). IsExpansion s.macros s.env s.meter c.args.tokens.now out) c.state.view_is c.in_ok-prefix.ensures in
     let after : State = record {
       macros = inside.macros.macros;
-      items = c.extend.new.self;
+      keeps = inside.keeps;
+      items = c.extend_if.new.self;
       deps = inside.deps;
       once = inside.once;
       meter = meter;
@@ -56,7 +57,7 @@ returns c =
       directory = inside.file_context.directory;
     } in
     let is = subst (λ (s : State). after ≡ emitted (with_meter s meter) (map item.Token out.tokens)) c.state.view_is
-    (ap (λ (items : List Item). record after { items = items }) c.in_ok-extend.ensures) in
+    (ap (λ (items : List Item). record after { items = items }) c.in_ok-extend_if.ensures) in
     elim c.match-fault-2.branch [
       | in-None w ↦ emits c.args.state.now after c.args.tokens.now out _ expands is w.in-None.is w.result-is
       | in-Some w ↦ emits_fault c.args.state.now after c.args.tokens.now out _ w.in-Some.fault expands is w.in-Some.is w.result-is

@@ -5,7 +5,7 @@ use Rattle.std.specs.declared.alloc.AllocError.{AllocError as Memory}
 use Rattle.ppshelf.specs.Files.{Files, Extends}
 use Rattle.ppunit.specs.States.{State, Progress, output}
 use Rattle.ppunit.specs.code.Contexts.{context_over}
-use Rattle.ppunit.specs.Unit.{Translates, initial_state}
+use Rattle.ppunit.specs.Unit.{Translates, state_before}
 use Rattle.ppunit.proofs.preprocessing.run_unit.Goals as goal
 
 pub returns-clause-grows : goal.returns-clause-grows
@@ -18,8 +18,8 @@ returns-clause-value g c =
     let files = c.first_fault-outcome.new.self.pass.now.files in
     let Ended : Result (Option Fault) Memory → Type 0 = λ e.
     IfOk e (λ fault. From files c.in_ok-state.state (record { state = c.first_fault-outcome.new.self.state; fault = fault })) in
-    subst (λ (z : Files). IfOk c.into_output.result (λ out. (r : Progress) × From z (initial_state c.args.setting.now) r × (out ≡ output r))) (search rules)
-    (IfOk-weaker c.into_output.result _ (λ out. (r : Progress) × From files (initial_state c.args.setting.now) r × (out ≡ output r))
+    subst (λ (z : Files). IfOk c.into_output.result (λ out. (r : Progress) × From z (state_before c.args.keeps c.args.setting.now) r × (out ≡ output r))) (search rules)
+    (IfOk-weaker c.into_output.result _ (λ out. (r : Progress) × From files (state_before c.args.keeps c.args.setting.now) r × (out ≡ output r))
     (λ out ends.
     let r : Progress = record { state = c.first_fault-outcome.new.self.state; fault = ends.0 } in
     let translated : From files c.in_ok-state.state r = subst Ended ends.1 c.first_fault-outcome.ensures.translated in

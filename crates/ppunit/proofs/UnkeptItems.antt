@@ -1,0 +1,183 @@
+-- Whether items are kept changes nothing else.
+use Rattle.std.proofs.Common.{◌≡◌, ◌∙◌, ℕ, List, Bool, true, false, Option, Some, None, Result, Ok, Err, refl, ap, map}
+use Rattle.pptext.specs.declared.tokens.Token.{Token}
+use Rattle.pptext.specs.declared.tokens.Fault.{Fault}
+use Rattle.pptext.specs.declared.tokens.Place.{Place}
+use Rattle.pptext.specs.declared.sources.Profile.{Profile}
+use Rattle.pptext.specs.declared.sources.Directive.{Directive}
+use Rattle.pptext.specs.Lines.{LogicalLine}
+use Rattle.pptext.specs.Tree.{GroupParts, Branches}
+use Rattle.ppexpand.specs.declared.meter.Meter.{Meter}
+use Rattle.ppunit.specs.declared.units.Item.{Item}
+use Rattle.ppunit.specs.declared.units.Item.TheVariants as item
+use Rattle.ppunit.specs.States.{State, Search, Context, Progress, kept, with_meter}
+use Rattle.ppunit.specs.DirectiveLines.{text_tokens}
+use Rattle.ppunit.specs.Conditions.{Decides}
+use Rattle.ppunit.specs.Including.{IncludeName}
+use Rattle.ppunit.specs.Directives.{EmitsText, ExecutesDirective, NamesHeaderBy}
+use Rattle.ppunit.specs.DirectiveLines.{operands}
+use Rattle.ppunit.specs.Including.{begins_with_header}
+use Rattle.ppunit.specs.Group.{ExecutesGroup, ExecutesBranches, ExecutesControlLine, ExecutesInclude, OpensFile}
+use Rattle.ppunit.specs.Unit.{Defines, unread, processed, Translates, definitions_fault, translated}
+use Rattle.pptext.specs.declared.sources.Directive.TheVariants.{Null, Define, Undef, Pragma, Unknown}
+use Rattle.ppunit.specs.LineControl.{Presumed, presumed}
+use Rattle.ppunit.specs.code.Effects.{Effect, affected, immediate_effect, line_effect, HasEffect}
+use Rattle.ppunit.proofs.DirectiveEffects.{effect_of, executes}
+
+-- the state with other items, kept or not
+abbrev pub holding_items : Bool → List Item → State → State
+holding_items keeps items s = record s { keeps = keeps; items = items }
+
+abbrev pub with_items : Bool → List Item → Progress → Progress
+with_items keeps items m = record { state = holding_items keeps items m.state; fault = m.fault }
+
+module _ (keeps : Bool) where
+  text_any : (items : List Item) (s : State) (tokens : List Token) (m : Progress) → EmitsText s tokens m
+      → (more : List Item) × EmitsText (holding_items keeps items s) tokens (with_items keeps more m)
+  text_any items s tokens m g =
+      let more : List Item = kept keeps items (map item.Token g.expanded.tokens) in
+      (more, record { expanded = g.expanded; expands = g.expands; is = ap (with_items keeps more) g.is })
+
+  decides_any : {search : Search} {row : ℕ} {s : State} {line : LogicalLine} {meter_after : Meter} {taken : Result Bool Fault} (items : List Item)
+      → Decides search row s line meter_after taken
+      → Decides search row (holding_items keeps items s) line meter_after taken
+  decides_any items (Decides.unmatched q d) = Decides.unmatched q d
+  decides_any items (Decides.tests_name q k d) = Decides.tests_name q k d
+  decides_any items (Decides.names_no_header q k e d) = Decides.names_no_header q k e d
+  decides_any items (Decides.evaluates q k e d) = Decides.evaluates q k e d
+
+  asks_by_any : (header : Bool) (s : State) (line : List Token) (meter_after : Meter) (include_name : Result IncludeName Fault) (items : List Item)
+      → NamesHeaderBy header s line meter_after include_name
+      → NamesHeaderBy header (holding_items keeps items s) line meter_after include_name
+  asks_by_any true s line meter_after include_name items g = g
+  asks_by_any false s line meter_after include_name items g = record { expanded = g.expanded; expands = g.expands; leaves = g.leaves; is = g.is }
+
+  effect_of_any_items : (profile : Profile) (row : ℕ) (d : Option Directive) (s : State) (line : LogicalLine) (items : List Item)
+      → immediate_effect profile row d (holding_items keeps items s) line ≡ immediate_effect profile row d s line
+  effect_of_any_items profile row (Some Null) s line items = refl
+  effect_of_any_items profile row (Some Define) s line items = refl
+  effect_of_any_items profile row (Some Undef) s line items = refl
+  effect_of_any_items profile row (Some Pragma) s line items = refl
+  effect_of_any_items profile row (Some Unknown) s line items = refl
+  effect_of_any_items profile row d s line items = refl
+
+  line_of_any_items : (s : State) (line : LogicalLine) (f : Option Fault) (p : Option Presumed) (items : List Item) → line_effect s line f p ≡ line_effect (holding_items keeps items s) line f p
+  line_of_any_items s line (Some f) p items = refl
+  line_of_any_items s line None None items = refl
+  line_of_any_items s line None (Some p) items = refl
+
+  effect_any : (profile : Profile) (row : ℕ) (d : Option Directive) (s : State) (line : LogicalLine) (m : Progress) (items : List Item)
+      → HasEffect profile row d s line m
+      → (more : List Item) × HasEffect profile row d (holding_items keeps items s) line (with_items keeps more m)
+  effect_any profile row d s line m items (HasEffect.immediate {e = e} does gives) =
+      let more : List Item = kept keeps items e.items in
+      (more, HasEffect.immediate (effect_of_any_items profile row d s line items ∙ does) (ap (with_items keeps more) gives))
+  effect_any profile row d s line m items (HasEffect.expanding x does expands gives) =
+      let e : Effect = line_effect s line x.fault (presumed x.tokens) in
+      let more : List Item = kept keeps items e.items in (
+        more,
+        HasEffect.expanding x does expands
+            (ap (with_items keeps more) gives ∙ ap (affected (with_meter (holding_items keeps items s) x.meter)) (line_of_any_items s line x.fault (presumed x.tokens) items)),
+      )
+
+  directive_any : (profile : Profile) (row : ℕ) (d : Option Directive) (s : State) (line : LogicalLine) (m : Progress) (items : List Item)
+      → ExecutesDirective profile row d s line m
+      → (more : List Item) × ExecutesDirective profile row d (holding_items keeps items s) line (with_items keeps more m)
+  directive_any profile row d s line m items g =
+      let h = effect_any profile row d s line m items (effect_of profile row d s line m g) in
+      (h.0, executes profile row d (holding_items keeps items s) line (with_items keeps h.0 m) h.1)
+
+  module _ (context : Context) where
+    mutual
+      group_any : {depth row : ℕ} {r : Progress} {ps : GroupParts} {end : Progress} (items : List Item)
+          → ExecutesGroup context depth row r ps end
+          → (more : List Item) × ExecutesGroup context depth row (with_items keeps items r) ps (with_items keeps more end)
+      group_any items ExecutesGroup.already_stopped = (items, ExecutesGroup.already_stopped)
+      group_any items ExecutesGroup.no_parts = (items, ExecutesGroup.no_parts)
+      group_any items (ExecutesGroup.text_lines {s = s} {lines = lines} {m = m} gives rest) =
+          let here = text_any items s (text_tokens lines) m gives in
+          let more = group_any here.0 rest in
+          (more.0, ExecutesGroup.text_lines here.1 more.1)
+      group_any items (ExecutesGroup.control line rest) =
+          let here = control_any items line in
+          let more = group_any here.0 rest in
+          (more.0, ExecutesGroup.control here.1 more.1)
+      group_any items (ExecutesGroup.taken decides group rest) =
+          let here = group_any items group in
+          let more = group_any here.0 rest in
+          (more.0, ExecutesGroup.taken (decides_any items decides) here.1 more.1)
+      group_any items (ExecutesGroup.skipped decides branches rest) =
+          let here = branches_any items branches in
+          let more = group_any here.0 rest in
+          (more.0, ExecutesGroup.skipped (decides_any items decides) here.1 more.1)
+      group_any items (ExecutesGroup.condition_fault decides) = (items, ExecutesGroup.condition_fault (decides_any items decides))
+
+      branches_any : {depth row : ℕ} {s : State} {bs : Branches} {m : Progress} (items : List Item)
+          → ExecutesBranches context depth row s bs m
+          → (more : List Item) × ExecutesBranches context depth row (holding_items keeps items s) bs (with_items keeps more m)
+      branches_any items ExecutesBranches.no_branch_taken = (items, ExecutesBranches.no_branch_taken)
+      branches_any items (ExecutesBranches.else_group e group) =
+          let here = group_any items group in
+          (here.0, ExecutesBranches.else_group e here.1)
+      branches_any items (ExecutesBranches.branch_taken e decides group) =
+          let here = group_any items group in
+          (here.0, ExecutesBranches.branch_taken e (decides_any items decides) here.1)
+      branches_any items (ExecutesBranches.branch_skipped e decides rest) =
+          let more = branches_any items rest in
+          (more.0, ExecutesBranches.branch_skipped e (decides_any items decides) more.1)
+      branches_any items (ExecutesBranches.branch_condition_fault e decides) = (items, ExecutesBranches.branch_condition_fault e (decides_any items decides))
+
+      control_any : {depth row : ℕ} {s : State} {line : LogicalLine} {m : Progress} (items : List Item)
+          → ExecutesControlLine context depth row s line m
+          → (more : List Item) × ExecutesControlLine context depth row (holding_items keeps items s) line (with_items keeps more m)
+      control_any items (ExecutesControlLine.error e) = (items, ExecutesControlLine.error e)
+      control_any items (ExecutesControlLine.ignored e) = (items, ExecutesControlLine.ignored e)
+      control_any items (ExecutesControlLine.quote_fault e q) = (items, ExecutesControlLine.quote_fault e q)
+      control_any {row = row} items (ExecutesControlLine.executed {s = s} {line = line} {m = m} q does) =
+          let here = directive_any context.profile row line.directive s line m items does in
+          (here.0, ExecutesControlLine.executed q here.1)
+      control_any items (ExecutesControlLine.include e q line) =
+          let here = includes_any items line in
+          (here.0, ExecutesControlLine.include e q here.1)
+
+      includes_any : {depth row : ℕ} {previous : Option ℕ} {s : State} {line : LogicalLine} {m : Progress} (items : List Item)
+          → ExecutesInclude context depth row previous s line m
+          → (more : List Item) × ExecutesInclude context depth row previous (holding_items keeps items s) line (with_items keeps more m)
+      includes_any items (ExecutesInclude.operand_fault {s = s} {line = line} {meter_after = meter_after} {f = f} asks) =
+          (items, ExecutesInclude.operand_fault (asks_by_any (begins_with_header (operands line.tokens)) s line.tokens meter_after (Err f) items asks))
+      includes_any items (ExecutesInclude.missing {s = s} {line = line} {meter_after = meter_after} a asks finds) =
+          (items, ExecutesInclude.missing a (asks_by_any (begins_with_header (operands line.tokens)) s line.tokens meter_after (Ok a) items asks) finds)
+      includes_any items (ExecutesInclude.included {s = s} {line = line} {meter_after = meter_after} a found asks finds opens) =
+          let here = opened_any items opens in
+          (here.0, ExecutesInclude.included a found (asks_by_any (begins_with_header (operands line.tokens)) s line.tokens meter_after (Ok a) items asks) finds here.1)
+
+      opened_any : {depth row : ℕ} {directory : Option ℕ} {at : Place} {s : State} {m : Progress} (items : List Item)
+          → OpensFile context depth at s row directory m
+          → (more : List Item) × OpensFile context depth at (holding_items keeps items s) row directory (with_items keeps more m)
+      opened_any items (OpensFile.too_deep deep) = (items, OpensFile.too_deep deep)
+      opened_any items (OpensFile.exhausted fits spent) = (items, OpensFile.exhausted fits spent)
+      opened_any items (OpensFile.not_read_again fits more once) = (items, OpensFile.not_read_again fits more once)
+      opened_any items (OpensFile.not_readable fits more once file) = (items, OpensFile.not_readable fits more once file)
+      opened_any items (OpensFile.content_fault fits more once file reads) = (items, OpensFile.content_fault fits more once file reads)
+      opened_any items (OpensFile.read fits more once file reads tree group) =
+          let here = group_any items group in
+          (here.0, OpensFile.read fits more once file reads tree here.1)
+
+    defines_any : {defines : List (List ℕ)} {s : State} {m : Progress} (items : List Item)
+        → Defines context defines s m
+        → (more : List Item) × Defines context defines (holding_items keeps items s) (with_items keeps more m)
+    defines_any items (unread reads) = (items, unread reads)
+    defines_any items (processed reads tree group) =
+        let here = group_any items group in
+        (here.0, processed reads tree here.1)
+
+    pub unit_any : {defines : List (List ℕ)} {row : ℕ} {s : State} {m : Progress} (items : List Item)
+        → Translates context defines row s m
+        → (more : List Item) × Translates context defines row (holding_items keeps items s) (with_items keeps more m)
+    unit_any items (definitions_fault defines) =
+        let here = defines_any items defines in
+        (here.0, definitions_fault here.1)
+    unit_any items (translated defines opens) =
+        let here = defines_any items defines in
+        let more = opened_any here.0 opens in
+        (more.0, translated here.1 more.1)
