@@ -1,5 +1,5 @@
 #!/usr/bin/env python3
-"""Tests rows of the profile gnu by the program's output: variadic macros and wrapper headers as in gcc's manual, and `__has_include`.
+"""Tests rows of the profile gnu by the program's output: variadic macros, wrapper headers and `__COUNTER__` as in gcc's manual, and `__has_include`.
 
     tests/gnu_tests.py [PROGRAM] [-k NAME]
 
@@ -73,6 +73,26 @@ TEXTS = [
     # `__STDC_VERSION__`
     ("__STDC_VERSION__\n#undef __STDC_VERSION__\n__STDC_VERSION__\n", "201112L __STDC_VERSION__ | 0 | ok"),
     ("#undef __STDC__\n", "| 0 | 10 0:1:1 __STDC__"),
+    # `__COUNTER__`
+    ("__COUNTER__ __COUNTER__\n__COUNTER__\n", "0 1 2 | 0 | ok"),
+    ("#if __COUNTER__ == 0\n__COUNTER__\n#endif\n", "1 | 0 | ok"),
+    ("#if 0 && __COUNTER__\n#endif\n__COUNTER__\n", "1 | 0 | ok"),
+    ("#if 1\n#elif __COUNTER__\n#endif\n__COUNTER__\n", "0 | 0 | ok"),
+    ("#ifdef __COUNTER__\n#if defined __COUNTER__ && defined(__COUNTER__)\n__COUNTER__\n#endif\n#endif\n", "0 | 0 | ok"),
+    ("#if 0\n__COUNTER__\n#endif\n__COUNTER__\n", "0 | 0 | ok"),
+    ("__COUNTER__ __COUNTER__\n#line __COUNTER__\n__LINE__ __COUNTER__\n", "0 1 2 3 | 0 | ok"),
+    ("#define two(a) a a\ntwo(__COUNTER__) __COUNTER__\n", "0 0 1 | 0 | ok"),
+    ("#define c(a, b) #a b ## a\nc(__COUNTER__, x) __COUNTER__\n", "\"__COUNTER__\" x__COUNTER__ 0 | 0 | ok"),
+    ("#define c(a, b) a ## b\n#define d(a, b) c(a, b)\nd(x, __COUNTER__) d(x, __COUNTER__)\n", "x0 x1 | 0 | ok"),
+    ("#define n(a)\nn(__COUNTER__) __COUNTER__\n", "0 | 0 | ok"),
+    ("#define C __COUNTER__\nC C\n#define f(x) x C x\nf(C)\n", "0 1 2 3 2 | 0 | ok"),
+    ("__COUNTER__\n#undef __COUNTER__\n__COUNTER__\n", "0 __COUNTER__ | 0 | ok"),
+    ("#define __COUNTER__ 7\n__COUNTER__\n", "7 | 0 | ok"),
+    # the order of arguments
+    ("#define sw(a, b) b a\nsw(x __COUNTER__, y __COUNTER__)\n", "y 0 x 1 | 0 | ok"),
+    ("#define f(a) a\n#define id(x, y) y x\nid(f(__COUNTER__), id(__COUNTER__, __COUNTER__))\n", "0 1 2 | 0 | ok"),
+    ("#define m(a, b, c) #c a ## c c b a\nm(__COUNTER__, x __COUNTER__, y __COUNTER__)\n", "\"y __COUNTER__\" __COUNTER__y 3 y 0 x 1 2 | 0 | ok"),
+    ("#define f(a) a\n#define g(a) a\n#define sw(a, b) b a\nsw(f(1,2), g(1,2))\n", "| 0 | 18 0:4:12 g"),
     # all of the above in the later profile
     ("#if 0\n#elifdef __STDC__\n1\n#endif\n#pragma once\n", "1 pragma@0:5:1[ once ] | 0 | ok"),
 ]
@@ -86,6 +106,9 @@ OTHERS = [
     ("later", "#warning x\n", "| 0 | 8 0:1:1 warning"),
     ("later", "#define X 1\n#define X 2\n", "| 0 | 16 0:2:1 X"),
     ("later", "#if __has_include(\"a.c\")\n1\n#endif\n", "| 0 | 23 0:1:1"),
+    ("later", "__COUNTER__\n#ifdef __COUNTER__\n1\n#endif\n", "__COUNTER__ | 0 | ok"),
+    ("c11", "#define f(a) a\n#define g(a) a\n#define sw(a, b) b a\nsw(f(1,2), g(1,2))\n", "| 0 | 18 0:4:4 f"),
+    ("later", "#define f(a) a\n#define g(a) a\n#define sw(a, b) b a\nsw(f(1,2), g(1,2))\n", "| 0 | 18 0:4:4 f"),
 ]
 # Files, the members of a unit of the first file, the members that all units share, and the result.
 LISTS = [
@@ -208,6 +231,24 @@ LISTS = [
     ([
         ("a.c", "x\n"),
     ], {"define": ["__STDC_VERSION__ 199901L"]}, {"profile": "later"}, "| | 10 65535:1:1 __STDC_VERSION__"),
+    # `__COUNTER__`
+    ([
+        ("a.c", "__COUNTER__\n"),
+    ], {"define": ["__COUNTER__ 7"]}, {}, "7 | 0 | ok"),
+    ([
+        ("a.c", "#include \"h.h\"\n#include \"h.h\"\n"),
+        ("h.h", "__COUNTER__\n"),
+    ], {}, {}, "0 1 | 0 1 | ok"),
+    ([
+        ("a.c", "#include \"h.h\"\n#include \"h.h\"\n__COUNTER__\n"),
+        ("h.h", "#ifndef H\n#define H\n__COUNTER__\n#endif\n"),
+    ], {}, {}, "0 1 | 0 1 | ok"),
+    ([
+        ("a.c", "__COUNTER__ __COUNTER__\n"),
+    ], {}, {"budget": 2}, "0 | 0 | 35 0:1:13"),
+    ([
+        ("a.c", "#define sw(a, b) b a\nsw(x x __LINE__, __LINE__ y __LINE__)\n"),
+    ], {}, {"budget": 4}, "| 0 | 35 0:2:8"),
     # `__has_attribute` from definitions
     ([
         ("a.c", "#if defined __has_attribute && __has_attribute(__unused__) && !__has_attribute(nothing)\n1\n#endif\n"),
@@ -246,6 +287,11 @@ class Gnu(unittest.TestCase):
     def test_lists(self):
         for files, unit, shared, wanted in LISTS:
             self.assertEqual(gives(files, unit, shared), [wanted], files)
+
+    def test_each_unit_counts_for_itself(self):
+        text = "__COUNTER__\n#undef __COUNTER__\n__COUNTER__\n"
+        found = results([("a.c", text), ("b.c", "__COUNTER__ __COUNTER__\n")], [{"file": name} for name in ("a.c", "b.c", "a.c", "b.c")], profile="gnu")
+        self.assertEqual(found, ["0 __COUNTER__ | 0 | ok", "0 1 | 1 | ok"] * 2)
 
     def test_places_and_marks(self):
         found = dumped([{"name": "a.c", "text": "#define e(f,a...) f,##a\n e(1) +\ne(1,  2, 3)+\n"}], [{"file": "a.c"}], profile="gnu")

@@ -47,13 +47,13 @@ class Projects(Folder):
         self.assertEqual((cells, messages, status), (["p", "3", "3", "3", "3", "3", "none"], [], 0))
 
     def test_what_differs_is_told(self):
-        files = {"p/count.c": "int a, b = __COUNTER__;\n", "p/same.c": "int a;\n", "p/fault.c": "#if 'ab'\n#endif\n",
+        files = {"p/level.c": "int a, b = __INCLUDE_LEVEL__;\n", "p/same.c": "int a;\n", "p/fault.c": "#if 'ab'\n#endif\n",
                  "p/wrong.c": "#error no\n"}
         cells, messages, status = self.compared(files, [(name[2:], "gcc -c " + name[2:]) for name in files], "--jobs", "2")
         self.assertEqual((cells[1:6], status), (["4", "3", "2", "1", "2"], 1))
         self.assertEqual(cells[6], "fault 25: 1, refused by the compiler: 1, tokens: 1")
         self.assertEqual([line.split(": ", 1)[1] for line in messages],
-                         ["tokens: token 5: b = __COUNTER__ ;, and the compiler has b = 0 ;", "fault: 25 %d:1:1 'ab'" % self.row(messages)])
+                         ["tokens: token 5: b = __INCLUDE_LEVEL__ ;, and the compiler has b = 0 ;", "fault: 25 %d:1:1 'ab'" % self.row(messages)])
 
     def test_a_compiler_that_hangs(self):
         """Stops a compiler with the programs that it started; its unit counts as one that the compiler refuses."""

@@ -12,7 +12,7 @@ use Rattle.ppmacro.specs.Chains.{chains_of}
 use Rattle.ppmacro.specs.Lexing.{kind_of}
 use Rattle.ppmacro.specs.declared.macros.Variadic.{Variadic}
 use Rattle.ppmacro.specs.declared.macros.MacroKind.{MacroKind}
-use Rattle.ppmacro.specs.declared.macros.MacroKind.TheVariants.{Predefined, ObjectLike, FunctionLike}
+use Rattle.ppmacro.specs.declared.macros.MacroKind.TheVariants.{Predefined, ObjectLike, FunctionLike, Counter}
 use Rattle.ppmacro.specs.declared.macros.Macro.{Macro}
 use Rattle.ppmacro.specs.declared.macros.Chain.{Chain}
 use Rattle.ppmacro.specs.declared.macros.Operand.{Operand}
@@ -26,7 +26,7 @@ use Rattle.ppexpand.specs.Arguments.{is_open, Gathered, Closed, UnmatchedQuote, 
 use Rattle.ppexpand.specs.ExpansionStep.{Invocation, ExpansionStep, TokenFault, Emits, ReplacementFault, replaced_by, quote_fault, closed_invocation_step, invocation_step, function_step, no_arguments}
 use Rattle.ppexpand.specs.ExpansionStep.{macro_step, named_step, macro_of, expansion_step, finish_invocation, ExpandedArguments, with_expanded}
 use Rattle.ppexpand.specs.Budget.{one_less}
-use Rattle.ppexpand.specs.Expansion.{Outcome, step_in_budget, Expands, done, token_fault, emits, replacement_fault, replaced, argument_fault, invocation_fault, invocation_replaced, ExpandsArguments}
+use Rattle.ppexpand.specs.Expansion.{Outcome, step_in_budget, Expands, done, token_fault, emits, replacement_fault, replaced, argument_fault, invocation_fault, invocation_replaced, ExpandsArguments, counts}
 use Rattle.ppexpand.specs.Expansion.{none, unused, too_deep}
 use Rattle.ppexpand.specs.Expansion.{pre_expanded, pre_expansion_fault, count, count_arguments, ExpandsTo, Expansion, IsExpansion}
 use Rattle.ppexpand.proofs.BudgetLemmas.{unlimited-in_budget, plus-none, spends, spends_arguments}
@@ -122,6 +122,7 @@ below_function t d names variadic (p ∷ rest) =
 
 below_macro : (env : Env) (t : Hiding) (rest : List Hiding) (d : Macro) (kind : MacroKind) → IsTurnBelow (macro_step env t rest d kind)
 below_macro env t rest d (Predefined b) = tt
+below_macro env t rest d Counter = tt
 below_macro env t rest d ObjectLike = below_replaced (macro_replacement d no_arguments _ t.token.used t.token.space) rest (below_substituted d no_arguments _ t.token.used t.token.space)
 below_macro env t rest d (FunctionLike names variadic) = below_function t d names variadic rest
 
@@ -164,6 +165,7 @@ module _ (macros : Macros) (env : Env) where
     below is (emits e more) = below is more
     below {meter = meter} {list = list} is (replacement_fault e) = of_turn meter list is e
     below is (replaced e more) = below (ap one_less is) more
+    below is (counts e more) = below (ap one_less is) more
     below is (argument_fault e a) = below_arguments (ap one_less is) a
     below is (invocation_fault {invocation = invocation} {expanded = expanded} e a f) = subst IsTurnBelow f (below_finished invocation expanded)
     below is (invocation_replaced {meter_after = meter_after} e a f more) = below (plus-none (count_arguments macros env a) meter_after.remaining (sym (ap one_less is) ∙ spends_arguments macros env a)) more

@@ -8,9 +8,9 @@ use Rattle.pptext.specs.Tokens.{fault}
 use Rattle.ppmacro.specs.Names.{Macros}
 use Rattle.ppmacro.specs.Hiding.{Hiding}
 use Rattle.ppexpand.specs.declared.env.Env.{Env}
-use Rattle.ppexpand.specs.ExpansionStep.{Invocation, ExpansionStep, Done, TokenFault, Emits, ReplacementFault, Replaced, Invoked, expansion_step, arguments_to_expand, ExpandedArguments}
-use Rattle.ppexpand.specs.Budget.{with_budget, without_budget, is_used_up, is_exhausted, one_less, spend_one, exhausted_step, refused, in_budget}
-use Rattle.ppexpand.specs.Expansion.{Outcome, stops_with, with_emitted, step_in_budget, Expands, done, token_fault, emits, replacement_fault, replaced, argument_fault, invocation_fault}
+use Rattle.ppexpand.specs.ExpansionStep.{Invocation, ExpansionStep, Done, TokenFault, Emits, ReplacementFault, Replaced, Invoked, expansion_step, arguments_to_expand, ExpandedArguments, Counts, counter_value}
+use Rattle.ppexpand.specs.Budget.{with_budget, without_budget, is_used_up, is_exhausted, one_less, spend_one, exhausted_step, refused, in_budget, count_on}
+use Rattle.ppexpand.specs.Expansion.{Outcome, stops_with, with_emitted, step_in_budget, Expands, done, token_fault, emits, replacement_fault, replaced, argument_fault, invocation_fault, counts}
 use Rattle.ppexpand.specs.Expansion.{invocation_replaced, ExpandsArguments, none, unused, too_deep, pre_expanded, pre_expansion_fault}
 use Rattle.ppexpand.specs.Expansion.{count, count_arguments, Expansion, IsExpansion, count_expansion}
 use Rattle.ppexpand.specs.Laws.{plus, IsPrefix, IsOver, CapsExpansion}
@@ -22,6 +22,7 @@ use native.Mathlib.Decide.{dec_lt}
 abbrev pub Costs : ExpansionStep → Type 0
 Costs (ReplacementFault f) = Unit {0}
 Costs (Replaced next) = Unit {0}
+Costs (Counts t rest) = Unit {0}
 Costs (Invoked invocation) = Unit {0}
 Costs _ = ⊥
 
@@ -31,6 +32,7 @@ never_both (TokenFault g) f c = c
 never_both (Emits t rest) f c = c
 never_both (ReplacementFault g) f c = f
 never_both (Replaced next) f c = f
+never_both (Counts t rest) f c = f
 never_both (Invoked invocation) f c = f
 
 free_refused : (list : List Hiding) (t : ExpansionStep) → IsFree t → refused list t ≡ t
@@ -39,6 +41,7 @@ free_refused list (TokenFault f) h = refl
 free_refused list (Emits t rest) h = refl
 free_refused list (ReplacementFault f) h = absurd h
 free_refused list (Replaced next) h = absurd h
+free_refused list (Counts t rest) h = absurd h
 free_refused list (Invoked invocation) h = absurd h
 
 over_refused : (list : List Hiding) (t : ExpansionStep) → Costs t → refused list t ≡ exhausted_step list
@@ -47,6 +50,7 @@ over_refused list (TokenFault f) h = absurd h
 over_refused list (Emits t rest) h = absurd h
 over_refused list (ReplacementFault f) h = refl
 over_refused list (Replaced next) h = refl
+over_refused list (Counts t rest) h = refl
 over_refused list (Invoked invocation) h = refl
 
 -- A budget does not change a step that costs nothing.
@@ -154,6 +158,8 @@ module _ (macros : Macros) (env : Env) where
     spends {meter = meter} {list = list} (replacement_fault {f = f} e) = pays meter list (ReplacementFault f) tt e
     spends {meter = meter} {list = list} {out = out} (replaced {next = next} e more) =
         paid_then meter list (Replaced next) tt e (count macros env more) out.meter.remaining (spends more)
+    spends {meter = meter} {list = list} {out = out} (counts {t = t} {rest = rest} e more) =
+        paid_then meter list (Counts t rest) tt e (count macros env more) out.meter.remaining (spends more)
     spends {meter = meter} {list = list} (argument_fault {meter_after = after} {invocation = invocation} e a) =
         paid_then meter list (Invoked invocation) tt e (count_arguments macros env a) after.remaining (spends_arguments a)
     spends {meter = meter} {list = list} (invocation_fault {meter_after = after} {invocation = invocation} e a f) =
@@ -241,6 +247,9 @@ module _ (macros : Macros) (env : Env) where
     enough zero is (replaced {next = next} e more) n sum = absurd (omega arith)
     enough {meter = meter} {list = list} (suc b) is (replaced {next = next} e more) n sum =
         replaced (paid meter list (Replaced next) e tt) (enough b (covers_less is) more n (omega arith))
+    enough zero is (counts e more) n sum = absurd (omega arith)
+    enough {meter = meter} {list = list} (suc b) is (counts {t = t} {rest = rest} e more) n sum =
+        counts (paid meter list (Counts t rest) e tt) (enough b (covers_less is) more n (omega arith))
     enough zero is (argument_fault {invocation = invocation} e a) n sum = absurd (omega arith)
     enough {meter = meter} {list = list} (suc b) is (argument_fault {invocation = invocation} e a) n sum =
         argument_fault (paid meter list (Invoked invocation) e tt) (enough_arguments b (covers_less is) a n (omega arith))
@@ -350,6 +359,11 @@ module _ (macros : Macros) (env : Env) where
     short {meter = meter} {list = list} (suc b) is (replaced {next = next} e more) h =
         let s = short b (covers_less is) more (omega arith) in
         (suc s.0, s.1, replaced (paid meter list (Replaced next) e tt) s.2, s.3, s.4)
+    short {meter = meter} {list = list} {out = out} zero is (counts {t = t} {rest = rest} e more) h =
+        stops_here meter list out (Counts t rest) (paid meter list (Counts t rest) e tt) tt
+    short {meter = meter} {list = list} (suc b) is (counts {t = t} {rest = rest} e more) h =
+        let s = short b (covers_less is) more (omega arith) in
+        (suc s.0, s.1, counts (paid meter list (Counts t rest) e tt) s.2, s.3, s.4)
     short {meter = meter} {list = list} {out = out} zero is (argument_fault {invocation = invocation} e a) h =
         stops_here meter list out (Invoked invocation) (paid meter list (Invoked invocation) e tt) tt
     short {meter = meter} {list = list} {out = out} (suc b) is (argument_fault {invocation = invocation} e a) h =

@@ -13,14 +13,14 @@ use Rattle.ppmacro.specs.Substitution.{Replacement}
 use Rattle.ppmacro.specs.declared.macros.Macro.{Macro}
 use Rattle.ppmacro.specs.declared.macros.Variadic.{Variadic}
 use Rattle.ppmacro.specs.declared.macros.MacroKind.{MacroKind}
-use Rattle.ppmacro.specs.declared.macros.MacroKind.TheVariants.{Predefined, ObjectLike, FunctionLike}
+use Rattle.ppmacro.specs.declared.macros.MacroKind.TheVariants.{Predefined, ObjectLike, FunctionLike, Counter}
 use Rattle.ppexpand.specs.declared.env.Env.{Env}
 use Rattle.ppexpand.specs.declared.meter.Meter.{Meter}
 use Rattle.ppexpand.specs.Arguments.{is_open, Gathered, Closed, UnmatchedQuote, Unclosed, gather, separators, fit_arguments}
-use Rattle.ppexpand.specs.ExpansionStep.{ExpansionStep, Done, TokenFault, Emits, ReplacementFault, Replaced, Invoked, expansion_step, macro_of, quote_fault, named_step, macro_step, function_step}
+use Rattle.ppexpand.specs.ExpansionStep.{ExpansionStep, Done, TokenFault, Emits, ReplacementFault, Replaced, Invoked, expansion_step, macro_of, quote_fault, named_step, macro_step, function_step, Counts}
 use Rattle.ppexpand.specs.ExpansionStep.{invocation_step, closed_invocation_step, replaced_by}
 use Rattle.ppexpand.specs.Budget.{is_exhausted, exhausted_step, refused, in_budget}
-use Rattle.ppexpand.specs.Expansion.{Outcome, Expands, done, token_fault, emits, replacement_fault, replaced, argument_fault, invocation_fault, invocation_replaced}
+use Rattle.ppexpand.specs.Expansion.{Outcome, Expands, done, token_fault, emits, replacement_fault, replaced, argument_fault, invocation_fault, invocation_replaced, counts}
 use Rattle.ppexpand.specs.Laws.{is_fully_expanded, is_always_replaced}
 
 module _ (macros : Macros) (env : Env) where
@@ -56,6 +56,7 @@ module _ (macros : Macros) (env : Env) where
 
   macro_settles : (t : Hiding) (rest : List Hiding) (d : Macro) (kind : MacroKind) → (is_function_like kind ≡ true → is_fully_expanded macros t ≡ true) → Settles (macro_step env t rest d kind)
   macro_settles t rest d (Predefined b) hide_set_of = tt
+  macro_settles t rest d Counter hide_set_of = tt
   macro_settles t rest d ObjectLike hide_set_of = replaced_settles _ rest
   macro_settles t rest d (FunctionLike names variadic) hide_set_of = function_settles t rest d names variadic (hide_set_of refl)
 
@@ -85,6 +86,7 @@ module _ (macros : Macros) (env : Env) where
   refused_settles list (Emits t rest) h = h
   refused_settles list (ReplacementFault f) h = over_settles list
   refused_settles list (Replaced next) h = over_settles list
+  refused_settles list (Counts t rest) h = over_settles list
   refused_settles list (Invoked invocation) h = over_settles list
 
   within_settles : (meter : Meter) (list : List Hiding) (t : ExpansionStep) → Settles t → Settles (in_budget meter list t)
@@ -98,6 +100,7 @@ module _ (macros : Macros) (env : Env) where
       All-cons (λ x. is_fully_expanded macros x ≡ true) t out.tokens hide_set_of (all_settled d)
   all_settled (replacement_fault e) = All-nil (λ x. is_fully_expanded macros x ≡ true)
   all_settled (replaced e d) = all_settled d
+  all_settled (counts e d) = all_settled d
   all_settled (argument_fault e a) = All-nil (λ x. is_fully_expanded macros x ≡ true)
   all_settled (invocation_fault e a f) = All-nil (λ x. is_fully_expanded macros x ≡ true)
   all_settled (invocation_replaced e a f d) = all_settled d

@@ -16,13 +16,13 @@ use Rattle.ppmacro.specs.code.Members.{same_name}
 use Rattle.ppmacro.specs.declared.macros.Macro.{Macro}
 use Rattle.ppmacro.specs.declared.macros.Variadic.{Variadic}
 use Rattle.ppmacro.specs.declared.macros.MacroKind.{MacroKind}
-use Rattle.ppmacro.specs.declared.macros.MacroKind.TheVariants.{Predefined, ObjectLike, FunctionLike}
+use Rattle.ppmacro.specs.declared.macros.MacroKind.TheVariants.{Predefined, ObjectLike, FunctionLike, Counter}
 use Rattle.ppmacro.specs.Chains.{chains_of}
 use Rattle.ppmacro.specs.Substitution.{Arguments, Replacement, macro_replacement, after_ok, chains_tokens, hsadd}
 use Rattle.ppexpand.specs.Arguments.{Gathered, Closed, UnmatchedQuote, Unclosed, argument_role, gather, separators, fit_arguments, separates, fewer, with_token, with_argument, is_open, Quote, Open, Close, Comma, Inner}
 use Rattle.ppexpand.specs.declared.env.Env.{Env}
 use Rattle.ppexpand.specs.declared.meter.Meter.{Meter}
-use Rattle.ppexpand.specs.ExpansionStep.{Invocation, ExpansionStep, Done, TokenFault, Emits, ReplacementFault, Replaced, Invoked, expansion_step, finish_invocation, space_next, followed_by}
+use Rattle.ppexpand.specs.ExpansionStep.{Invocation, ExpansionStep, Done, TokenFault, Emits, ReplacementFault, Replaced, Invoked, expansion_step, finish_invocation, space_next, followed_by, Counts}
 use Rattle.ppexpand.specs.ExpansionStep.{replaced_by, names_to_hide_for, quote_fault, closed_invocation_step, invocation_step, function_step, macro_step, named_step}
 use Rattle.ppexpand.specs.Budget.{is_exhausted, exhausted_step, refused, in_budget}
 use Rattle.ppexpand.specs.ExpansionStep.{macro_of}
@@ -130,6 +130,7 @@ module _ (macros : Macros) (env : Env) where
   StepsTo list (Emits t rest) = list ≡ t ∷ rest
   StepsTo list (ReplacementFault fault) = Unit {0}
   StepsTo list (Replaced next) = HideStep (hides list) (hides next)
+  StepsTo list (Counts t rest) = HideStep (hides list) (set.insert t.hide t.token.text ∷ hides rest)
   StepsTo list (Invoked invocation) = Found list invocation
 
   -- Sets with all names to hide have the names that h and h' have in common, and k.
@@ -197,14 +198,19 @@ module _ (macros : Macros) (env : Env) where
         | false ↦ refl
       ]
 
-  macro_steps : (t : Hiding) (rest : List Hiding) → IsOutside macros t.token.text t.hide → (d : Macro) (kind : MacroKind) → StepsTo (t ∷ rest) (macro_step env t rest d kind)
-  macro_steps t rest out d (Predefined b) = ending.replaced t.token.text out (set.insert t.hide t.token.text ∷ []) (
+  -- The replacement of a predefined name is one token, with this name in its hide set.
+  own_name_steps : (t : Hiding) (rest : List Hiding) → IsOutside macros t.token.text t.hide → HideStep (hides (t ∷ rest)) (set.insert t.hide t.token.text ∷ hides rest)
+  own_name_steps t rest out = ending.replaced t.token.text out (set.insert t.hide t.token.text ∷ []) (
     record {
       common = λ q in_h _. set.contains-insert nat_list_cmp_total t.hide t.token.text q ∙ ap (λ b. same_name q t.token.text || b) in_h ∙ or_right _ true refl;
       own = set.contains-insert nat_list_cmp_total t.hide t.token.text t.token.text ∙ ap (λ b. b || set.contains t.hide t.token.text) ((eq_by_cmp_equiv nat_list_cmp_total).refl t.token.text);
     },
     tt,
   ) refl
+
+  macro_steps : (t : Hiding) (rest : List Hiding) → IsOutside macros t.token.text t.hide → (d : Macro) (kind : MacroKind) → StepsTo (t ∷ rest) (macro_step env t rest d kind)
+  macro_steps t rest out d (Predefined b) = own_name_steps t rest out
+  macro_steps t rest out d Counter = own_name_steps t rest out
   macro_steps t rest out d ObjectLike = object_steps t rest out _ (λ m e. substituted_names d _ _ _ _ m e)
   macro_steps t rest out d (FunctionLike names variadic) = function_steps t rest out d names variadic
 
@@ -234,6 +240,7 @@ module _ (macros : Macros) (env : Env) where
   refused_steps list (Emits t rest) h = h
   refused_steps list (ReplacementFault f) h = over_steps list
   refused_steps list (Replaced next) h = over_steps list
+  refused_steps list (Counts t rest) h = over_steps list
   refused_steps list (Invoked invocation) h = over_steps list
 
   within_steps : (meter : Meter) (list : List Hiding) (t : ExpansionStep) → StepsTo list t → StepsTo list (in_budget meter list t)

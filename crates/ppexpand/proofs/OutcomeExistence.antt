@@ -5,10 +5,10 @@ use Rattle.ppmacro.specs.Names.{HideSet, Macros}
 use Rattle.ppmacro.specs.Hiding.{Hiding}
 use Rattle.ppexpand.specs.declared.env.Env.{Env}
 use Rattle.ppexpand.specs.declared.meter.Meter.{Meter}
-use Rattle.ppexpand.specs.ExpansionStep.{Invocation, ExpansionStep, Done, TokenFault, Emits, ReplacementFault, Replaced, Invoked, arguments_to_expand, finish_invocation, fault_at_expansion}
+use Rattle.ppexpand.specs.ExpansionStep.{Invocation, ExpansionStep, Done, TokenFault, Emits, ReplacementFault, Replaced, Invoked, arguments_to_expand, finish_invocation, fault_at_expansion, Counts, counter_value}
 use Rattle.ppexpand.specs.ExpansionStep.{ExpandedArguments, with_expanded}
-use Rattle.ppexpand.specs.Budget.{spend_one}
-use Rattle.ppexpand.specs.Expansion.{Outcome, step_in_budget, Expands, done, token_fault, emits, replacement_fault, replaced, argument_fault, invocation_fault, invocation_replaced, ExpandsArguments}
+use Rattle.ppexpand.specs.Budget.{spend_one, count_on}
+use Rattle.ppexpand.specs.Expansion.{Outcome, step_in_budget, Expands, done, token_fault, emits, replacement_fault, replaced, argument_fault, invocation_fault, invocation_replaced, ExpandsArguments, counts}
 use Rattle.ppexpand.specs.Expansion.{none, unused, too_deep, pre_expanded}
 use Rattle.ppexpand.specs.Expansion.{pre_expansion_fault}
 use Rattle.ppexpand.specs.Termination as ending
@@ -75,6 +75,7 @@ module _ (macros : Macros) (env : Env) where
       by_end (Replaced next) f h =
           let rest : HasOutcome level meter_after next = later meter_after next h in
           (suc rest.0, rest.1, invocation_replaced e a f rest.2)
+      by_end (Counts t rest) f h = absurd h
       by_end (Invoked c) f h = absurd h
 
   by_turn : (level : ℕ)
@@ -95,6 +96,9 @@ module _ (macros : Macros) (env : Env) where
   by_turn level deeper meter list later (Replaced next) e h =
       let more : HasOutcome level (spend_one meter) next = later (spend_one meter) next h in
       (suc more.0, more.1, replaced e more.2)
+  by_turn level deeper meter list later (Counts t rest) e h =
+      let more : HasOutcome level (count_on meter) (counter_value meter.counter t ∷ rest) = later (count_on meter) (counter_value meter.counter t ∷ rest) h in
+      (suc more.0, more.1, counts e more.2)
   by_turn level deeper meter list later (Invoked invocation) e h =
       let as' : HasExpanded level invocation (spend_one meter) (arguments_to_expand invocation) = arguments_total level deeper invocation (spend_one meter) (arguments_to_expand invocation) in
       after_invocation level meter list later invocation e as'.0 as'.1 as'.2 (λ bs. step_lemmas.finished_steps macros env list invocation bs h)

@@ -5,9 +5,9 @@ use Rattle.ppmacro.specs.Names.{Macros}
 use Rattle.ppmacro.specs.Hiding.{Hiding}
 use Rattle.ppexpand.specs.declared.env.Env.{Env}
 use Rattle.ppexpand.specs.declared.meter.Meter.{Meter}
-use Rattle.ppexpand.specs.ExpansionStep.{Invocation, Done, TokenFault, Emits, ReplacementFault, Replaced, Invoked, arguments_to_expand, finish_invocation, fault_at_expansion, ExpandedArguments, with_expanded}
-use Rattle.ppexpand.specs.Budget.{spend_one}
-use Rattle.ppexpand.specs.Expansion.{Outcome, step_in_budget, Expands, done, token_fault, emits, replacement_fault, replaced, argument_fault, invocation_fault, invocation_replaced, ExpandsArguments}
+use Rattle.ppexpand.specs.ExpansionStep.{Invocation, Done, TokenFault, Emits, ReplacementFault, Replaced, Invoked, arguments_to_expand, finish_invocation, fault_at_expansion, ExpandedArguments, with_expanded, Counts, counter_value}
+use Rattle.ppexpand.specs.Budget.{spend_one, count_on}
+use Rattle.ppexpand.specs.Expansion.{Outcome, step_in_budget, Expands, done, token_fault, emits, replacement_fault, replaced, argument_fault, invocation_fault, invocation_replaced, ExpandsArguments, counts}
 use Rattle.ppexpand.specs.Expansion.{none, unused, too_deep, pre_expanded}
 use Rattle.ppexpand.specs.Expansion.{pre_expansion_fault}
 
@@ -31,6 +31,7 @@ module _ (macros : Macros) (env : Env) where
   at_done e (emits e' d) = absurd (cc)
   at_done e (replacement_fault e') = absurd (cc)
   at_done e (replaced e' d) = absurd (cc)
+  at_done e (counts e' d) = absurd (cc)
   at_done e (argument_fault e' a) = absurd (cc)
   at_done e (invocation_fault e' a f) = absurd (cc)
   at_done e (invocation_replaced e' a f d) = absurd (cc)
@@ -44,6 +45,7 @@ module _ (macros : Macros) (env : Env) where
   at_token_fault e (emits e' d) = absurd (cc)
   at_token_fault e (replacement_fault e') = absurd (cc)
   at_token_fault e (replaced e' d) = absurd (cc)
+  at_token_fault e (counts e' d) = absurd (cc)
   at_token_fault e (argument_fault e' a) = absurd (cc)
   at_token_fault e (invocation_fault e' a f) = absurd (cc)
   at_token_fault e (invocation_replaced e' a f d) = absurd (cc)
@@ -57,6 +59,7 @@ module _ (macros : Macros) (env : Env) where
   at_replacement_fault e (emits e' d) = absurd (cc)
   at_replacement_fault e (replacement_fault e') = (refl, cc)
   at_replacement_fault e (replaced e' d) = absurd (cc)
+  at_replacement_fault e (counts e' d) = absurd (cc)
   at_replacement_fault e (argument_fault e' a) = absurd (cc)
   at_replacement_fault e (invocation_fault e' a f) = absurd (cc)
   at_replacement_fault e (invocation_replaced e' a f d) = absurd (cc)
@@ -73,6 +76,7 @@ module _ (macros : Macros) (env : Env) where
       (n, o, refl, (λ i. record { tokens = name_tokens i ∷ o.tokens; fault = o.fault; meter = o.meter }), subst (λ r. Expands macros env level meter n r o) rests d)
   at_passes e (replacement_fault e') = absurd (cc)
   at_passes e (replaced e' d) = absurd (cc)
+  at_passes e (counts e' d) = absurd (cc)
   at_passes e (argument_fault e' a) = absurd (cc)
   at_passes e (invocation_fault e' a f) = absurd (cc)
   at_passes e (invocation_replaced e' a f d) = absurd (cc)
@@ -88,9 +92,27 @@ module _ (macros : Macros) (env : Env) where
   at_replaced {level = level} {meter = meter} {next = next} e (replaced {steps = n} {next = next'} {out = o} e' d) =
       let nexts : next' ≡ next = cc in
       (n, refl, subst (λ r. Expands macros env level (spend_one meter) n r o) nexts d)
+  at_replaced e (counts e' d) = absurd (cc)
   at_replaced e (argument_fault e' a) = absurd (cc)
   at_replaced e (invocation_fault e' a f) = absurd (cc)
   at_replaced e (invocation_replaced e' a f d) = absurd (cc)
+
+  pub at_counts : {level steps : ℕ} {meter : Meter} {list : List Hiding} {out : Outcome} {t : Hiding} {rest : List Hiding}
+      → step_in_budget macros env meter list ≡ Counts t rest
+      → Expands macros env level meter steps list out
+      → IsReplaced level (count_on meter) (counter_value meter.counter t ∷ rest) steps out
+  at_counts e (done e') = absurd (cc)
+  at_counts e (token_fault e') = absurd (cc)
+  at_counts e (emits e' d) = absurd (cc)
+  at_counts e (replacement_fault e') = absurd (cc)
+  at_counts e (replaced e' d) = absurd (cc)
+  at_counts {level = level} {meter = meter} {t = t} {rest = rest} e (counts {steps = n} {t = t'} {rest = rest'} {out = o} e' d) =
+      let name_tokens : t' ≡ t = cc in
+      let rests : rest' ≡ rest = cc in
+      (n, refl, subst (λ (p : Hiding × List Hiding). Expands macros env level (count_on meter) n (counter_value meter.counter p.0 ∷ p.1) o) (λ i. (name_tokens i, rests i)) d)
+  at_counts e (argument_fault e' a) = absurd (cc)
+  at_counts e (invocation_fault e' a f) = absurd (cc)
+  at_counts e (invocation_replaced e' a f d) = absurd (cc)
 
   -- the outcome of an invocation after its arguments are expanded
   pub data AfterInvocation (level : ℕ) (invocation : Invocation) : Meter → ExpandedArguments → ℕ → Outcome → Type 0 where
@@ -119,6 +141,7 @@ module _ (macros : Macros) (env : Env) where
   at_invoked e (emits e' d) = absurd (cc)
   at_invoked e (replacement_fault e') = absurd (cc)
   at_invoked e (replaced e' d) = absurd (cc)
+  at_invoked e (counts e' d) = absurd (cc)
   at_invoked {level = level} {meter = meter} {invocation = invocation} e (argument_fault {meter_after = meter_after} {invocation = invocation'} {f = fault} e' a) =
       let calls : invocation' ≡ invocation = cc in
       subst (λ c. IsInvoked level (spend_one meter) c 0 (record { tokens = []; fault = Some fault; meter = meter_after })) calls (meter_after, Err fault, a, by_argument (refl, refl))
@@ -266,6 +289,10 @@ module _ (macros : Macros) (env : Env) where
         (ap suc ih.0 ∙ sym h.2, (λ i. record { tokens = t ∷ (ih.1 i).tokens; fault = (ih.1 i).fault; meter = (ih.1 i).meter }) ∙ sym h.3)
     same_outcome {level = level} {meter = meter} (replaced {next = next} e d) n p d' =
         let h : IsReplaced level (spend_one meter) next n p = at_replaced e d' in
+        let ih = same_outcome d h.0 p h.2 in
+        (ap suc ih.0 ∙ sym h.1, ih.1)
+    same_outcome {level = level} {meter = meter} (counts {t = t} {rest = rest} e d) n p d' =
+        let h : IsReplaced level (count_on meter) (counter_value meter.counter t ∷ rest) n p = at_counts e d' in
         let ih = same_outcome d h.0 p h.2 in
         (ap suc ih.0 ∙ sym h.1, ih.1)
     same_outcome (argument_fault e a) n p d' =

@@ -1,21 +1,21 @@
 -- Expansion without a budget agrees with the standard's rules.
-use Rattle.std.proofs.Common.{◌≡◌, ◌↔◌, ℕ, suc, Bool, true, false, List, [], ◌∷◌, Option, Some, None, Result, Ok, Err, refl, sym, ap, ◌∙◌, subst}
+use Rattle.std.proofs.Common.{◌≡◌, ◌↔◌, ℕ, suc, Bool, true, false, List, [], ◌∷◌, map, Option, Some, None, Result, Ok, Err, refl, sym, ap, ◌∙◌, subst, ◌+◌, ◌%◌, ◌^◌}
 use Rattle.std.specs.FinSet as set
 use Rattle.pptext.specs.declared.tokens.Token.{Token}
 use Rattle.pptext.specs.declared.tokens.Fault.{Fault}
 use Rattle.pptext.specs.Tokens.{is_unmatched_quote}
 use Rattle.ppmacro.specs.Names.{Name, Macros}
 use Rattle.ppmacro.specs.Hiding.{Hiding}
-use Rattle.ppmacro.specs.Substitution.{Replacement}
+use Rattle.ppmacro.specs.Substitution.{Replacement, unhidden}
 use Rattle.ppmacro.specs.declared.macros.PredefinedMacro.{PredefinedMacro}
 use Rattle.ppmacro.specs.declared.macros.Macro.{Macro}
 use Rattle.ppmacro.specs.declared.macros.Variadic.{Variadic}
 use Rattle.ppmacro.specs.declared.macros.MacroKind.{MacroKind}
-use Rattle.ppmacro.specs.declared.macros.MacroKind.TheVariants.{Predefined, ObjectLike, FunctionLike}
+use Rattle.ppmacro.specs.declared.macros.MacroKind.TheVariants.{Predefined, ObjectLike, FunctionLike, Counter}
 use Rattle.ppexpand.specs.declared.env.Env.{Env}
 use Rattle.ppexpand.specs.declared.meter.Meter.{Meter}
 use Rattle.ppexpand.specs.Arguments.{is_open, Gathered, Closed, UnmatchedQuote, Unclosed, gather, separators, fit_arguments}
-use Rattle.ppexpand.specs.ExpansionStep.{predefined_value, Invocation, ExpansionStep, Done, TokenFault, Emits, ReplacementFault, Replaced, Invoked, followed_by, replaced_by, fault_at_expansion}
+use Rattle.ppexpand.specs.ExpansionStep.{predefined_value, Invocation, ExpansionStep, Done, TokenFault, Emits, ReplacementFault, Replaced, Invoked, followed_by, replaced_by, fault_at_expansion, Counts, counter_value}
 use Rattle.ppexpand.specs.ExpansionStep.{quote_fault, names_to_hide_for, closed_invocation_step, invocation_step, function_step, macro_step, named_step, macro_of}
 use Rattle.ppexpand.specs.ExpansionStep.{expansion_step, arguments_to_expand, finish_invocation, ExpandedArguments}
 use Rattle.ppexpand.specs.Budget.{new_meter, without_budget, one_less}
@@ -44,6 +44,7 @@ module _ (macros : Macros) (env : Env) where
         → NamesMacro macros t d
         → d.kind ≡ Predefined b
         → Means (t ∷ rest) (Replaced (predefined_value b env t (set.insert t.hide t.token.text) ∷ rest))
+    counter : {t : Hiding} {rest : List Hiding} {d : Macro} → NamesMacro macros t d → d.kind ≡ Counter → Means (t ∷ rest) (Counts t rest)
     object_like : {t : Hiding} {rest : List Hiding} {d : Macro} {m : Replacement} → NamesMacro macros t d → d.kind ≡ ObjectLike → object_result t d ≡ Ok m → Means (t ∷ rest) (Replaced (followed_by m rest))
     object_result_fault : {t : Hiding} {rest : List Hiding} {d : Macro} {f : Fault} → NamesMacro macros t d → d.kind ≡ ObjectLike → object_result t d ≡ Err f → Means (t ∷ rest) (ReplacementFault f)
     not_invoked : {t : Hiding} {rest : List Hiding} {d : Macro} {names : List Name} {variadic : Variadic}
@@ -103,6 +104,7 @@ module _ (macros : Macros) (env : Env) where
 
   by_shape : (t : Hiding) (rest : List Hiding) (d : Macro) → NamesMacro macros t d → (s : MacroKind) → d.kind ≡ s → Means (t ∷ rest) (macro_step env t rest d s)
   by_shape t rest d c (Predefined b) e = Means.predefined c e
+  by_shape t rest d c Counter e = Means.counter c e
   by_shape t rest d c ObjectLike e = by_result t rest d c e (object_result t d) refl
   by_shape t rest d c (FunctionLike names variadic) e = by_next t rest d names variadic c e
 
@@ -159,6 +161,7 @@ module _ (macros : Macros) (env : Env) where
   meant (Means.no_macro {t = t} {rest = rest} q n) = expansion_step-unnamed macros env t rest q n
   meant (Means.hidden {t = t} {rest = rest} q h) = expansion_step-hidden macros env t rest q h
   meant (Means.predefined {rest = rest} {b = b} c e) = invocations_turn rest c (Predefined b) e
+  meant (Means.counter {rest = rest} c e) = invocations_turn rest c Counter e
   meant (Means.object_like {rest = rest} c e h) = invocations_turn rest c ObjectLike e ∙ ap (λ r. replaced_by r rest) h
   meant (Means.object_result_fault {rest = rest} c e h) = invocations_turn rest c ObjectLike e ∙ ap (λ r. replaced_by r rest) h
   meant (Means.not_invoked {t = t} {rest = rest} {d = d} {names = names} {variadic = variadic} c e n) = invocations_turn rest c (FunctionLike names variadic) e ∙ not_opened t d names variadic rest n
@@ -172,29 +175,38 @@ module _ (macros : Macros) (env : Env) where
 
   -- ---- from a step to a rule
 
-  at_done : {level : ℕ} {list : List Hiding} → Means list Done → StandardExpands macros env level list [] None
+  at_done : {level number : ℕ} {list : List Hiding} → Means list Done → StandardExpands macros env level number list [] None number
   at_done Means.nothing_left = StandardExpands.nothing_left
 
-  at_token_fault : {level : ℕ} {list : List Hiding} {f : Fault} → Means list (TokenFault f) → StandardExpands macros env level list [] (Some f)
+  at_token_fault : {level number : ℕ} {list : List Hiding} {f : Fault} → Means list (TokenFault f) → StandardExpands macros env level number list [] (Some f) number
   at_token_fault (Means.unmatched_quote q) = StandardExpands.unmatched_quote q
 
-  at_passes : {level : ℕ} {list rest tokens : List Hiding} {t : Hiding} {fault : Option Fault}
+  at_passes : {level number after : ℕ} {list rest tokens : List Hiding} {t : Hiding} {fault : Option Fault}
       → Means list (Emits t rest)
-      → StandardExpands macros env level rest tokens fault
-      → StandardExpands macros env level list (t ∷ tokens) fault
+      → StandardExpands macros env level number rest tokens fault after
+      → StandardExpands macros env level number list (t ∷ tokens) fault after
   at_passes (Means.no_macro q n) more = StandardExpands.no_macro q n more
   at_passes (Means.hidden q h) more = StandardExpands.hidden q h more
   at_passes (Means.not_invoked c e n) more = StandardExpands.not_invoked c e n more
 
-  at_replacement_fault : {level : ℕ} {list : List Hiding} {f : Fault} → Means list (ReplacementFault f) → StandardExpands macros env level list [] (Some f)
+  at_replacement_fault : {level number : ℕ} {list : List Hiding} {f : Fault} → Means list (ReplacementFault f) → StandardExpands macros env level number list [] (Some f) number
   at_replacement_fault (Means.object_result_fault c e h) = StandardExpands.object_result_fault c e h
   at_replacement_fault (Means.quote_inside i g) = StandardExpands.quote_inside i g
   at_replacement_fault (Means.unclosed i g) = StandardExpands.unclosed i g
   at_replacement_fault (Means.wrong_number i g f) = StandardExpands.wrong_number i g f
 
-  at_replaced : {level : ℕ} {list next tokens : List Hiding} {fault : Option Fault} → Means list (Replaced next) → StandardExpands macros env level next tokens fault → StandardExpands macros env level list tokens fault
+  at_replaced : {level number after : ℕ} {list next tokens : List Hiding} {fault : Option Fault}
+      → Means list (Replaced next)
+      → StandardExpands macros env level number next tokens fault after
+      → StandardExpands macros env level number list tokens fault after
   at_replaced (Means.predefined c e) more = StandardExpands.predefined c e more
   at_replaced (Means.object_like c e h) more = StandardExpands.object_like c e h more
+
+  at_counts : {level number after : ℕ} {list rest tokens : List Hiding} {t : Hiding} {fault : Option Fault}
+      → Means list (Counts t rest)
+      → StandardExpands macros env level ((number + 1) % 2 ^ 32) (counter_value number t ∷ rest) tokens fault after
+      → StandardExpands macros env level number list tokens fault after
+  at_counts (Means.counter c e) more = StandardExpands.counter c e more
 
   at_invoked : {list : List Hiding} {invocation : Invocation} → Means list (Invoked invocation) → Invokes macros list invocation
   at_invoked (Means.begins b) = b
@@ -208,15 +220,15 @@ module _ (macros : Macros) (env : Env) where
   result_replaced following next (Ok m) e = let same : followed_by m following ≡ next = cc in (m, refl, same)
   result_replaced following next (Err f) e = absurd (cc)
 
-  at_next : {level : ℕ} {list next tokens : List Hiding} {fault : Option Fault} {invocation : Invocation} {expanded : List (Option (List Hiding))}
+  at_next : {level number between after : ℕ} {list next tokens : List Hiding} {fault : Option Fault} {invocation : Invocation} {expanded : List (Option (List Hiding))}
       → Invokes macros list invocation
-      → StandardExpandsArguments macros env level invocation (arguments_to_expand invocation) (Ok expanded)
+      → StandardExpandsArguments macros env level invocation number (arguments_to_expand invocation) (Ok expanded) between
       → finish_invocation invocation expanded ≡ Replaced next
-      → StandardExpands macros env level next tokens fault
-      → StandardExpands macros env level list tokens fault
-  at_next {level = level} {next = next} {tokens = tokens} {fault = fault} {invocation = invocation} {expanded = expanded} b a e more =
+      → StandardExpands macros env level between next tokens fault after
+      → StandardExpands macros env level number list tokens fault after
+  at_next {level = level} {between = between} {after = after} {next = next} {tokens = tokens} {fault = fault} {invocation = invocation} {expanded = expanded} b a e more =
       let r = result_replaced invocation.following next (invocation_result invocation expanded) (sym (finish_invocation-is invocation expanded) ∙ e) in
-      StandardExpands.invocation b a r.1 (subst (λ x. StandardExpands macros env level x tokens fault) (sym r.2) more)
+      StandardExpands.invocation b a r.1 (subst (λ x. StandardExpands macros env level between x tokens fault after) (sym r.2) more)
 
   -- ---- an expansion without a budget follows the standard's rules
 
@@ -224,12 +236,16 @@ module _ (macros : Macros) (env : Env) where
   by_rule meter list is e = subst (Means list) (sym (unlimited-in_budget meter list (expansion_step macros env list) is) ∙ e) (means list)
 
   mutual
-    standard : {level steps : ℕ} {meter : Meter} {list : List Hiding} {out : Outcome} → meter.remaining ≡ None → Expands macros env level meter steps list out → StandardExpands macros env level list out.tokens out.fault
+    standard : {level steps : ℕ} {meter : Meter} {list : List Hiding} {out : Outcome}
+        → meter.remaining ≡ None
+        → Expands macros env level meter steps list out
+        → StandardExpands macros env level meter.counter list out.tokens out.fault out.meter.counter
     standard {meter = meter} {list = list} is (in_budget.done e) = at_done (by_rule meter list is e)
     standard {meter = meter} {list = list} is (in_budget.token_fault e) = at_token_fault (by_rule meter list is e)
     standard {meter = meter} {list = list} is (in_budget.emits e more) = at_passes (by_rule meter list is e) (standard is more)
     standard {meter = meter} {list = list} is (in_budget.replacement_fault e) = at_replacement_fault (by_rule meter list is e)
     standard {meter = meter} {list = list} is (in_budget.replaced e more) = at_replaced (by_rule meter list is e) (standard (ap one_less is) more)
+    standard {meter = meter} {list = list} is (in_budget.counts e more) = at_counts (by_rule meter list is e) (standard (ap one_less is) more)
     standard {meter = meter} {list = list} is (in_budget.argument_fault e a) = StandardExpands.argument_fault (at_invoked (by_rule meter list is e)) (standard_arguments (ap one_less is) a)
     standard {meter = meter} {list = list} is (in_budget.invocation_fault {invocation = invocation} {expanded = expanded} {f = f} e a h) =
         let failed = result_failed invocation expanded f (invocation_result invocation expanded) (sym (finish_invocation-is invocation expanded) ∙ h) in
@@ -240,7 +256,7 @@ module _ (macros : Macros) (env : Env) where
     standard_arguments : {level : ℕ} {invocation : Invocation} {meter meter_after : Meter} {as' : List (Option (List Hiding))} {r : ExpandedArguments}
         → meter.remaining ≡ None
         → ExpandsArguments macros env level invocation meter as' meter_after r
-        → StandardExpandsArguments macros env level invocation as' r
+        → StandardExpandsArguments macros env level invocation meter.counter as' r meter_after.counter
     standard_arguments is in_budget.none = StandardExpandsArguments.none
     standard_arguments is (in_budget.unused more) = StandardExpandsArguments.unused (standard_arguments is more)
     standard_arguments is (in_budget.too_deep h) = StandardExpandsArguments.too_deep h
@@ -249,85 +265,104 @@ module _ (macros : Macros) (env : Env) where
 
   -- ---- an expansion by the standard's rules is an expansion without a budget
 
-  module _ (meter : Meter) where
-    abbrev Unbudgeted : ℕ → List Hiding → List Hiding → Option Fault → Type 0
-    Unbudgeted level list tokens fault = ExpandsTo macros env level (without_budget meter) list (record { tokens = tokens; fault = fault; meter = without_budget meter })
+  -- the meter without a budget at this number
+  abbrev unlimited : ℕ → Meter
+  unlimited number = record { remaining = None; counter = number }
 
-    passing : {level : ℕ} {t : Hiding} {list rest tokens : List Hiding} {fault : Option Fault} → Means list (Emits t rest) → Unbudgeted level rest tokens fault → Unbudgeted level list (t ∷ tokens) fault
-    passing m more = (suc more.0, in_budget.emits (meant m) more.1)
+  abbrev Unbudgeted : ℕ → ℕ → List Hiding → List Hiding → Option Fault → ℕ → Type 0
+  Unbudgeted level number list tokens fault after = ExpandsTo macros env level (unlimited number) list (record { tokens = tokens; fault = fault; meter = unlimited after })
 
-    replacing : {level : ℕ} {list next tokens : List Hiding} {fault : Option Fault} → Means list (Replaced next) → Unbudgeted level next tokens fault → Unbudgeted level list tokens fault
-    replacing m more = (suc more.0, in_budget.replaced (meant m) more.1)
+  passing : {level number after : ℕ} {t : Hiding} {list rest tokens : List Hiding} {fault : Option Fault}
+      → Means list (Emits t rest)
+      → Unbudgeted level number rest tokens fault after
+      → Unbudgeted level number list (t ∷ tokens) fault after
+  passing m more = (suc more.0, in_budget.emits (meant m) more.1)
 
-    failing : {level : ℕ} {list : List Hiding} {f : Fault} → Means list (ReplacementFault f) → Unbudgeted level list [] (Some f)
-    failing m = (0, in_budget.replacement_fault (meant m))
+  replacing : {level number after : ℕ} {list next tokens : List Hiding} {fault : Option Fault}
+      → Means list (Replaced next)
+      → Unbudgeted level number next tokens fault after
+      → Unbudgeted level number list tokens fault after
+  replacing m more = (suc more.0, in_budget.replaced (meant m) more.1)
 
-    mutual
-      unbudgeted : {level : ℕ} {list tokens : List Hiding} {fault : Option Fault} → StandardExpands macros env level list tokens fault → Unbudgeted level list tokens fault
-      unbudgeted StandardExpands.nothing_left = (0, in_budget.done (meant Means.nothing_left))
-      unbudgeted (StandardExpands.unmatched_quote q) = (0, in_budget.token_fault (meant (Means.unmatched_quote q)))
-      unbudgeted (StandardExpands.no_macro q n more) = passing (Means.no_macro q n) (unbudgeted more)
-      unbudgeted (StandardExpands.hidden q h more) = passing (Means.hidden q h) (unbudgeted more)
-      unbudgeted (StandardExpands.predefined c e more) = replacing (Means.predefined c e) (unbudgeted more)
-      unbudgeted (StandardExpands.object_like c e h more) = replacing (Means.object_like c e h) (unbudgeted more)
-      unbudgeted (StandardExpands.object_result_fault c e h) = failing (Means.object_result_fault c e h)
-      unbudgeted (StandardExpands.not_invoked c e n more) = passing (Means.not_invoked c e n) (unbudgeted more)
-      unbudgeted (StandardExpands.quote_inside i g) = failing (Means.quote_inside i g)
-      unbudgeted (StandardExpands.unclosed i g) = failing (Means.unclosed i g)
-      unbudgeted (StandardExpands.wrong_number i g f) = failing (Means.wrong_number i g f)
-      unbudgeted (StandardExpands.argument_fault b a) = (0, in_budget.argument_fault (meant (Means.begins b)) (unbudgeted_arguments a))
-      unbudgeted (StandardExpands.invocation_result_fault {invocation = invocation} {expanded = expanded} b a e) =
-          (0, in_budget.invocation_fault (meant (Means.begins b)) (unbudgeted_arguments a) (finish_invocation-is invocation expanded ∙ ap (λ r. replaced_by r invocation.following) e))
-      unbudgeted (StandardExpands.invocation {invocation = invocation} {expanded = expanded} b a e rest) =
-          let more = unbudgeted rest in
-          (suc more.0, in_budget.invocation_replaced (meant (Means.begins b)) (unbudgeted_arguments a) (finish_invocation-is invocation expanded ∙ ap (λ r. replaced_by r invocation.following) e) more.1)
+  counting : {level number after : ℕ} {t : Hiding} {list rest tokens : List Hiding} {fault : Option Fault}
+      → Means list (Counts t rest)
+      → Unbudgeted level ((number + 1) % 2 ^ 32) (counter_value number t ∷ rest) tokens fault after
+      → Unbudgeted level number list tokens fault after
+  counting m more = (suc more.0, in_budget.counts (meant m) more.1)
 
-      unbudgeted_arguments : {level : ℕ} {invocation : Invocation} {as' : List (Option (List Hiding))} {r : ExpandedArguments}
-          → StandardExpandsArguments macros env level invocation as' r
-          → ExpandsArguments macros env level invocation (without_budget meter) as' (without_budget meter) r
-      unbudgeted_arguments StandardExpandsArguments.none = in_budget.none
-      unbudgeted_arguments (StandardExpandsArguments.unused more) = in_budget.unused (unbudgeted_arguments more)
-      unbudgeted_arguments (StandardExpandsArguments.too_deep h) = in_budget.too_deep h
-      unbudgeted_arguments (StandardExpandsArguments.pre_expanded h one more) = in_budget.pre_expanded h (unbudgeted one).1 (unbudgeted_arguments more)
-      unbudgeted_arguments (StandardExpandsArguments.pre_expansion_fault h one) = in_budget.pre_expansion_fault h (unbudgeted one).1
+  failing : {level number : ℕ} {list : List Hiding} {f : Fault} → Means list (ReplacementFault f) → Unbudgeted level number list [] (Some f) number
+  failing m = (0, in_budget.replacement_fault (meant m))
+
+  mutual
+    unbudgeted : {level number after : ℕ} {list tokens : List Hiding} {fault : Option Fault}
+        → StandardExpands macros env level number list tokens fault after
+        → Unbudgeted level number list tokens fault after
+    unbudgeted StandardExpands.nothing_left = (0, in_budget.done (meant Means.nothing_left))
+    unbudgeted (StandardExpands.unmatched_quote q) = (0, in_budget.token_fault (meant (Means.unmatched_quote q)))
+    unbudgeted (StandardExpands.no_macro q n more) = passing (Means.no_macro q n) (unbudgeted more)
+    unbudgeted (StandardExpands.hidden q h more) = passing (Means.hidden q h) (unbudgeted more)
+    unbudgeted (StandardExpands.predefined c e more) = replacing (Means.predefined c e) (unbudgeted more)
+    unbudgeted (StandardExpands.counter c e more) = counting (Means.counter c e) (unbudgeted more)
+    unbudgeted (StandardExpands.object_like c e h more) = replacing (Means.object_like c e h) (unbudgeted more)
+    unbudgeted (StandardExpands.object_result_fault c e h) = failing (Means.object_result_fault c e h)
+    unbudgeted (StandardExpands.not_invoked c e n more) = passing (Means.not_invoked c e n) (unbudgeted more)
+    unbudgeted (StandardExpands.quote_inside i g) = failing (Means.quote_inside i g)
+    unbudgeted (StandardExpands.unclosed i g) = failing (Means.unclosed i g)
+    unbudgeted (StandardExpands.wrong_number i g f) = failing (Means.wrong_number i g f)
+    unbudgeted (StandardExpands.argument_fault b a) = (0, in_budget.argument_fault (meant (Means.begins b)) (unbudgeted_arguments a))
+    unbudgeted (StandardExpands.invocation_result_fault {invocation = invocation} {expanded = expanded} b a e) =
+        (0, in_budget.invocation_fault (meant (Means.begins b)) (unbudgeted_arguments a) (finish_invocation-is invocation expanded ∙ ap (λ r. replaced_by r invocation.following) e))
+    unbudgeted (StandardExpands.invocation {invocation = invocation} {expanded = expanded} b a e rest) =
+        let more = unbudgeted rest in
+        (suc more.0, in_budget.invocation_replaced (meant (Means.begins b)) (unbudgeted_arguments a) (finish_invocation-is invocation expanded ∙ ap (λ r. replaced_by r invocation.following) e) more.1)
+
+    unbudgeted_arguments : {level number after : ℕ} {invocation : Invocation} {as' : List (Option (List Hiding))} {r : ExpandedArguments}
+        → StandardExpandsArguments macros env level invocation number as' r after
+        → ExpandsArguments macros env level invocation (unlimited number) as' (unlimited after) r
+    unbudgeted_arguments StandardExpandsArguments.none = in_budget.none
+    unbudgeted_arguments (StandardExpandsArguments.unused more) = in_budget.unused (unbudgeted_arguments more)
+    unbudgeted_arguments (StandardExpandsArguments.too_deep h) = in_budget.too_deep h
+    unbudgeted_arguments (StandardExpandsArguments.pre_expanded h one more) = in_budget.pre_expanded h (unbudgeted one).1 (unbudgeted_arguments more)
+    unbudgeted_arguments (StandardExpandsArguments.pre_expansion_fault h one) = in_budget.pre_expansion_fault h (unbudgeted one).1
 
   -- ---- both directions
 
-  -- one meter without a budget after another: nothing but the budget is in a meter
-  no_change : (meter after : Meter) → after.remaining ≡ None → after ≡ without_budget meter
-  no_change meter after none = ap new_meter none
+  without-is : (meter : Meter) → meter.remaining ≡ None → meter ≡ unlimited meter.counter
+  without-is meter none = λ i. record { remaining = none i; counter = meter.counter }
 
   pub list_standard : (level : ℕ) (meter : Meter) (list : List Hiding) (out : Outcome)
       → ExpandsTo macros env level (without_budget meter) list out
-      ↔ ((out.meter ≡ without_budget meter) × StandardExpands macros env level list out.tokens out.fault)
+      ↔ ((out.meter.remaining ≡ None) × StandardExpands macros env level meter.counter list out.tokens out.fault out.meter.counter)
   list_standard level meter list out = (
-    λ d. (no_change meter out.meter (remaining_none macros env refl d.1), standard refl d.1),
-    λ s. subst (λ m. ExpandsTo macros env level (without_budget meter) list (record out { meter = m })) (sym s.0) (unbudgeted meter s.1),
+    λ d. (remaining_none macros env refl d.1, standard refl d.1),
+    λ s. subst (λ m. ExpandsTo macros env level (without_budget meter) list (record out { meter = m })) (sym (without-is out.meter s.0)) (unbudgeted s.1),
   )
 
-  tokens_standard : (meter : Meter) {tokens : List Token} {e : Expansion} → IsExpansion macros env (without_budget meter) tokens e → IsStandardExpansion macros env tokens e.tokens e.fault
-  tokens_standard meter x = record {
+  tokens_standard : (meter : Meter) {tokens : List Token} {e : Expansion}
+      → IsExpansion macros env (without_budget meter) tokens e
+      → IsStandardExpansion macros env meter.counter tokens e.tokens e.fault e.meter.counter
+  tokens_standard meter {tokens = tokens} x = record {
     emitted = x.outcome.tokens;
-    expands = subst (λ f. StandardExpands macros env 0 _ x.outcome.tokens f) (sym x.fault_is) (standard refl x.expands.1);
+    expands = subst (λ (p : Option Fault × Meter). StandardExpands macros env 0 meter.counter (map unhidden tokens) x.outcome.tokens p.0 p.1.counter) (λ i. (sym x.fault_is i, sym x.meter_is i)) (standard refl x.expands.1);
     is = x.emitted;
   }
 
   tokens_unbudgeted : (meter : Meter) {tokens : List Token} {e : Expansion}
-      → e.meter ≡ without_budget meter
-      → IsStandardExpansion macros env tokens e.tokens e.fault
+      → e.meter.remaining ≡ None
+      → IsStandardExpansion macros env meter.counter tokens e.tokens e.fault e.meter.counter
       → IsExpansion macros env (without_budget meter) tokens e
   tokens_unbudgeted meter {e = e} none s = record {
-    outcome = record { tokens = s.emitted; fault = e.fault; meter = without_budget meter };
-    expands = unbudgeted meter s.expands;
+    outcome = record { tokens = s.emitted; fault = e.fault; meter = unlimited e.meter.counter };
+    expands = unbudgeted s.expands;
     emitted = s.is;
     fault_is = refl;
-    meter_is = none;
+    meter_is = without-is e.meter none;
   }
 
   pub expansion_standard : (meter : Meter) (tokens : List Token) (e : Expansion)
       → IsExpansion macros env (without_budget meter) tokens e
-      ↔ ((e.meter ≡ without_budget meter) × IsStandardExpansion macros env tokens e.tokens e.fault)
+      ↔ ((e.meter.remaining ≡ None) × IsStandardExpansion macros env meter.counter tokens e.tokens e.fault e.meter.counter)
   expansion_standard meter tokens e = (
-    λ x. (no_change meter e.meter (ap (λ m. m.remaining) x.meter_is ∙ remaining_none macros env refl x.expands.1), tokens_standard meter x),
+    λ x. (ap (λ m. m.remaining) x.meter_is ∙ remaining_none macros env refl x.expands.1, tokens_standard meter x),
     λ s. tokens_unbudgeted meter s.0 s.1,
   )

@@ -5,8 +5,8 @@ use Rattle.ppmacro.specs.Hiding.{Hiding}
 use Rattle.std.specs.Prelude.{List, ◌∷◌}
 use Rattle.ppexpand.specs.declared.env.Env.{Env}
 use Rattle.ppexpand.specs.declared.meter.Meter.{Meter}
-use Rattle.ppexpand.specs.Expansion.{Outcome, Expands, emits, replaced, invocation_replaced}
-use Rattle.ppexpand.specs.Laws.{Leads, by_emitting, by_replacing, by_invoking, LeadsOn, stays, steps, EndsWithin}
+use Rattle.ppexpand.specs.Expansion.{Outcome, Expands, emits, replaced, invocation_replaced, counts}
+use Rattle.ppexpand.specs.Laws.{Leads, by_emitting, by_replacing, by_invoking, LeadsOn, stays, steps, EndsWithin, by_counting}
 use Rattle.ppexpand.proofs.OutcomeExistence.{HasOutcome, total}
 use Rattle.ppexpand.proofs.OutcomeUniqueness.{same_outcome}
 
@@ -19,6 +19,7 @@ module _ (macros : Macros) (env : Env) (level : ℕ) where
   unfolding Takes
   before_turn n (by_emitting {t = t} e) h = (suc h.0, record { tokens = t ∷ h.1.tokens; fault = h.1.fault; meter = h.1.meter }, omega (arith, h.2), emits e h.3)
   before_turn n (by_replacing e) h = (suc h.0, h.1, omega (arith, h.2), replaced e h.3)
+  before_turn n (by_counting e) h = (suc h.0, h.1, omega (arith, h.2), counts e h.3)
   before_turn n (by_invoking e a f) h = (suc h.0, h.1, omega (arith, h.2), invocation_replaced e a f h.3)
 
   before_turns : {n : ℕ} {meter meter_after : Meter} {list last : List Hiding} → LeadsOn macros env level n meter list meter_after last → Takes n meter list

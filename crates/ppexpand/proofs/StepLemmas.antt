@@ -14,7 +14,7 @@ use Rattle.ppexpand.specs.declared.env.Env.{Env}
 use Rattle.ppexpand.specs.declared.meter.Meter.{Meter}
 use Rattle.ppexpand.specs.declared.expand_step.Action.{Action}
 use Rattle.ppexpand.specs.declared.expand_step.Action.TheVariants as action
-use Rattle.ppexpand.specs.ExpansionStep.{Done, TokenFault, Emits, ReplacementFault, Replaced, Invoked, quote_fault, named_step, ExpansionStep, macro_of, expansion_step}
+use Rattle.ppexpand.specs.ExpansionStep.{Done, TokenFault, Emits, ReplacementFault, Replaced, Invoked, quote_fault, named_step, ExpansionStep, macro_of, expansion_step, Counts}
 use Rattle.ppexpand.specs.Budget.{exhausted_step, refused, in_budget, is_exhausted}
 use Rattle.ppexpand.specs.code.ProgramValues.{named_in, refused_in, charged_in, HasFailed, at_token, in_replacement, HasActed}
 
@@ -62,6 +62,7 @@ refused_is_free list (TokenFault f) = tt
 refused_is_free list (Emits t rest) = tt
 refused_is_free list (ReplacementFault f) = over_is_free list
 refused_is_free list (Replaced next) = over_is_free list
+refused_is_free list (Counts t rest) = over_is_free list
 refused_is_free list (Invoked invocation) = over_is_free list
 
 -- A budget does not change a step that is the same if the budget is exhausted.
@@ -94,6 +95,7 @@ refused_acts sets list step meter (Err f) free e = at_token (sym e)
 refused_acts sets list step meter (Ok action.Done) free e = (e, refl)
 refused_acts sets list step meter (Ok (action.Emits token)) free e = (e, refl)
 refused_acts sets list step meter (Ok action.Replaced) free e = absurd (subst IsFree (sym e) free)
+refused_acts sets list step meter (Ok (action.Counts token)) free e = absurd (subst IsFree (sym e) free)
 refused_acts sets list step meter (Ok (action.Invoked c)) free e = absurd (subst IsFree (sym e) free)
 
 -- The step of a name that is not refused is charged.

@@ -1,15 +1,15 @@
 -- The meter of an expansion, and the expansion step within its budget of replacements. `None` means no budget.
-use Rattle.std.specs.Prelude.{ℕ, zero, suc, Bool, true, false, List, [], ◌∷◌, Option, Some, None, if◌then◌else◌}
+use Rattle.std.specs.Prelude.{ℕ, zero, suc, ◌+◌, ◌%◌, ◌^◌, Bool, true, false, List, [], ◌∷◌, Option, Some, None, if◌then◌else◌}
 use Rattle.pptext.specs.Tokens.{fault}
 use Rattle.ppmacro.specs.Hiding.{Hiding}
 use Rattle.ppexpand.specs.declared.meter.Meter.{Meter}
-use Rattle.ppexpand.specs.ExpansionStep.{ExpansionStep, Done, TokenFault, ReplacementFault, Replaced, Invoked}
+use Rattle.ppexpand.specs.ExpansionStep.{ExpansionStep, Done, TokenFault, ReplacementFault, Replaced, Counts, Invoked}
 
 -- ---- the meter
 
--- the meter at the start of a unit with this budget
+-- the meter at the start of a unit with this budget; its `__COUNTER__` begins at 0
 abbrev pub new_meter : Option ℕ → Meter
-new_meter budget = record { remaining = budget }
+new_meter budget = record { remaining = budget; counter = 0 }
 
 -- a meter with this budget in place of its own
 abbrev pub with_budget : Option ℕ → Meter → Meter
@@ -36,6 +36,10 @@ one_less (Some (suc n)) = Some n
 abbrev pub spend_one : Meter → Meter
 spend_one meter = record meter { remaining = one_less meter.remaining }
 
+-- the meter after a replacement of `__COUNTER__`, whose number has 32 bits
+abbrev pub count_on : Meter → Meter
+count_on meter = record { remaining = one_less meter.remaining; counter = (meter.counter + 1) % 2 ^ 32 }
+
 -- ---- the step
 
 -- the step if the budget is exhausted and a name would be replaced: fault 35 at the name's expansion location
@@ -47,6 +51,7 @@ exhausted_step (t ∷ rest) = TokenFault (fault 35 t.token.used [])
 abbrev pub refused : List Hiding → ExpansionStep → ExpansionStep
 refused list (ReplacementFault f) = exhausted_step list
 refused list (Replaced next) = exhausted_step list
+refused list (Counts t rest) = exhausted_step list
 refused list (Invoked invocation) = exhausted_step list
 refused list step = step
 

@@ -7,9 +7,9 @@ use Rattle.ppmacro.specs.Hiding.{Hiding}
 use Rattle.ppmacro.specs.Substitution.{unhidden}
 use Rattle.ppexpand.specs.declared.env.Env.{Env}
 use Rattle.ppexpand.specs.declared.meter.Meter.{Meter}
-use Rattle.ppexpand.specs.ExpansionStep.{Invocation, ExpansionStep, Done, TokenFault, Emits, ReplacementFault, Replaced, Invoked, expansion_step, arguments_to_expand, finish_invocation, fault_at_expansion}
+use Rattle.ppexpand.specs.ExpansionStep.{Invocation, ExpansionStep, Done, TokenFault, Emits, ReplacementFault, Replaced, Counts, Invoked, counter_value, expansion_step, arguments_to_expand, finish_invocation, fault_at_expansion}
 use Rattle.ppexpand.specs.ExpansionStep.{ExpandedArguments, with_expanded}
-use Rattle.ppexpand.specs.Budget.{in_budget, spend_one}
+use Rattle.ppexpand.specs.Budget.{in_budget, spend_one, count_on}
 
 -- the emitted tokens, the fault that stopped the expansion, if any, and the meter after it
 pub record Outcome : Type 0 where
@@ -50,6 +50,10 @@ module _ (macros : Macros) (env : Env) where
       replaced : {level steps : ℕ} {meter : Meter} {list next : List Hiding} {out : Outcome}
           → step_in_budget meter list ≡ Replaced next
           → Expands level (spend_one meter) steps next out
+          → Expands level meter (suc steps) list out
+      counts : {level steps : ℕ} {meter : Meter} {list : List Hiding} {t : Hiding} {rest : List Hiding} {out : Outcome}
+          → step_in_budget meter list ≡ Counts t rest
+          → Expands level (count_on meter) steps (counter_value meter.counter t ∷ rest) out
           → Expands level meter (suc steps) list out
       argument_fault : {level : ℕ} {meter meter_after : Meter} {list : List Hiding} {invocation : Invocation} {f : Fault}
           → step_in_budget meter list ≡ Invoked invocation
@@ -99,6 +103,7 @@ module _ (macros : Macros) (env : Env) where
     count (emits e more) = count more
     count (replacement_fault e) = 1
     count (replaced e more) = suc (count more)
+    count (counts e more) = suc (count more)
     count (argument_fault e arguments) = suc (count_arguments arguments)
     count (invocation_fault e arguments f) = suc (count_arguments arguments)
     count (invocation_replaced e arguments f more) = suc (count_arguments arguments + count more)

@@ -19,7 +19,7 @@ use Rattle.ppmacro.specs.declared.macros.PredefinedMacro.{PredefinedMacro}
 use Rattle.ppmacro.specs.declared.macros.PredefinedMacro.TheVariants.{File, Line, Date, Time, Stdc, StdcHosted, StdcVersion}
 use Rattle.ppmacro.specs.declared.macros.Variadic.{Variadic}
 use Rattle.ppmacro.specs.declared.macros.MacroKind.{MacroKind}
-use Rattle.ppmacro.specs.declared.macros.MacroKind.TheVariants.{Predefined, ObjectLike, FunctionLike}
+use Rattle.ppmacro.specs.declared.macros.MacroKind.TheVariants.{Predefined, Counter, ObjectLike, FunctionLike}
 use Rattle.ppmacro.specs.declared.macros.Macro.{Macro}
 use Rattle.ppmacro.specs.declared.macros.Chain.{Chain}
 use Rattle.ppexpand.specs.declared.env.Env.{Env}
@@ -57,6 +57,15 @@ predefined_value b env t names_to_hide = record {
   hide = names_to_hide;
 }
 
+-- ---- the counter (gcc's manual, "Common Predefined Macros")
+
+-- the token that replaces `__COUNTER__` if this is the number; it has the locations and the leading-space flag of the name
+abbrev pub counter_value : ℕ → Hiding → Hiding
+counter_value number t = record {
+  token = record { kind = Number; text = decimal number; space = t.token.space; at = t.token.at; used = t.token.used };
+  hide = set.insert t.hide t.token.text;
+}
+
 -- ---- expansion steps
 
 -- an invocation of a function-like macro: the macro name token, the macro, one argument for each parameter (none for an
@@ -81,6 +90,8 @@ pub data ExpansionStep : Type 0 where
   ReplacementFault : Fault → ExpansionStep
   -- the token is a macro's name that was replaced; this is the new list
   Replaced : List Hiding → ExpansionStep
+  -- the token is `__COUNTER__`, and the unit's number replaces it; these tokens remain
+  Counts : Hiding → List Hiding → ExpansionStep
   -- the token is the macro name token of an invocation whose arguments are still to be expanded
   Invoked : Invocation → ExpansionStep
 
@@ -131,6 +142,7 @@ no_arguments = record { given = []; expanded = [] }
 
 abbrev pub macro_step : Env → Hiding → List Hiding → Macro → MacroKind → ExpansionStep
 macro_step env t rest d (Predefined b) = Replaced (predefined_value b env t (set.insert t.hide t.token.text) ∷ rest)
+macro_step env t rest d Counter = Counts t rest
 macro_step env t rest d ObjectLike = replaced_by (macro_replacement d no_arguments (set.insert t.hide t.token.text) t.token.used t.token.space) rest
 macro_step env t rest d (FunctionLike names variadic) = function_step t d names variadic rest
 

@@ -11,8 +11,8 @@ use Rattle.ppmacro.specs.declared.macros.Macro.{Macro}
 use Rattle.ppexpand.specs.declared.env.Env.{Env}
 use Rattle.ppexpand.specs.declared.meter.Meter.{Meter}
 use Rattle.ppexpand.specs.Arguments.{argument_role, separates, fewer, Quote, Open, Close, Comma, Inner}
-use Rattle.ppexpand.specs.ExpansionStep.{Invocation, Emits, Replaced, Invoked, macro_of, arguments_to_expand, finish_invocation}
-use Rattle.ppexpand.specs.Budget.{with_budget, without_budget, spend_one}
+use Rattle.ppexpand.specs.ExpansionStep.{Invocation, Emits, Replaced, Counts, Invoked, counter_value, macro_of, arguments_to_expand, finish_invocation}
+use Rattle.ppexpand.specs.Budget.{with_budget, without_budget, spend_one, count_on}
 use Rattle.ppexpand.specs.Expansion.{Outcome, step_in_budget, ExpandsTo, ExpandsArguments, Expansion, IsExpansion}
 
 -- ---- exactly one expansion, and termination
@@ -37,6 +37,9 @@ pub data Leads (macros : Macros) (env : Env) (level : ℕ) : Meter → List Hidi
   by_replacing : {meter : Meter} {list next : List Hiding}
       → step_in_budget macros env meter list ≡ Replaced next
       → Leads macros env level meter list (spend_one meter) next
+  by_counting : {meter : Meter} {list rest : List Hiding} {t : Hiding}
+      → step_in_budget macros env meter list ≡ Counts t rest
+      → Leads macros env level meter list (count_on meter) (counter_value meter.counter t ∷ rest)
   by_invoking : {meter meter_after : Meter} {list next : List Hiding} {invocation : Invocation} {expanded : List (Option (List Hiding))}
       → step_in_budget macros env meter list ≡ Invoked invocation
       → ExpandsArguments macros env level invocation (spend_one meter) (arguments_to_expand invocation) meter_after (Ok expanded)

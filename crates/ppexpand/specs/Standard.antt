@@ -2,9 +2,9 @@
 -- and one for each fault.
 --
 -- The theorem `without_a_budget` compares these rules with `ExpansionStep` and `Expansion`. Both use the same definitions of arguments (`gather`,
--- `fit_arguments`, `arguments_to_expand`) and of replacements (`predefined_value`, `macro_replacement`, `followed_by`). So the theorem says that they
+-- `fit_arguments`, `arguments_to_expand`) and of replacements (`predefined_value`, `counter_value`, `macro_replacement`, `followed_by`). So the theorem says that they
 -- apply these definitions in the same cases and in the same order. It says nothing of the definitions themselves.
-use Rattle.std.specs.Prelude.{◌≡◌, ℕ, suc, ◌<◌, ◌≤◌, Bool, true, false, List, [], ◌∷◌, map, Option, Some, None, Result, Ok, Err}
+use Rattle.std.specs.Prelude.{◌≡◌, ℕ, suc, ◌+◌, ◌%◌, ◌^◌, ◌<◌, ◌≤◌, Bool, true, false, List, [], ◌∷◌, map, Option, Some, None, Result, Ok, Err}
 use Rattle.std.specs.FinSet as set
 use Rattle.pptext.specs.declared.tokens.Token.{Token}
 use Rattle.pptext.specs.declared.tokens.Fault.{Fault}
@@ -15,10 +15,10 @@ use Rattle.ppmacro.specs.Substitution.{unhidden, Replacement, macro_replacement}
 use Rattle.ppmacro.specs.declared.macros.PredefinedMacro.{PredefinedMacro}
 use Rattle.ppmacro.specs.declared.macros.Variadic.{Variadic}
 use Rattle.ppmacro.specs.declared.macros.Macro.{Macro}
-use Rattle.ppmacro.specs.declared.macros.MacroKind.TheVariants.{Predefined, ObjectLike, FunctionLike}
+use Rattle.ppmacro.specs.declared.macros.MacroKind.TheVariants.{Predefined, Counter, ObjectLike, FunctionLike}
 use Rattle.ppexpand.specs.declared.env.Env.{Env}
 use Rattle.ppexpand.specs.Arguments.{is_open, Closed, UnmatchedQuote, Unclosed, gather, separators, fit_arguments}
-use Rattle.ppexpand.specs.ExpansionStep.{predefined_value, Invocation, followed_by, fault_at_expansion, quote_fault, names_to_hide_for, no_arguments, macro_of, arguments_to_expand}
+use Rattle.ppexpand.specs.ExpansionStep.{predefined_value, counter_value, Invocation, followed_by, fault_at_expansion, quote_fault, names_to_hide_for, no_arguments, macro_of, arguments_to_expand}
 use Rattle.ppexpand.specs.ExpansionStep.{ExpandedArguments, with_expanded}
 
 -- a token names this macro, and its hide set does not have the name (6.10.3, paragraph 9; 6.10.3.4, paragraph 2)
@@ -62,99 +62,107 @@ invocation_result invocation expanded =
     macro_replacement invocation.macro (record { given = invocation.arguments; expanded = expanded }) invocation.names_to_hide invocation.name_token.token.used invocation.name_token.token.space
 
 mutual
-  -- at this level a list expands to these tokens, up to its end or to this fault
-  pub data StandardExpands (macros : Macros) (env : Env) : ℕ → List Hiding → List Hiding → Option Fault → Type 0 where
-    nothing_left : {level : ℕ} → StandardExpands macros env level [] [] None
-    unmatched_quote : {level : ℕ} {t : Hiding} {rest : List Hiding}
+  -- At this level a list expands to these tokens, up to its end or to this fault. The first number is that of the next `__COUNTER__` (gcc's manual,
+  -- "Common Predefined Macros"), and the last is that of the next one afterwards.
+  pub data StandardExpands (macros : Macros) (env : Env) : ℕ → ℕ → List Hiding → List Hiding → Option Fault → ℕ → Type 0 where
+    nothing_left : {level number : ℕ} → StandardExpands macros env level number [] [] None number
+    unmatched_quote : {level number : ℕ} {t : Hiding} {rest : List Hiding}
         → is_unmatched_quote t.token ≡ true
-        → StandardExpands macros env level (t ∷ rest) [] (Some (quote_fault t.token))
-    no_macro : {level : ℕ} {t : Hiding} {rest tokens : List Hiding} {fault : Option Fault}
+        → StandardExpands macros env level number (t ∷ rest) [] (Some (quote_fault t.token)) number
+    no_macro : {level number after : ℕ} {t : Hiding} {rest tokens : List Hiding} {fault : Option Fault}
         → is_unmatched_quote t.token ≡ false
         → macro_of macros t.token ≡ None
-        → StandardExpands macros env level rest tokens fault
-        → StandardExpands macros env level (t ∷ rest) (t ∷ tokens) fault
+        → StandardExpands macros env level number rest tokens fault after
+        → StandardExpands macros env level number (t ∷ rest) (t ∷ tokens) fault after
     -- a name is not replaced again in its own replacement (6.10.3.4, paragraph 2)
-    hidden : {level : ℕ} {t : Hiding} {rest tokens : List Hiding} {fault : Option Fault}
+    hidden : {level number after : ℕ} {t : Hiding} {rest tokens : List Hiding} {fault : Option Fault}
         → is_unmatched_quote t.token ≡ false
         → set.contains t.hide t.token.text ≡ true
-        → StandardExpands macros env level rest tokens fault
-        → StandardExpands macros env level (t ∷ rest) (t ∷ tokens) fault
+        → StandardExpands macros env level number rest tokens fault after
+        → StandardExpands macros env level number (t ∷ rest) (t ∷ tokens) fault after
     -- the replacement of a name is rescanned with the rest (6.10.3.4, paragraph 1)
-    predefined : {level : ℕ} {t : Hiding} {rest tokens : List Hiding} {fault : Option Fault} {d : Macro} {b : PredefinedMacro}
+    predefined : {level number after : ℕ} {t : Hiding} {rest tokens : List Hiding} {fault : Option Fault} {d : Macro} {b : PredefinedMacro}
         → NamesMacro macros t d
         → d.kind ≡ Predefined b
-        → StandardExpands macros env level (predefined_value b env t (set.insert t.hide t.token.text) ∷ rest) tokens fault
-        → StandardExpands macros env level (t ∷ rest) tokens fault
-    object_like : {level : ℕ} {t : Hiding} {rest tokens : List Hiding} {fault : Option Fault} {d : Macro} {m : Replacement}
+        → StandardExpands macros env level number (predefined_value b env t (set.insert t.hide t.token.text) ∷ rest) tokens fault after
+        → StandardExpands macros env level number (t ∷ rest) tokens fault after
+    counter : {level number after : ℕ} {t : Hiding} {rest tokens : List Hiding} {fault : Option Fault} {d : Macro}
+        → NamesMacro macros t d
+        → d.kind ≡ Counter
+        → StandardExpands macros env level ((number + 1) % 2 ^ 32) (counter_value number t ∷ rest) tokens fault after
+        → StandardExpands macros env level number (t ∷ rest) tokens fault after
+    object_like : {level number after : ℕ} {t : Hiding} {rest tokens : List Hiding} {fault : Option Fault} {d : Macro} {m : Replacement}
         → NamesMacro macros t d
         → d.kind ≡ ObjectLike
         → object_result t d ≡ Ok m
-        → StandardExpands macros env level (followed_by m rest) tokens fault
-        → StandardExpands macros env level (t ∷ rest) tokens fault
-    object_result_fault : {level : ℕ} {t : Hiding} {rest : List Hiding} {f : Fault} {d : Macro}
+        → StandardExpands macros env level number (followed_by m rest) tokens fault after
+        → StandardExpands macros env level number (t ∷ rest) tokens fault after
+    object_result_fault : {level number : ℕ} {t : Hiding} {rest : List Hiding} {f : Fault} {d : Macro}
         → NamesMacro macros t d
         → d.kind ≡ ObjectLike
         → object_result t d ≡ Err f
-        → StandardExpands macros env level (t ∷ rest) [] (Some f)
+        → StandardExpands macros env level number (t ∷ rest) [] (Some f) number
     -- a function-like macro's name without `(` next is no invocation (6.10.3, paragraph 10)
-    not_invoked : {level : ℕ} {t : Hiding} {rest tokens : List Hiding} {fault : Option Fault} {d : Macro} {names : List Name} {variadic : Variadic}
+    not_invoked : {level number after : ℕ} {t : Hiding} {rest tokens : List Hiding} {fault : Option Fault} {d : Macro} {names : List Name} {variadic : Variadic}
         → NamesMacro macros t d
         → d.kind ≡ FunctionLike names variadic
         → opens_next rest ≡ false
-        → StandardExpands macros env level rest tokens fault
-        → StandardExpands macros env level (t ∷ rest) (t ∷ tokens) fault
-    quote_inside : {level : ℕ} {t paren quote : Hiding} {inside : List Hiding} {d : Macro} {names : List Name} {variadic : Variadic}
+        → StandardExpands macros env level number rest tokens fault after
+        → StandardExpands macros env level number (t ∷ rest) (t ∷ tokens) fault after
+    quote_inside : {level number : ℕ} {t paren quote : Hiding} {inside : List Hiding} {d : Macro} {names : List Name} {variadic : Variadic}
         → StartsInvocation macros t paren d names variadic
         → gather 0 (separators names variadic) inside ≡ UnmatchedQuote quote
-        → StandardExpands macros env level (t ∷ paren ∷ inside) [] (Some (quote_fault quote.token))
-    unclosed : {level : ℕ} {t paren : Hiding} {inside : List Hiding} {d : Macro} {names : List Name} {variadic : Variadic}
+        → StandardExpands macros env level number (t ∷ paren ∷ inside) [] (Some (quote_fault quote.token)) number
+    unclosed : {level number : ℕ} {t paren : Hiding} {inside : List Hiding} {d : Macro} {names : List Name} {variadic : Variadic}
         → StartsInvocation macros t paren d names variadic
         → gather 0 (separators names variadic) inside ≡ Unclosed
-        → StandardExpands macros env level (t ∷ paren ∷ inside) [] (Some (fault_at_expansion 17 t))
-    wrong_number : {level : ℕ} {t paren close : Hiding} {inside following : List Hiding} {d : Macro} {names : List Name}
+        → StandardExpands macros env level number (t ∷ paren ∷ inside) [] (Some (fault_at_expansion 17 t)) number
+    wrong_number : {level number : ℕ} {t paren close : Hiding} {inside following : List Hiding} {d : Macro} {names : List Name}
         {variadic : Variadic} {arguments : List (List Hiding)}
         → StartsInvocation macros t paren d names variadic
         → gather 0 (separators names variadic) inside ≡ Closed arguments close following
         → fit_arguments names variadic arguments ≡ None
-        → StandardExpands macros env level (t ∷ paren ∷ inside) [] (Some (fault_at_expansion 18 t))
-    argument_fault : {level : ℕ} {list : List Hiding} {invocation : Invocation} {f : Fault}
+        → StandardExpands macros env level number (t ∷ paren ∷ inside) [] (Some (fault_at_expansion 18 t)) number
+    argument_fault : {level number after : ℕ} {list : List Hiding} {invocation : Invocation} {f : Fault}
         → Invokes macros list invocation
-        → StandardExpandsArguments macros env level invocation (arguments_to_expand invocation) (Err f)
-        → StandardExpands macros env level list [] (Some f)
-    invocation_result_fault : {level : ℕ} {list : List Hiding} {invocation : Invocation} {expanded : List (Option (List Hiding))} {f : Fault}
+        → StandardExpandsArguments macros env level invocation number (arguments_to_expand invocation) (Err f) after
+        → StandardExpands macros env level number list [] (Some f) after
+    invocation_result_fault : {level number after : ℕ} {list : List Hiding} {invocation : Invocation} {expanded : List (Option (List Hiding))} {f : Fault}
         → Invokes macros list invocation
-        → StandardExpandsArguments macros env level invocation (arguments_to_expand invocation) (Ok expanded)
+        → StandardExpandsArguments macros env level invocation number (arguments_to_expand invocation) (Ok expanded) after
         → invocation_result invocation expanded ≡ Err f
-        → StandardExpands macros env level list [] (Some f)
-    invocation : {level : ℕ} {list tokens : List Hiding} {fault : Option Fault} {invocation : Invocation} {expanded : List (Option (List Hiding))} {m : Replacement}
+        → StandardExpands macros env level number list [] (Some f) after
+    invocation : {level number between after : ℕ} {list tokens : List Hiding} {fault : Option Fault} {invocation : Invocation}
+        {expanded : List (Option (List Hiding))} {m : Replacement}
         → Invokes macros list invocation
-        → StandardExpandsArguments macros env level invocation (arguments_to_expand invocation) (Ok expanded)
+        → StandardExpandsArguments macros env level invocation number (arguments_to_expand invocation) (Ok expanded) between
         → invocation_result invocation expanded ≡ Ok m
-        → StandardExpands macros env level (followed_by m invocation.following) tokens fault
-        → StandardExpands macros env level list tokens fault
+        → StandardExpands macros env level between (followed_by m invocation.following) tokens fault after
+        → StandardExpands macros env level number list tokens fault after
 
   -- The arguments of an invocation in a list at this level, each expanded as if it were the rest of the file, one level deeper (6.10.3.1), in order,
-  -- up to the first fault; level 256 is the deepest.
-  pub data StandardExpandsArguments (macros : Macros) (env : Env) : ℕ → Invocation → List (Option (List Hiding)) → ExpandedArguments → Type 0 where
-    none : {level : ℕ} {invocation : Invocation} → StandardExpandsArguments macros env level invocation [] (Ok [])
-    unused : {level : ℕ} {invocation : Invocation} {rest : List (Option (List Hiding))} {out : ExpandedArguments}
-        → StandardExpandsArguments macros env level invocation rest out
-        → StandardExpandsArguments macros env level invocation (None ∷ rest) (with_expanded None out)
-    too_deep : {level : ℕ} {invocation : Invocation} {list : List Hiding} {rest : List (Option (List Hiding))}
+  -- up to the first fault; level 256 is the deepest. The numbers are those of `StandardExpands`.
+  pub data StandardExpandsArguments (macros : Macros) (env : Env) : ℕ → Invocation → ℕ → List (Option (List Hiding)) → ExpandedArguments → ℕ → Type 0 where
+    none : {level number : ℕ} {invocation : Invocation} → StandardExpandsArguments macros env level invocation number [] (Ok []) number
+    unused : {level number after : ℕ} {invocation : Invocation} {rest : List (Option (List Hiding))} {out : ExpandedArguments}
+        → StandardExpandsArguments macros env level invocation number rest out after
+        → StandardExpandsArguments macros env level invocation number (None ∷ rest) (with_expanded None out) after
+    too_deep : {level number : ℕ} {invocation : Invocation} {list : List Hiding} {rest : List (Option (List Hiding))}
         → 256 ≤ level
-        → StandardExpandsArguments macros env level invocation (Some list ∷ rest) (Err (fault_at_expansion 21 invocation.name_token))
-    pre_expanded : {level : ℕ} {invocation : Invocation} {list tokens : List Hiding} {rest : List (Option (List Hiding))} {out : ExpandedArguments}
+        → StandardExpandsArguments macros env level invocation number (Some list ∷ rest) (Err (fault_at_expansion 21 invocation.name_token)) number
+    pre_expanded : {level number between after : ℕ} {invocation : Invocation} {list tokens : List Hiding} {rest : List (Option (List Hiding))} {out : ExpandedArguments}
         → level < 256
-        → StandardExpands macros env (suc level) list tokens None
-        → StandardExpandsArguments macros env level invocation rest out
-        → StandardExpandsArguments macros env level invocation (Some list ∷ rest) (with_expanded (Some tokens) out)
-    pre_expansion_fault : {level : ℕ} {invocation : Invocation} {list tokens : List Hiding} {rest : List (Option (List Hiding))} {f : Fault}
+        → StandardExpands macros env (suc level) number list tokens None between
+        → StandardExpandsArguments macros env level invocation between rest out after
+        → StandardExpandsArguments macros env level invocation number (Some list ∷ rest) (with_expanded (Some tokens) out) after
+    pre_expansion_fault : {level number after : ℕ} {invocation : Invocation} {list tokens : List Hiding} {rest : List (Option (List Hiding))} {f : Fault}
         → level < 256
-        → StandardExpands macros env (suc level) list tokens (Some f)
-        → StandardExpandsArguments macros env level invocation (Some list ∷ rest) (Err f)
+        → StandardExpands macros env (suc level) number list tokens (Some f) after
+        → StandardExpandsArguments macros env level invocation number (Some list ∷ rest) (Err f) after
 
--- the expansion of a list of tokens, up to its end or to this fault, at level 0 and with empty hide sets at first
-pub record IsStandardExpansion (macros : Macros) (env : Env) (tokens expanded : List Token) (fault : Option Fault) : Type 0 where
+-- The expansion of a list of tokens, up to its end or to this fault, at level 0 and with empty hide sets at first. The numbers are those of
+-- `StandardExpands`.
+pub record IsStandardExpansion (macros : Macros) (env : Env) (number : ℕ) (tokens expanded : List Token) (fault : Option Fault) (after : ℕ) : Type 0 where
   pub emitted : List Hiding
-  pub expands : StandardExpands macros env 0 (map unhidden tokens) emitted fault
+  pub expands : StandardExpands macros env 0 number (map unhidden tokens) emitted fault after
   pub is : expanded ≡ map (λ t. t.token) emitted

@@ -17,7 +17,7 @@ ghost use Rattle.ppmacro.specs.Patterns.{pattern_chains};
 ghost use Rattle.ppmacro.specs.Substitution.{macro_replacement, chains_replacement};
 ghost use Rattle.ppexpand.specs.Arguments.{gather, separators};
 ghost use Rattle.ppexpand.specs.declared.env.Env.{Env};
-ghost use Rattle.ppexpand.specs.ExpansionStep.{Replaced, macro_of, replaced_by, no_arguments, predefined_value, closed_invocation_step, invocation_step, function_step, macro_step};
+ghost use Rattle.ppexpand.specs.ExpansionStep.{Replaced, macro_of, replaced_by, no_arguments, predefined_value, counter_value, closed_invocation_step, invocation_step, function_step, macro_step};
 ghost use Rattle.ppexpand.specs.ExpansionStep.{finish_invocation};
 ghost use Rattle.ppexpand.specs.Budget.{refused};
 ghost use Rattle.ppexpand.specs.Expansion.{step_in_budget};
@@ -30,7 +30,7 @@ use crate::arguments::{Gathered, fit_arguments, gather, separators};
 use crate::context::Context;
 use crate::env::Env;
 use crate::meter::Meter;
-use crate::predefined::predefined_value;
+use crate::predefined::{counter_value, predefined_value};
 use crate::token_roles::{budget_fault, fault_at_expansion, is_open, is_quote, quote_fault};
 use crate::token_stack::TokenStack;
 use crate::vec_pool::VecPool;
@@ -64,6 +64,8 @@ pub(crate) enum Action<'t, 'x, 'a> {
     Emits(Hidden<'x>),
     /// The token was replaced in the list.
     Replaced,
+    /// The token is `__COUNTER__`, which is to be replaced.
+    Counts(Hidden<'x>),
     /// The token is to be replaced after the arguments are expanded.
     Invoked(Invocation<'t, 'x, 'a>),
 }
@@ -149,7 +151,7 @@ fn charge(meter: &mut Meter, outcome: &Result<Action, Error>)
     ensures { UnlessOutOfMemory outcome.now (λ r. meter.new ≡ charged_in r meter.old) }
 {
     match outcome {
-        Ok(Action::Done | Action::Emits(_)) => {}
+        Ok(Action::Done | Action::Emits(_) | Action::Counts(_)) => {}
         _ => *meter = meter.spend_one(),
     }
 }
@@ -215,6 +217,25 @@ impl<'x> Replacer<'x> {
         let alloc = self.pool.alloc();
         list.push(predefined_value(alloc, predefined, env, name_token, names_to_hide)?)?;
         Ok(Action::Replaced)
+    }
+
+    /// Pushes this number, the replacement of `__COUNTER__`.
+    pub(crate) fn push_number(
+        &mut self,
+        number: u32,
+        name_token: &Hidden<'x>,
+        list: &mut TokenStack<'x>,
+    ) -> Result<(), Memory>
+        requires name_token { HasSets self.old.sets name_token.now }
+        requires list { AllKnown self.old.sets list.old }
+        ensures is { OnOk result (hidings self.new.sets list.new ≡ counter_value number (hiding self.old.sets name_token.now) ∷ hidings self.old.sets list.old) }
+        ensures known { OnOk result (AllKnown self.new.sets list.new) }
+        ensures keeps { KeepsSets self.old.sets self.new.sets }
+    {
+        let names_to_hide = self.sets.with_own_name(name_token)?;
+        let alloc = self.pool.alloc();
+        list.push(counter_value(alloc, number, name_token, names_to_hide)?)?;
+        Ok(())
     }
 
     /// Pushes the replacement of an object-like macro's name, or returns fault 19.
@@ -345,6 +366,7 @@ impl<'x> Replacer<'x> {
             MacroKind::Predefined(predefined) => {
                 Ok(self.predefined_step(env, &name_token, *predefined, list)?)
             }
+            MacroKind::Counter => Ok(Action::Counts(name_token)),
             MacroKind::ObjectLike => self.object_step(&name_token, definition, list),
             MacroKind::FunctionLike {
                 parameters,

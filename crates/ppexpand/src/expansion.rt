@@ -8,12 +8,14 @@
 //! Most tokens name no macro, and most arguments expand to themselves. Fast paths take these without a step (`emit_unexpanded`,
 //! `none_expands`, the prefix in `expand`). What an expansion reads (`Context`) and what it changes (`Expander`) are two structs, because a
 //! method that could change the table would have to promise that it does not.
-ghost use Rattle.std.specs.Prelude.{◌≡◌, ℕ, ◌≤◌, ◌++◌, [], List, map, true, Some, Ok, IfOk, OnOk, MatchOption, IfSome};
+ghost use Rattle.std.specs.Prelude.{◌≡◌, ℕ, ◌≤◌, ◌++◌, ◌∷◌, [], List, map, true, Some, Ok, IfOk, OnOk, MatchOption, IfSome};
 ghost use Rattle.std.specs.Result.{result_err, result_and};
 ghost use Rattle.pptext.specs.Errors.{UnlessOutOfMemory};
 ghost use Rattle.std.specs.Option.{option_copied};
 ghost use Rattle.ppmacro.specs.Substituting.{tokens_of};
-ghost use Rattle.ppmacro.specs.HideSets.{hidings, AllKnown, KeepsSets};
+ghost use Rattle.ppmacro.specs.HideSets.{hiding, hidings, HasSets, AllKnown, KeepsSets};
+ghost use Rattle.ppexpand.specs.ExpansionStep.{counter_value};
+ghost use Rattle.ppexpand.specs.Budget.{count_on};
 ghost use Rattle.ppmacro.specs.HideSetPool.{HideSetPool};
 ghost use Rattle.ppmacro.specs.Substitution.{unhidden};
 ghost use Rattle.ppmacro.specs.declared.hidden_token.Hidden.{Hidden};
@@ -128,6 +130,26 @@ impl<'x> Expander<'x> {
         Ok(())
     }
 
+    /// Replaces `__COUNTER__`, which was removed from the list.
+    fn replace_counter(
+        &mut self,
+        name_token: &Hidden<'x>,
+        list: &mut TokenStack<'x>,
+    ) -> Result<(), Memory>
+        requires name_token { HasSets self.old.replacer.sets name_token.now }
+        requires list { AllKnown self.old.replacer.sets list.old }
+        ensures is { OnOk result (hidings self.new.replacer.sets list.new
+            ≡ counter_value self.old.meter.counter (hiding self.old.replacer.sets name_token.now) ∷ hidings self.old.replacer.sets list.old) }
+        ensures meter { OnOk result (self.new.meter ≡ count_on self.old.meter) }
+        ensures known { OnOk result (AllKnown self.new.replacer.sets list.new) }
+        ensures keeps { KeepsSets self.old.replacer.sets self.new.replacer.sets }
+    {
+        self.replacer
+            .push_number(self.meter.counter, name_token, list)?;
+        self.meter = self.meter.count_on();
+        Ok(())
+    }
+
     /// Begins an expansion step of a list. `named` is the macro that the next token names, if any. Returns whether the expansion of the
     /// list continues, or the fault that stops it.
     ///
@@ -167,6 +189,10 @@ impl<'x> Expander<'x> {
                 Ok(true)
             }
             Action::Replaced => Ok(true),
+            Action::Counts(token) => {
+                self.replace_counter(&token, list)?;
+                Ok(true)
+            }
             Action::Invoked(found) => {
                 *invocation = Some(found);
                 Ok(true)

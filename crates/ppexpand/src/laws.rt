@@ -69,7 +69,7 @@ pub fn finds_no_arguments()
 /// 6.10.3.4). There is no budget after an expansion either. The expansion of a list is the one by the standard's rules, which have no budget.
 ///
 /// Both sides use the same definitions of arguments (`gather`, `fit_arguments`, `arguments_to_expand`) and of replacements
-/// (`predefined_value`, `macro_replacement`, `followed_by`). So the law says that they apply these definitions in the same cases and in
+/// (`predefined_value`, `counter_value`, `macro_replacement`, `followed_by`). So the law says that they apply these definitions in the same cases and in
 /// the same order. It says nothing of the definitions themselves.
 pub fn without_a_budget()
     ensures steps { (macros : Macros) (env : Env) (meter : Meter) (list : List Hiding)
@@ -79,10 +79,10 @@ pub fn without_a_budget()
         → out.meter.remaining ≡ None }
     ensures rules { (macros : Macros) (env : Env) (level : ℕ) (meter : Meter) (list : List Hiding) (out : Outcome)
         → ExpandsTo macros env level (without_budget meter) list out
-        ↔ ((out.meter ≡ without_budget meter) × StandardExpands macros env level list out.tokens out.fault) }
+        ↔ ((out.meter.remaining ≡ None) × StandardExpands macros env level meter.counter list out.tokens out.fault out.meter.counter) }
     ensures expansions { (macros : Macros) (env : Env) (meter : Meter) (tokens : List Token) (e : Expansion)
         → IsExpansion macros env (without_budget meter) tokens e
-        ↔ ((e.meter ≡ without_budget meter) × IsStandardExpansion macros env tokens e.tokens e.fault) }
+        ↔ ((e.meter.remaining ≡ None) × IsStandardExpansion macros env meter.counter tokens e.tokens e.fault e.meter.counter) }
 {}
 
 /// The cost of an expansion and the rest of the budget add up to the budget.

@@ -1,12 +1,14 @@
 //! The meter of an expansion: what is counted through all expansions of a unit.
 ghost use Rattle.std.specs.Prelude.{◌≡◌};
-ghost use Rattle.ppexpand.specs.Budget.{new_meter, is_exhausted, spend_one};
+ghost use Rattle.ppexpand.specs.Budget.{new_meter, is_exhausted, spend_one, count_on};
 
 /// What is counted through all expansions of a unit.
 #[derive(Clone, Copy, PartialEq, Eq, Debug)]
 pub struct Meter {
     /// The budget: how many replacements and file openings may still be made. `None` means no limit, and nothing is counted.
     pub remaining: Option<u64>,
+    /// The number that replaces the next `__COUNTER__` (gcc's manual, "Common Predefined Macros").
+    pub counter: u32,
 }
 
 impl Meter {
@@ -14,7 +16,10 @@ impl Meter {
     pub fn new(budget: Option<u64>) -> Meter
         ensures { result ≡ new_meter budget }
     {
-        Meter { remaining: budget }
+        Meter {
+            remaining: budget,
+            counter: 0,
+        }
     }
 
     /// Returns whether there is a budget and nothing remains of it. Does not allocate.
@@ -35,6 +40,15 @@ impl Meter {
         if let Some(more) = self.remaining {
             after.remaining = Some(more.saturating_sub(1));
         }
+        after
+    }
+
+    /// Returns the meter after one more replacement of `__COUNTER__`. After 4,294,967,295 the counter is 0 again. Does not allocate.
+    pub fn count_on(self) -> Meter
+        ensures { result ≡ count_on self }
+    {
+        let mut after = self.spend_one();
+        after.counter = self.counter.wrapping_add(1);
         after
     }
 }

@@ -1,8 +1,8 @@
-//! The replacements of the predefined macros (6.10.8.1).
+//! The replacements of the predefined macros (6.10.8.1), and of `__COUNTER__` (gcc's manual, "Common Predefined Macros").
 ghost use Rattle.std.specs.Prelude.{◌≡◌, IfOk, None, decimal, nat_abs};
 ghost use Rattle.ppmacro.specs.HideSetPool.{HideSetPool};
 ghost use Rattle.ppmacro.specs.HideSets.{set_at, hiding};
-ghost use Rattle.ppexpand.specs.ExpansionStep.{presumed_line, string_literal, predefined_kind, predefined_text, predefined_value};
+ghost use Rattle.ppexpand.specs.ExpansionStep.{presumed_line, string_literal, predefined_kind, predefined_text, predefined_value, counter_value};
 
 use crate::env::Env;
 use itoa::Buffer;
@@ -75,6 +75,29 @@ pub(crate) fn predefined_value<'a>(
     let text = Spelling::new(predefined_text(alloc, predefined, env, name_token.used())?)?;
     let token = Token {
         kind: predefined_kind(predefined),
+        text,
+        space: name_token.space(),
+        at: name_token.at(),
+        used: name_token.used(),
+    };
+    Hidden::synthesized(alloc, token, names_to_hide)
+}
+
+/// Returns the token that replaces `__COUNTER__` if this is the number.
+pub(crate) fn counter_value<'a>(
+    alloc: Global,
+    number: u32,
+    name_token: &Hidden,
+    names_to_hide: Set,
+) -> Result<Hidden<'a>, Memory>
+    ensures is { IfOk result (λ h. (sets : HideSetPool) → hiding sets h
+        ≡ record { token = (counter_value number (hiding sets name_token.now)).token; hide = set_at sets names_to_hide }) }
+    ensures names_to_hide { IfOk result (λ h. (h.hide ≡ names_to_hide) × (h.extra ≡ None)) }
+{
+    let mut buffer = Buffer::new();
+    let text = Spelling::from_slice(alloc, buffer.format(number).as_bytes())?;
+    let token = Token {
+        kind: Kind::Number,
         text,
         space: name_token.space(),
         at: name_token.at(),

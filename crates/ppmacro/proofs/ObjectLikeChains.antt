@@ -9,7 +9,7 @@ use Rattle.pptext.specs.Tokens.{is_identifier}
 use Rattle.ppmacro.specs.Names.{HideSet}
 use Rattle.ppmacro.specs.HashOperators.{is_paste}
 use Rattle.ppmacro.specs.declared.macros.MacroKind.{MacroKind}
-use Rattle.ppmacro.specs.declared.macros.MacroKind.TheVariants.{Predefined, ObjectLike, FunctionLike}
+use Rattle.ppmacro.specs.declared.macros.MacroKind.TheVariants.{Predefined, ObjectLike, FunctionLike, Counter}
 use Rattle.ppmacro.specs.declared.macros.Operand.TheVariants.{Tok}
 use Rattle.ppmacro.specs.Chains.{ChainPart, HashSign, OperandPart, parts_at, parts_after, plain_part, stringized_part, parameter_of, is_function_like, is_operator_hash, begins_joined, group_parts, hash_sign, with_variadic, chains_of}
 use Rattle.ppmacro.specs.declared.macros.PredefinedMacro.{PredefinedMacro}
@@ -54,10 +54,17 @@ same_parts p (Some hash) (t ∷ ts) = ap (λ is. stringized_part (parameter_of O
 same_parts p None (t ∷ ts) =
     λ i. parts_at (is_paste t) (is_operator_hash ObjectLike t) (plain_part (parameter_of ObjectLike t) t) (same_parts p None ts i) (same_parts p (Some (hash_sign t)) ts i)
 
+counter_parts : (hash : Option HashSign) (ts : List Token) → parts_after Counter hash ts ≡ parts_after ObjectLike hash ts
+counter_parts hash [] = refl
+counter_parts (Some hash) (t ∷ ts) = ap (λ is. stringized_part (parameter_of ObjectLike t) hash t ∷ is) (counter_parts None ts)
+counter_parts None (t ∷ ts) =
+    λ i. parts_at (is_paste t) (is_operator_hash ObjectLike t) (plain_part (parameter_of ObjectLike t) t) (counter_parts None ts i) (counter_parts (Some (hash_sign t)) ts i)
+
 pub chains-alone : (kind : MacroKind) (ts : List Token) → is_function_like kind ≡ false → list_any is_paste ts ≡ false
     → chains_of (record { kind = kind; body = ts }) ≡ map lone_chain ts
 chains-alone ObjectLike ts n a = lone_chains ts a
 chains-alone (Predefined p) ts n a = ap (λ is. map (with_variadic None) (group_parts is)) (same_parts p None ts) ∙ lone_chains ts a
+chains-alone Counter ts n a = ap (λ is. map (with_variadic None) (group_parts is)) (counter_parts None ts) ∙ lone_chains ts a
 chains-alone (FunctionLike parameters variadic) ts n a = absurd (cc n)
 
 -- ---- the tokens of the chains
@@ -86,4 +93,5 @@ lone_substituted args added used space t ts =
 pub object_like : (s : MacroKind) → is_object_like s ≡ true → s ≡ ObjectLike
 object_like ObjectLike e = refl
 object_like (Predefined predefined) e = absurd (false≢true e)
+object_like Counter e = absurd (false≢true e)
 object_like (FunctionLike parameters variadic) e = absurd (false≢true e)

@@ -3,7 +3,7 @@ use Rattle.std.proofs.Common.{◌≡◌, not, ℕ, zero, suc, ◌<◌, ◌||◌,
 use Rattle.std.specs.List.{list_any}
 use Rattle.pptext.specs.declared.tokens.Token.{Token}
 use Rattle.ppmacro.specs.declared.macros.MacroKind.{MacroKind}
-use Rattle.ppmacro.specs.declared.macros.MacroKind.TheVariants.{Predefined, ObjectLike, FunctionLike}
+use Rattle.ppmacro.specs.declared.macros.MacroKind.TheVariants.{Predefined, ObjectLike, FunctionLike, Counter}
 use Rattle.ppmacro.specs.PasteFree.{is_object_like, lone_chain}
 use Rattle.ppmacro.specs.declared.patterns.Entry.{Entry}
 use Rattle.ppmacro.specs.Chains.{is_function_like, parameter_of}
@@ -52,6 +52,7 @@ chains-expand body i (c ∷ cs) = ap (λ b. uses_alone body i c || b) (chains-ex
 
 pub not-object : (kind : MacroKind) → is_function_like kind ≡ true → is_object_like kind ≡ false
 not-object (Predefined b) is = refl
+not-object Counter is = refl
 not-object ObjectLike is = absurd (cc is)
 not-object (FunctionLike names variadic) is = refl
 

@@ -48,6 +48,8 @@ pub enum Variadic {
 #[derive(Drop)]
 pub enum MacroKind {
     Predefined(PredefinedMacro),
+    /// `__COUNTER__` (gcc's manual, "Common Predefined Macros").
+    Counter,
     ObjectLike,
     /// Has the names of its parameters. `__VA_ARGS__` is the last if the parameter list ends in `...`.
     FunctionLike {

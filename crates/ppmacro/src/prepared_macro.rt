@@ -8,7 +8,7 @@ ghost use Rattle.ppmacro.specs.Chains.{chains_of, parameter_names};
 ghost use Rattle.ppmacro.specs.PasteFree.{lone_chain, lone_tokens};
 ghost use Rattle.ppmacro.specs.Patterns.{pattern_chains};
 ghost use Rattle.ppmacro.specs.PreExpansion.{pre_expands};
-ghost use Rattle.ppmacro.specs.Predefined.{predefined_as};
+ghost use Rattle.ppmacro.specs.Predefined.{predefined_as, counter};
 ghost use Rattle.ppmacro.specs.code.PreparedDefinitions.{IsPrepared};
 
 use crate::definition::{Definition, ListForm};
@@ -121,6 +121,13 @@ impl<'a> PreparedMacro<'a> {
     {
         let kind = MacroKind::Predefined(predefined);
         PreparedMacro::new(alloc, kind, &[], Hashing::fixed())
+    }
+
+    /// Returns the macro `__COUNTER__`.
+    pub(crate) fn counter(alloc: Global) -> Result<PreparedMacro<'a>, Memory>
+        ensures { IfOk result (λ m. m ≡ counter) }
+    {
+        PreparedMacro::new(alloc, MacroKind::Counter, &[], Hashing::fixed())
     }
 
     /// Returns the kind.

@@ -11,7 +11,7 @@
 ghost use Rattle.std.specs.Prelude.{◌≡◌, IfOk, OnOk, OnErr};
 ghost use Rattle.std.specs.Option.{option_copied};
 ghost use Rattle.std.specs.FinMap as table;
-ghost use Rattle.ppmacro.specs.Predefined.{predefined_as, predefined};
+ghost use Rattle.ppmacro.specs.Predefined.{predefined_as, predefined, with_counter};
 
 use crate::macros::PredefinedMacro;
 use crate::name_filter::NameFilter;
@@ -117,6 +117,15 @@ impl<'a> Table<'a> {
     {
         let definition = PreparedMacro::predefined(*self.macros.allocator(), predefined)?;
         self.insert(name, definition)
+    }
+
+    /// Inserts `__COUNTER__` (gcc's manual, "Common Predefined Macros"). Fails only if an allocation fails.
+    pub fn predefine_counter(&mut self) -> Result<(), Memory>
+        ensures macros { OnOk result (self.new.macros ≡ with_counter self.old.macros) }
+        ensures hashing { self.new.hashing ≡ self.old.hashing }
+    {
+        let definition = PreparedMacro::counter(*self.macros.allocator())?;
+        self.insert(b"__COUNTER__", definition)
     }
 
     /// Returns the macro of a name.

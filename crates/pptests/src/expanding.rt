@@ -200,10 +200,10 @@ fn assert_spelled<'x>(
     table: &Table<'x>,
     tokens: &'x [Token],
     scratch: &mut Scratch<'x>,
+    meter: &mut Meter,
     wanted: &str,
 ) -> Result<(), Memory> {
-    let mut meter = Meter::new(None);
-    let Expanded { prefix, fault: _ } = expand(table, &env(0), &mut meter, tokens, scratch)?;
+    let Expanded { prefix, fault: _ } = expand(table, &env(0), meter, tokens, scratch)?;
     assert_shown(rt, spelled(prefix, scratch)?.as_slice(), wanted);
     Ok(())
 }
@@ -240,7 +240,15 @@ fn assert_repeated<'x>(
 ) -> Result<(), Memory> {
     let mut scratch = Scratch::new(alloc, table.hashing())?;
     for _ in 0..3 {
-        assert_spelled(rt, table, tokens, &mut scratch, ".a.1.b.2.2.1")?;
+        let mut meter = Meter::new(None);
+        assert_spelled(
+            rt,
+            table,
+            tokens,
+            &mut scratch,
+            &mut meter,
+            ".a.1.b.2.2.1",
+        )?;
         assert_list_spelled(rt, table, tokens, &mut scratch, ".a.a.a.1.b.2.2.1")?;
     }
     Ok(())
@@ -253,5 +261,34 @@ fn expands_again(rt: HostRuntime) -> Result<(), Fail> {
     let mut table = Table::new(rt.alloc())?;
     let tokens = directed(&rt, rt.alloc(), &mut table, &source)?;
     assert_repeated(&rt, rt.alloc(), &table, tokens)?;
+    Ok(())
+}
+
+/// Asserts that `__COUNTER__` counts on from one expansion to the next, and takes from the budget.
+fn assert_counted<'x>(
+    rt: &impl Abort,
+    alloc: Global,
+    table: &Table<'x>,
+    tokens: &'x [Token],
+) -> Result<(), Memory> {
+    let mut scratch = Scratch::new(alloc, table.hashing())?;
+    let mut meter = Meter {
+        remaining: Some(5),
+        counter: u32::MAX,
+    };
+    for wanted in [".a.4294967295.b.0", ".a.1.b.2"] {
+        assert_spelled(rt, table, tokens, &mut scratch, &mut meter, wanted)?;
+    }
+    assert!(rt; meter.remaining == Some(1) && meter.counter == 3);
+    Ok(())
+}
+
+#[test]
+fn counts_replacements_of_counter(rt: HostRuntime) -> Result<(), Fail> {
+    let source = source_of(&rt, rt.alloc(), b"a __COUNTER__ b __COUNTER__".as_slice())?;
+    let mut table = Table::new(rt.alloc())?;
+    table.predefine_counter()?;
+    let tokens = directed(&rt, rt.alloc(), &mut table, &source)?;
+    assert_counted(&rt, rt.alloc(), &table, tokens)?;
     Ok(())
 }

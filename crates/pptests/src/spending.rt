@@ -1,4 +1,4 @@
-//! Tests of spending a budget.
+//! Tests of meters: what is left of a budget, and the number of the next `__COUNTER__`.
 use ppexpand::Meter;
 
 #[test]
@@ -13,6 +13,21 @@ fn spends_one(rt: HostRuntime) {
         assert!(rt;
             meter.is_exhausted() == spent && meter.spend_one() == Meter::new(less),
             "{remaining:?}"
+        );
+    }
+}
+
+#[test]
+fn counts_on(rt: HostRuntime) {
+    for (counter, after) in [(0, 1), (7, 8), (u32::MAX, 0)] {
+        let meter = Meter {
+            remaining: Some(2),
+            counter,
+        };
+        let counted = meter.count_on();
+        assert!(rt;
+            counted.counter == after && counted == Meter { counter: after, ..meter.spend_one() },
+            "{counter}"
         );
     }
 }

@@ -6,7 +6,7 @@ use Rattle.pptext.specs.declared.sources.Profile.{Profile}
 use Rattle.pptext.specs.Lines.{LogicalLine}
 use Rattle.pptext.specs.Sources.{Reads}
 use Rattle.pptext.specs.Tree.{GroupParts, Tree}
-use Rattle.ppmacro.specs.Predefined.{predefined}
+use Rattle.ppmacro.specs.Predefined.{initial_macros}
 use Rattle.ppexpand.specs.Budget.{new_meter}
 use Rattle.ppshelf.specs.Files.{Files}
 pub use Rattle.ppunit.specs.CommandFile.{CommandMacros, command_file, command_line, command_text}
@@ -17,11 +17,11 @@ use Rattle.ppunit.specs.States.{State, Context, Progress, running, stopped, outp
 use Rattle.ppunit.specs.Group.{ExecutesGroup, OpensFile}
 use Rattle.ppunit.specs.Counts.{count_group, count_opening}
 
--- a unit begins with the predefined names (6.10.8.1) and nothing else; the flag says whether its items are kept
+-- a unit begins with the predefined names (6.10.8.1), in GNU C with `__COUNTER__` too, and nothing else; the flag says whether its items are kept
 abbrev pub state_before : Bool → Setting → State
 state_before keeps setting =
     record {
-      macros = predefined;
+      macros = initial_macros setting.profile;
       keeps = keeps;
       items = [];
       deps = [];

@@ -4,6 +4,7 @@ ghost use Rattle.std.specs.List.{list_any};
 ghost use Rattle.ppmacro.specs.Substitution.{escaped_literal};
 ghost use Rattle.ppexpand.specs.Budget.{is_exhausted};
 ghost use Rattle.ppunit.specs.States.{file_context, in_file_context, emitted, with_dependency, with_once, with_one_spent, literal};
+ghost use Rattle.ppmacro.specs.Predefined.{initial_macros};
 ghost use Rattle.ppunit.specs.Unit.{initial_state, state_before};
 ghost use Rattle.ppunit.specs.declared.units.Item.TheVariants as item;
 
@@ -11,7 +12,7 @@ use crate::collections::{Items, Rows};
 use crate::units::Setting;
 use ppexpand::{Env, Meter, Scratch};
 use ppmacro::{Table, push_escaped};
-use pptext::{Hashing, Memory, Place, Spelling, Token};
+use pptext::{Hashing, Memory, Place, Profile, Spelling, Token};
 use std::alloc::Global;
 use std::marker::Model;
 use std::mem::replace;
@@ -77,7 +78,7 @@ impl<'x> State<'x> {
     ) -> Result<State<'x>, Memory>
         ensures { IfOk result (λ s. s ≡ state_before keeps setting.now) }
     {
-        let macros = Table::with_hasher(alloc, hashing)?;
+        let macros = initial_macros(alloc, setting.profile, hashing)?;
         let env = initial_env(alloc, setting)?;
         let scratch = Scratch::new(alloc, hashing)?;
         Ok(State::initial(macros, Meter::new(setting.budget), env, scratch, keeps))
@@ -161,6 +162,21 @@ impl<'x> State<'x> {
     {
         self.once.join(row)
     }
+}
+
+/// Returns the macros at the start of a unit.
+fn initial_macros<'x>(
+    alloc: Global,
+    profile: Profile,
+    hashing: Hashing,
+) -> Result<Table<'x>, Memory>
+    ensures { IfOk result (λ t. t.macros ≡ initial_macros profile) }
+{
+    let mut macros = Table::with_hasher(alloc, hashing)?;
+    if let Profile::Gnu = profile {
+        macros.predefine_counter()?;
+    }
+    Ok(macros)
 }
 
 /// Returns the predefined names before any file is entered.

@@ -18,7 +18,7 @@ use Rattle.ppmacro.specs.declared.hidden_token.Hidden.{Hidden}
 use Rattle.ppmacro.specs.declared.hidden_token.ArgumentExpansion.{ArgumentExpansion}
 use Rattle.ppmacro.specs.declared.hidden_token.ArgumentExpansion.TheVariants.{Unused, AsGiven, Owned}
 use Rattle.ppexpand.specs.declared.env.Env.{Env}
-use Rattle.ppexpand.specs.ExpansionStep.{Invocation, ExpansionStep, Done, TokenFault, Emits, ReplacementFault, Replaced, Invoked, arguments_to_expand, finish_invocation, ExpandedArguments}
+use Rattle.ppexpand.specs.ExpansionStep.{Invocation, ExpansionStep, Done, TokenFault, Emits, ReplacementFault, Replaced, Counts, Invoked, arguments_to_expand, finish_invocation, ExpandedArguments}
 use Rattle.ppexpand.specs.declared.meter.Meter.{Meter}
 use Rattle.ppexpand.specs.Budget.{spend_one}
 use Rattle.ppexpand.specs.declared.expand_step.Action.{Action}
@@ -80,12 +80,14 @@ abbrev pub step_in : HideSetPool → List Hidden → Action → ExpansionStep
 step_in sets following action.Done = Done
 step_in sets following (action.Emits token) = Emits (hiding sets token) (hidings sets following)
 step_in sets following action.Replaced = Replaced (hidings sets following)
+step_in sets following (action.Counts token) = Counts (hiding sets token) (hidings sets following)
 step_in sets following (action.Invoked c) = Invoked (invocation_in sets c.name_token c.definition.now c.arguments.items c.base following)
 
 abbrev pub ActionKnown : HideSetPool → List Hidden → Action → Type 0
 ActionKnown sets following action.Done = Unit {0}
 ActionKnown sets following (action.Emits token) = HasSets sets token × AllKnown sets following
 ActionKnown sets following action.Replaced = AllKnown sets following
+ActionKnown sets following (action.Counts token) = HasSets sets token × AllKnown sets following
 ActionKnown sets following (action.Invoked c) = InvocationKnown sets c.name_token c.arguments.items c.base × AllKnown sets following
 
 -- the expansion step of a macro's name: of its action, after which this list remains, or of the fault of its replacement
@@ -98,11 +100,12 @@ abbrev pub refused_in : HideSetPool → List Hidden → Result Action Fault → 
 refused_in sets following (Ok a) = step_in sets following a
 refused_in sets following (Err f) = TokenFault f
 
--- the meter after an action: a replacement takes one from the budget
+-- the meter after an action: a replacement takes one from the budget; that of `__COUNTER__` is still to be made
 abbrev pub charged : Action → Meter → Meter
 charged action.Done meter = meter
 charged (action.Emits token) meter = meter
 charged action.Replaced meter = spend_one meter
+charged (action.Counts token) meter = meter
 charged (action.Invoked c) meter = spend_one meter
 
 -- the meter after the step of a macro's name, if something remained of the budget; a fault costs as much as a replacement

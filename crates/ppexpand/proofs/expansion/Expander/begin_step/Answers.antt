@@ -1,9 +1,13 @@
-use Rattle.std.proofs.Common.{◌≡◌, ◌∙◌, ◌∷◌, ◌++◌, [], None, refl, sym, ap, subst, append-nil}
+use Rattle.std.proofs.Common.{◌≡◌, ◌∙◌, ◌∷◌, ◌++◌, [], List, None, refl, sym, ap, subst, append-nil}
 use Rattle.std.proofs.lemmas.List.{map-append}
 use Rattle.pptext.proofs.ErrorReturns.{stopped}
 use Rattle.ppmacro.specs.HideSets.{hiding, hidings, AllKnown}
-use Rattle.ppmacro.proofs.PoolGrowthLemmas.{hidings-keeps, known-keeps, known-append}
-use Rattle.ppexpand.specs.Expansion.{done, emits, replaced}
+use Rattle.ppmacro.proofs.PoolGrowthLemmas.{hidings-keeps, known-keeps, known-append, keeps-after}
+use Rattle.ppmacro.specs.Hiding.{Hiding}
+use Rattle.ppexpand.specs.declared.meter.Meter.{Meter}
+use Rattle.ppexpand.specs.Budget.{count_on}
+use Rattle.ppexpand.specs.ExpansionStep.{counter_value}
+use Rattle.ppexpand.specs.Expansion.{Expands, done, emits, replaced, counts}
 use Rattle.ppexpand.specs.code.ProgramValues.{EndsWith, Advances}
 use Rattle.ppexpand.proofs.LoopInvariants.{failed_ends}
 use Rattle.ppexpand.proofs.expansion.Expander.begin_step.Goals as goal
@@ -79,3 +83,28 @@ returns-in-Invoked-clause-progress c =
 
 pub returns-in-Invoked-clause-emitted_known : goal.returns-in-Invoked-clause-emitted_known
 returns-in-Invoked-clause-emitted_known c = known-keeps _ c.in_ok-action.ensures.keeps c.requires.emitted_known
+
+pub returns-in_ok-replace_counter-in-Counts-clause-progress : goal.returns-in_ok-replace_counter-in-Counts-clause-progress
+returns-in_ok-replace_counter-in-Counts-clause-progress c =
+    let macros = c.args.context.now.table.now.macros in
+    let env = c.args.context.now.env.now in
+    let before = c.args.self.now.meter in
+    let list = hidings c.args.self.now.replacer.sets c.args.list.now in
+    let s = c.next_step.new.self.sets in
+    let rest = hidings s c.next_step.new.list in
+    let token = hiding s c.in-Counts.token in
+    let acted = rw c.in-Counts.is at c.in_ok-action.ensures.is in
+    let after = c.replace_counter.new.self.meter in
+    let next = hidings c.replace_counter.new.self.replacer.sets c.replace_counter.new.list in
+    let meters : after ≡ count_on before = c.in_ok-replace_counter-in-Counts.ensures.meter ∙ ap count_on acted.1 in
+    let lists : next ≡ counter_value before.counter token ∷ rest = c.in_ok-replace_counter-in-Counts.ensures.is ∙ ap (λ (m : Meter). counter_value m.counter token ∷ rest) acted.1 in
+    let same = hidings-keeps _ (keeps-after c.in_ok-action.ensures.keeps c.in_ok-replace_counter-in-Counts.ensures.keeps) c.requires.emitted_known ∙ sym (append-nil _) in
+    λ level. (
+      [],
+      same,
+      record { prepends_step = λ n out d. counts (sym acted.0) (subst (λ (p : Meter × List Hiding). Expands macros env level p.0 n p.1 out) (λ i. (meters i, lists i)) d) },
+    )
+
+pub returns-in_ok-replace_counter-in-Counts-clause-emitted_known : goal.returns-in_ok-replace_counter-in-Counts-clause-emitted_known
+returns-in_ok-replace_counter-in-Counts-clause-emitted_known c =
+    known-keeps _ (keeps-after c.in_ok-action.ensures.keeps c.in_ok-replace_counter-in-Counts.ensures.keeps) c.requires.emitted_known
