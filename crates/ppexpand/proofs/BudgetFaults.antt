@@ -24,10 +24,10 @@ use Rattle.ppexpand.specs.declared.env.Env.{Env}
 use Rattle.ppexpand.specs.declared.meter.Meter.{Meter}
 use Rattle.ppexpand.specs.Arguments.{is_open, Gathered, Closed, UnmatchedQuote, Unclosed, gather, separators, fit_arguments}
 use Rattle.ppexpand.specs.ExpansionStep.{Invocation, ExpansionStep, TokenFault, Emits, ReplacementFault, replaced_by, quote_fault, closed_invocation_step, invocation_step, function_step, no_arguments}
-use Rattle.ppexpand.specs.ExpansionStep.{macro_step, named_step, macro_of, expansion_step, finish_invocation, ExpandedArguments, with_expanded}
+use Rattle.ppexpand.specs.ExpansionStep.{macro_step, named_step, macro_of, expansion_step, finish_by_parameter, expansions_by_parameter, ExpandedArguments, with_expanded}
 use Rattle.ppexpand.specs.Budget.{one_less}
 use Rattle.ppexpand.specs.Expansion.{Outcome, step_in_budget, Expands, done, token_fault, emits, replacement_fault, replaced, argument_fault, invocation_fault, invocation_replaced, ExpandsArguments, counts}
-use Rattle.ppexpand.specs.Expansion.{none, unused, too_deep}
+use Rattle.ppexpand.specs.Expansion.{none, too_deep}
 use Rattle.ppexpand.specs.Expansion.{pre_expanded, pre_expansion_fault, count, count_arguments, ExpandsTo, Expansion, IsExpansion}
 use Rattle.ppexpand.proofs.BudgetLemmas.{unlimited-in_budget, plus-none, spends, spends_arguments}
 
@@ -137,8 +137,8 @@ below_turn macros env (t ∷ rest) =
     turn_either (is_unmatched_quote t.token) (TokenFault (quote_fault t.token)) (if set.contains t.hide t.token.text then Emits t rest else named_step env t rest (macro_of macros t.token)) (omega arith)
     (turn_either (set.contains t.hide t.token.text) (Emits t rest) (named_step env t rest (macro_of macros t.token)) tt (below_named env t rest (macro_of macros t.token)))
 
-below_finished : (invocation : Invocation) (expanded : List (Option (List Hiding))) → IsTurnBelow (finish_invocation invocation expanded)
-unfolding finish_invocation
+below_finished : (invocation : Invocation) (expanded : List (Option (List Hiding))) → IsTurnBelow (finish_by_parameter invocation expanded)
+unfolding finish_by_parameter
 below_finished invocation expanded =
     let arguments : Arguments = record { given = invocation.arguments; expanded = expanded } in
     let name = invocation.name_token.token in
@@ -150,7 +150,7 @@ abbrev IsFaultBelow : Option Fault → Type 0
 IsFaultBelow None = Unit {0}
 IsFaultBelow (Some f) = f.number < 35
 
-below_expanded : (a : Option (List Hiding)) (r : ExpandedArguments) → IsBelow r → IsBelow (with_expanded a r)
+below_expanded : (a : List Hiding) (r : ExpandedArguments) → IsBelow r → IsBelow (with_expanded a r)
 below_expanded a (Ok as') h = tt
 below_expanded a (Err f) h = h
 
@@ -167,18 +167,17 @@ module _ (macros : Macros) (env : Env) where
     below is (replaced e more) = below (ap one_less is) more
     below is (counts e more) = below (ap one_less is) more
     below is (argument_fault e a) = below_arguments (ap one_less is) a
-    below is (invocation_fault {invocation = invocation} {expanded = expanded} e a f) = subst IsTurnBelow f (below_finished invocation expanded)
+    below is (invocation_fault {invocation = invocation} {expanded = expanded} e a f) = subst IsTurnBelow f (below_finished invocation (expansions_by_parameter env invocation expanded))
     below is (invocation_replaced {meter_after = meter_after} e a f more) = below (plus-none (count_arguments macros env a) meter_after.remaining (sym (ap one_less is) ∙ spends_arguments macros env a)) more
 
-    below_arguments : {level : ℕ} {invocation : Invocation} {meter meter_after : Meter} {as' : List (Option (List Hiding))} {r : ExpandedArguments}
+    below_arguments : {level : ℕ} {invocation : Invocation} {meter meter_after : Meter} {as' : List (List Hiding)} {r : ExpandedArguments}
         → meter.remaining ≡ None
         → ExpandsArguments macros env level invocation meter as' meter_after r
         → IsBelow r
     below_arguments is none = tt
-    below_arguments is (unused {out = out} more) = below_expanded None out (below_arguments is more)
     below_arguments is (too_deep h) = omega arith
     below_arguments is (pre_expanded {between = between} {tokens = tokens} {out = out} h one more) =
-        below_expanded (Some tokens) out (below_arguments (plus-none (count macros env one) between.remaining (sym is ∙ spends macros env one)) more)
+        below_expanded tokens out (below_arguments (plus-none (count macros env one) between.remaining (sym is ∙ spends macros env one)) more)
     below_arguments is (pre_expansion_fault h one) = below is one
 
   never : (o : Option Fault) (f : Fault) → o ≡ Some f → IsFaultBelow o → f.number ≢ 35

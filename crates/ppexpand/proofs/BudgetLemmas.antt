@@ -11,7 +11,7 @@ use Rattle.ppexpand.specs.declared.env.Env.{Env}
 use Rattle.ppexpand.specs.ExpansionStep.{Invocation, ExpansionStep, Done, TokenFault, Emits, ReplacementFault, Replaced, Invoked, expansion_step, arguments_to_expand, ExpandedArguments, Counts, counter_value}
 use Rattle.ppexpand.specs.Budget.{with_budget, without_budget, is_used_up, is_exhausted, one_less, spend_one, exhausted_step, refused, in_budget, count_on}
 use Rattle.ppexpand.specs.Expansion.{Outcome, stops_with, with_emitted, step_in_budget, Expands, done, token_fault, emits, replacement_fault, replaced, argument_fault, invocation_fault, counts}
-use Rattle.ppexpand.specs.Expansion.{invocation_replaced, ExpandsArguments, none, unused, too_deep, pre_expanded, pre_expansion_fault}
+use Rattle.ppexpand.specs.Expansion.{invocation_replaced, ExpandsArguments, none, too_deep, pre_expanded, pre_expansion_fault}
 use Rattle.ppexpand.specs.Expansion.{count, count_arguments, Expansion, IsExpansion, count_expansion}
 use Rattle.ppexpand.specs.Laws.{plus, IsPrefix, IsOver, CapsExpansion}
 use Rattle.ppexpand.proofs.StepLemmas.{IsFree, refused_is_free, unrefused-in_budget, free-in_budget, exhausted-in_budget}
@@ -170,11 +170,10 @@ module _ (macros : Macros) (env : Env) where
         paid_then meter list (Invoked invocation) tt e (k + n) out.meter.remaining
         (spends_arguments a ∙ ap (plus k) (spends more) ∙ plus-plus k n out.meter.remaining)
 
-    pub spends_arguments : {level : ℕ} {invocation : Invocation} {meter meter_after : Meter} {as' : List (Option (List Hiding))} {r : ExpandedArguments}
+    pub spends_arguments : {level : ℕ} {invocation : Invocation} {meter meter_after : Meter} {as' : List (List Hiding)} {r : ExpandedArguments}
         (a : ExpandsArguments macros env level invocation meter as' meter_after r)
         → meter.remaining ≡ plus (count_arguments macros env a) meter_after.remaining
     spends_arguments {meter = meter} none = plus-nothing meter.remaining
-    spends_arguments (unused more) = spends_arguments more
     spends_arguments {meter = meter} (too_deep h) = plus-nothing meter.remaining
     spends_arguments {meter_after = after} (pre_expanded h one more) =
         let k = count macros env one in
@@ -199,7 +198,7 @@ module _ (macros : Macros) (env : Env) where
       → out.meter.remaining ≡ None
   remaining_none {out = out} is d = plus-none (count macros env d) out.meter.remaining (sym is ∙ spends d)
 
-  pub arguments_none : {level : ℕ} {invocation : Invocation} {meter meter_after : Meter} {as' : List (Option (List Hiding))} {r : ExpandedArguments}
+  pub arguments_none : {level : ℕ} {invocation : Invocation} {meter meter_after : Meter} {as' : List (List Hiding)} {r : ExpandedArguments}
       → meter.remaining ≡ None
       → ExpandsArguments macros env level invocation meter as' meter_after r
       → meter_after.remaining ≡ None
@@ -212,7 +211,7 @@ module _ (macros : Macros) (env : Env) where
       → Covers out.meter.remaining m
   covers_onward {out = out} b m is d sum = covers_rest out.meter.remaining (count macros env d) m is (spends d) sum
 
-  arguments_rest : {level : ℕ} {invocation : Invocation} {meter meter_after : Meter} {as' : List (Option (List Hiding))} {r : ExpandedArguments} (b m : ℕ)
+  arguments_rest : {level : ℕ} {invocation : Invocation} {meter meter_after : Meter} {as' : List (List Hiding)} {r : ExpandedArguments} (b m : ℕ)
       → Covers meter.remaining b
       → (a : ExpandsArguments macros env level invocation meter as' meter_after r)
       → b ≡ count_arguments macros env a + m
@@ -262,7 +261,7 @@ module _ (macros : Macros) (env : Env) where
         let onward = enough (k + n) (arguments_rest b (k + n) (covers_less is) a (omega arith)) more n refl in
         invocation_replaced (paid meter list (Invoked invocation) e tt) (enough_arguments b (covers_less is) a (k + n) (omega arith)) f onward
 
-    pub enough_arguments : {level : ℕ} {invocation : Invocation} {meter meter_after : Meter} {as' : List (Option (List Hiding))} {r : ExpandedArguments} (b : ℕ)
+    pub enough_arguments : {level : ℕ} {invocation : Invocation} {meter meter_after : Meter} {as' : List (List Hiding)} {r : ExpandedArguments} (b : ℕ)
         → Covers meter.remaining b
         → (a : ExpandsArguments macros env level invocation meter as' meter_after r) (n : ℕ)
         → b ≡ count_arguments macros env a + n
@@ -270,7 +269,6 @@ module _ (macros : Macros) (env : Env) where
     enough_arguments {level = level} {invocation = invocation} {meter = meter} b is none n sum =
         let same : b ≡ n = omega arith in
         subst (λ x. ExpandsArguments macros env level invocation (with_budget (Some b) meter) [] (with_budget (Some x) meter) (Ok [])) same none
-    enough_arguments b is (unused more) n sum = unused (enough_arguments b is more n sum)
     enough_arguments {level = level} {invocation = invocation} {meter = meter} {as' = as'} {r = r} b is (too_deep h) n sum =
         let same : b ≡ n = omega arith in
         subst (λ x. ExpandsArguments macros env level invocation (with_budget (Some b) meter) as' (with_budget (Some x) meter) r) same (too_deep h)
@@ -290,7 +288,7 @@ module _ (macros : Macros) (env : Env) where
       × IsPrefix out.tokens whole.tokens
       × IsOver out
 
-  abbrev pub ArgumentsStop : ℕ → Invocation → Meter → ℕ → List (Option (List Hiding)) → Type 0
+  abbrev pub ArgumentsStop : ℕ → Invocation → Meter → ℕ → List (List Hiding) → Type 0
   ArgumentsStop level invocation meter b as' =
       (f : Fault) × (after : Meter)
       × (f.number ≡ 35)
@@ -327,15 +325,15 @@ module _ (macros : Macros) (env : Env) where
 
   stops_argument : {level b : ℕ} (meter : Meter) {list : List Hiding} {invocation : Invocation} (whole : Outcome)
       → expansion_step macros env list ≡ Invoked invocation
-      → ArgumentsStop level invocation (spend_one meter) b (arguments_to_expand invocation)
+      → ArgumentsStop level invocation (spend_one meter) b (arguments_to_expand env invocation)
       → Stops level meter (suc b) list whole
   stops_argument meter whole e s =
       (0, stops_with s.1 (Some s.0), argument_fault e s.4, (whole.tokens, refl), record { fault = s.0; is = refl; number = s.2; remaining = s.3 })
 
-  stops_used : {level b : ℕ} {invocation : Invocation} (meter : Meter) {list : List Hiding} {rest : List (Option (List Hiding))} (whole : Outcome)
+  stops_used : {level b : ℕ} {invocation : Invocation} (meter : Meter) {list : List Hiding} {rest : List (List Hiding)} (whole : Outcome)
       → level < 256
       → Stops (suc level) meter b list whole
-      → ArgumentsStop level invocation meter b (Some list ∷ rest)
+      → ArgumentsStop level invocation meter b (list ∷ rest)
   stops_used {level = level} {b = b} meter {list = list} whole h s =
       let over = s.4 in
       let faulty = subst (λ f. Expands macros env (suc level) (with_budget (Some b) meter) s.0 list (record s.1 { fault = f })) over.is s.2 in
@@ -386,15 +384,12 @@ module _ (macros : Macros) (env : Env) where
               (suc s.0, s.1, invocation_replaced {steps = s.0} {out = s.1} invoked (enough_arguments b (covers_less is) a n (sym sum)) f s.2, s.3, s.4))
         ]
 
-    pub short_arguments : {level : ℕ} {invocation : Invocation} {meter meter_after : Meter} {as' : List (Option (List Hiding))} {r : ExpandedArguments} (b : ℕ)
+    pub short_arguments : {level : ℕ} {invocation : Invocation} {meter meter_after : Meter} {as' : List (List Hiding)} {r : ExpandedArguments} (b : ℕ)
         → Covers meter.remaining b
         → (a : ExpandsArguments macros env level invocation meter as' meter_after r)
         → b < count_arguments macros env a
         → ArgumentsStop level invocation meter b as'
     short_arguments b is none h = absurd (omega arith)
-    short_arguments b is (unused more) h =
-        let s = short_arguments b is more h in
-        (s.0, s.1, s.2, s.3, unused s.4)
     short_arguments b is (too_deep deep) h = absurd (omega arith)
     short_arguments {meter = meter} b is (pre_expanded {between = between} {tokens = tokens} low one more) h =
         elim (dec_lt b (count macros env one)) [

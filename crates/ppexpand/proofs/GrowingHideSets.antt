@@ -46,20 +46,6 @@ expanded_known-keeps (e ∷ es) k h =
     let rest = expanded_known-keeps es k (record { each = h.each.1 }) in
     record { each = (known-keeps (owned_tokens e) k h.each.0, rest.each) }
 
-pub expanded_known-push : {s : HideSetPool} (es : List ArgumentExpansion) (e : ArgumentExpansion) → ExpansionsKnown s es → AllKnown s (owned_tokens e) → ExpansionsKnown s (es ++ e ∷ [])
-expanded_known-push [] e h here = record { each = (here, tt) }
-expanded_known-push (x ∷ es) e h here =
-    let rest = expanded_known-push es e (record { each = h.each.1 }) here in
-    record { each = (h.each.0, rest.each) }
-
--- Appending an expansion appends its value. An absent argument counts as empty.
-pub expanded_in-push : (s : HideSetPool) (vs : List (Vec Hidden Global)) (es : List ArgumentExpansion) (e : ArgumentExpansion)
-    → expanded_in s vs (es ++ e ∷ []) ≡ expanded_in s vs es ++ option_map (hidings s) (expansion_if_computed (argument_at (lists_of vs) (length es)) e) ∷ []
-expanded_in-push s [] [] e = refl
-expanded_in-push s (v ∷ vs) [] e = refl
-expanded_in-push s [] (x ∷ es) e = ap (λ xs. option_map (hidings s) (expansion_if_computed [] x) ∷ xs) (expanded_in-push s [] es e)
-expanded_in-push s (v ∷ vs) (x ∷ es) e = ap (λ xs. option_map (hidings s) (expansion_if_computed v.items x) ∷ xs) (expanded_in-push s vs es e)
-
 option-at : {s : HideSetPool} (given : List Hidden) (e : ArgumentExpansion) → AllKnown s given → AllKnown s (owned_tokens e) → AllKnown s (unwrap_or (expansion_if_computed given e) [])
 option-at given Unused g h = h
 option-at given AsGiven g h = g

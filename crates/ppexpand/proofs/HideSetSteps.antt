@@ -22,7 +22,7 @@ use Rattle.ppmacro.specs.Substitution.{Arguments, Replacement, macro_replacement
 use Rattle.ppexpand.specs.Arguments.{Gathered, Closed, UnmatchedQuote, Unclosed, argument_role, gather, separators, fit_arguments, separates, fewer, with_token, with_argument, is_open, Quote, Open, Close, Comma, Inner}
 use Rattle.ppexpand.specs.declared.env.Env.{Env}
 use Rattle.ppexpand.specs.declared.meter.Meter.{Meter}
-use Rattle.ppexpand.specs.ExpansionStep.{Invocation, ExpansionStep, Done, TokenFault, Emits, ReplacementFault, Replaced, Invoked, expansion_step, finish_invocation, space_next, followed_by, Counts}
+use Rattle.ppexpand.specs.ExpansionStep.{Invocation, ExpansionStep, Done, TokenFault, Emits, ReplacementFault, Replaced, Invoked, expansion_step, finish_by_parameter, finish_invocation, space_next, followed_by, Counts}
 use Rattle.ppexpand.specs.ExpansionStep.{replaced_by, names_to_hide_for, quote_fault, closed_invocation_step, invocation_step, function_step, macro_step, named_step}
 use Rattle.ppexpand.specs.Budget.{is_exhausted, exhausted_step, refused, in_budget}
 use Rattle.ppexpand.specs.ExpansionStep.{macro_of}
@@ -267,6 +267,6 @@ module _ (macros : Macros) (env : Env) where
       (sets_hide_names invocation.name_token.hide found.close.hide invocation.name_token.token.text invocation.names_to_hide found.to_hide m.tokens (names_to_hide m refl)) (hides-followed_by m invocation.following))
   finishes list invocation found (Err f) names_to_hide = tt
 
-  pub finished_steps : (list : List Hiding) (invocation : Invocation) (as' : List (Option (List Hiding))) → Found list invocation → FinishesTo list (finish_invocation invocation as')
-  unfolding finish_invocation
+  pub finished_steps : (list : List Hiding) (invocation : Invocation) (as' : List (List Hiding)) → Found list invocation → FinishesTo list (finish_invocation env invocation as')
+  unfolding finish_by_parameter
   finished_steps list invocation as' found = finishes list invocation found _ (λ m e. substituted_names invocation.macro _ invocation.names_to_hide _ _ m e)

@@ -9,9 +9,9 @@ use Rattle.ppmacro.specs.declared.hidden_token.Hidden.{Hidden}
 use Rattle.ppexpand.specs.declared.env.Env.{Env}
 use Rattle.ppexpand.specs.declared.meter.Meter.{Meter}
 use Rattle.ppexpand.specs.declared.expand_step.Invocation.{Invocation as CodeInvocation}
-use Rattle.ppexpand.specs.ExpansionStep.{Invocation, ExpansionStep, ReplacementFault, Replaced, Invoked, arguments_to_expand, ExpandedArguments, with_expanded}
+use Rattle.ppexpand.specs.ExpansionStep.{Invocation, ExpansionStep, ReplacementFault, Replaced, Invoked, arguments_to_expand, finish_by_parameter, ExpandedArguments, with_expanded}
 use Rattle.ppexpand.specs.Budget.{spend_one}
-use Rattle.ppexpand.specs.Expansion.{Outcome, step_in_budget, Expands, ExpandsTo, ExpandsArguments, token_fault, replacement_fault, argument_fault, invocation_fault, invocation_replaced, none, unused, too_deep, pre_expanded, pre_expansion_fault}
+use Rattle.ppexpand.specs.Expansion.{Outcome, step_in_budget, Expands, ExpandsTo, ExpandsArguments, token_fault, replacement_fault, argument_fault, invocation_fault, invocation_replaced, none, too_deep, pre_expanded, pre_expansion_fault}
 use Rattle.ppexpand.specs.code.ProgramValues.{HasFailed, at_token, in_replacement, Advances, EndsWith, HasAdvanced, HasEnded, HasStepped, HasInvoked, ClosedStepsTo, fault_in_arguments, finishes, ExpandsArgument, expands, raises, deep}
 use Rattle.ppexpand.proofs.OutcomeExistence.{total}
 use Rattle.ppexpand.proofs.OutcomeUniqueness.{same_outcome}
@@ -91,8 +91,8 @@ module _ (macros : Macros) (env : Env) (level : ℕ) (meter : Meter) (list : Lis
       → t ≡ ReplacementFault f
       → EndsWith macros env level meter list (Some f) meter_after
   invocation_ends {meter_after} (fault_in_arguments args) f e =
-      argument_fault found (subst (λ g. ExpandsArguments macros env level invocation (spend_one meter) (arguments_to_expand invocation) meter_after (Err g)) (let same : _ ≡ f = cc e in same) args)
-  invocation_ends (finishes args) f e = invocation_fault found args e
+      argument_fault found (subst (λ g. ExpandsArguments macros env level invocation (spend_one meter) (arguments_to_expand env invocation) meter_after (Err g)) (let same : _ ≡ f = cc e in same) args)
+  invocation_ends (finishes args) f e = invocation_fault found args.2 (ap (finish_by_parameter invocation) (sym args.1) ∙ e)
 
   invocation_goes_on : {meter_after : Meter} {t : ExpansionStep}
       → ClosedStepsTo macros env level invocation (spend_one meter) meter_after t
@@ -100,7 +100,7 @@ module _ (macros : Macros) (env : Env) (level : ℕ) (meter : Meter) (list : Lis
       → t ≡ Replaced next
       → Advances macros env level meter list meter_after next []
   invocation_goes_on (fault_in_arguments args) next e = absurd (cc e)
-  invocation_goes_on (finishes args) next e = record { prepends_step = λ n out d. invocation_replaced found args e d }
+  invocation_goes_on (finishes args) next e = record { prepends_step = λ n out d. invocation_replaced found args.2 (ap (finish_by_parameter invocation) (sym args.1) ∙ e) d }
 
   -- If the invocation is replaced, the list advances by one expansion step.
   pub invocation_taken : (s : HideSetPool) (hs : List Hidden) (emitted more : List Hiding) (meter_after : Meter) → more ≡ emitted
@@ -122,44 +122,39 @@ begun_raises macros env level meter list emitted None invocation f meter_after n
 begun_raises macros env level meter list emitted (Some c) invocation f meter_after next more h = absurd (cc h.1)
 
 -- prepends the expansions so far to those of the meter arguments
-abbrev pub before_rest : List (Option (List Hiding)) → ExpandedArguments → ExpandedArguments
+abbrev pub before_rest : List (List Hiding) → ExpandedArguments → ExpandedArguments
 before_rest so_far (Ok as') = Ok (so_far ++ as')
 before_rest so_far (Err fault) = Err fault
 
-before_rest-more : (so_far : List (Option (List Hiding))) (a : Option (List Hiding)) (r : ExpandedArguments) → before_rest so_far (with_expanded a r) ≡ before_rest (so_far ++ a ∷ []) r
+before_rest-more : (so_far : List (List Hiding)) (a : List Hiding) (r : ExpandedArguments) → before_rest so_far (with_expanded a r) ≡ before_rest (so_far ++ a ∷ []) r
 before_rest-more so_far a (Ok as') = ap Ok (sym (append_assoc so_far (a ∷ []) as'))
 before_rest-more so_far a (Err fault) = refl
 
 module _ (macros : Macros) (env : Env) (level : ℕ) (invocation : Invocation) where
   -- Each result for the arguments in `rest` yields a result for `all`, with `so_far` first.
-  abbrev pub ArgumentsFollow : Meter → List (Option (List Hiding)) → List (Option (List Hiding)) → Meter → List (Option (List Hiding)) → Type 0
+  abbrev pub ArgumentsFollow : Meter → List (List Hiding) → List (List Hiding) → Meter → List (List Hiding) → Type 0
   ArgumentsFollow first all so_far meter rest =
       (meter_after : Meter) (r : ExpandedArguments)
       → ExpandsArguments macros env level invocation meter rest meter_after r
       → ExpandsArguments macros env level invocation first all meter_after (before_rest so_far r)
 
-  pub arguments_start : (meter : Meter) (all : List (Option (List Hiding))) → ArgumentsFollow meter all [] meter all
+  pub arguments_start : (meter : Meter) (all : List (List Hiding)) → ArgumentsFollow meter all [] meter all
   arguments_start meter all meter_after (Ok as') d = d
   arguments_start meter all meter_after (Err f) d = d
 
-  pub arguments_unused : (first : Meter) (all so_far : List (Option (List Hiding))) (meter : Meter) (rest : List (Option (List Hiding)))
-      → ArgumentsFollow first all so_far meter (None ∷ rest)
-      → ArgumentsFollow first all (so_far ++ None ∷ []) meter rest
-  arguments_unused first all so_far meter rest h meter_after r d = subst (ExpandsArguments macros env level invocation first all meter_after) (before_rest-more so_far None r) (h meter_after (with_expanded None r) (unused d))
-
-  pub arguments_used : (first : Meter) (all so_far : List (Option (List Hiding))) (meter between : Meter) (rest : List (Option (List Hiding))) (list tokens : List Hiding)
-      → ArgumentsFollow first all so_far meter (Some list ∷ rest)
+  pub arguments_used : (first : Meter) (all so_far : List (List Hiding)) (meter between : Meter) (rest : List (List Hiding)) (list tokens : List Hiding)
+      → ArgumentsFollow first all so_far meter (list ∷ rest)
       → ExpandsArgument macros env level invocation.name_token.token meter list between (Ok tokens)
-      → ArgumentsFollow first all (so_far ++ Some tokens ∷ []) between rest
+      → ArgumentsFollow first all (so_far ++ tokens ∷ []) between rest
   arguments_used first all so_far meter between rest list tokens h (expands low one) meter_after r d =
-      subst (ExpandsArguments macros env level invocation first all meter_after) (before_rest-more so_far (Some tokens) r) (h meter_after (with_expanded (Some tokens) r) (pre_expanded low one d))
+      subst (ExpandsArguments macros env level invocation first all meter_after) (before_rest-more so_far tokens r) (h meter_after (with_expanded tokens r) (pre_expanded low one d))
 
-  pub arguments_refused : (first : Meter) (all so_far : List (Option (List Hiding))) (meter meter_after : Meter) (rest : List (Option (List Hiding))) (list : List Hiding) (f : Fault)
-      → ArgumentsFollow first all so_far meter (Some list ∷ rest)
+  pub arguments_refused : (first : Meter) (all so_far : List (List Hiding)) (meter meter_after : Meter) (rest : List (List Hiding)) (list : List Hiding) (f : Fault)
+      → ArgumentsFollow first all so_far meter (list ∷ rest)
       → ExpandsArgument macros env level invocation.name_token.token meter list meter_after (Err f)
       → ExpandsArguments macros env level invocation first all meter_after (Err f)
   arguments_refused first all so_far meter meter_after rest list f h (raises low one) = h meter_after (Err f) (pre_expansion_fault low one)
   arguments_refused first all so_far meter meter_after rest list f h (deep high) = h meter (Err f) (too_deep high)
 
-  pub arguments_end : (first : Meter) (all so_far : List (Option (List Hiding))) (meter : Meter) → ArgumentsFollow first all so_far meter [] → ExpandsArguments macros env level invocation first all meter (Ok so_far)
+  pub arguments_end : (first : Meter) (all so_far : List (List Hiding)) (meter : Meter) → ArgumentsFollow first all so_far meter [] → ExpandsArguments macros env level invocation first all meter (Ok so_far)
   arguments_end first all so_far meter h = rw (append-nil so_far) at (h meter (Ok []) none)

@@ -9,7 +9,7 @@ use Rattle.ppexpand.specs.ExpansionStep.{Invocation, ExpansionStep, Done, TokenF
 use Rattle.ppexpand.specs.ExpansionStep.{ExpandedArguments, with_expanded}
 use Rattle.ppexpand.specs.Budget.{spend_one, count_on}
 use Rattle.ppexpand.specs.Expansion.{Outcome, step_in_budget, Expands, done, token_fault, emits, replacement_fault, replaced, argument_fault, invocation_fault, invocation_replaced, ExpandsArguments, counts}
-use Rattle.ppexpand.specs.Expansion.{none, unused, too_deep, pre_expanded}
+use Rattle.ppexpand.specs.Expansion.{none, too_deep, pre_expanded}
 use Rattle.ppexpand.specs.Expansion.{pre_expansion_fault}
 use Rattle.ppexpand.specs.Termination as ending
 use Rattle.ppexpand.proofs.Termination as fronts
@@ -21,27 +21,24 @@ module _ (macros : Macros) (env : Env) where
   abbrev pub HasOutcome : ℕ → Meter → List Hiding → Type 0
   HasOutcome level meter list = (n : ℕ) × (out : Outcome) × Expands macros env level meter n list out
 
-  abbrev pub HasExpanded : ℕ → Invocation → Meter → List (Option (List Hiding)) → Type 0
+  abbrev pub HasExpanded : ℕ → Invocation → Meter → List (List Hiding) → Type 0
   HasExpanded level invocation meter as' = (meter_after : Meter) × (r : ExpandedArguments) × ExpandsArguments macros env level invocation meter as' meter_after r
 
   abbrev Deeper : ℕ → Type 0
   Deeper level = level < 256 → (meter : Meter) (list : List Hiding) → HasOutcome (suc level) meter list
 
-  by_outcome : (level : ℕ) (invocation : Invocation) (meter : Meter) (list : List Hiding) (rest : List (Option (List Hiding)))
+  by_outcome : (level : ℕ) (invocation : Invocation) (meter : Meter) (list : List Hiding) (rest : List (List Hiding))
       → level < 256
       → ((between : Meter) → HasExpanded level invocation between rest)
       → (n : ℕ) (tokens : List Hiding) (fault : Option Fault) (between : Meter)
       → Expands macros env (suc level) meter n list (record { tokens = tokens; fault = fault; meter = between })
-      → HasExpanded level invocation meter (Some list ∷ rest)
-  by_outcome level invocation meter list rest h more n tokens None between d = let m = more between in (m.0, with_expanded (Some tokens) m.1, pre_expanded h d m.2)
+      → HasExpanded level invocation meter (list ∷ rest)
+  by_outcome level invocation meter list rest h more n tokens None between d = let m = more between in (m.0, with_expanded tokens m.1, pre_expanded h d m.2)
   by_outcome level invocation meter list rest h more n tokens (Some f) between d = (between, Err f, pre_expansion_fault h d)
 
-  arguments_total : (level : ℕ) → Deeper level → (invocation : Invocation) (meter : Meter) (as' : List (Option (List Hiding))) → HasExpanded level invocation meter as'
+  arguments_total : (level : ℕ) → Deeper level → (invocation : Invocation) (meter : Meter) (as' : List (List Hiding)) → HasExpanded level invocation meter as'
   arguments_total level deeper invocation meter [] = (meter, Ok [], none)
-  arguments_total level deeper invocation meter (None ∷ rest) =
-      let more : HasExpanded level invocation meter rest = arguments_total level deeper invocation meter rest in
-      (more.0, with_expanded None more.1, unused more.2)
-  arguments_total level deeper invocation meter (Some list ∷ rest) =
+  arguments_total level deeper invocation meter (list ∷ rest) =
       elim (dec_lt level 256) [
         | yes h ↦
             (let one : HasOutcome (suc level) meter list = deeper h meter list in
@@ -61,13 +58,13 @@ module _ (macros : Macros) (env : Env) where
       → (invocation : Invocation)
       → step_in_budget macros env meter list ≡ Invoked invocation
       → (meter_after : Meter) (r : ExpandedArguments)
-      → ExpandsArguments macros env level invocation (spend_one meter) (arguments_to_expand invocation) meter_after r
-      → ((as' : List (Option (List Hiding))) → step_lemmas.FinishesTo macros env list (finish_invocation invocation as'))
+      → ExpandsArguments macros env level invocation (spend_one meter) (arguments_to_expand env invocation) meter_after r
+      → ((as' : List (List Hiding)) → step_lemmas.FinishesTo macros env list (finish_invocation env invocation as'))
       → HasOutcome level meter list
   after_invocation level meter list later invocation e meter_after (Err fault) a ends = (0, record { tokens = []; fault = Some fault; meter = meter_after }, argument_fault e a)
-  after_invocation level meter list later invocation e meter_after (Ok as') a ends = by_end (finish_invocation invocation as') refl (ends as')
+  after_invocation level meter list later invocation e meter_after (Ok as') a ends = by_end (finish_invocation env invocation as') refl (ends as')
     where
-      by_end : (t : ExpansionStep) → finish_invocation invocation as' ≡ t → step_lemmas.FinishesTo macros env list t → HasOutcome level meter list
+      by_end : (t : ExpansionStep) → finish_invocation env invocation as' ≡ t → step_lemmas.FinishesTo macros env list t → HasOutcome level meter list
       by_end Done f h = absurd h
       by_end (TokenFault fault) f h = absurd h
       by_end (ReplacementFault fault) f h = (0, record { tokens = []; fault = Some fault; meter = meter_after }, invocation_fault e a f)
@@ -100,7 +97,7 @@ module _ (macros : Macros) (env : Env) where
       let more : HasOutcome level (count_on meter) (counter_value meter.counter t ∷ rest) = later (count_on meter) (counter_value meter.counter t ∷ rest) h in
       (suc more.0, more.1, counts e more.2)
   by_turn level deeper meter list later (Invoked invocation) e h =
-      let as' : HasExpanded level invocation (spend_one meter) (arguments_to_expand invocation) = arguments_total level deeper invocation (spend_one meter) (arguments_to_expand invocation) in
+      let as' : HasExpanded level invocation (spend_one meter) (arguments_to_expand env invocation) = arguments_total level deeper invocation (spend_one meter) (arguments_to_expand env invocation) in
       after_invocation level meter list later invocation e as'.0 as'.1 as'.2 (λ bs. step_lemmas.finished_steps macros env list invocation bs h)
 
   list_total : (level : ℕ) → Deeper level → (hs : List HideSet) → Ends hs → (meter : Meter) (list : List Hiding) → ending.hides list ≡ hs → HasOutcome level meter list

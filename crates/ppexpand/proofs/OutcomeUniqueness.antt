@@ -8,7 +8,7 @@ use Rattle.ppexpand.specs.declared.meter.Meter.{Meter}
 use Rattle.ppexpand.specs.ExpansionStep.{Invocation, Done, TokenFault, Emits, ReplacementFault, Replaced, Invoked, arguments_to_expand, finish_invocation, fault_at_expansion, ExpandedArguments, with_expanded, Counts, counter_value}
 use Rattle.ppexpand.specs.Budget.{spend_one, count_on}
 use Rattle.ppexpand.specs.Expansion.{Outcome, step_in_budget, Expands, done, token_fault, emits, replacement_fault, replaced, argument_fault, invocation_fault, invocation_replaced, ExpandsArguments, counts}
-use Rattle.ppexpand.specs.Expansion.{none, unused, too_deep, pre_expanded}
+use Rattle.ppexpand.specs.Expansion.{none, too_deep, pre_expanded}
 use Rattle.ppexpand.specs.Expansion.{pre_expansion_fault}
 
 module _ (macros : Macros) (env : Env) where
@@ -117,19 +117,19 @@ module _ (macros : Macros) (env : Env) where
   -- the outcome of an invocation after its arguments are expanded
   pub data AfterInvocation (level : ℕ) (invocation : Invocation) : Meter → ExpandedArguments → ℕ → Outcome → Type 0 where
     by_argument : {meter_after : Meter} {fault : Fault} {steps : ℕ} {out : Outcome} → IsRefused fault meter_after steps out → AfterInvocation level invocation meter_after (Err fault) steps out
-    by_fault : {meter_after : Meter} {as' : List (Option (List Hiding))} {fault : Fault} {steps : ℕ} {out : Outcome}
-        → finish_invocation invocation as' ≡ ReplacementFault fault
+    by_fault : {meter_after : Meter} {as' : List (List Hiding)} {fault : Fault} {steps : ℕ} {out : Outcome}
+        → finish_invocation env invocation as' ≡ ReplacementFault fault
         → IsRefused fault meter_after steps out
         → AfterInvocation level invocation meter_after (Ok as') steps out
-    by_next : {meter_after : Meter} {as' : List (Option (List Hiding))} {next : List Hiding} {steps : ℕ} {out : Outcome}
-        → finish_invocation invocation as' ≡ Replaced next
+    by_next : {meter_after : Meter} {as' : List (List Hiding)} {next : List Hiding} {steps : ℕ} {out : Outcome}
+        → finish_invocation env invocation as' ≡ Replaced next
         → IsReplaced level meter_after next steps out
         → AfterInvocation level invocation meter_after (Ok as') steps out
 
   abbrev pub IsInvoked : ℕ → Meter → Invocation → ℕ → Outcome → Type 0
   IsInvoked level meter invocation steps out =
       (meter_after : Meter) × (expanded : ExpandedArguments)
-      × ExpandsArguments macros env level invocation meter (arguments_to_expand invocation) meter_after expanded
+      × ExpandsArguments macros env level invocation meter (arguments_to_expand env invocation) meter_after expanded
       × AfterInvocation level invocation meter_after expanded steps out
 
   pub at_invoked : {level steps : ℕ} {meter : Meter} {list : List Hiding} {out : Outcome} {invocation : Invocation}
@@ -152,26 +152,21 @@ module _ (macros : Macros) (env : Env) where
       let calls : invocation' ≡ invocation = cc in
       subst (λ c. IsInvoked level (spend_one meter) c (suc n) out) calls (meter_after, Ok as', a, by_next f (n, refl, d))
 
-  at_unused : {level : ℕ} {invocation : Invocation} {meter meter_after : Meter} {rest : List (Option (List Hiding))} {r : ExpandedArguments}
-      → ExpandsArguments macros env level invocation meter (None ∷ rest) meter_after r
-      → (r' : ExpandedArguments) × (r ≡ with_expanded None r') × ExpandsArguments macros env level invocation meter rest meter_after r'
-  at_unused (unused {out = out} a) = (out, refl, a)
-
-  -- the expansion of a used argument and of the later arguments
-  data AfterUse (level : ℕ) (invocation : Invocation) (meter : Meter) (list : List Hiding) (rest : List (Option (List Hiding))) : Meter → ExpandedArguments → Type 0 where
+  -- the expansion of an argument and of the later arguments
+  data AfterUse (level : ℕ) (invocation : Invocation) (meter : Meter) (list : List Hiding) (rest : List (List Hiding)) : Meter → ExpandedArguments → Type 0 where
     is_deep : 256 ≤ level → AfterUse level invocation meter list rest meter (Err (fault_at_expansion 21 invocation.name_token))
     is_used : {steps : ℕ} {between meter_after : Meter} {tokens : List Hiding} {out : ExpandedArguments}
         → level < 256
         → Expands macros env (suc level) meter steps list (record { tokens = tokens; fault = None; meter = between })
         → ExpandsArguments macros env level invocation between rest meter_after out
-        → AfterUse level invocation meter list rest meter_after (with_expanded (Some tokens) out)
+        → AfterUse level invocation meter list rest meter_after (with_expanded tokens out)
     is_refused : {steps : ℕ} {meter_after : Meter} {tokens : List Hiding} {fault : Fault}
         → level < 256
         → Expands macros env (suc level) meter steps list (record { tokens = tokens; fault = Some fault; meter = meter_after })
         → AfterUse level invocation meter list rest meter_after (Err fault)
 
-  at_used : {level : ℕ} {invocation : Invocation} {meter meter_after : Meter} {list : List Hiding} {rest : List (Option (List Hiding))} {r : ExpandedArguments}
-      → ExpandsArguments macros env level invocation meter (Some list ∷ rest) meter_after r
+  at_used : {level : ℕ} {invocation : Invocation} {meter meter_after : Meter} {list : List Hiding} {rest : List (List Hiding)} {r : ExpandedArguments}
+      → ExpandsArguments macros env level invocation meter (list ∷ rest) meter_after r
       → AfterUse level invocation meter list rest meter_after r
   at_used (too_deep h) = is_deep h
   at_used (pre_expanded h d a) = is_used h d a
@@ -196,8 +191,8 @@ module _ (macros : Macros) (env : Env) where
   after_argument {fault = fault} e (by_fault {as' = bs} f h) = let rs : Err fault ≡ Ok bs = λ i. (e i).1 in absurd (cc)
   after_argument {fault = fault} e (by_next {as' = bs} f h) = let rs : Err fault ≡ Ok bs = λ i. (e i).1 in absurd (cc)
 
-  after_fault : {level : ℕ} {invocation : Invocation} {as' : List (Option (List Hiding))} {fault : Fault} {meter meter_after : Meter} {r : ExpandedArguments} {n : ℕ} {p : Outcome}
-      → finish_invocation invocation as' ≡ ReplacementFault fault
+  after_fault : {level : ℕ} {invocation : Invocation} {as' : List (List Hiding)} {fault : Fault} {meter meter_after : Meter} {r : ExpandedArguments} {n : ℕ} {p : Outcome}
+      → finish_invocation env invocation as' ≡ ReplacementFault fault
       → ◌≡◌ {A = Given} (meter, Ok as') (meter_after, r)
       → AfterInvocation level invocation meter_after r n p
       → (0 ≡ n) × (◌≡◌ {A = Outcome} (record { tokens = []; fault = Some fault; meter = meter }) p)
@@ -205,17 +200,17 @@ module _ (macros : Macros) (env : Env) where
   after_fault {invocation = invocation} {as' = as'} {fault = fault} {meter = meter} {n = n} {p = p} f e (by_fault {meter_after = meter_after} {as' = bs} {fault = fault'} f' h) =
       let rs : Ok as' ≡ Ok bs = λ i. (e i).1 in
       let bodies : as' ≡ bs = cc in
-      let same : fault ≡ fault' = let steps : ReplacementFault fault ≡ ReplacementFault fault' = sym f ∙ ap (finish_invocation invocation) bodies ∙ f' in cc in
+      let same : fault ≡ fault' = let steps : ReplacementFault fault ≡ ReplacementFault fault' = sym f ∙ ap (finish_invocation env invocation) bodies ∙ f' in cc in
       let remainders : meter ≡ meter_after = λ i. (e i).0 in
       let h' = refused_same h in
       (h'.0, (λ i. record { tokens = []; fault = Some (same i); meter = remainders i }) ∙ h'.1)
   after_fault {invocation = invocation} {as' = as'} {fault = fault} f e (by_next {as' = bs} {next = next} f' h) =
       let rs : Ok as' ≡ Ok bs = λ i. (e i).1 in
       let bodies : as' ≡ bs = cc in
-      let steps : ReplacementFault fault ≡ Replaced next = sym f ∙ ap (finish_invocation invocation) bodies ∙ f' in absurd (cc)
+      let steps : ReplacementFault fault ≡ Replaced next = sym f ∙ ap (finish_invocation env invocation) bodies ∙ f' in absurd (cc)
 
-  after_next : {level m : ℕ} {invocation : Invocation} {as' : List (Option (List Hiding))} {next : List Hiding} {o : Outcome} {meter meter_after : Meter} {r : ExpandedArguments} {n : ℕ} {p : Outcome}
-      → finish_invocation invocation as' ≡ Replaced next
+  after_next : {level m : ℕ} {invocation : Invocation} {as' : List (List Hiding)} {next : List Hiding} {o : Outcome} {meter meter_after : Meter} {r : ExpandedArguments} {n : ℕ} {p : Outcome}
+      → finish_invocation env invocation as' ≡ Replaced next
       → ((k : ℕ) (q : Outcome) → Expands macros env level meter k next q → (m ≡ k) × (o ≡ q))
       → ◌≡◌ {A = Given} (meter, Ok as') (meter_after, r)
       → AfterInvocation level invocation meter_after r n p
@@ -224,11 +219,11 @@ module _ (macros : Macros) (env : Env) where
   after_next {invocation = invocation} {as' = as'} {next = next} f ih e (by_fault {as' = bs} {fault = fault} f' h) =
       let rs : Ok as' ≡ Ok bs = λ i. (e i).1 in
       let bodies : as' ≡ bs = cc in
-      let steps : Replaced next ≡ ReplacementFault fault = sym f ∙ ap (finish_invocation invocation) bodies ∙ f' in absurd (cc)
+      let steps : Replaced next ≡ ReplacementFault fault = sym f ∙ ap (finish_invocation env invocation) bodies ∙ f' in absurd (cc)
   after_next {level = level} {invocation = invocation} {as' = as'} {next = next} {meter = meter} {p = p} f ih e (by_next {meter_after = meter_after} {as' = bs} {next = next'} f' h) =
       let rs : Ok as' ≡ Ok bs = λ i. (e i).1 in
       let bodies : as' ≡ bs = cc in
-      let steps : Replaced next ≡ Replaced next' = sym f ∙ ap (finish_invocation invocation) bodies ∙ f' in
+      let steps : Replaced next ≡ Replaced next' = sym f ∙ ap (finish_invocation env invocation) bodies ∙ f' in
       let nexts : next' ≡ next = cc in
       let remainders : meter_after ≡ meter = λ i. (sym e i).0 in
       let both = ih h.0 p (subst (λ l. Expands macros env level l h.0 next p) remainders (subst (λ x. Expands macros env level meter_after h.0 x p) nexts h.2)) in
@@ -239,7 +234,7 @@ module _ (macros : Macros) (env : Env) where
       → ◌≡◌ {A = Given} (meter, Ok []) (meter_after, s)
   at_none none = refl
 
-  deep_same : {level : ℕ} {invocation : Invocation} {meter meter_after : Meter} {list : List Hiding} {rest : List (Option (List Hiding))} {s : ExpandedArguments}
+  deep_same : {level : ℕ} {invocation : Invocation} {meter meter_after : Meter} {list : List Hiding} {rest : List (List Hiding)} {s : ExpandedArguments}
       → 256 ≤ level
       → AfterUse level invocation meter list rest meter_after s
       → ◌≡◌ {A = Given} (meter, Err (fault_at_expansion 21 invocation.name_token)) (meter_after, s)
@@ -247,23 +242,23 @@ module _ (macros : Macros) (env : Env) where
   deep_same h (is_used h' d a) = absurd (omega arith)
   deep_same h (is_refused h' d) = absurd (omega arith)
 
-  used_same : {level m : ℕ} {invocation : Invocation} {list tokens : List Hiding} {rest : List (Option (List Hiding))} {meter between first meter_after : Meter} {out s : ExpandedArguments}
+  used_same : {level m : ℕ} {invocation : Invocation} {list tokens : List Hiding} {rest : List (List Hiding)} {meter between first meter_after : Meter} {out s : ExpandedArguments}
       → level < 256
       → ((n : ℕ) (p : Outcome) → Expands macros env (suc level) meter n list p → (m ≡ n) × (◌≡◌ {A = Outcome} (record { tokens = tokens; fault = None; meter = between }) p))
       → ((l : Meter) (s' : ExpandedArguments) → ExpandsArguments macros env level invocation between rest l s' → ◌≡◌ {A = Given} (first, out) (l, s'))
       → AfterUse level invocation meter list rest meter_after s
-      → ◌≡◌ {A = Given} (first, with_expanded (Some tokens) out) (meter_after, s)
+      → ◌≡◌ {A = Given} (first, with_expanded tokens out) (meter_after, s)
   used_same h ih more (is_deep h') = absurd (omega arith)
   used_same {level = level} {invocation = invocation} {tokens = tokens} {rest = rest} {between = between} {out = out} h ih more (is_used {steps = n} {between = other} {meter_after = meter_after} {tokens = ts} {out = out'} h' d a) =
       let both = (ih n (record { tokens = ts; fault = None; meter = other }) d).1 in
       let remainders : other ≡ between = λ i. (sym both i).meter in
       let whole = more meter_after out' (subst (λ l. ExpandsArguments macros env level invocation l rest meter_after out') remainders a) in
-      λ i. ((whole i).0, with_expanded (Some (both i).tokens) (whole i).1)
+      λ i. ((whole i).0, with_expanded (both i).tokens (whole i).1)
   used_same {tokens = tokens} h ih more (is_refused {steps = n} {meter_after = meter_after} {tokens = ts} {fault = fault} h' d) =
       let both = (ih n (record { tokens = ts; fault = Some fault; meter = meter_after }) d).1 in
       let faults : None ≡ Some fault = λ i. (both i).fault in absurd (cc)
 
-  refused_argument_same : {level m : ℕ} {invocation : Invocation} {list tokens : List Hiding} {fault : Fault} {rest : List (Option (List Hiding))} {meter first meter_after : Meter} {s : ExpandedArguments}
+  refused_argument_same : {level m : ℕ} {invocation : Invocation} {list tokens : List Hiding} {fault : Fault} {rest : List (List Hiding)} {meter first meter_after : Meter} {s : ExpandedArguments}
       → level < 256
       → ((n : ℕ) (p : Outcome) → Expands macros env (suc level) meter n list p → (m ≡ n) × (◌≡◌ {A = Outcome} (record { tokens = tokens; fault = Some fault; meter = first }) p))
       → AfterUse level invocation meter list rest meter_after s
@@ -305,16 +300,12 @@ module _ (macros : Macros) (env : Env) where
         let h = at_invoked e d' in
         after_next f (λ k o. same_outcome d k o) (same_expanded a h.0 h.1 h.2) h.3
 
-    pub same_expanded : {level : ℕ} {invocation : Invocation} {meter first : Meter} {as' : List (Option (List Hiding))} {r : ExpandedArguments}
+    pub same_expanded : {level : ℕ} {invocation : Invocation} {meter first : Meter} {as' : List (List Hiding)} {r : ExpandedArguments}
         → ExpandsArguments macros env level invocation meter as' first r
         → (meter_after : Meter) (s : ExpandedArguments)
         → ExpandsArguments macros env level invocation meter as' meter_after s
         → ◌≡◌ {A = Given} (first, r) (meter_after, s)
     same_expanded none l s a = at_none a
-    same_expanded (unused a) l s a' =
-        let h = at_unused a' in
-        let same = same_expanded a l h.0 h.2 in
-        (λ i. ((same i).0, with_expanded None (same i).1)) ∙ (λ i. (l, (sym h.1) i))
     same_expanded (too_deep h) l s a' = deep_same h (at_used a')
     same_expanded (pre_expanded h d a) l s a' = used_same h (λ n o. same_outcome d n o) (λ l' s'. same_expanded a l' s') (at_used a')
     same_expanded (pre_expansion_fault h d) l s a' = refused_argument_same h (λ n o. same_outcome d n o) (at_used a')

@@ -17,7 +17,7 @@ use Rattle.ppexpand.specs.declared.meter.Meter.{Meter}
 use Rattle.ppexpand.specs.Arguments.{is_open, Gathered, Closed, UnmatchedQuote, Unclosed, gather, separators, fit_arguments}
 use Rattle.ppexpand.specs.ExpansionStep.{predefined_value, Invocation, ExpansionStep, Done, TokenFault, Emits, ReplacementFault, Replaced, Invoked, followed_by, replaced_by, fault_at_expansion, Counts, counter_value}
 use Rattle.ppexpand.specs.ExpansionStep.{quote_fault, names_to_hide_for, closed_invocation_step, invocation_step, function_step, macro_step, named_step, macro_of}
-use Rattle.ppexpand.specs.ExpansionStep.{expansion_step, arguments_to_expand, finish_invocation, ExpandedArguments}
+use Rattle.ppexpand.specs.ExpansionStep.{expansion_step, arguments_to_expand, finish_by_parameter, finish_invocation, ExpandedArguments}
 use Rattle.ppexpand.specs.Budget.{new_meter, without_budget, one_less}
 use Rattle.ppexpand.specs.Expansion.{Outcome, step_in_budget, Expands, ExpandsTo, ExpandsArguments, Expansion, IsExpansion}
 use Rattle.ppexpand.specs.Expansion as in_budget
@@ -29,9 +29,9 @@ expansion_step-nothing : (macros : Macros) (env : Env) → expansion_step macros
 unfolding expansion_step
 expansion_step-nothing macros env = refl
 
-finish_invocation-is : (invocation : Invocation) (expanded : List (Option (List Hiding))) → finish_invocation invocation expanded ≡ replaced_by (invocation_result invocation expanded) invocation.following
-unfolding finish_invocation
-finish_invocation-is invocation expanded = refl
+finish_invocation-is : (env : Env) (invocation : Invocation) (expanded : List (List Hiding)) → finish_invocation env invocation expanded ≡ replaced_by (invocation_result env invocation expanded) invocation.following
+unfolding finish_by_parameter
+finish_invocation-is env invocation expanded = refl
 
 module _ (macros : Macros) (env : Env) where
   -- the expansion step of a list, by the standard's rules
@@ -212,7 +212,7 @@ module _ (macros : Macros) (env : Env) where
   at_invoked (Means.begins b) = b
 
   -- the replacement of an invocation, by the expansion step that results from it
-  result_failed : (invocation : Invocation) (expanded : List (Option (List Hiding))) (f : Fault) (r : Result Replacement Fault) → replaced_by r invocation.following ≡ ReplacementFault f → r ≡ Err f
+  result_failed : (invocation : Invocation) (expanded : List (List Hiding)) (f : Fault) (r : Result Replacement Fault) → replaced_by r invocation.following ≡ ReplacementFault f → r ≡ Err f
   result_failed invocation expanded f (Ok m) e = absurd (cc)
   result_failed invocation expanded f (Err g) e = let same : g ≡ f = cc in ap Err same
 
@@ -220,14 +220,14 @@ module _ (macros : Macros) (env : Env) where
   result_replaced following next (Ok m) e = let same : followed_by m following ≡ next = cc in (m, refl, same)
   result_replaced following next (Err f) e = absurd (cc)
 
-  at_next : {level number between after : ℕ} {list next tokens : List Hiding} {fault : Option Fault} {invocation : Invocation} {expanded : List (Option (List Hiding))}
+  at_next : {level number between after : ℕ} {list next tokens : List Hiding} {fault : Option Fault} {invocation : Invocation} {expanded : List (List Hiding)}
       → Invokes macros list invocation
-      → StandardExpandsArguments macros env level invocation number (arguments_to_expand invocation) (Ok expanded) between
-      → finish_invocation invocation expanded ≡ Replaced next
+      → StandardExpandsArguments macros env level invocation number (arguments_to_expand env invocation) (Ok expanded) between
+      → finish_invocation env invocation expanded ≡ Replaced next
       → StandardExpands macros env level between next tokens fault after
       → StandardExpands macros env level number list tokens fault after
   at_next {level = level} {between = between} {after = after} {next = next} {tokens = tokens} {fault = fault} {invocation = invocation} {expanded = expanded} b a e more =
-      let r = result_replaced invocation.following next (invocation_result invocation expanded) (sym (finish_invocation-is invocation expanded) ∙ e) in
+      let r = result_replaced invocation.following next (invocation_result env invocation expanded) (sym (finish_invocation-is env invocation expanded) ∙ e) in
       StandardExpands.invocation b a r.1 (subst (λ x. StandardExpands macros env level between x tokens fault after) (sym r.2) more)
 
   -- ---- an expansion without a budget follows the standard's rules
@@ -248,17 +248,16 @@ module _ (macros : Macros) (env : Env) where
     standard {meter = meter} {list = list} is (in_budget.counts e more) = at_counts (by_rule meter list is e) (standard (ap one_less is) more)
     standard {meter = meter} {list = list} is (in_budget.argument_fault e a) = StandardExpands.argument_fault (at_invoked (by_rule meter list is e)) (standard_arguments (ap one_less is) a)
     standard {meter = meter} {list = list} is (in_budget.invocation_fault {invocation = invocation} {expanded = expanded} {f = f} e a h) =
-        let failed = result_failed invocation expanded f (invocation_result invocation expanded) (sym (finish_invocation-is invocation expanded) ∙ h) in
+        let failed = result_failed invocation expanded f (invocation_result env invocation expanded) (sym (finish_invocation-is env invocation expanded) ∙ h) in
         StandardExpands.invocation_result_fault (at_invoked (by_rule meter list is e)) (standard_arguments (ap one_less is) a) failed
     standard {meter = meter} {list = list} is (in_budget.invocation_replaced e a h more) =
         at_next (at_invoked (by_rule meter list is e)) (standard_arguments (ap one_less is) a) h (standard (arguments_none macros env (ap one_less is) a) more)
 
-    standard_arguments : {level : ℕ} {invocation : Invocation} {meter meter_after : Meter} {as' : List (Option (List Hiding))} {r : ExpandedArguments}
+    standard_arguments : {level : ℕ} {invocation : Invocation} {meter meter_after : Meter} {as' : List (List Hiding)} {r : ExpandedArguments}
         → meter.remaining ≡ None
         → ExpandsArguments macros env level invocation meter as' meter_after r
         → StandardExpandsArguments macros env level invocation meter.counter as' r meter_after.counter
     standard_arguments is in_budget.none = StandardExpandsArguments.none
-    standard_arguments is (in_budget.unused more) = StandardExpandsArguments.unused (standard_arguments is more)
     standard_arguments is (in_budget.too_deep h) = StandardExpandsArguments.too_deep h
     standard_arguments is (in_budget.pre_expanded h one more) = StandardExpandsArguments.pre_expanded h (standard is one) (standard_arguments (remaining_none macros env is one) more)
     standard_arguments is (in_budget.pre_expansion_fault h one) = StandardExpandsArguments.pre_expansion_fault h (standard is one)
@@ -311,16 +310,15 @@ module _ (macros : Macros) (env : Env) where
     unbudgeted (StandardExpands.wrong_number i g f) = failing (Means.wrong_number i g f)
     unbudgeted (StandardExpands.argument_fault b a) = (0, in_budget.argument_fault (meant (Means.begins b)) (unbudgeted_arguments a))
     unbudgeted (StandardExpands.invocation_result_fault {invocation = invocation} {expanded = expanded} b a e) =
-        (0, in_budget.invocation_fault (meant (Means.begins b)) (unbudgeted_arguments a) (finish_invocation-is invocation expanded ∙ ap (λ r. replaced_by r invocation.following) e))
+        (0, in_budget.invocation_fault (meant (Means.begins b)) (unbudgeted_arguments a) (finish_invocation-is env invocation expanded ∙ ap (λ r. replaced_by r invocation.following) e))
     unbudgeted (StandardExpands.invocation {invocation = invocation} {expanded = expanded} b a e rest) =
         let more = unbudgeted rest in
-        (suc more.0, in_budget.invocation_replaced (meant (Means.begins b)) (unbudgeted_arguments a) (finish_invocation-is invocation expanded ∙ ap (λ r. replaced_by r invocation.following) e) more.1)
+        (suc more.0, in_budget.invocation_replaced (meant (Means.begins b)) (unbudgeted_arguments a) (finish_invocation-is env invocation expanded ∙ ap (λ r. replaced_by r invocation.following) e) more.1)
 
-    unbudgeted_arguments : {level number after : ℕ} {invocation : Invocation} {as' : List (Option (List Hiding))} {r : ExpandedArguments}
+    unbudgeted_arguments : {level number after : ℕ} {invocation : Invocation} {as' : List (List Hiding)} {r : ExpandedArguments}
         → StandardExpandsArguments macros env level invocation number as' r after
         → ExpandsArguments macros env level invocation (unlimited number) as' (unlimited after) r
     unbudgeted_arguments StandardExpandsArguments.none = in_budget.none
-    unbudgeted_arguments (StandardExpandsArguments.unused more) = in_budget.unused (unbudgeted_arguments more)
     unbudgeted_arguments (StandardExpandsArguments.too_deep h) = in_budget.too_deep h
     unbudgeted_arguments (StandardExpandsArguments.pre_expanded h one more) = in_budget.pre_expanded h (unbudgeted one).1 (unbudgeted_arguments more)
     unbudgeted_arguments (StandardExpandsArguments.pre_expansion_fault h one) = in_budget.pre_expansion_fault h (unbudgeted one).1

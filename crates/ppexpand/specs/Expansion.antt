@@ -57,43 +57,40 @@ module _ (macros : Macros) (env : Env) where
           → Expands level meter (suc steps) list out
       argument_fault : {level : ℕ} {meter meter_after : Meter} {list : List Hiding} {invocation : Invocation} {f : Fault}
           → step_in_budget meter list ≡ Invoked invocation
-          → ExpandsArguments level invocation (spend_one meter) (arguments_to_expand invocation) meter_after (Err f)
+          → ExpandsArguments level invocation (spend_one meter) (arguments_to_expand env invocation) meter_after (Err f)
           → Expands level meter 0 list (stops_with meter_after (Some f))
-      invocation_fault : {level : ℕ} {meter meter_after : Meter} {list : List Hiding} {invocation : Invocation} {expanded : List (Option (List Hiding))} {f : Fault}
+      invocation_fault : {level : ℕ} {meter meter_after : Meter} {list : List Hiding} {invocation : Invocation} {expanded : List (List Hiding)} {f : Fault}
           → step_in_budget meter list ≡ Invoked invocation
-          → ExpandsArguments level invocation (spend_one meter) (arguments_to_expand invocation) meter_after (Ok expanded)
-          → finish_invocation invocation expanded ≡ ReplacementFault f
+          → ExpandsArguments level invocation (spend_one meter) (arguments_to_expand env invocation) meter_after (Ok expanded)
+          → finish_invocation env invocation expanded ≡ ReplacementFault f
           → Expands level meter 0 list (stops_with meter_after (Some f))
       invocation_replaced : {level steps : ℕ} {meter meter_after : Meter} {list next : List Hiding} {invocation : Invocation}
-          {expanded : List (Option (List Hiding))} {out : Outcome}
+          {expanded : List (List Hiding)} {out : Outcome}
           → step_in_budget meter list ≡ Invoked invocation
-          → ExpandsArguments level invocation (spend_one meter) (arguments_to_expand invocation) meter_after (Ok expanded)
-          → finish_invocation invocation expanded ≡ Replaced next
+          → ExpandsArguments level invocation (spend_one meter) (arguments_to_expand env invocation) meter_after (Ok expanded)
+          → finish_invocation env invocation expanded ≡ Replaced next
           → Expands level meter_after steps next out
           → Expands level meter (suc steps) list out
 
-    -- The arguments of an invocation in a list at this level. Each `Some` is expanded as a list of its own, one level deeper
-    -- (6.10.3.1), in order, up to the first fault, within one budget. The largest level is 256.
-    pub data ExpandsArguments : ℕ → Invocation → Meter → List (Option (List Hiding)) → Meter → ExpandedArguments → Type 0 where
+    -- The arguments of an invocation in a list at this level. Each is expanded as a list of its own, one level deeper
+    -- (6.10.3.1), in the order of the list, up to the first fault, within one budget. The largest level is 256.
+    pub data ExpandsArguments : ℕ → Invocation → Meter → List (List Hiding) → Meter → ExpandedArguments → Type 0 where
       none : {level : ℕ} {invocation : Invocation} {meter : Meter}
           → ExpandsArguments level invocation meter [] meter (Ok [])
-      unused : {level : ℕ} {invocation : Invocation} {meter meter_after : Meter} {rest : List (Option (List Hiding))} {out : ExpandedArguments}
-          → ExpandsArguments level invocation meter rest meter_after out
-          → ExpandsArguments level invocation meter (None ∷ rest) meter_after (with_expanded None out)
-      too_deep : {level : ℕ} {invocation : Invocation} {meter : Meter} {list : List Hiding} {rest : List (Option (List Hiding))}
+      too_deep : {level : ℕ} {invocation : Invocation} {meter : Meter} {list : List Hiding} {rest : List (List Hiding)}
           → 256 ≤ level
-          → ExpandsArguments level invocation meter (Some list ∷ rest) meter (Err (fault_at_expansion 21 invocation.name_token))
+          → ExpandsArguments level invocation meter (list ∷ rest) meter (Err (fault_at_expansion 21 invocation.name_token))
       pre_expanded : {level steps : ℕ} {invocation : Invocation} {meter between meter_after : Meter} {list tokens : List Hiding}
-          {rest : List (Option (List Hiding))} {out : ExpandedArguments}
+          {rest : List (List Hiding)} {out : ExpandedArguments}
           → level < 256
           → Expands (suc level) meter steps list (record { tokens = tokens; fault = None; meter = between })
           → ExpandsArguments level invocation between rest meter_after out
-          → ExpandsArguments level invocation meter (Some list ∷ rest) meter_after (with_expanded (Some tokens) out)
+          → ExpandsArguments level invocation meter (list ∷ rest) meter_after (with_expanded tokens out)
       pre_expansion_fault : {level steps : ℕ} {invocation : Invocation} {meter meter_after : Meter} {list tokens : List Hiding}
-          {rest : List (Option (List Hiding))} {f : Fault}
+          {rest : List (List Hiding)} {f : Fault}
           → level < 256
           → Expands (suc level) meter steps list (record { tokens = tokens; fault = Some f; meter = meter_after })
-          → ExpandsArguments level invocation meter (Some list ∷ rest) meter_after (Err f)
+          → ExpandsArguments level invocation meter (list ∷ rest) meter_after (Err f)
 
   abbrev mutual
     -- the number of replacements in an expansion, including one that has a fault
@@ -108,11 +105,10 @@ module _ (macros : Macros) (env : Env) where
     count (invocation_fault e arguments f) = suc (count_arguments arguments)
     count (invocation_replaced e arguments f more) = suc (count_arguments arguments + count more)
 
-    pub count_arguments : {level : ℕ} {invocation : Invocation} {meter meter_after : Meter} {as' : List (Option (List Hiding))} {out : ExpandedArguments}
+    pub count_arguments : {level : ℕ} {invocation : Invocation} {meter meter_after : Meter} {as' : List (List Hiding)} {out : ExpandedArguments}
         → ExpandsArguments level invocation meter as' meter_after out
         → ℕ
     count_arguments none = 0
-    count_arguments (unused more) = count_arguments more
     count_arguments (too_deep h) = 0
     count_arguments (pre_expanded h one more) = count one + count_arguments more
     count_arguments (pre_expansion_fault h one) = count one

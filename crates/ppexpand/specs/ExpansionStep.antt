@@ -1,6 +1,6 @@
 -- The expansion step of a list: the rules of macro replacement (6.10.3, 6.10.3.1, 6.10.3.4), by cases on whole
 -- lists whose tokens have hide sets.
-use Rattle.std.specs.Prelude.{ℕ, suc, ℤ, pos, ◌+ℤ◌, nat_abs, decimal, Bool, true, false, List, [], ◌∷◌, ◌++◌, Option, Some, None, Result, Ok}
+use Rattle.std.specs.Prelude.{ℕ, ℤ, pos, ◌+ℤ◌, nat_abs, decimal, Bool, true, false, List, [], ◌∷◌, ◌++◌, map, length, replicate, slice_set, Option, Some, None, Result, Ok}
 use Rattle.std.specs.Prelude.{Err, codes, if◌then◌else◌}
 use Rattle.std.specs.FinSet as set
 use Rattle.std.specs.FinMap as table
@@ -12,8 +12,8 @@ use Rattle.pptext.specs.declared.tokens.Kind.TheVariants.{Number, Str as StringL
 use Rattle.pptext.specs.Tokens.{is_identifier, is_unmatched_quote, fault}
 use Rattle.ppmacro.specs.Names.{Name, HideSet, Macros}
 use Rattle.ppmacro.specs.Hiding.{Hiding}
-use Rattle.ppmacro.specs.Chains.{parameter_names, chains_of}
-pub use Rattle.ppmacro.specs.PreExpansion.{is_lone_parameter, pre_expands}
+use Rattle.ppmacro.specs.Chains.{parameter_names}
+use Rattle.ppmacro.specs.PreExpansion.{expansion_order}
 use Rattle.ppmacro.specs.Substitution.{Arguments, argument_at, Replacement, with_space, macro_replacement}
 use Rattle.ppmacro.specs.declared.macros.PredefinedMacro.{PredefinedMacro}
 use Rattle.ppmacro.specs.declared.macros.PredefinedMacro.TheVariants.{File, Line, Date, Time, Stdc, StdcHosted, StdcVersion}
@@ -21,7 +21,6 @@ use Rattle.ppmacro.specs.declared.macros.Variadic.{Variadic}
 use Rattle.ppmacro.specs.declared.macros.MacroKind.{MacroKind}
 use Rattle.ppmacro.specs.declared.macros.MacroKind.TheVariants.{Predefined, Counter, ObjectLike, FunctionLike}
 use Rattle.ppmacro.specs.declared.macros.Macro.{Macro}
-use Rattle.ppmacro.specs.declared.macros.Chain.{Chain}
 use Rattle.ppexpand.specs.declared.env.Env.{Env}
 use Rattle.ppexpand.specs.Arguments.{is_open, Gathered, Closed, UnmatchedQuote, Unclosed, gather, separators, fit_arguments}
 
@@ -162,25 +161,37 @@ expansion_step macros env (t ∷ rest) =
 
 -- ---- the arguments that are expanded (6.10.3.1)
 
--- for each parameter from i on: its argument if it is to be expanded, and otherwise `None`; an absent variable argument counts as empty
-abbrev pub to_expand : ℕ → List Chain → List Name → List (List Hiding) → List (Option (List Hiding))
-to_expand i cs [] given = []
-to_expand i cs (n ∷ names) given = (if pre_expands i cs then Some (argument_at given i) else None) ∷ to_expand (suc i) cs names given
+-- the arguments of the parameters that the replacement list uses without `#` and `##`, in the order in which they are expanded; an absent
+-- variable argument counts as empty
+unfoldable pub arguments_to_expand : Env → Invocation → List (List Hiding)
+arguments_to_expand env invocation = map (argument_at invocation.arguments) (expansion_order env.profile invocation.macro)
 
-unfoldable pub arguments_to_expand : Invocation → List (Option (List Hiding))
-arguments_to_expand invocation = to_expand 0 (chains_of invocation.macro) (parameter_names invocation.macro.kind) invocation.arguments
-
--- the expansions, with one entry for each parameter, or the first fault
+-- the expansions in that order, or the first fault
 abbrev pub ExpandedArguments : Type 0
-ExpandedArguments = Result (List (Option (List Hiding))) Fault
+ExpandedArguments = Result (List (List Hiding)) Fault
 
 -- adds the expansion of an argument before the expansions of the later ones
-abbrev pub with_expanded : Option (List Hiding) → ExpandedArguments → ExpandedArguments
+abbrev pub with_expanded : List Hiding → ExpandedArguments → ExpandedArguments
 with_expanded a (Ok as') = Ok (a ∷ as')
 with_expanded a (Err f) = Err f
 
--- the expansion step of an invocation after its arguments are expanded
-unfoldable pub finish_invocation : Invocation → List (Option (List Hiding)) → ExpansionStep
-finish_invocation invocation expanded = replaced_by
+-- puts the expansion of each of these parameters at its index
+abbrev pub put_at : {X : Type 0} → List ℕ → List X → List (Option X) → List (Option X)
+put_at [] expansions all = all
+put_at (i ∷ order) [] all = all
+put_at (i ∷ order) (e ∷ expansions) all = put_at order expansions (slice_set all i (Some e))
+
+-- for each parameter of an invocation its argument's expansion, or `None` if it is not expanded; the expansions are in the order of the profile
+unfoldable pub expansions_by_parameter : Env → Invocation → List (List Hiding) → List (Option (List Hiding))
+expansions_by_parameter env invocation expansions =
+    put_at (expansion_order env.profile invocation.macro) expansions (replicate (length (parameter_names invocation.macro.kind)) None)
+
+-- the expansion step of an invocation, if these are the expansions of its arguments by parameter
+unfoldable pub finish_by_parameter : Invocation → List (Option (List Hiding)) → ExpansionStep
+finish_by_parameter invocation expanded = replaced_by
     (macro_replacement invocation.macro (record { given = invocation.arguments; expanded = expanded }) invocation.names_to_hide invocation.name_token.token.used invocation.name_token.token.space)
     invocation.following
+
+-- the expansion step of an invocation after its arguments are expanded, in the order of the profile
+abbrev pub finish_invocation : Env → Invocation → List (List Hiding) → ExpansionStep
+finish_invocation env invocation expansions = finish_by_parameter invocation (expansions_by_parameter env invocation expansions)

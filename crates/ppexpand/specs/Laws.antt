@@ -40,10 +40,10 @@ pub data Leads (macros : Macros) (env : Env) (level : ℕ) : Meter → List Hidi
   by_counting : {meter : Meter} {list rest : List Hiding} {t : Hiding}
       → step_in_budget macros env meter list ≡ Counts t rest
       → Leads macros env level meter list (count_on meter) (counter_value meter.counter t ∷ rest)
-  by_invoking : {meter meter_after : Meter} {list next : List Hiding} {invocation : Invocation} {expanded : List (Option (List Hiding))}
+  by_invoking : {meter meter_after : Meter} {list next : List Hiding} {invocation : Invocation} {expanded : List (List Hiding)}
       → step_in_budget macros env meter list ≡ Invoked invocation
-      → ExpandsArguments macros env level invocation (spend_one meter) (arguments_to_expand invocation) meter_after (Ok expanded)
-      → finish_invocation invocation expanded ≡ Replaced next
+      → ExpandsArguments macros env level invocation (spend_one meter) (arguments_to_expand env invocation) meter_after (Ok expanded)
+      → finish_invocation env invocation expanded ≡ Replaced next
       → Leads macros env level meter list meter_after next
 
 -- this number of expansion steps leads from a list to another

@@ -2,8 +2,9 @@
 -- and one for each fault.
 --
 -- The theorem `without_a_budget` compares these rules with `ExpansionStep` and `Expansion`. Both use the same definitions of arguments (`gather`,
--- `fit_arguments`, `arguments_to_expand`) and of replacements (`predefined_value`, `counter_value`, `macro_replacement`, `followed_by`). So the theorem says that they
--- apply these definitions in the same cases and in the same order. It says nothing of the definitions themselves.
+-- `fit_arguments`, `arguments_to_expand`, `expansions_by_parameter`) and of replacements (`predefined_value`, `counter_value`, `macro_replacement`,
+-- `followed_by`). So the theorem says that they apply these definitions in the same cases and in the same order. It says nothing of the
+-- definitions themselves.
 use Rattle.std.specs.Prelude.{◌≡◌, ℕ, suc, ◌+◌, ◌%◌, ◌^◌, ◌<◌, ◌≤◌, Bool, true, false, List, [], ◌∷◌, map, Option, Some, None, Result, Ok, Err}
 use Rattle.std.specs.FinSet as set
 use Rattle.pptext.specs.declared.tokens.Token.{Token}
@@ -19,7 +20,7 @@ use Rattle.ppmacro.specs.declared.macros.MacroKind.TheVariants.{Predefined, Coun
 use Rattle.ppexpand.specs.declared.env.Env.{Env}
 use Rattle.ppexpand.specs.Arguments.{is_open, Closed, UnmatchedQuote, Unclosed, gather, separators, fit_arguments}
 use Rattle.ppexpand.specs.ExpansionStep.{predefined_value, counter_value, Invocation, followed_by, fault_at_expansion, quote_fault, names_to_hide_for, no_arguments, macro_of, arguments_to_expand}
-use Rattle.ppexpand.specs.ExpansionStep.{ExpandedArguments, with_expanded}
+use Rattle.ppexpand.specs.ExpansionStep.{ExpandedArguments, with_expanded, expansions_by_parameter}
 
 -- a token names this macro, and its hide set does not have the name (6.10.3, paragraph 9; 6.10.3.4, paragraph 2)
 pub record NamesMacro (macros : Macros) (t : Hiding) (d : Macro) : Type 0 where
@@ -57,9 +58,10 @@ abbrev pub object_result : Hiding → Macro → Result Replacement Fault
 object_result t d = macro_replacement d no_arguments (set.insert t.hide t.token.text) t.token.used t.token.space
 
 -- the replacement of an invocation after its arguments are expanded (6.10.3.1), or the fault
-abbrev pub invocation_result : Invocation → List (Option (List Hiding)) → Result Replacement Fault
-invocation_result invocation expanded =
-    macro_replacement invocation.macro (record { given = invocation.arguments; expanded = expanded }) invocation.names_to_hide invocation.name_token.token.used invocation.name_token.token.space
+abbrev pub invocation_result : Env → Invocation → List (List Hiding) → Result Replacement Fault
+invocation_result env invocation expanded =
+    macro_replacement invocation.macro (record { given = invocation.arguments; expanded = expansions_by_parameter env invocation expanded })
+    invocation.names_to_hide invocation.name_token.token.used invocation.name_token.token.space
 
 mutual
   -- At this level a list expands to these tokens, up to its end or to this fault. The first number is that of the next `__COUNTER__` (gcc's manual,
@@ -125,40 +127,37 @@ mutual
         → StandardExpands macros env level number (t ∷ paren ∷ inside) [] (Some (fault_at_expansion 18 t)) number
     argument_fault : {level number after : ℕ} {list : List Hiding} {invocation : Invocation} {f : Fault}
         → Invokes macros list invocation
-        → StandardExpandsArguments macros env level invocation number (arguments_to_expand invocation) (Err f) after
+        → StandardExpandsArguments macros env level invocation number (arguments_to_expand env invocation) (Err f) after
         → StandardExpands macros env level number list [] (Some f) after
-    invocation_result_fault : {level number after : ℕ} {list : List Hiding} {invocation : Invocation} {expanded : List (Option (List Hiding))} {f : Fault}
+    invocation_result_fault : {level number after : ℕ} {list : List Hiding} {invocation : Invocation} {expanded : List (List Hiding)} {f : Fault}
         → Invokes macros list invocation
-        → StandardExpandsArguments macros env level invocation number (arguments_to_expand invocation) (Ok expanded) after
-        → invocation_result invocation expanded ≡ Err f
+        → StandardExpandsArguments macros env level invocation number (arguments_to_expand env invocation) (Ok expanded) after
+        → invocation_result env invocation expanded ≡ Err f
         → StandardExpands macros env level number list [] (Some f) after
     invocation : {level number between after : ℕ} {list tokens : List Hiding} {fault : Option Fault} {invocation : Invocation}
-        {expanded : List (Option (List Hiding))} {m : Replacement}
+        {expanded : List (List Hiding)} {m : Replacement}
         → Invokes macros list invocation
-        → StandardExpandsArguments macros env level invocation number (arguments_to_expand invocation) (Ok expanded) between
-        → invocation_result invocation expanded ≡ Ok m
+        → StandardExpandsArguments macros env level invocation number (arguments_to_expand env invocation) (Ok expanded) between
+        → invocation_result env invocation expanded ≡ Ok m
         → StandardExpands macros env level between (followed_by m invocation.following) tokens fault after
         → StandardExpands macros env level number list tokens fault after
 
-  -- The arguments of an invocation in a list at this level, each expanded as if it were the rest of the file, one level deeper (6.10.3.1), in order,
-  -- up to the first fault; level 256 is the deepest. The numbers are those of `StandardExpands`.
-  pub data StandardExpandsArguments (macros : Macros) (env : Env) : ℕ → Invocation → ℕ → List (Option (List Hiding)) → ExpandedArguments → ℕ → Type 0 where
+  -- The arguments of an invocation in a list at this level, each expanded as if it were the rest of the file, one level deeper (6.10.3.1), in the
+  -- order of the list, up to the first fault; level 256 is the deepest. The numbers are those of `StandardExpands`.
+  pub data StandardExpandsArguments (macros : Macros) (env : Env) : ℕ → Invocation → ℕ → List (List Hiding) → ExpandedArguments → ℕ → Type 0 where
     none : {level number : ℕ} {invocation : Invocation} → StandardExpandsArguments macros env level invocation number [] (Ok []) number
-    unused : {level number after : ℕ} {invocation : Invocation} {rest : List (Option (List Hiding))} {out : ExpandedArguments}
-        → StandardExpandsArguments macros env level invocation number rest out after
-        → StandardExpandsArguments macros env level invocation number (None ∷ rest) (with_expanded None out) after
-    too_deep : {level number : ℕ} {invocation : Invocation} {list : List Hiding} {rest : List (Option (List Hiding))}
+    too_deep : {level number : ℕ} {invocation : Invocation} {list : List Hiding} {rest : List (List Hiding)}
         → 256 ≤ level
-        → StandardExpandsArguments macros env level invocation number (Some list ∷ rest) (Err (fault_at_expansion 21 invocation.name_token)) number
-    pre_expanded : {level number between after : ℕ} {invocation : Invocation} {list tokens : List Hiding} {rest : List (Option (List Hiding))} {out : ExpandedArguments}
+        → StandardExpandsArguments macros env level invocation number (list ∷ rest) (Err (fault_at_expansion 21 invocation.name_token)) number
+    pre_expanded : {level number between after : ℕ} {invocation : Invocation} {list tokens : List Hiding} {rest : List (List Hiding)} {out : ExpandedArguments}
         → level < 256
         → StandardExpands macros env (suc level) number list tokens None between
         → StandardExpandsArguments macros env level invocation between rest out after
-        → StandardExpandsArguments macros env level invocation number (Some list ∷ rest) (with_expanded (Some tokens) out) after
-    pre_expansion_fault : {level number after : ℕ} {invocation : Invocation} {list tokens : List Hiding} {rest : List (Option (List Hiding))} {f : Fault}
+        → StandardExpandsArguments macros env level invocation number (list ∷ rest) (with_expanded tokens out) after
+    pre_expansion_fault : {level number after : ℕ} {invocation : Invocation} {list tokens : List Hiding} {rest : List (List Hiding)} {f : Fault}
         → level < 256
         → StandardExpands macros env (suc level) number list tokens (Some f) after
-        → StandardExpandsArguments macros env level invocation number (Some list ∷ rest) (Err f) after
+        → StandardExpandsArguments macros env level invocation number (list ∷ rest) (Err f) after
 
 -- The expansion of a list of tokens, up to its end or to this fault, at level 0 and with empty hide sets at first. The numbers are those of
 -- `StandardExpands`.

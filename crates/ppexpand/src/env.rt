@@ -1,7 +1,8 @@
-//! The values of the predefined macros.
-use pptext::Spelling;
+//! The rules in use, and the values of the predefined macros.
+use pptext::{Profile, Spelling};
 
-/// The values of the predefined macros that are not constant (6.10.8.1): `__FILE__`, `__LINE__`, `__DATE__` and `__TIME__`.
+/// The rules in use, and the values of the predefined macros that are not constant (6.10.8.1): `__FILE__`, `__LINE__`, `__DATE__` and
+/// `__TIME__`.
 #[derive(Drop, Debug)]
 pub struct Env {
     /// The presumed name of the file, spelled as a string literal with its quotes.
@@ -12,4 +13,6 @@ pub struct Env {
     pub date: Spelling,
     /// The time of translation as `hh:mm:ss`, without quotes.
     pub time: Spelling,
+    /// The rules in use. They say in which order the arguments of an invocation are expanded.
+    pub profile: Profile,
 }

@@ -18,7 +18,7 @@ ghost use Rattle.ppmacro.specs.Substitution.{macro_replacement, chains_replaceme
 ghost use Rattle.ppexpand.specs.Arguments.{gather, separators};
 ghost use Rattle.ppexpand.specs.declared.env.Env.{Env};
 ghost use Rattle.ppexpand.specs.ExpansionStep.{Replaced, macro_of, replaced_by, no_arguments, predefined_value, counter_value, closed_invocation_step, invocation_step, function_step, macro_step};
-ghost use Rattle.ppexpand.specs.ExpansionStep.{finish_invocation};
+ghost use Rattle.ppexpand.specs.ExpansionStep.{finish_by_parameter};
 ghost use Rattle.ppexpand.specs.Budget.{refused};
 ghost use Rattle.ppexpand.specs.Expansion.{step_in_budget};
 ghost use Rattle.ppexpand.specs.code.Lists.{next_macro};
@@ -430,7 +430,7 @@ impl<'x> Replacer<'x> {
         requires expanded { ExpansionsKnown self.old.sets expanded.now }
         requires list { AllKnown self.old.sets list.old }
         ensures is { UnlessOutOfMemory result (λ r. replaced_in self.new.sets list.new r
-            ≡ finish_invocation (invocation_in self.old.sets invocation.now.name_token invocation.now.definition.now invocation.now.arguments.items invocation.now.base list.old)
+            ≡ finish_by_parameter (invocation_in self.old.sets invocation.now.name_token invocation.now.definition.now invocation.now.arguments.items invocation.now.base list.old)
             (expanded_in self.old.sets invocation.now.arguments.items expanded.now)) }
         ensures known { OnOk result (AllKnown self.new.sets list.new) }
         ensures keeps { KeepsSets self.old.sets self.new.sets }

@@ -8,7 +8,7 @@
 //! Most tokens name no macro, and most arguments expand to themselves. Fast paths take these without a step (`emit_unexpanded`,
 //! `none_expands`, the prefix in `expand`). What an expansion reads (`Context`) and what it changes (`Expander`) are two structs, because a
 //! method that could change the table would have to promise that it does not.
-ghost use Rattle.std.specs.Prelude.{◌≡◌, ℕ, ◌≤◌, ◌++◌, ◌∷◌, [], List, map, true, Some, Ok, IfOk, OnOk, MatchOption, IfSome};
+ghost use Rattle.std.specs.Prelude.{◌≡◌, ℕ, ◌<◌, ◌≤◌, ◌++◌, ◌∷◌, [], List, map, length, replicate, slice_set, true, Some, Ok, IfOk, OnOk, MatchOption, IfSome};
 ghost use Rattle.std.specs.Result.{result_err, result_and};
 ghost use Rattle.pptext.specs.Errors.{UnlessOutOfMemory};
 ghost use Rattle.std.specs.Option.{option_copied};
@@ -19,6 +19,7 @@ ghost use Rattle.ppexpand.specs.Budget.{count_on};
 ghost use Rattle.ppmacro.specs.HideSetPool.{HideSetPool};
 ghost use Rattle.ppmacro.specs.Substitution.{unhidden};
 ghost use Rattle.ppmacro.specs.declared.hidden_token.Hidden.{Hidden};
+ghost use Rattle.ppmacro.specs.declared.hidden_token.ArgumentExpansion.TheVariants.{Unused};
 ghost use Rattle.ppexpand.specs.Expansion.{ExpandsTo, IsExpansion};
 ghost use Rattle.ppexpand.specs.code.Lists.{NeverExpand, never_expands, next_macro};
 ghost use Rattle.ppexpand.specs.code.Skipping.{HasSkipped};
@@ -115,6 +116,29 @@ pub(crate) struct Expander<'x> {
     /// The state of replacement.
     pub(crate) replacer: Replacer<'x>,
     pub(crate) meter: Meter,
+}
+
+/// Appends an unused expansion for each of this number of parameters.
+fn push_unused(expanded: &mut Vec<ArgumentExpansion>, parameters: usize) -> Result<(), Memory>
+    requires { expanded.old.items ≡ [] }
+    ensures { OnOk result (expanded.new.items ≡ replicate parameters Unused) }
+{
+    for _parameter in 0..parameters {
+        push(expanded, ArgumentExpansion::Unused)?;
+    }
+    Ok(())
+}
+
+/// Stores the expansion of a parameter.
+fn put_expansion<'x>(
+    expanded: &mut Vec<ArgumentExpansion<'x>>,
+    parameter: usize,
+    expansion: ArgumentExpansion<'x>,
+)
+    requires { parameter < length expanded.old.items }
+    ensures { expanded.new.items ≡ slice_set expanded.old.items parameter expansion.entry }
+{
+    expanded[parameter] = expansion;
 }
 
 impl<'x> Expander<'x> {
@@ -238,8 +262,8 @@ impl<'x> Expander<'x> {
         Ok(ArgumentExpansion::Owned(tokens))
     }
 
-    /// Pre-expands the arguments that the replacement list uses without `#` and `##`, and appends the expansions to `expanded` by parameter.
-    /// Stops at the first fault.
+    /// Pre-expands the arguments that the replacement list uses without `#` and `##`, in the order of the profile, and stores the expansions in
+    /// `expanded` by parameter. Stops at the first fault.
     #[cycle(expansion)]
     fn expand_arguments<'a: 'x>(
         &mut self,
@@ -257,16 +281,13 @@ impl<'x> Expander<'x> {
         ensures known { OnOk result (ExpansionsKnown self.new.replacer.sets expanded.new.items) }
         ensures keeps { KeepsSets self.old.replacer.sets self.new.replacer.sets }
     {
-        let pre_expanded = invocation.definition.expanded();
-        for (parameter, is_pre_expanded) in pre_expanded.iter().enumerate() {
-            if !*is_pre_expanded {
-                push(expanded, ArgumentExpansion::Unused)?;
-                continue;
-            }
+        push_unused(expanded, invocation.definition.parameter_count())?;
+        let order = invocation.definition.expansion_order(context.env.profile);
+        for &parameter in order {
             let name_token = &invocation.name_token;
             let tokens = argument_of(invocation.arguments.as_slice(), parameter);
             let expansion = self.expand_argument(context, name_token, tokens)?;
-            push(expanded, expansion)?;
+            put_expansion(expanded, parameter, expansion);
         }
         Ok(())
     }

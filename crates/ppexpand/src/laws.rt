@@ -68,7 +68,7 @@ pub fn finds_no_arguments()
 /// Without a budget nothing is refused and nothing is counted. An expansion step is what the rules of macro replacement require (6.10.3,
 /// 6.10.3.4). There is no budget after an expansion either. The expansion of a list is the one by the standard's rules, which have no budget.
 ///
-/// Both sides use the same definitions of arguments (`gather`, `fit_arguments`, `arguments_to_expand`) and of replacements
+/// Both sides use the same definitions of arguments (`gather`, `fit_arguments`, `arguments_to_expand`, `expansions_by_parameter`) and of replacements
 /// (`predefined_value`, `counter_value`, `macro_replacement`, `followed_by`). So the law says that they apply these definitions in the same cases and in
 /// the same order. It says nothing of the definitions themselves.
 pub fn without_a_budget()

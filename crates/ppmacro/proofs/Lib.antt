@@ -64,3 +64,5 @@ pub mod PlainLists
 pub mod TableFreeDefinitions
 -- A `#define` line of a file and what was read of it.
 pub mod DefineLines
+-- The parameters that a replacement list uses without `#` and `##`, in their own order and in that of their first uses.
+pub mod ExpansionOrders

@@ -1,17 +1,15 @@
 -- Lists of entries by the parameters that their tokens name.
-use Rattle.std.proofs.Common.{◌≡◌, not, ℕ, zero, suc, ◌<◌, ◌||◌, Bool, true, false, List, [], ◌∷◌, map, length, get_or, slice_get, unwrap_or, refl, ap, Option, Some, None, arith}
-use Rattle.std.specs.List.{list_any}
+use Rattle.std.proofs.Common.{◌≡◌, not, ℕ, zero, suc, ◌<◌, Bool, true, false, List, [], ◌∷◌, map, length, get_or, slice_get, unwrap_or, refl, ap, Option, Some, None, arith}
 use Rattle.pptext.specs.declared.tokens.Token.{Token}
 use Rattle.ppmacro.specs.declared.macros.MacroKind.{MacroKind}
 use Rattle.ppmacro.specs.declared.macros.MacroKind.TheVariants.{Predefined, ObjectLike, FunctionLike, Counter}
 use Rattle.ppmacro.specs.PasteFree.{is_object_like, lone_chain}
 use Rattle.ppmacro.specs.declared.patterns.Entry.{Entry}
-use Rattle.ppmacro.specs.Chains.{is_function_like, parameter_of}
+use Rattle.ppmacro.specs.Chains.{is_function_like, parameter_names, parameter_of}
 use Rattle.ppmacro.specs.Entries.{entry_at, entry_of, entries_at, entry_chain}
-use Rattle.ppmacro.specs.PreExpansion.{is_lone_parameter, pre_expands}
+use Rattle.ppmacro.specs.PreExpansion.{lone_parameter, lone_parameters}
 use Rattle.ppmacro.specs.declared.kept_chains.KeptChain.{KeptChain}
-use Rattle.ppmacro.specs.code.KeptChains.{chains_at, uses_alone}
-use Rattle.ppmacro.specs.code.PreparedDefinitions.{is_use}
+use Rattle.ppmacro.specs.code.KeptChains.{chains_at, lone_parameter_at}
 
 -- Each token is an entry.
 pub count-entries : (us : List (Option ℕ)) (ts : List Token) → length (entries_at us ts) ≡ length ts
@@ -37,24 +35,30 @@ pub entries-alone : (ts : List Token) → map entry_chain (entries_at [] ts) ≡
 entries-alone [] = refl
 entries-alone (t ∷ ts) = ap (λ cs. lone_chain t ∷ cs) (entries-alone ts)
 
--- A parameter is used if and only if a chain consists of it alone.
-use-alone : (i : ℕ) (u : Option ℕ) (t : Token) → is_use i u ≡ is_lone_parameter i (entry_chain (entry_at u t)).operands
-use-alone i None t = refl
-use-alone i (Some j) t = refl
+-- The chain of an entry is the parameter that its token names, alone.
+entry-alone : (u : Option ℕ) (t : Token) → u ≡ lone_parameter (entry_chain (entry_at u t)).operands
+entry-alone None t = refl
+entry-alone (Some j) t = refl
 
-pub uses-expand : (i : ℕ) (kind : MacroKind) (ts : List Token) → list_any (is_use i) (map (parameter_of kind) ts) ≡ pre_expands i (map entry_chain (map (entry_of kind) ts))
-uses-expand i kind [] = refl
-uses-expand i kind (t ∷ ts) = λ j. use-alone i (parameter_of kind t) t j || uses-expand i kind ts j
+pub uses-alone : (kind : MacroKind) (ts : List Token) → map (parameter_of kind) ts ≡ lone_parameters (map entry_chain (map (entry_of kind) ts))
+uses-alone kind [] = refl
+uses-alone kind (t ∷ ts) = λ j. entry-alone (parameter_of kind t) t j ∷ uses-alone kind ts j
 
-pub chains-expand : (body : List Token) (i : ℕ) (cs : List KeptChain) → list_any (uses_alone body i) cs ≡ pre_expands i (chains_at body cs)
-chains-expand body i [] = refl
-chains-expand body i (c ∷ cs) = ap (λ b. uses_alone body i c || b) (chains-expand body i cs)
+pub chains-alone : (body : List Token) (cs : List KeptChain) → map (lone_parameter_at body) cs ≡ lone_parameters (chains_at body cs)
+chains-alone body [] = refl
+chains-alone body (c ∷ cs) = ap (λ us. lone_parameter_at body c ∷ us) (chains-alone body cs)
 
 pub not-object : (kind : MacroKind) → is_function_like kind ≡ true → is_object_like kind ≡ false
 not-object (Predefined b) is = refl
 not-object Counter is = refl
 not-object ObjectLike is = absurd (cc is)
 not-object (FunctionLike names variadic) is = refl
+
+pub no-names : (kind : MacroKind) → is_function_like kind ≡ false → length (parameter_names kind) ≡ 0
+no-names (Predefined b) is = refl
+no-names Counter is = refl
+no-names ObjectLike is = refl
+no-names (FunctionLike names variadic) is = absurd (cc is)
 
 pub not-true : (b : Bool) → not b ≡ true → b ≡ false
 not-true true is = absurd (cc is)

@@ -1,5 +1,5 @@
 -- The macro table at the start of a unit (6.10.8.1).
-use Rattle.std.specs.Prelude.{[], ◌∷◌, codes, Bool, true, false, if◌then◌else◌}
+use Rattle.std.specs.Prelude.{[], ◌∷◌, codes, if◌then◌else◌}
 use Rattle.std.specs.FinMap.{from_entries, insert}
 use Rattle.pptext.specs.declared.sources.Profile.{Profile}
 use Rattle.pptext.specs.Profiles.{is_gnu}

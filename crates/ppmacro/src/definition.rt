@@ -10,7 +10,7 @@ use crate::chains::{Parameters, chains_of, parameter_names, parameter_of};
 use crate::kept_chains::KeptChain;
 use crate::macros::{MacroKind, has_paste, is_object_like};
 use crate::patterns::has_operator;
-use crate::pre_expansion::{parameters_in_chains, parameters_in_uses};
+use crate::pre_expansion::{UsedParameters, lone_parameters};
 use pptext::{Hashing, Memory, Token};
 use std::alloc::Global;
 
@@ -31,8 +31,8 @@ pub struct Definition {
     pub(crate) form: ListForm,
     /// Whether it is an object-like macro whose list has no `##`.
     pub(crate) lone: bool,
-    /// For each parameter, whether the replacement list uses it without `#` and `##`, so that its argument is expanded (6.10.3.1).
-    pub(crate) expanded: Vec<bool>,
+    /// The parameters that the replacement list uses without `#` and `##`, so that their arguments are expanded (6.10.3.1).
+    pub(crate) used: UsedParameters,
 }
 
 /// Appends the parameter that each token names.
@@ -76,14 +76,14 @@ impl Definition {
         ensures kind { IfOk result (λ d. d.kind ≡ kind) }
         ensures prepared { IfOk result (λ d. IsPrepared d body.now) }
     {
-        let expanded = Vec::new(alloc);
+        let used = UsedParameters::none(alloc);
         if has_paste(body) {
             let form = ListForm::Pasted(chains_of(alloc, &kind, body, hashing)?);
             return Ok(Definition {
                 kind,
                 form,
                 lone: false,
-                expanded,
+                used,
             });
         }
         let lone = is_object_like(&kind);
@@ -91,7 +91,7 @@ impl Definition {
             kind,
             form: ListForm::Plain(Vec::new(alloc)),
             lone,
-            expanded,
+            used,
         })
     }
 
@@ -110,21 +110,22 @@ impl Definition {
         let count = parameter_names(&kind).len();
         if has_operator(body) {
             let chains = chains_of(alloc, &kind, body, hashing)?;
-            let expanded = parameters_in_chains(alloc, count, body, chains.as_slice())?;
+            let uses = lone_parameters(alloc, body, chains.as_slice())?;
+            let used = UsedParameters::new(alloc, count, uses.as_slice())?;
             return Ok(Definition {
                 kind,
                 form: ListForm::Pasted(chains),
                 lone: false,
-                expanded,
+                used,
             });
         }
         let uses = uses_of(alloc, &kind, body, hashing)?;
-        let expanded = parameters_in_uses(alloc, count, uses.as_slice())?;
+        let used = UsedParameters::new(alloc, count, uses.as_slice())?;
         Ok(Definition {
             kind,
             form: ListForm::Plain(uses),
             lone: false,
-            expanded,
+            used,
         })
     }
 

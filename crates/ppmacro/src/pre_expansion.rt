@@ -1,31 +1,28 @@
-//! Finds the parameters whose arguments are pre-expanded: those that a replacement list uses without `#` and `##` (6.10.3.1).
-ghost use Rattle.std.specs.Prelude.{◌≡◌, ◌<◌, ◌||◌, ℕ, false, IfOk, get_or, length};
-ghost use Rattle.std.specs.List.{list_any};
-ghost use Rattle.ppmacro.specs.PreExpansion.{is_lone_parameter, pre_expands};
+//! Finds the parameters whose arguments are expanded: those that a replacement list uses without `#` and `##` (6.10.3.1).
+ghost use Rattle.std.specs.Prelude.{◌≡◌, ◌<◌, ◌||◌, ℕ, [], None, false, IfOk, IfSome, OnOk, get_or, length, map};
+ghost use Rattle.std.specs.List.{filter, fold, list_any, range_with_len};
+ghost use Rattle.ppmacro.specs.PreExpansion.{lone_parameter, with_use};
 ghost use Rattle.ppmacro.specs.code.KeptOperands.{operands_at};
-ghost use Rattle.ppmacro.specs.code.KeptChains.{chains_at};
-ghost use Rattle.ppmacro.specs.code.PreparedDefinitions.{is_use};
+ghost use Rattle.ppmacro.specs.code.KeptChains.{lone_parameter_at};
+ghost use Rattle.ppmacro.specs.code.PreparedDefinitions.{is_use, AreMarked};
 
 use crate::kept_chains::{KeptChain, KeptOperand, operand_at};
 use crate::macros::Operand;
 use pptext::{Memory, Token};
 use std::alloc::Global;
 
-/// Marks the parameter that a token names as pre-expanded.
-fn set_use_pre_expanded(pre_expanded: &mut Vec<bool>, used: Option<usize>)
-    ensures len { length pre_expanded.new.items ≡ length pre_expanded.old.items }
-    ensures marks { (i : ℕ) → i < length pre_expanded.old.items → get_or pre_expanded.new.items i false ≡ get_or pre_expanded.old.items i false || is_use i used }
-{
-    if let Some(index) = used {
-        if index < pre_expanded.len() {
-            pre_expanded[index] = true;
-        }
-    }
+/// The parameters that a replacement list uses without `#` and `##`, in two orders.
+#[derive(Drop)]
+pub struct UsedParameters {
+    /// In their own order.
+    pub(crate) by_parameter: Vec<usize>,
+    /// In the order of their first uses.
+    pub(crate) by_use: Vec<usize>,
 }
 
 /// Returns the parameter that a chain consists of, if it consists of one alone.
 fn lone_parameter(body: &[Token], operands: &[KeptOperand]) -> Option<usize>
-    ensures { (i : ℕ) → is_lone_parameter i (operands_at body.now operands.now) ≡ is_use i result }
+    ensures { result ≡ lone_parameter (operands_at body.now operands.now) }
 {
     let [operand] = operands else {
         return None;
@@ -36,44 +33,107 @@ fn lone_parameter(body: &[Token], operands: &[KeptOperand]) -> Option<usize>
     }
 }
 
-/// Sets the entry of a parameter if the chain consists of that parameter alone.
-fn set_pre_expanded(pre_expanded: &mut Vec<bool>, body: &[Token], operands: &[KeptOperand])
-    ensures len { length pre_expanded.new.items ≡ length pre_expanded.old.items }
-    ensures marks { (i : ℕ) → i < length pre_expanded.old.items → get_or pre_expanded.new.items i false ≡ get_or pre_expanded.old.items i false || is_lone_parameter i (operands_at body.now operands.now) }
-{
-    set_use_pre_expanded(pre_expanded, lone_parameter(body, operands));
-}
-
-/// Returns, for each parameter, whether a replacement list without `#` and `##` uses it. `uses` has the parameter that each of its
-/// tokens names.
-pub(crate) fn parameters_in_uses(
+/// Returns, for each chain, the parameter that it consists of, if it consists of one alone.
+pub(crate) fn lone_parameters(
     alloc: Global,
-    parameters: usize,
-    uses: &[Option<usize>],
-) -> Result<Vec<bool>, Memory>
-    ensures len { IfOk result (λ v. length v.items ≡ parameters) }
-    ensures pre_expanded { IfOk result (λ v. (i : ℕ) → i < parameters → get_or v.items i false ≡ list_any (is_use i) uses.now) }
-{
-    let mut pre_expanded = vec![in alloc; false; parameters]?;
-    for used in uses {
-        set_use_pre_expanded(&mut pre_expanded, *used);
-    }
-    Ok(pre_expanded)
-}
-
-/// Returns, for each parameter, whether the chains of a replacement list use it without `#` and `##`.
-pub(crate) fn parameters_in_chains(
-    alloc: Global,
-    parameters: usize,
     body: &[Token],
     chains: &[KeptChain],
-) -> Result<Vec<bool>, Memory>
-    ensures len { IfOk result (λ v. length v.items ≡ parameters) }
-    ensures pre_expanded { IfOk result (λ v. (i : ℕ) → i < parameters → get_or v.items i false ≡ pre_expands i (chains_at body.now chains.now)) }
+) -> Result<Vec<Option<usize>>, Memory>
+    ensures { IfOk result (λ v. v.items ≡ map (lone_parameter_at body.now) chains.now) }
 {
-    let mut pre_expanded = vec![in alloc; false; parameters]?;
+    let mut uses = Vec::with_capacity(alloc, chains.len())?;
     for chain in chains {
-        set_pre_expanded(&mut pre_expanded, body, chain.operands.as_slice());
+        uses.push(lone_parameter(body, chain.operands.as_slice()))?;
     }
-    Ok(pre_expanded)
+    Ok(uses)
+}
+
+/// Appends a parameter to those that were used before, unless it is one of them. These are marked.
+fn push_use(
+    marks: &mut Vec<bool>,
+    by_use: &mut Vec<usize>,
+    used: Option<usize>,
+) -> Result<(), Memory>
+    requires within { IfSome used (λ i. i < length marks.old.items) }
+    requires marked { AreMarked marks.old.items by_use.old.items }
+    ensures len { length marks.new.items ≡ length marks.old.items }
+    ensures marked { OnOk result (AreMarked marks.new.items by_use.new.items) }
+    ensures by_use { OnOk result (by_use.new.items ≡ with_use by_use.old.items used) }
+{
+    let Some(index) = used else {
+        return Ok(());
+    };
+    if marks[index] {
+        return Ok(());
+    }
+    marks[index] = true;
+    by_use.push(index)?;
+    Ok(())
+}
+
+/// Appends the parameters that are used, each once, in the order of their first uses, and marks them.
+fn push_uses(
+    marks: &mut Vec<bool>,
+    by_use: &mut Vec<usize>,
+    uses: &[Option<usize>],
+) -> Result<(), Memory>
+    requires within { (k : ℕ) → k < length uses.now → IfSome (get_or uses.now k None) (λ i. i < length marks.old.items) }
+    requires none { by_use.old.items ≡ [] }
+    requires marked { AreMarked marks.old.items by_use.old.items }
+    ensures len { length marks.new.items ≡ length marks.old.items }
+    ensures marked { OnOk result (AreMarked marks.new.items by_use.new.items) }
+    ensures by_use { OnOk result (by_use.new.items ≡ fold with_use [] uses.now) }
+{
+    for used in uses {
+        push_use(marks, by_use, *used)?;
+    }
+    Ok(())
+}
+
+/// Returns the indexes of the marks.
+fn marked(alloc: Global, marks: &[bool]) -> Result<Vec<usize>, Memory>
+    ensures { IfOk result (λ v. v.items ≡ filter (λ i. get_or marks.now i false) (range_with_len 0 (length marks.now))) }
+{
+    let mut indexes = Vec::new(alloc);
+    for (index, mark) in marks.iter().enumerate() {
+        if !*mark {
+            continue;
+        }
+        indexes.push(index)?;
+    }
+    Ok(indexes)
+}
+
+impl UsedParameters {
+    /// Returns no parameters.
+    pub(crate) fn none(alloc: Global) -> UsedParameters
+        ensures by_parameter { result.by_parameter.items ≡ [] }
+        ensures by_use { result.by_use.items ≡ [] }
+    {
+        UsedParameters {
+            by_parameter: Vec::new(alloc),
+            by_use: Vec::new(alloc),
+        }
+    }
+
+    /// Returns the parameters, of this number, that a replacement list uses without `#` and `##`. `uses` has, for each chain, the
+    /// parameter that it consists of, if it consists of one alone.
+    pub(crate) fn new(
+        alloc: Global,
+        parameters: usize,
+        uses: &[Option<usize>],
+    ) -> Result<UsedParameters, Memory>
+        requires { (k : ℕ) → k < length uses.now → IfSome (get_or uses.now k None) (λ i. i < parameters) }
+        ensures by_parameter { IfOk result (λ p. p.by_parameter.items ≡ filter (λ i. list_any (is_use i) uses.now) (range_with_len 0 parameters)) }
+        ensures by_use { IfOk result (λ p. p.by_use.items ≡ fold with_use [] uses.now) }
+    {
+        let mut marks = vec![in alloc; false; parameters]?;
+        let mut by_use = Vec::new(alloc);
+        push_uses(&mut marks, &mut by_use, uses)?;
+        let by_parameter = marked(alloc, marks.as_slice())?;
+        Ok(UsedParameters {
+            by_parameter,
+            by_use,
+        })
+    }
 }

@@ -2,19 +2,20 @@
 //!
 //! A macro borrows the tokens of its replacement list, and mostly its definition too: a `#define` line of a file is read once for
 //! all units that share the file. Only a definition that comes from elsewhere is the macro's own.
-ghost use Rattle.std.specs.Prelude.{◌≡◌, ◌<◌, ℕ, false, IfOk, IfSome, get_or, length, map};
+ghost use Rattle.std.specs.Prelude.{◌≡◌, ◌<◌, ℕ, IfOk, IfSome, get_or, length, map};
 ghost use Rattle.std.specs.Option.{option_copied};
 ghost use Rattle.ppmacro.specs.Chains.{chains_of, parameter_names};
 ghost use Rattle.ppmacro.specs.PasteFree.{lone_chain, lone_tokens};
 ghost use Rattle.ppmacro.specs.Patterns.{pattern_chains};
-ghost use Rattle.ppmacro.specs.PreExpansion.{pre_expands};
+ghost use Rattle.ppmacro.specs.PreExpansion.{expansion_order};
 ghost use Rattle.ppmacro.specs.Predefined.{predefined_as, counter};
 ghost use Rattle.ppmacro.specs.code.PreparedDefinitions.{IsPrepared};
 
+use crate::chains::parameter_names;
 use crate::definition::{Definition, ListForm};
 use crate::macros::{MacroKind, PredefinedMacro};
 use crate::patterns::{PastedList, Pattern, PlainList};
-use pptext::{Hashing, Memory, Token};
+use pptext::{Hashing, Memory, Profile, Token};
 use std::alloc::Global;
 use std::marker::Model;
 
@@ -144,12 +145,31 @@ impl<'a> PreparedMacro<'a> {
         self.body
     }
 
-    /// Returns, for each parameter, whether the replacement list uses it without `#` and `##`.
-    pub fn expanded(&self) -> &[bool]
-        ensures len { length result.now ≡ length (parameter_names self.now.kind) }
-        ensures pre_expanded { (i : ℕ) → i < length result.now → get_or result.now i false ≡ pre_expands i (chains_of self.now) }
+    /// Returns the number of parameters.
+    pub fn parameter_count(&self) -> usize
+        ensures { result ≡ length (parameter_names self.now.kind) }
     {
-        self.definition.get().expanded.as_slice()
+        parameter_names(self.kind()).len()
+    }
+
+    /// Returns the parameters that the replacement list uses without `#` and `##`, in the order in which their arguments are expanded.
+    pub fn expansion_order(&self, profile: Profile) -> &[usize]
+        ensures is { result.now ≡ expansion_order profile self.now }
+        ensures within { (i : ℕ) → i < length result.now → get_or result.now i 0 < length (parameter_names self.now.kind) }
+    {
+        self.used_parameters(profile)
+    }
+
+    /// Returns what `expansion_order` returns, which has only parameters of the macro.
+    fn used_parameters(&self, profile: Profile) -> &[usize]
+        ensures { result.now ≡ expansion_order profile self.now }
+    {
+        let used = &self.definition.get().used;
+        if profile.is_gnu() {
+            used.by_use.as_slice()
+        } else {
+            used.by_parameter.as_slice()
+        }
     }
 
     /// Returns the replacement list of an object-like macro without `##`. Each token is a chain of its own.

@@ -20,13 +20,14 @@ pub(crate) fn tokens_at(source: &Source, start: usize, end: usize) -> &[Token] {
     source.tokens().get(start..end).unwrap_or(&[])
 }
 
-/// Returns an environment in which lines are shifted by `shift`. No test uses the file's name, the date or the time.
+/// Returns an environment in which lines are shifted by `shift`. No test uses the file's name, the date or the time. The rules are those of C11.
 pub(crate) fn env(shift: i64) -> Env {
     Env {
         name: Spelling::empty(),
         shift,
         date: Spelling::empty(),
         time: Spelling::empty(),
+        profile: Profile::C11,
     }
 }
 

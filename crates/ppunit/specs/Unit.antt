@@ -28,7 +28,7 @@ state_before keeps setting =
       once = [];
       meter = new_meter setting.budget;
       env = record
-          { name = []; shift = pos 0; date = setting.date; time = setting.time };
+          { name = []; shift = pos 0; date = setting.date; time = setting.time; profile = setting.profile };
       directory = None;
     }
 

@@ -184,6 +184,7 @@ fn file_env(alloc: Global, outer: &Env, name: &str) -> Result<Env, Memory>
         shift: 0,
         date: outer.date.clone()?,
         time: outer.time.clone()?,
+        profile: outer.profile,
     })
 }
 

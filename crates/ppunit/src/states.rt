@@ -190,6 +190,7 @@ fn initial_env(alloc: Global, setting: &Setting) -> Result<Env, Memory>
         shift: 0,
         date,
         time,
+        profile: setting.profile,
     })
 }
 

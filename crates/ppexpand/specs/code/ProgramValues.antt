@@ -18,7 +18,7 @@ use Rattle.ppmacro.specs.declared.hidden_token.Hidden.{Hidden}
 use Rattle.ppmacro.specs.declared.hidden_token.ArgumentExpansion.{ArgumentExpansion}
 use Rattle.ppmacro.specs.declared.hidden_token.ArgumentExpansion.TheVariants.{Unused, AsGiven, Owned}
 use Rattle.ppexpand.specs.declared.env.Env.{Env}
-use Rattle.ppexpand.specs.ExpansionStep.{Invocation, ExpansionStep, Done, TokenFault, Emits, ReplacementFault, Replaced, Counts, Invoked, arguments_to_expand, finish_invocation, ExpandedArguments}
+use Rattle.ppexpand.specs.ExpansionStep.{Invocation, ExpansionStep, Done, TokenFault, Emits, ReplacementFault, Replaced, Counts, Invoked, arguments_to_expand, expansions_by_parameter, finish_by_parameter}
 use Rattle.ppexpand.specs.declared.meter.Meter.{Meter}
 use Rattle.ppexpand.specs.Budget.{spend_one}
 use Rattle.ppexpand.specs.declared.expand_step.Action.{Action}
@@ -151,10 +151,13 @@ HasExpanded macros env level name_token meter meter_after before sets given (Ok 
     × ExpandsArgument macros env level name_token meter (hidings before given) meter_after (Ok tokens)
 HasExpanded macros env level name_token meter meter_after before sets given (Err f) = ExpandsArgument macros env level name_token meter (hidings before given) meter_after (Err f)
 
--- the arguments of an invocation at this level that are to be expanded have these expansions or this fault, and this is the
+-- the arguments of an invocation at this level that are to be expanded have these expansions by parameter or this fault, and this is the
 -- meter after them
-abbrev pub ExpandsInvocationArguments : Macros → Env → ℕ → Invocation → Meter → Meter → ExpandedArguments → Type 0
-ExpandsInvocationArguments macros env level invocation meter meter_after r = ExpandsArguments macros env level invocation meter (arguments_to_expand invocation) meter_after r
+abbrev pub ExpandsInvocationArguments : Macros → Env → ℕ → Invocation → Meter → Meter → Result (List (Option (List Hiding))) Fault → Type 0
+ExpandsInvocationArguments macros env level invocation meter meter_after (Ok expanded) = (expansions : List (List Hiding))
+    × (expanded ≡ expansions_by_parameter env invocation expansions)
+    × ExpandsArguments macros env level invocation meter (arguments_to_expand env invocation) meter_after (Ok expansions)
+ExpandsInvocationArguments macros env level invocation meter meter_after (Err f) = ExpandsArguments macros env level invocation meter (arguments_to_expand env invocation) meter_after (Err f)
 
 -- an invocation at this level has this expansion step: its arguments are expanded, and then it is replaced
 pub data ClosedStepsTo (macros : Macros) (env : Env) (level : ℕ) (invocation : Invocation) (meter : Meter) : Meter → ExpansionStep → Type 0 where
@@ -163,7 +166,7 @@ pub data ClosedStepsTo (macros : Macros) (env : Env) (level : ℕ) (invocation :
       → ClosedStepsTo macros env level invocation meter meter_after (ReplacementFault f)
   finishes : {meter_after : Meter} {expanded : List (Option (List Hiding))}
       → ExpandsInvocationArguments macros env level invocation meter meter_after (Ok expanded)
-      → ClosedStepsTo macros env level invocation meter meter_after (finish_invocation invocation expanded)
+      → ClosedStepsTo macros env level invocation meter meter_after (finish_by_parameter invocation expanded)
 
 -- one expansion step leads from the first list to the second, and emits these tokens
 pub record Advances (macros : Macros) (env : Env) (level : ℕ) (meter : Meter) (list : List Hiding) (meter_after : Meter)

@@ -12,7 +12,7 @@ use Rattle.ppmacro.specs.HashOperators.{is_paste}
 use Rattle.ppmacro.specs.Chains.{parameter_names, chains_of}
 use Rattle.ppmacro.specs.PasteFree.{is_object_like}
 use Rattle.ppmacro.specs.Entries.{entries_at, entry_chain}
-use Rattle.ppmacro.specs.PreExpansion.{pre_expands}
+use Rattle.ppmacro.specs.PreExpansion.{used_parameters, first_uses}
 use Rattle.ppmacro.specs.Define.{check_define}
 use Rattle.ppmacro.specs.DefineLines.{DefineLine, IsDefineLine}
 use Rattle.ppmacro.specs.declared.macros.Chain.{Chain}
@@ -28,6 +28,10 @@ abbrev pub is_use : ℕ → Option ℕ → Bool
 is_use i None = false
 is_use i (Some j) = i == j
 
+-- These parameters are marked, and no others.
+abbrev pub AreMarked : List Bool → List ℕ → Type 0
+AreMarked marks used = (i : ℕ) → i < length marks → get_or marks i false ≡ list_any (λ j. i == j) used
+
 -- The chains of a replacement list in the form of a definition.
 abbrev pub form_chains : List Token → ListForm → List Chain
 form_chains body (Plain v) = map entry_chain (entries_at v.items body)
@@ -37,8 +41,8 @@ form_chains body (Pasted v) = chains_at body v.items
 pub record IsPrepared (d : Definition) (body : List Token) : Type 0 where
   pub chains : form_chains body d.form ≡ chains_of (record { kind = d.kind; body = body })
   pub lone : d.lone ≡ (is_object_like d.kind && not (list_any is_paste body))
-  pub count : length d.expanded.items ≡ length (parameter_names d.kind)
-  pub expanded : (i : ℕ) → i < length (parameter_names d.kind) → get_or d.expanded.items i false ≡ pre_expands i (chains_of (record { kind = d.kind; body = body }))
+  pub by_parameter : d.used.by_parameter.items ≡ used_parameters (chains_of (record { kind = d.kind; body = body })) (length (parameter_names d.kind))
+  pub by_use : d.used.by_use.items ≡ first_uses (chains_of (record { kind = d.kind; body = body }))
 
 -- What is the definition of a line without a fault, as if its name had no other definition. The replacement list is the end of the line.
 pub record IsDefinedBy (profile : Profile) (at : Place) (line : List Token) (d : Defined) : Type 0 where

@@ -2,7 +2,7 @@
 use super::{macro_of, table_of};
 use crate::defining::source_of;
 use ppmacro::Pattern;
-use pptext::Source;
+use pptext::{Profile, Source};
 use std::alloc::Global;
 use std::process::Abort;
 use std::test::Fail;
@@ -58,27 +58,37 @@ fn makes_chains_where_tokens_are_made(rt: HostRuntime) -> Result<(), Fail> {
     Ok(())
 }
 
-/// Macros, and for each parameter whether its argument is expanded.
-const EXPANDED: &[(&str, &[bool])] = &[
-    ("#define O x", &[]),
-    ("#define D(x, y) y", &[false, true]),
-    ("#define S(x, y) #x y", &[false, true]),
-    ("#define P(x, y) x ## y", &[false, false]),
-    ("#define V(x, ...) x __VA_ARGS__", &[true, true]),
+/// Macros, and the parameters whose arguments are expanded, in the order of the profile.
+const EXPANDED: &[(&str, Profile, &[usize])] = &[
+    ("#define O x", Profile::Gnu, &[]),
+    ("#define D(x, y) y", Profile::C11, &[1]),
+    ("#define S(x, y) #x y", Profile::C11, &[1]),
+    ("#define P(x, y) x ## y", Profile::Gnu, &[]),
+    ("#define V(x, ...) x __VA_ARGS__", Profile::C11, &[0, 1]),
+    ("#define W(x, y) y x y", Profile::C11, &[0, 1]),
+    ("#define W(x, y) y x y", Profile::Later, &[0, 1]),
+    ("#define W(x, y) y x y", Profile::Gnu, &[1, 0]),
+    ("#define B(x, y, z) #x z y x", Profile::Gnu, &[2, 1, 0]),
 ];
 
-/// Returns whether the arguments of these parameters of a macro are expanded, and no others.
-fn expands(rt: &impl Abort, alloc: Global, line: &Source, wanted: &[bool]) -> Result<bool, Fail> {
+/// Returns whether the arguments of these parameters of a macro are expanded, in this order, and no others.
+fn expands(
+    rt: &impl Abort,
+    alloc: Global,
+    line: &Source,
+    profile: Profile,
+    wanted: &[usize],
+) -> Result<bool, Fail> {
     let table = table_of(rt, alloc, line)?;
     let named = macro_of(&table, line.tokens()).ok_or("no macro")?;
-    Ok(named.expanded() == wanted)
+    Ok(named.expansion_order(profile) == wanted)
 }
 
 #[test]
 fn tells_which_arguments_are_expanded(rt: HostRuntime) -> Result<(), Fail> {
-    for &(line, wanted) in EXPANDED {
+    for &(line, profile, wanted) in EXPANDED {
         let source = source_of(&rt, rt.alloc(), line.as_bytes())?;
-        assert!(rt; expands(&rt, rt.alloc(), &source, wanted)?, "{line}");
+        assert!(rt; expands(&rt, rt.alloc(), &source, profile, wanted)?, "{line}");
     }
     Ok(())
 }

@@ -4,7 +4,7 @@ use Rattle.pptext.proofs.ErrorReturns.{if_settled-weaker}
 use Rattle.ppmacro.specs.HideSets.{set_at, hidings}
 use Rattle.ppmacro.specs.Substituting.{ArgumentsKnown, arguments_in}
 use Rattle.ppmacro.specs.Substitution.{chains_replacement}
-use Rattle.ppexpand.specs.ExpansionStep.{replaced_by, finish_invocation}
+use Rattle.ppexpand.specs.ExpansionStep.{replaced_by, finish_by_parameter}
 use Rattle.ppexpand.proofs.GrowingHideSets.{arguments_known}
 use Rattle.ppexpand.proofs.expand_step.Replacer.finish_invocation.Goals as goal
 
@@ -14,7 +14,7 @@ replace-requires-clause-arguments c =
     subst (λ given. ArgumentsKnown c.args.self.now.sets given c.args.expanded.now) (sym c.as_slice.ensures.value) known
 
 pub returns-clause-is : goal.returns-clause-is
-unfolding finish_invocation
+unfolding finish_by_parameter
 returns-clause-is c =
     let s = c.args.self.now.sets in
     let invocation = c.args.invocation.now in

@@ -1,18 +1,17 @@
-use Rattle.std.proofs.Common.{◌≡◌, ◌∙◌, ◌∷◌, [], ◌+◌, ◌<◌, ◌≤◌, length, Ok, Err, Some, None, true, false, refl, sym, ap, subst, arith}
+use Rattle.std.proofs.Common.{◌≡◌, ◌∙◌, ◌∷◌, [], ◌+◌, ◌<◌, ◌≤◌, length, get_or, set, replicate, Ok, Err, Some, None, true, false, refl, sym, ap, subst, arith}
 use Rattle.std.specs.Option.{option_map}
-use Rattle.std.proofs.lemmas.List.{length-append}
+use Rattle.std.proofs.lemmas.List.{length-replicate, length-set}
 use Rattle.pptext.proofs.ErrorReturns.{stopped, if_settled-weaker, raised}
 use Rattle.ppmacro.specs.HideSets.{hidings, AllKnown}
-use Rattle.ppmacro.specs.Chains.{parameter_names, chains_of}
+use Rattle.ppmacro.specs.Chains.{parameter_names}
 use Rattle.ppmacro.specs.Substitution.{argument_at}
 use Rattle.ppmacro.specs.Substituting.{lists_of, expansion_if_computed}
 use Rattle.ppmacro.specs.declared.hidden_token.ArgumentExpansion.TheVariants.{Unused}
 use Rattle.ppmacro.proofs.PoolGrowthLemmas.{hidings-keeps, known-keeps, keeps-all, keeps-after}
-use Rattle.ppexpand.specs.ExpansionStep.{ReplacementFault, Replaced, finish_invocation, arguments_to_expand, pre_expands}
-use Rattle.ppexpand.specs.Expansion.{ExpandsArguments}
-use Rattle.ppexpand.specs.code.ProgramValues.{expanded_in, owned_tokens, ExpansionsKnown, ExpandsArgument, deep, ClosedStepsTo, fault_in_arguments, finishes}
-use Rattle.ppexpand.proofs.GrowingHideSets.{invocation_of, invocation_of-keeps, invocation_known-keeps, given_known-keeps, expanded_known-keeps, expanded_known-push}
-use Rattle.ppexpand.proofs.ArgumentLemmas.{arguments_first, argument_expands, argument_raises, argument-known, follows_unused, follows_used, follows_refused, follows_all}
+use Rattle.ppexpand.specs.ExpansionStep.{ReplacementFault, Replaced, finish_by_parameter}
+use Rattle.ppexpand.specs.code.ProgramValues.{given_in, expanded_in, ExpansionsKnown, ExpandsArgument, ExpandsInvocationArguments, deep, ClosedStepsTo, fault_in_arguments, finishes}
+use Rattle.ppexpand.proofs.GrowingHideSets.{invocation_of, invocation_of-keeps, invocation_known-keeps, given_known-keeps, expanded-keeps, expanded_known-keeps}
+use Rattle.ppexpand.proofs.ArgumentLemmas.{argument_expands, argument_raises, argument-in, argument-known, unused_in, unused_known, expanded_in-set, expanded_known-set, none_yet, one_more, one_refused, all_expanded}
 use Rattle.ppexpand.proofs.SkippedTokens.{unhidden-expands}
 use Rattle.ppexpand.proofs.PassedSteps.{follows_pass, pass_falls, follows_nothing}
 use Rattle.ppexpand.proofs.LoopInvariants.{more_follows, more_falls, end_follows, invocation_taken, invocation_raises, begun_raises}
@@ -97,12 +96,12 @@ replace_invocation-returns-clause-is m c =
     let u = c.expand_arguments.new.self.replacer.sets in
     let expanded = c.expand_arguments.new.expanded.items in
     let invocation = invocation_of c.args.self.now.replacer.sets c.args.invocation.now list in
-    let args : ExpandsArguments macros env level invocation c.args.self.now.meter (arguments_to_expand invocation) c.expand_arguments.new.self.meter (Ok (expanded_in u c.args.invocation.now.arguments.items expanded)) =
+    let args : ExpandsInvocationArguments macros env level invocation c.args.self.now.meter c.expand_arguments.new.self.meter (Ok (expanded_in u c.args.invocation.now.arguments.items expanded)) =
     c.in_ok-expand_arguments.ensures.is list in
     let same = invocation_of-keeps c.args.invocation.now list c.in_ok-expand_arguments.ensures.keeps c.requires.invocation_known c.requires.list_known in
     if_settled-weaker c.finish_invocation-replaced.result _ _
     (λ r e. subst (ClosedStepsTo macros env level invocation c.args.self.now.meter c.expand_arguments.new.self.meter)
-    (sym (e ∙ (λ i. finish_invocation (same i) (expanded_in u c.args.invocation.now.arguments.items (c.as_slice.ensures.value i)))))
+    (sym (e ∙ (λ i. finish_by_parameter (same i) (expanded_in u c.args.invocation.now.arguments.items (c.as_slice.ensures.value i)))))
     (finishes args))
     c.finish_invocation-replaced.ensures.is
 
@@ -168,49 +167,29 @@ expand_argument-returns-clause-is m c =
 pub expand_argument-returns-clause-known : goal.expand_argument-returns-clause-known
 expand_argument-returns-clause-known m c = subst (AllKnown c.expand_list.new.self.replacer.sets) (sym c.in_ok-tokens.ensures) c.in_ok-expand_list.ensures.known
 
+-- ---- the arguments
+
 pub expand_arguments-loop-parameter-init : goal.expand_arguments-loop-parameter-init
 expand_arguments-loop-parameter-init m c =
     let macros = c.args.context.now.table.now.macros in
     let env = c.args.context.now.env.now in
     let level = c.args.context.now.level in
+    let s = c.args.self.now.replacer.sets in
+    let vs = c.args.invocation.now.arguments.items in
+    let n = length (parameter_names c.args.invocation.now.definition.now.kind) in
+    let none : c.push_unused.new.expanded.items ≡ replicate n Unused = c.in_ok-push_unused.ensures ∙ ap (λ k. replicate k Unused) c.parameter_count.ensures in
     record {
       low = c.requires.level;
-      count = ap length c.requires.none;
-      known = rw c.requires.none (record { each = tt });
-      keeps = keeps-all c.args.self.now.replacer.sets;
-      follows = λ following. rw c.requires.none (arguments_first macros env level (invocation_of c.args.self.now.replacer.sets c.args.invocation.now following) c.args.self.now.meter);
-    }
-
-pub expand_arguments-loop-parameter-preserved-then-not-is_pre_expanded : goal.expand_arguments-loop-parameter-preserved-then-not-is_pre_expanded
-expand_arguments-loop-parameter-preserved-then-not-is_pre_expanded m c =
-    let macros = c.args.context.now.table.now.macros in
-    let env = c.args.context.now.env.now in
-    let level = c.args.context.now.level in
-    let s = c.args.self.now.replacer.sets in
-    let u = c.loop-parameter.self.replacer.sets in
-    let i = c.loop-parameter.parameter in
-    let vs = c.args.invocation.now.arguments.items in
-    let cs = chains_of c.args.invocation.now.definition.now in
-    let names = parameter_names c.args.invocation.now.definition.now.kind in
-    let done = c.loop-parameter.expanded.items in
-    let less : i < length names = subst (λ n. i < n) c.expanded-pre_expanded.ensures.len c.loop-parameter-test.true in
-    let unused : pre_expands i cs ≡ false = sym (c.expanded-pre_expanded.ensures.pre_expanded i c.loop-parameter-test.true) ∙ c.if-not-is_pre_expanded.true in
-    let appended = c.in_ok-push.ensures in
-    record {
-      low = c.loop-parameter.invariant.low;
-      known = subst (ExpansionsKnown u) (sym appended) (expanded_known-push done Unused c.loop-parameter.invariant.known (record { each = tt }));
-      count = ap length appended ∙ length-append done (Unused ∷ []) ∙ ap (λ n. n + 1) c.loop-parameter.invariant.count;
-      keeps = c.loop-parameter.invariant.keeps;
-      follows = λ following.
-          (let invocation = invocation_of s c.args.invocation.now following in
-          follows_unused macros env level c.args.self.now.meter c.loop-parameter.self.meter c.loop-parameter.self.meter s u u vs cs names i done c.push.new.items.items invocation (arguments_to_expand invocation)
-          less c.loop-parameter.invariant.count unused appended (c.loop-parameter.invariant.follows following));
+      known = subst (ExpansionsKnown s) (sym none) (unused_known s n);
+      count = ap length none ∙ length-replicate n Unused;
+      keeps = keeps-all s;
+      follows = λ following. none_yet macros env level (invocation_of s c.args.invocation.now following) c.args.self.now.meter _ (ap (expanded_in s vs) none ∙ unused_in s vs n);
     }
 
 pub expand_arguments-expand_argument-requires : goal.expand_arguments-expand_argument-requires
 expand_arguments-expand_argument-requires m c =
     let u = c.loop-parameter.self.replacer.sets in
-    let i = c.loop-parameter.parameter in
+    let i = get_or c.expansion_order-order.result.now c.loop-parameter.parameter-index 0 in
     let vs = c.args.invocation.now.arguments.items in
     let tokens_are : c.argument_of-tokens.result.now ≡ argument_at (lists_of vs) i = c.argument_of-tokens.ensures ∙ ap (λ gs. argument_at (lists_of gs) i) c.as_slice.ensures.value in
     let known = given_known-keeps vs c.loop-parameter.invariant.keeps c.requires.known.arguments in (
@@ -228,22 +207,25 @@ expand_arguments-returns-in_err-expansion-clause-is m c =
     let level = c.args.context.now.level in
     let s = c.args.self.now.replacer.sets in
     let u = c.loop-parameter.self.replacer.sets in
-    let i = c.loop-parameter.parameter in
+    let k = c.loop-parameter.parameter-index in
+    let i = get_or c.expansion_order-order.result.now c.loop-parameter.parameter-index 0 in
     let vs = c.args.invocation.now.arguments.items in
-    let cs = chains_of c.args.invocation.now.definition.now in
-    let names = parameter_names c.args.invocation.now.definition.now.kind in
-    let done = c.loop-parameter.expanded.items in
-    let less : i < length names = subst (λ n. i < n) c.expanded-pre_expanded.ensures.len c.loop-parameter-test.true in
-    let is_used : pre_expands i cs ≡ true = sym (c.expanded-pre_expanded.ensures.pre_expanded i c.loop-parameter-test.true) ∙ c.if-not-is_pre_expanded.false in
+    let meter = c.loop-parameter.self.meter in
+    let between = c.expand_argument.new.self.meter in
+    let order = c.expansion_order-order.ensures.is in
     let tokens_are : c.argument_of-tokens.result.now ≡ argument_at (lists_of vs) i = c.argument_of-tokens.ensures ∙ ap (λ gs. argument_at (lists_of gs) i) c.as_slice.ensures.value in
-    let argument : hidings u c.argument_of-tokens.result.now ≡ hidings s (argument_at (lists_of vs) i) =
-    ap (hidings u) tokens_are ∙ hidings-keeps (argument_at (lists_of vs) i) c.loop-parameter.invariant.keeps (argument-known s vs i c.requires.known.arguments) in
+    let argument : hidings u c.argument_of-tokens.result.now ≡ argument_at (given_in s vs) i =
+    ap (hidings u) tokens_are ∙ hidings-keeps (argument_at (lists_of vs) i) c.loop-parameter.invariant.keeps (argument-known s vs i c.requires.known.arguments) ∙ sym (argument-in s vs i) in
     stopped _ _ _ _ c.from_residual-in_err-expansion.ensures.1 c.in_err-expansion.ensures.is (λ f raised following.
-    let invocation = invocation_of s c.args.invocation.now following in
-    let one : ExpandsArgument macros env level c.args.invocation.now.name_token.token c.loop-parameter.self.meter (hidings s (argument_at (lists_of vs) i)) c.expand_argument.new.self.meter (Err f) =
-    subst (λ l. ExpandsArgument macros env level c.args.invocation.now.name_token.token c.loop-parameter.self.meter l c.expand_argument.new.self.meter (Err f)) argument raised in
-    follows_refused macros env level c.args.self.now.meter c.loop-parameter.self.meter c.expand_argument.new.self.meter s u u vs cs names i done done invocation (arguments_to_expand invocation)
-    f less is_used one (c.loop-parameter.invariant.follows following))
+    one_refused macros env level (invocation_of s c.args.invocation.now following) c.args.self.now.meter k i _ meter between f
+    (subst (λ is. k < length is) order c.loop-parameter-test.true) (ap (λ is. get_or is k 0) order)
+    (subst (λ l. ExpandsArgument macros env level c.args.invocation.now.name_token.token meter l between (Err f)) argument raised)
+    (c.loop-parameter.invariant.follows following))
+
+pub expand_arguments-put_expansion-requires : goal.expand_arguments-put_expansion-requires
+expand_arguments-put_expansion-requires m c =
+    let k = c.loop-parameter.parameter-index in
+    subst (λ n. get_or c.expansion_order-order.result.now k 0 < n) (sym c.loop-parameter.invariant.count) (c.expansion_order-order.ensures.within k c.loop-parameter-test.true)
 
 pub expand_arguments-loop-parameter-preserved : goal.expand_arguments-loop-parameter-preserved
 expand_arguments-loop-parameter-preserved m c =
@@ -252,37 +234,35 @@ expand_arguments-loop-parameter-preserved m c =
     let level = c.args.context.now.level in
     let s = c.args.self.now.replacer.sets in
     let u = c.loop-parameter.self.replacer.sets in
-    let i = c.loop-parameter.parameter in
-    let vs = c.args.invocation.now.arguments.items in
-    let cs = chains_of c.args.invocation.now.definition.now in
-    let names = parameter_names c.args.invocation.now.definition.now.kind in
-    let done = c.loop-parameter.expanded.items in
-    let less : i < length names = subst (λ n. i < n) c.expanded-pre_expanded.ensures.len c.loop-parameter-test.true in
-    let is_used : pre_expands i cs ≡ true = sym (c.expanded-pre_expanded.ensures.pre_expanded i c.loop-parameter-test.true) ∙ c.if-not-is_pre_expanded.false in
-    let tokens_are : c.argument_of-tokens.result.now ≡ argument_at (lists_of vs) i = c.argument_of-tokens.ensures ∙ ap (λ gs. argument_at (lists_of gs) i) c.as_slice.ensures.value in
     let w = c.expand_argument.new.self.replacer.sets in
-    let keeps = c.in_ok-expansion.ensures.keeps in
-    let argument : hidings u c.argument_of-tokens.result.now ≡ hidings s (argument_at (lists_of vs) i) =
-    ap (hidings u) tokens_are ∙ hidings-keeps (argument_at (lists_of vs) i) c.loop-parameter.invariant.keeps (argument-known s vs i c.requires.known.arguments) in
-    let made_is = c.in_ok-expansion.ensures.is in
+    let k = c.loop-parameter.parameter-index in
+    let i = get_or c.expansion_order-order.result.now c.loop-parameter.parameter-index 0 in
+    let vs = c.args.invocation.now.arguments.items in
+    let meter = c.loop-parameter.self.meter in
+    let between = c.expand_argument.new.self.meter in
+    let order = c.expansion_order-order.ensures.is in
+    let before = c.loop-parameter.expanded.items in
     let e = c.in_ok-expansion.expansion in
-    let tokens = made_is.0 in
-    let one : ExpandsArgument macros env level c.args.invocation.now.name_token.token c.loop-parameter.self.meter (hidings s (argument_at (lists_of vs) i)) c.expand_argument.new.self.meter (Ok tokens) =
-    subst (λ l. ExpandsArgument macros env level c.args.invocation.now.name_token.token c.loop-parameter.self.meter l c.expand_argument.new.self.meter (Ok tokens)) argument made_is.2 in
+    let keeps = c.in_ok-expansion.ensures.keeps in
+    let made = c.in_ok-expansion.ensures.is in
+    let tokens = made.0 in
+    let tokens_are : c.argument_of-tokens.result.now ≡ argument_at (lists_of vs) i = c.argument_of-tokens.ensures ∙ ap (λ gs. argument_at (lists_of gs) i) c.as_slice.ensures.value in
+    let argument : hidings u c.argument_of-tokens.result.now ≡ argument_at (given_in s vs) i =
+    ap (hidings u) tokens_are ∙ hidings-keeps (argument_at (lists_of vs) i) c.loop-parameter.invariant.keeps (argument-known s vs i c.requires.known.arguments) ∙ sym (argument-in s vs i) in
     let here_is : option_map (hidings w) (expansion_if_computed (argument_at (lists_of vs) i) e) ≡ Some tokens =
-    subst (λ g. option_map (hidings w) (expansion_if_computed g e) ≡ Some tokens) tokens_are made_is.1 in
-    let tokens_known : AllKnown w (owned_tokens e) = c.in_ok-expansion.ensures.known in
-    let appended = c.in_ok-push-2.ensures in
+    subst (λ g. option_map (hidings w) (expansion_if_computed g e) ≡ Some tokens) tokens_are made.1 in
     let given_known = given_known-keeps vs c.loop-parameter.invariant.keeps c.requires.known.arguments in
+    let put = c.put_expansion.ensures in
     record {
       low = c.loop-parameter.invariant.low;
-      known = subst (ExpansionsKnown w) (sym appended) (expanded_known-push done e (expanded_known-keeps done keeps c.loop-parameter.invariant.known) tokens_known);
-      count = ap length appended ∙ length-append done (e ∷ []) ∙ ap (λ n. n + 1) c.loop-parameter.invariant.count;
+      known = subst (ExpansionsKnown w) (sym put) (expanded_known-set w before i e (expanded_known-keeps before keeps c.loop-parameter.invariant.known) c.in_ok-expansion.ensures.known);
+      count = ap length put ∙ length-set before i e ∙ c.loop-parameter.invariant.count;
       keeps = keeps-after c.loop-parameter.invariant.keeps keeps;
-      follows = λ following.
-          (let invocation = invocation_of s c.args.invocation.now following in
-          follows_used macros env level c.args.self.now.meter c.loop-parameter.self.meter c.expand_argument.new.self.meter s u w vs cs names i done c.push-in-loop-parameter.new.items.items invocation (arguments_to_expand invocation)
-          e tokens less c.loop-parameter.invariant.count is_used appended keeps given_known c.loop-parameter.invariant.known here_is one (c.loop-parameter.invariant.follows following));
+      follows = λ following. one_more macros env level (invocation_of s c.args.invocation.now following) c.args.self.now.meter k i _ _ tokens meter between
+          (subst (λ is. k < length is) order c.loop-parameter-test.true) (ap (λ is. get_or is k 0) order)
+          (ap (expanded_in w vs) put ∙ expanded_in-set w vs before i e ∙ (λ j. set (expanded-keeps vs before keeps given_known c.loop-parameter.invariant.known j) i (here_is j)))
+          (subst (λ l. ExpandsArgument macros env level c.args.invocation.now.name_token.token meter l between (Ok tokens)) argument made.2)
+          (c.loop-parameter.invariant.follows following);
     }
 
 pub expand_arguments-returns-clause-is : goal.expand_arguments-returns-clause-is
@@ -291,17 +271,10 @@ expand_arguments-returns-clause-is m c =
     let env = c.args.context.now.env.now in
     let level = c.args.context.now.level in
     let s = c.args.self.now.replacer.sets in
-    let u = c.loop-parameter.self.replacer.sets in
-    let i = c.loop-parameter.parameter in
-    let vs = c.args.invocation.now.arguments.items in
-    let names = parameter_names c.args.invocation.now.definition.now.kind in
-    let done = c.loop-parameter.expanded.items in
-    let end : length names ≤ i =
-    subst (λ n. n ≤ i) c.expanded-pre_expanded.ensures.len (omega (arith, c.loop-parameter-test.false)) in
-    (λ following.
-    let invocation = invocation_of s c.args.invocation.now following in
-    follows_all macros env level c.args.self.now.meter c.loop-parameter.self.meter s u vs (chains_of c.args.invocation.now.definition.now) names
-    i done invocation (arguments_to_expand invocation) end (c.loop-parameter.invariant.follows following))
+    let k = c.loop-parameter.parameter-index in
+    (λ following. all_expanded macros env level (invocation_of s c.args.invocation.now following) c.args.self.now.meter k _ c.loop-parameter.self.meter
+    (subst (λ is. length is ≤ k) c.expansion_order-order.ensures.is (omega (arith, c.loop-parameter-test.false)))
+    (c.loop-parameter.invariant.follows following))
 
 -- ---- a list
 

@@ -1,11 +1,11 @@
-use Rattle.std.proofs.Common.{◌≡◌, ◌≤◌, ◌-◌, ◌+◌, ◌*◌, List, drop, length}
+use Rattle.std.proofs.Common.{◌≡◌, ◌≤◌, ◌-◌, ◌+◌, ◌*◌, List, length}
 use Rattle.ppmacro.specs.HideSets.{hidings, AllKnown, KeepsSets}
-use Rattle.ppmacro.specs.Chains.{parameter_names, chains_of}
+use Rattle.ppmacro.specs.Chains.{parameter_names}
 use Rattle.ppmacro.specs.declared.hidden_token.Hidden.{Hidden}
-use Rattle.ppexpand.specs.ExpansionStep.{arguments_to_expand, to_expand}
-use Rattle.ppexpand.specs.code.ProgramValues.{given_in, expanded_in, ExpansionsKnown}
+use Rattle.ppexpand.specs.code.ProgramValues.{expanded_in, ExpansionsKnown}
 use Rattle.ppexpand.proofs.GrowingHideSets.{invocation_of}
-use Rattle.ppexpand.proofs.LoopInvariants.{Follows, ArgumentsFollow, turns_left}
+use Rattle.ppexpand.proofs.ArgumentLemmas.{ArgumentsExpanded}
+use Rattle.ppexpand.proofs.LoopInvariants.{Follows, turns_left}
 use Rattle.ppexpand.proofs.expansion.Expander.+expansion.Given as goal
 
 -- termination measures: the levels that remain, then the order in which the five functions call one another
@@ -40,10 +40,9 @@ abbrev pub invariant-expand_arguments-loop-parameter : goal.invariant-expand_arg
 invariant-expand_arguments-loop-parameter l = record {
   low : l.context.level ≤ 256;
   known : ExpansionsKnown l.self.replacer.sets l.expanded.items;
-  count : length l.expanded.items ≡ l.parameter;
+  count : length l.expanded.items ≡ length (parameter_names l.invocation.definition.now.kind);
   keeps : KeepsSets l.fn.self.replacer.sets l.self.replacer.sets;
   follows : (following : List Hidden)
-      → ArgumentsFollow l.context.table.now.macros l.context.env.now l.context.level (invocation_of l.fn.self.replacer.sets l.invocation following) l.fn.self.meter (arguments_to_expand (invocation_of l.fn.self.replacer.sets l.invocation following))
-      (expanded_in l.self.replacer.sets l.invocation.arguments.items l.expanded.items) l.self.meter
-      (to_expand l.parameter (chains_of l.invocation.definition.now) (drop l.parameter (parameter_names l.invocation.definition.now.kind)) (given_in l.fn.self.replacer.sets l.invocation.arguments.items));
+      → ArgumentsExpanded l.context.table.now.macros l.context.env.now l.context.level (invocation_of l.fn.self.replacer.sets l.invocation following) l.fn.self.meter l.parameter-index
+      (expanded_in l.self.replacer.sets l.invocation.arguments.items l.expanded.items) l.self.meter;
 }
