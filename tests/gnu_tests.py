@@ -1,9 +1,11 @@
 #!/usr/bin/env python3
-"""Tests rows of the profile gnu by the program's output: variadic macros, wrapper headers and `__COUNTER__` as in gcc's manual, and `__has_include`.
+"""Tests rows of the profile gnu by the program's output: variadic macros, wrapper headers, `__COUNTER__` and pushed macros as in gcc's manual, and
+`__has_include`.
 
     tests/gnu_tests.py [PROGRAM] [-k NAME]
 
-If a unit is ok, its tokens are those of gcc 12 with -std=gnu11, except for the trailing comma of `0, ## __VA_ARGS__` in the later profile.
+If a unit is ok, its tokens are those of gcc 12 with -std=gnu11, except for the trailing comma of `0, ## __VA_ARGS__` in the later profile, and
+for what pushes a macro there and not here, or the other way round: other profiles, a prefix, a name with a space, `_Pragma` and other forms.
 """
 import unittest
 
@@ -93,6 +95,21 @@ TEXTS = [
     ("#define f(a) a\n#define id(x, y) y x\nid(f(__COUNTER__), id(__COUNTER__, __COUNTER__))\n", "0 1 2 | 0 | ok"),
     ("#define m(a, b, c) #c a ## c c b a\nm(__COUNTER__, x __COUNTER__, y __COUNTER__)\n", "\"y __COUNTER__\" __COUNTER__y 3 y 0 x 1 2 | 0 | ok"),
     ("#define f(a) a\n#define g(a) a\n#define sw(a, b) b a\nsw(f(1,2), g(1,2))\n", "| 0 | 18 0:4:12 g"),
+    # macros that are pushed and popped
+    ("#define X 1\n#pragma push_macro(\"X\")\n#undef X\n#define X 2\nX\n#pragma pop_macro(\"X\")\nX\n", "pragma@0:2:1[ push_macro ( \"X\" ) ] 2 pragma@0:6:1[ pop_macro ( \"X\" ) ] 1 | 0 | ok"),
+    ("#pragma push_macro(\"X\")\n#define X 2\nX\n#pragma pop_macro(\"X\")\nX\n", "pragma@0:1:1[ push_macro ( \"X\" ) ] 2 pragma@0:4:1[ pop_macro ( \"X\" ) ] X | 0 | ok"),
+    ("#define X(a) [a]\n#pragma push_macro(\"X\")\n#define X 2\n#pragma push_macro(\"X\")\n#undef X\n#pragma push_macro(\"X\")\n#define X 4\nX\n#pragma pop_macro(\"X\")\nX\n#pragma pop_macro(\"X\")\nX\n#pragma pop_macro(\"X\")\nX(9)\n", "pragma@0:2:1[ push_macro ( \"X\" ) ] pragma@0:4:1[ push_macro ( \"X\" ) ] pragma@0:6:1[ push_macro ( \"X\" ) ] 4 pragma@0:9:1[ pop_macro ( \"X\" ) ] X pragma@0:11:1[ pop_macro ( \"X\" ) ] 2 pragma@0:13:1[ pop_macro ( \"X\" ) ] [ 9 ] | 0 | ok"),
+    ("#define X 1\n#define Y 2\n#pragma push_macro(\"X\")\n#pragma push_macro(\"Y\")\n#define X 3\n#define Y 4\n#pragma pop_macro(\"X\")\nX Y\n#pragma pop_macro(\"Y\")\nX Y\n", "pragma@0:3:1[ push_macro ( \"X\" ) ] pragma@0:4:1[ push_macro ( \"Y\" ) ] pragma@0:7:1[ pop_macro ( \"X\" ) ] 1 4 pragma@0:9:1[ pop_macro ( \"Y\" ) ] 1 2 | 0 | ok"),
+    ("#define X 1\n#pragma pop_macro(\"X\")\nX\n#pragma push_macro(\"X\")\n#pragma pop_macro(\"X\")\n#define X 2\n#pragma pop_macro(\"X\")\nX\n", "pragma@0:2:1[ pop_macro ( \"X\" ) ] 1 pragma@0:4:1[ push_macro ( \"X\" ) ] pragma@0:5:1[ pop_macro ( \"X\" ) ] pragma@0:7:1[ pop_macro ( \"X\" ) ] 2 | 0 | ok"),
+    ("#define X 1\n#pragma push_macro(\"X\") x\n#define X 2\n#pragma pop_macro(\"X\") ;\nX\n", "pragma@0:2:1[ push_macro ( \"X\" ) x ] pragma@0:4:1[ pop_macro ( \"X\" ) ; ] 1 | 0 | ok"),
+    ("#define X 1\n#pragma push_macro(\"X\")\n#define X 2\n#pragma pop_macro(X)\n#pragma pop_macro \"X\"\n#pragma pop_macro(\"X\"\n#pragma pop_macro()\n#pragma GCC pop_macro(\"X\")\nX\n", "pragma@0:2:1[ push_macro ( \"X\" ) ] pragma@0:4:1[ pop_macro ( X ) ] pragma@0:5:1[ pop_macro \"X\" ] pragma@0:6:1[ pop_macro ( \"X\" ] pragma@0:7:1[ pop_macro ( ) ] pragma@0:8:1[ GCC pop_macro ( \"X\" ) ] 2 | 0 | ok"),
+    ("#define X 1\n#pragma push_macro(\"X\")\n#define X 2\n#pragma pop_macro(L\"X\")\nX\n", "pragma@0:2:1[ push_macro ( \"X\" ) ] pragma@0:4:1[ pop_macro ( L\"X\" ) ] 2 | 0 | ok"),
+    ("#define X 1\n#define push_macro foo\n#define pop_macro foo\n#pragma push_macro(\"X\")\n#define X 2\n#pragma pop_macro(\"X\")\nX\n", "pragma@0:4:1[ push_macro ( \"X\" ) ] pragma@0:6:1[ pop_macro ( \"X\" ) ] 1 | 0 | ok"),
+    ("__COUNTER__\n#pragma push_macro(\"__COUNTER__\")\n#pragma push_macro(\"__STDC_VERSION__\")\n#undef __COUNTER__\n#define __STDC_VERSION__ 0\n__COUNTER__ __STDC_VERSION__\n#pragma pop_macro(\"__COUNTER__\")\n#pragma pop_macro(\"__STDC_VERSION__\")\n__COUNTER__ __STDC_VERSION__\n", "0 pragma@0:2:1[ push_macro ( \"__COUNTER__\" ) ] pragma@0:3:1[ push_macro ( \"__STDC_VERSION__\" ) ] __COUNTER__ 0 pragma@0:7:1[ pop_macro ( \"__COUNTER__\" ) ] pragma@0:8:1[ pop_macro ( \"__STDC_VERSION__\" ) ] 1 201112L | 0 | ok"),
+    ("#pragma push_macro(\"__LINE__\")\n#pragma pop_macro(\"__LINE__\")\n__LINE__\n#pragma push_macro(\"defined\")\n#pragma pop_macro(\"defined\")\n#if defined __LINE__\nx\n#endif\n", "pragma@0:1:1[ push_macro ( \"__LINE__\" ) ] pragma@0:2:1[ pop_macro ( \"__LINE__\" ) ] 3 pragma@0:4:1[ push_macro ( \"defined\" ) ] pragma@0:5:1[ pop_macro ( \"defined\" ) ] x | 0 | ok"),
+    ("#define X 1\n#pragma push_macro(\"X\")\n#define X 2\n#if 0\n#pragma pop_macro(\"X\")\n#endif\nX\n", "pragma@0:2:1[ push_macro ( \"X\" ) ] 2 | 0 | ok"),
+    ("#define X 1\n#pragma push_macro(\"X \")\n#undef X\n#pragma pop_macro(\"X \")\nX\n#pragma push_macro(\"\")\n#pragma pop_macro(\"1\")\n", "pragma@0:2:1[ push_macro ( \"X \" ) ] pragma@0:4:1[ pop_macro ( \"X \" ) ] X pragma@0:6:1[ push_macro ( \"\" ) ] pragma@0:7:1[ pop_macro ( \"1\" ) ] | 0 | ok"),
+    ("#define X 1\n_Pragma(\"push_macro(\\\"X\\\")\")\n#define X 2\n_Pragma(\"pop_macro(\\\"X\\\")\")\nX\n", "_Pragma ( \"push_macro(\\\"X\\\")\" ) _Pragma ( \"pop_macro(\\\"X\\\")\" ) 2 | 0 | ok"),
     # all of the above in the later profile
     ("#if 0\n#elifdef __STDC__\n1\n#endif\n#pragma once\n", "1 pragma@0:5:1[ once ] | 0 | ok"),
 ]
@@ -105,6 +122,8 @@ OTHERS = [
     ("later", "#define e(...) 0, ## __VA_ARGS__\ne(1)\n", "| 0 | 19 0:2:1 ,1"),
     ("later", "#warning x\n", "| 0 | 8 0:1:1 warning"),
     ("later", "#define X 1\n#define X 2\n", "| 0 | 16 0:2:1 X"),
+    ("later", "#define X 1\n#pragma push_macro(\"X\")\n#undef X\n#pragma pop_macro(\"X\")\nX\n", "pragma@0:2:1[ push_macro ( \"X\" ) ] pragma@0:4:1[ pop_macro ( \"X\" ) ] X | 0 | ok"),
+    ("c11", "#define X 1\n#pragma push_macro(\"X\")\n#undef X\n#pragma pop_macro(\"X\")\nX\n", "pragma@0:2:1[ push_macro ( \"X\" ) ] pragma@0:4:1[ pop_macro ( \"X\" ) ] X | 0 | ok"),
     ("later", "#if __has_include(\"a.c\")\n1\n#endif\n", "| 0 | 23 0:1:1"),
     ("later", "__COUNTER__\n#ifdef __COUNTER__\n1\n#endif\n", "__COUNTER__ | 0 | ok"),
     ("c11", "#define f(a) a\n#define g(a) a\n#define sw(a, b) b a\nsw(f(1,2), g(1,2))\n", "| 0 | 18 0:4:4 f"),
@@ -224,6 +243,22 @@ LISTS = [
     ([
         ("a.c", "#if __has_include(\"a.c\")\n1\n#endif\n"),
     ], {}, {"budget": 1}, "1 | 0 | ok"),
+    # macros that are pushed and popped
+    ([
+        ("a.c", "#define X 1\n#include \"h.h\"\nX\n#include \"k.h\"\nX\n"),
+        ("h.h", "#pragma push_macro(\"X\")\n#define X 2\n"),
+        ("k.h", "#pragma pop_macro(\"X\")\n"),
+    ], {}, {}, "pragma@1:1:1[ push_macro ( \"X\" ) ] 2 pragma@2:1:1[ pop_macro ( \"X\" ) ] 1 | 0 1 2 | ok"),
+    ([
+        ("a.c", "#pragma push_macro(\"H\")\n#include \"h.h\"\n#include \"h.h\"\n#pragma pop_macro(\"H\")\n#include \"h.h\"\n"),
+        ("h.h", "#ifndef H\n#define H\nx\n#endif\n"),
+    ], {}, {}, "pragma@0:1:1[ push_macro ( \"H\" ) ] x pragma@0:4:1[ pop_macro ( \"H\" ) ] x | 0 1 | ok"),
+    ([
+        ("a.c", "#pragma push_macro(\"X\")\n#undef X\nX\n#pragma pop_macro(\"X\")\nX\n"),
+    ], {"define": ["X 5"]}, {}, "pragma@0:1:1[ push_macro ( \"X\" ) ] X pragma@0:4:1[ pop_macro ( \"X\" ) ] 5 | 0 | ok"),
+    ([
+        ("a.c", "#define X 1\n#pragma push_macro(\"X\")\n#pragma pop_macro(\"X\")\nX\n"),
+    ], {}, {"budget": 2}, "pragma@0:2:1[ push_macro ( \"X\" ) ] pragma@0:3:1[ pop_macro ( \"X\" ) ] 1 | 0 | ok"),
     # `__STDC_VERSION__`
     ([
         ("a.c", "__STDC_VERSION__\n#if __STDC_VERSION__ < 201112L\n1\n#endif\n"),
@@ -292,6 +327,10 @@ class Gnu(unittest.TestCase):
         text = "__COUNTER__\n#undef __COUNTER__\n__COUNTER__\n"
         found = results([("a.c", text), ("b.c", "__COUNTER__ __COUNTER__\n")], [{"file": name} for name in ("a.c", "b.c", "a.c", "b.c")], profile="gnu")
         self.assertEqual(found, ["0 __COUNTER__ | 0 | ok", "0 1 | 1 | ok"] * 2)
+    def test_pushed_macros_of_each_unit(self):
+        text = "#pragma pop_macro(\"X\")\nX\n#define X 2\n#pragma push_macro(\"X\")\n"
+        wanted = "pragma@0:1:1[ pop_macro ( \"X\" ) ] X pragma@0:4:1[ push_macro ( \"X\" ) ] | 0 | ok"
+        self.assertEqual(results([("a.c", text)], [{"file": "a.c"}] * 2, profile="gnu"), [wanted, wanted])
 
     def test_places_and_marks(self):
         found = dumped([{"name": "a.c", "text": "#define e(f,a...) f,##a\n e(1) +\ne(1,  2, 3)+\n"}], [{"file": "a.c"}], profile="gnu")

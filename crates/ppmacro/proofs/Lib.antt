@@ -2,6 +2,8 @@
 
 -- The entries of a table as a finite map.
 pub mod TableLemmas
+-- The last macro of a name in a list, from the end on.
+pub mod LastPushed
 -- The name filter of a macro table rejects only names without a macro.
 pub mod NameFilterLemmas
 -- Chains that are built from left to right, one part at a time.

@@ -13,6 +13,7 @@ pub mod Define
 pub mod DefineLines
 pub mod ParsedParameters
 pub mod Predefined
+pub mod PushedMacros
 pub mod Lexing
 pub mod Substitution
 pub mod Substituting

@@ -19,6 +19,7 @@ mod patterns;
 mod pre_expansion;
 mod prepared_macro;
 mod prepared_source;
+mod pushed_macros;
 mod replacement_list;
 mod substituting;
 mod tables;
@@ -34,6 +35,7 @@ pub use macros::{Chain, MacroKind, Names, Operand, Operands, PredefinedMacro, Va
 pub use patterns::{Entry, PastedList, Pattern, PlainList};
 pub use prepared_macro::PreparedMacro;
 pub use prepared_source::PreparedSource;
+pub use pushed_macros::PushedMacros;
 pub use replacement_list::{BodyToken, ReplacementList};
 pub use substituting::{
     argument_of, decides_each_kind, paste, push_escaped, stringize, substitute_pattern,

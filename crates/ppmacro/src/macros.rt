@@ -3,7 +3,7 @@
 //! A macro has its replacement list as it stands in the file, and not in the form that substitution reads: most macros of a unit
 //! are never used, and reading a list costs more than keeping it. An invocation asks for the cheapest form that fits. `lone_tokens`
 //! are for an object-like macro without `##`, and `pattern` is for all others. The contracts of both refer to the chains.
-ghost use Rattle.std.specs.Prelude.{◌≡◌, ◌<◌, length, get_or, if◌then◌else◌};
+ghost use Rattle.std.specs.Prelude.{◌≡◌, ◌<◌, IfOk, length, get_or, if◌then◌else◌};
 ghost use Rattle.std.specs.List.{list_any};
 ghost use Rattle.ppmacro.specs.Chains.{is_comma, variadic_after};
 ghost use Rattle.ppmacro.specs.code.KeptOperands.{operands_at};
@@ -15,7 +15,7 @@ ghost use Rattle.ppmacro.specs.HashOperators.{is_paste};
 use crate::hash_operators::is_paste;
 use crate::kept_chains::{KeptOperand, operand_at};
 use crate::replacement_list::{BodyToken, ReplacementList};
-use pptext::{Place, Sequence, Spelling, Token};
+use pptext::{Memory, Place, Sequence, Spelling, Token};
 use std::marker::Model;
 
 /// The predefined macros (6.10.8.1).
@@ -56,6 +56,26 @@ pub enum MacroKind {
         parameters: Names,
         variadic: Variadic,
     },
+}
+
+impl MacroKind {
+    /// Returns a copy. Fails only if an allocation fails.
+    pub(crate) fn duplicate(&self) -> Result<MacroKind, Memory>
+        ensures { IfOk result (λ k. k ≡ self.now) }
+    {
+        match self {
+            MacroKind::Predefined(predefined) => Ok(MacroKind::Predefined(*predefined)),
+            MacroKind::Counter => Ok(MacroKind::Counter),
+            MacroKind::ObjectLike => Ok(MacroKind::ObjectLike),
+            MacroKind::FunctionLike {
+                parameters,
+                variadic,
+            } => Ok(MacroKind::FunctionLike {
+                parameters: parameters.clone()?,
+                variadic: *variadic,
+            }),
+        }
+    }
 }
 
 /// The kind and the replacement list of a macro, as its definition says them.

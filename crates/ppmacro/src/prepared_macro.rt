@@ -51,6 +51,16 @@ impl<'a> MacroDefinition<'a> {
             DefinitionStorage::Own(definition) => definition,
         }
     }
+
+    /// Returns the definition if it is borrowed.
+    fn shared(&self) -> Option<&'a Definition>
+        ensures { IfSome result (λ d. d.now ≡ self.now) }
+    {
+        match &self.storage {
+            DefinitionStorage::Shared(definition) => Some(definition),
+            DefinitionStorage::Own(_) => None,
+        }
+    }
 }
 
 /// A macro of a table. Contracts see its kind and its replacement list.
@@ -129,6 +139,22 @@ impl<'a> PreparedMacro<'a> {
         ensures { IfOk result (λ m. m ≡ counter) }
     {
         PreparedMacro::new(alloc, MacroKind::Counter, &[], Hashing::fixed())
+    }
+
+    /// Returns a copy. It borrows the same definition. A definition that is the macro's own is made anew, and many parameters are
+    /// indexed with hash function `hashing`.
+    pub(crate) fn duplicate(
+        &self,
+        alloc: Global,
+        hashing: Hashing,
+    ) -> Result<PreparedMacro<'a>, Memory>
+        ensures { IfOk result (λ m. m ≡ self.now) }
+    {
+        let Some(definition) = self.definition.shared() else {
+            let kind = self.kind().duplicate()?;
+            return PreparedMacro::new(alloc, kind, self.body, hashing);
+        };
+        Ok(PreparedMacro::shared(definition, self.body))
     }
 
     /// Returns the kind.

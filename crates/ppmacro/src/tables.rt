@@ -11,6 +11,7 @@
 ghost use Rattle.std.specs.Prelude.{◌≡◌, IfOk, OnOk, OnErr};
 ghost use Rattle.std.specs.Option.{option_copied};
 ghost use Rattle.std.specs.FinMap as table;
+ghost use Rattle.ppmacro.specs.PushedMacros.{put};
 ghost use Rattle.ppmacro.specs.Predefined.{predefined_as, predefined, with_counter};
 
 use crate::macros::PredefinedMacro;
@@ -167,6 +168,33 @@ impl<'a> Table<'a> {
             Some((_, found)) => Some(found),
             None => None,
         }
+    }
+
+    /// Returns a copy of the macro of a name, if there is one.
+    pub(crate) fn copy_of(&self, name: &[u8]) -> Result<Option<PreparedMacro<'a>>, Memory>
+        ensures { IfOk result (λ m. m ≡ table.get self.now.macros name.now) }
+    {
+        let Some(found) = self.get(name) else {
+            return Ok(None);
+        };
+        let copy = found.duplicate(*self.macros.allocator(), self.hashing())?;
+        Ok(Some(copy))
+    }
+
+    /// Gives a name this macro, or none.
+    pub(crate) fn put(
+        &mut self,
+        name: &'a [u8],
+        definition: Option<PreparedMacro<'a>>,
+    ) -> Result<(), Memory>
+        ensures macros { OnOk result (self.new.macros ≡ put self.old.macros name.now definition.entry) }
+        ensures hashing { self.new.hashing ≡ self.old.hashing }
+    {
+        let Some(definition) = definition else {
+            self.remove(name);
+            return Ok(());
+        };
+        self.insert(name, definition)
     }
 
     /// Inserts a macro. It replaces an earlier macro with that name.

@@ -4,6 +4,7 @@ mod definitions;
 mod hide_sets;
 mod keys;
 mod parts;
+mod pushed;
 mod replacement_lists;
 mod substitution;
 mod two_sets;

@@ -11,7 +11,7 @@ use Rattle.pptext.specs.declared.directives.Class.TheVariants as class
 use Rattle.pptext.specs.Classes.{class_by, class_of, opens, ends}
 use Rattle.pptext.specs.Lines.{LogicalLine}
 use Rattle.pptext.specs.Tree.{hash_place}
-use Rattle.ppmacro.specs.Names.{Macros}
+use Rattle.ppmacro.specs.Names.{Name, Macros}
 use Rattle.std.specs.Result.{result_err}
 use Rattle.ppmacro.specs.Define.{after_define, after_undef, Leaves}
 use Rattle.ppmacro.proofs.FaultNumbers.{define_number, undef_number}
@@ -24,16 +24,16 @@ use Rattle.ppunit.specs.Dependencies.{with_row}
 use Rattle.ppunit.specs.States.{State, Progress, running, stopped, emitted, with_once, with_meter}
 use Rattle.ppunit.specs.DirectiveLines.{operands, line_fault, named_fault}
 use Rattle.ppunit.specs.LineControl.{Presumed, presumed, renumbered}
-use Rattle.ppunit.specs.Directives.{ExecutesDirective, SetsLine, with_macros, renumbered_by, is_once, pragma_emitted, checks_quotes}
+use Rattle.ppunit.specs.Directives.{ExecutesDirective, SetsLine, with_macros, renumbered_by, is_once, name_to_push, name_to_pop, noting_push, noting_pop, pragma_emitted, checks_quotes}
 use Rattle.ppunit.specs.Counts.{count_control_by}
-use Rattle.ppunit.specs.code.Effects.{Effect, affected, no_effect, only_fault, macros_effect, pragma_effect, immediate_effect, line_effect, HasEffect}
+use Rattle.ppunit.specs.code.Effects.{Effect, affected, no_effect, only_fault, macros_effect, pushed_by_push, macros_by_pop, pushed_by_pop, pragma_effect, immediate_effect, line_effect, HasEffect}
 use Rattle.ppunit.proofs.KeptItems.{kept-nothing}
 
 -- ---- the outcome of each effect
 
 -- a line that emits nothing
 nothing_emitted : (s : State) (macros : Macros) (env : Env) (f : Option Fault)
-    → affected s (record { macros = macros; items = []; once = s.once; env = env; fault = f }) ≡ record { state = record s { macros = macros; env = env }; fault = f }
+    → affected s (record { macros = macros; items = []; once = s.once; pushed = s.pushed; env = env; fault = f }) ≡ record { state = record s { macros = macros; env = env }; fault = f }
 nothing_emitted s macros env f = ap (λ items. record { state = record s { macros = macros; items = items; env = env }; fault = f }) (kept-nothing s.keeps s.items)
 
 of_macros : (s : State) (r : Result Macros Fault) → affected s (macros_effect s r) ≡ with_macros s r
@@ -41,14 +41,25 @@ of_macros s (Ok macros) = nothing_emitted s macros s.env None
 of_macros s (Err f) = nothing_emitted s s.macros s.env (Some f)
 
 of_pragma : (profile : Profile) (row : ℕ) (s : State) (line : List Token) → affected s (pragma_effect profile row s line) ≡ running (pragma_emitted profile row s line)
-of_pragma profile row s line = noted (is_once profile (operands line))
+of_pragma profile row s line = noted (is_once profile (operands line)) (name_to_push profile (operands line)) (name_to_pop profile (operands line))
   where
     t : State
     t = emitted s (item.Pragma (hash_place line) (operands line) ∷ [])
 
-    noted : (b : Bool) → running (record t { once = if b then with_row row s.once else s.once }) ≡ running (if b then with_once t row else t)
-    noted true = refl
-    noted false = refl
+    noted : (b : Bool) (push pop : Option Name)
+        → running (record t {
+          macros = macros_by_pop pop s.macros (pushed_by_push push s.macros s.pushed);
+          once = if b then with_row row s.once else s.once;
+          pushed = pushed_by_pop pop (pushed_by_push push s.macros s.pushed);
+        }) ≡ running (noting_pop pop (noting_push push (if b then with_once t row else t)))
+    noted true None None = refl
+    noted true None (Some name) = refl
+    noted true (Some name) None = refl
+    noted true (Some name) (Some other) = refl
+    noted false None None = refl
+    noted false None (Some name) = refl
+    noted false (Some name) None = refl
+    noted false (Some name) (Some other) = refl
 
 of_line : (s : State) (line : LogicalLine) (f : Option Fault) (p : Option Presumed) (meter : Meter)
     → affected (with_meter s meter) (line_effect s line f p) ≡ renumbered_by (with_meter s meter) line f p

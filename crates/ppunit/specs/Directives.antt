@@ -9,10 +9,11 @@ use Rattle.pptext.specs.declared.sources.Profile.{Profile}
 use Rattle.pptext.specs.declared.sources.Directive.TheVariants.{Define, Undef, Line, Pragma, Null, Unknown}
 use Rattle.pptext.specs.declared.directives.Class.{Class}
 use Rattle.pptext.specs.declared.directives.Class.TheVariants as class
-use Rattle.pptext.specs.Profiles.{has_later}
+use Rattle.pptext.specs.Profiles.{has_later, is_gnu}
+use Rattle.pptext.specs.Tokens.{is_punct}
 use Rattle.pptext.specs.Lines.{LogicalLine}
 use Rattle.pptext.specs.Tree.{hash_place}
-use Rattle.ppmacro.specs.Names.{Macros}
+use Rattle.ppmacro.specs.Names.{Name, Macros}
 use Rattle.ppmacro.specs.Define.{after_define, after_undef}
 use Rattle.ppexpand.specs.declared.meter.Meter.{Meter}
 use Rattle.ppexpand.specs.Expansion.{Expansion}
@@ -20,10 +21,10 @@ use Rattle.ppexpand.specs.Expansion.{IsExpansion}
 use Rattle.ppshelf.specs.Names.{name_in}
 use Rattle.ppshelf.specs.Search.{Candidate, candidates, candidates_after, IsFirstRow}
 use Rattle.ppunit.specs.declared.units.Item.TheVariants as item
-use Rattle.ppunit.specs.States.{State, Context, Progress, running, stopped, emitted, with_once, with_meter}
+use Rattle.ppunit.specs.States.{State, Context, Progress, running, stopped, emitted, with_once, with_macro_pushed, with_macro_popped, with_meter}
 use Rattle.ppunit.specs.DirectiveLines.{operands, line_fault, named_fault, spaced}
-use Rattle.ppunit.specs.LineControl.{Presumed, presumed, renumbered}
-use Rattle.ppunit.specs.Including.{IncludeName, begins_with_header, name_of_header, name_or, name_of_expansion_or, if_possible_name}
+use Rattle.ppunit.specs.LineControl.{Presumed, is_plain_string, presumed, renumbered}
+use Rattle.ppunit.specs.Including.{IncludeName, inner, begins_with_header, name_of_header, name_or, name_of_expansion_or, if_possible_name}
 
 -- consecutive text lines emit their expansion (6.10.3), up to its first fault
 pub record EmitsText (s : State) (tokens : List Token) (r : Progress) : Type 0 where
@@ -97,8 +98,37 @@ is_once profile ts = false
 abbrev pub noting_pragma_once : Profile → ℕ → List Token → State → State
 noting_pragma_once profile row ts s = if is_once profile ts then with_once s row else s
 
+-- the name in `WORD("NAME")`, with which the tokens after `#pragma` begin; it is what stands between the quotes of a string literal
+-- without prefix, and nothing is expanded
+abbrev pub name_after : List ℕ → List Token → Option Name
+name_after word (first ∷ left ∷ name ∷ right ∷ ts) =
+    if bytes_eq first.text word && is_punct (codes "(") left && is_plain_string name && is_punct (codes ")") right then Some (inner name.text) else None
+name_after word ts = None
+
+-- the name in `#pragma push_macro("NAME")`, in GNU C (gcc's manual, "Push/Pop Macro Pragmas")
+abbrev pub name_to_push : Profile → List Token → Option Name
+name_to_push profile ts = if is_gnu profile then name_after (codes "push_macro") ts else None
+
+-- the name in `#pragma pop_macro("NAME")`, in GNU C
+abbrev pub name_to_pop : Profile → List Token → Option Name
+name_to_pop profile ts = if is_gnu profile then name_after (codes "pop_macro") ts else None
+
+abbrev pub noting_push : Option Name → State → State
+noting_push None s = s
+noting_push (Some name) s = with_macro_pushed s name
+
+abbrev pub noting_pop : Option Name → State → State
+noting_pop None s = s
+noting_pop (Some name) s = with_macro_popped s name
+
+-- the name is kept after `push_macro`, and is what it was after `pop_macro`
+abbrev pub noting_macro_pragma : Profile → List Token → State → State
+noting_macro_pragma profile ts s = noting_pop (name_to_pop profile ts) (noting_push (name_to_push profile ts) s)
+
+-- each pragma is an item, and some have a meaning besides
 abbrev pub pragma_emitted : Profile → ℕ → State → List Token → State
-pragma_emitted profile row s line = noting_pragma_once profile row (operands line) (emitted s (item.Pragma (hash_place line) (operands line) ∷ []))
+pragma_emitted profile row s line =
+    noting_macro_pragma profile (operands line) (noting_pragma_once profile row (operands line) (emitted s (item.Pragma (hash_place line) (operands line) ∷ [])))
 
 -- ---- the other control lines
 

@@ -3,7 +3,9 @@ use Rattle.std.specs.Prelude.{ℕ, pos, Bool, true, false, List, [], ◌∷◌, 
 use Rattle.pptext.specs.declared.tokens.Fault.{Fault}
 use Rattle.pptext.specs.declared.sources.Profile.{Profile}
 use Rattle.ppmacro.specs.Substitution.{escaped_literal}
-use Rattle.ppmacro.specs.Names.{Macros}
+use Rattle.ppmacro.specs.Names.{Name, Macros}
+use Rattle.ppmacro.specs.declared.pushed_macros.PushedMacro.{PushedMacro}
+use Rattle.ppmacro.specs.PushedMacros.{with_pushed, macros_after_pop, pushed_after_pop}
 use Rattle.ppexpand.specs.declared.env.Env.{Env}
 use Rattle.ppexpand.specs.declared.meter.Meter.{Meter}
 use Rattle.ppexpand.specs.Budget.{spend_one}
@@ -50,6 +52,8 @@ pub record State : Type 0 where
   pub deps : List ℕ
   -- those of them that are not read again
   pub once : List ℕ
+  -- the macros that `#pragma push_macro` keeps, the last one at the end
+  pub pushed : List PushedMacro
   -- the meter of its expansions and opened files, which has the remaining budget
   pub meter : Meter
   -- the values of the predefined names
@@ -91,6 +95,14 @@ with_dependency s row = record s { deps = with_row row s.deps }
 -- the state in which the file at index `row` isn't read again
 abbrev pub with_once : State → ℕ → State
 with_once s row = record s { once = with_row row s.once }
+
+-- the state in which what the name is, a macro or none, is kept
+abbrev pub with_macro_pushed : State → Name → State
+with_macro_pushed s name = record s { pushed = with_pushed s.macros name s.pushed }
+
+-- the state in which the name is what it was when it was kept last, if it was, and that is no longer kept
+abbrev pub with_macro_popped : State → Name → State
+with_macro_popped s name = record s { macros = macros_after_pop s.macros name s.pushed; pushed = pushed_after_pop name s.pushed }
 
 -- the state with this meter
 abbrev pub with_meter : State → Meter → State

@@ -26,6 +26,7 @@ state_before keeps setting =
       items = [];
       deps = [];
       once = [];
+      pushed = [];
       meter = new_meter setting.budget;
       env = record
           { name = []; shift = pos 0; date = setting.date; time = setting.time; profile = setting.profile };

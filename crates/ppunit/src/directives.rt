@@ -1,5 +1,6 @@
 //! Control lines that open no file (6.10.3 to 6.10.7), and text lines.
-ghost use Rattle.std.specs.Prelude.{◌≡◌, IfOk, Some, true};
+ghost use Rattle.std.specs.Prelude.{◌≡◌, IfOk, OnOk, Some, true};
+ghost use Rattle.std.specs.Option.{option_copied};
 ghost use Rattle.std.specs.Result.{result_err};
 ghost use Rattle.pptext.specs.Errors.{Raises, UnlessOutOfMemory};
 ghost use Rattle.ppmacro.specs.DefineLines.{IsDefineLine};
@@ -9,7 +10,8 @@ ghost use Rattle.ppunit.specs.code.Lines.{directed, IsControl};
 ghost use Rattle.ppunit.specs.States.{running};
 
 use crate::directive_line::{DirectiveLine, DirectiveTokens, line_fault, push_space};
-use crate::line_control::renumber;
+use crate::including::inner;
+use crate::line_control::{is_plain_string, renumber};
 use crate::states::State;
 use ppexpand::{Expanded, expand};
 use ppmacro::{DefineLine, define, define_line, undef};
@@ -77,7 +79,69 @@ fn is_once(profile: Profile, tokens: &[Token]) -> bool
     }
 }
 
-/// Emits a pragma with its tokens (6.10.6). `#pragma once` keeps the file at index `row` from being read again.
+/// Returns the name in `WORD("NAME")`, with which the tokens after `#pragma` begin.
+fn name_after<'x>(word: &[u8], tokens: &'x [Token]) -> Option<&'x [u8]>
+    ensures { option_copied result ≡ spec.name_after word.now tokens.now }
+{
+    let [first, left, name, right, ..] = tokens else {
+        return None;
+    };
+    if first.text.as_bytes() != word || !left.is_punct(b"(") {
+        return None;
+    }
+    if !is_plain_string(name) || !right.is_punct(b")") {
+        return None;
+    }
+    Some(inner(name.text.as_bytes()))
+}
+
+/// Keeps what the name in `#pragma push_macro("NAME")` is (gcc's manual, "Push/Pop Macro Pragmas").
+fn push_named<'x>(
+    state: &mut State<'x>,
+    profile: Profile,
+    tokens: &'x [Token],
+) -> Result<(), Memory>
+    ensures { OnOk result (state.new ≡ spec.noting_push (spec.name_to_push profile tokens.now) state.old) }
+{
+    if !profile.is_gnu() {
+        return Ok(());
+    }
+    let Some(name) = name_after(b"push_macro", tokens) else {
+        return Ok(());
+    };
+    state.push_macro(name)
+}
+
+/// Gives the name in `#pragma pop_macro("NAME")` back what it was (gcc's manual, "Push/Pop Macro Pragmas").
+fn pop_named<'x>(state: &mut State<'x>, profile: Profile, tokens: &'x [Token]) -> Result<(), Memory>
+    ensures { OnOk result (state.new ≡ spec.noting_pop (spec.name_to_pop profile tokens.now) state.old) }
+{
+    if !profile.is_gnu() {
+        return Ok(());
+    }
+    let Some(name) = name_after(b"pop_macro", tokens) else {
+        return Ok(());
+    };
+    state.pop_macro(name)
+}
+
+/// Marks the file at index `row` after `#pragma once`.
+fn note_once(
+    state: &mut State,
+    profile: Profile,
+    row: usize,
+    tokens: &[Token],
+) -> Result<(), Memory>
+    ensures { OnOk result (state.new ≡ spec.noting_pragma_once profile row tokens.now state.old) }
+{
+    if is_once(profile, tokens) {
+        return state.mark_once(row);
+    }
+    Ok(())
+}
+
+/// Emits a pragma with its tokens (6.10.6). `#pragma once` keeps the file at index `row` from being read again, `#pragma push_macro`
+/// keeps a macro, and `#pragma pop_macro` brings it back.
 fn pragma<'x>(
     state: &mut State<'x>,
     profile: Profile,
@@ -88,9 +152,9 @@ fn pragma<'x>(
 {
     let tokens = line.operands();
     state.emit_pragma(line.hash_place(), tokens)?;
-    if is_once(profile, tokens) {
-        state.mark_once(row)?;
-    }
+    note_once(state, profile, row, tokens)?;
+    push_named(state, profile, tokens)?;
+    pop_named(state, profile, tokens)?;
     Ok(())
 }
 

@@ -39,7 +39,7 @@ impl Model for IncludeName {
 }
 
 /// Returns the bytes between the first and the last.
-fn inner(text: &[u8]) -> &[u8]
+pub(crate) fn inner(text: &[u8]) -> &[u8]
     ensures { result.now ≡ spec.inner text.now }
 {
     match text {

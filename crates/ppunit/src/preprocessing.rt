@@ -136,6 +136,7 @@ fn into_output<'x>(
     let State {
         macros: _,
         once: _,
+        pushed: _,
         meter: _,
         keeps: _,
         items,

@@ -3,7 +3,7 @@ ghost use Rattle.std.specs.Prelude.{◌≡◌, IfOk, OnOk, [], ◌∷◌, ◌++�
 ghost use Rattle.std.specs.List.{list_any};
 ghost use Rattle.ppmacro.specs.Substitution.{escaped_literal};
 ghost use Rattle.ppexpand.specs.Budget.{is_exhausted};
-ghost use Rattle.ppunit.specs.States.{file_context, in_file_context, emitted, with_dependency, with_once, with_one_spent, literal};
+ghost use Rattle.ppunit.specs.States.{file_context, in_file_context, emitted, with_dependency, with_once, with_macro_pushed, with_macro_popped, with_one_spent, literal};
 ghost use Rattle.ppmacro.specs.Predefined.{initial_macros};
 ghost use Rattle.ppunit.specs.Unit.{initial_state, state_before};
 ghost use Rattle.ppunit.specs.declared.units.Item.TheVariants as item;
@@ -11,7 +11,7 @@ ghost use Rattle.ppunit.specs.declared.units.Item.TheVariants as item;
 use crate::collections::{Items, Rows};
 use crate::units::Setting;
 use ppexpand::{Env, Meter, Scratch};
-use ppmacro::{Table, push_escaped};
+use ppmacro::{PushedMacros, Table, push_escaped};
 use pptext::{Hashing, Memory, Place, Profile, Spelling, Token};
 use std::alloc::Global;
 use std::marker::Model;
@@ -26,8 +26,8 @@ pub(crate) struct FileContext {
 }
 
 /// The state of phase 4: the macros, the items that were emitted, the indices of the opened files in the order of their
-/// first opening, those of them that are marked by `#pragma once`, the meter of the unit, and the context of the file
-/// that is being processed. Its model leaves out what expansions reuse, which affects no result.
+/// first opening, those of them that are marked by `#pragma once`, the macros that `#pragma push_macro` keeps, the meter of
+/// the unit, and the context of the file that is being processed. Its model leaves out what expansions reuse, which affects no result.
 #[derive(Drop)]
 pub(crate) struct State<'x> {
     pub macros: Table<'x>,
@@ -36,6 +36,7 @@ pub(crate) struct State<'x> {
     pub items: Items<'x>,
     pub deps: Rows,
     pub once: Rows,
+    pub pushed: PushedMacros<'x>,
     pub meter: Meter,
     pub file_context: FileContext,
     pub scratch: Scratch<'x>,
@@ -62,6 +63,7 @@ impl<'x> Model for State<'x> {
       items = s.items;
       deps = s.deps;
       once = s.once;
+      pushed = s.pushed;
       meter = s.meter;
       env = s.file_context.env;
       directory = s.file_context.directory;
@@ -92,7 +94,7 @@ impl<'x> State<'x> {
         scratch: Scratch<'x>,
         keeps: bool,
     ) -> State<'x>
-        ensures { result ≡ record { macros = macros.entry.macros; keeps = keeps; items = []; deps = []; once = []; meter = meter; env = env; directory = None } }
+        ensures { result ≡ record { macros = macros.entry.macros; keeps = keeps; items = []; deps = []; once = []; pushed = []; meter = meter; env = env; directory = None } }
     {
         let alloc = scratch.alloc();
         State {
@@ -101,6 +103,7 @@ impl<'x> State<'x> {
             items: Items::new(alloc),
             deps: Rows::new(alloc),
             once: Rows::new(alloc),
+            pushed: PushedMacros::new(alloc),
             meter,
             file_context: FileContext {
                 env,
@@ -161,6 +164,20 @@ impl<'x> State<'x> {
         ensures { OnOk result (self.new ≡ with_once self.old row) }
     {
         self.once.join(row)
+    }
+
+    /// Keeps what a name is, a macro or none.
+    pub(crate) fn push_macro(&mut self, name: &'x [u8]) -> Result<(), Memory>
+        ensures { OnOk result (self.new ≡ with_macro_pushed self.old name.now) }
+    {
+        self.pushed.push(&self.macros, name)
+    }
+
+    /// Gives a name back what it was when it was kept last, if it was.
+    pub(crate) fn pop_macro(&mut self, name: &'x [u8]) -> Result<(), Memory>
+        ensures { OnOk result (self.new ≡ with_macro_popped self.old name.now) }
+    {
+        self.pushed.pop(&mut self.macros, name)
     }
 }
 

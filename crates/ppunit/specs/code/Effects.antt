@@ -8,7 +8,9 @@ use Rattle.pptext.specs.declared.sources.Directive.TheVariants.{Define, Undef, L
 use Rattle.pptext.specs.declared.sources.Profile.{Profile}
 use Rattle.pptext.specs.Lines.{LogicalLine}
 use Rattle.pptext.specs.Tree.{hash_place}
-use Rattle.ppmacro.specs.Names.{Macros}
+use Rattle.ppmacro.specs.Names.{Name, Macros}
+use Rattle.ppmacro.specs.declared.pushed_macros.PushedMacro.{PushedMacro}
+use Rattle.ppmacro.specs.PushedMacros.{with_pushed, macros_after_pop, pushed_after_pop}
 use Rattle.ppmacro.specs.Define.{after_define, after_undef}
 use Rattle.ppexpand.specs.declared.env.Env.{Env}
 use Rattle.ppexpand.specs.Expansion.{Expansion}
@@ -19,39 +21,55 @@ use Rattle.ppunit.specs.Dependencies.{with_row}
 use Rattle.ppunit.specs.States.{kept, State, Progress, with_meter}
 use Rattle.ppunit.specs.DirectiveLines.{operands, line_fault, named_fault}
 use Rattle.ppunit.specs.LineControl.{Presumed, presumed, renumbered}
-use Rattle.ppunit.specs.Directives.{is_once}
+use Rattle.ppunit.specs.Directives.{is_once, name_to_push, name_to_pop}
 
--- the macros, the files that aren't read again and the predefined names after a line, the items that it emits, and its
--- fault
+-- the macros, the files that aren't read again, the macros that are kept and the predefined names after a line, the items
+-- that it emits, and its fault
 pub record Effect : Type 0 where
   pub macros : Macros
   pub items : List Item
   pub once : List ℕ
+  pub pushed : List PushedMacro
   pub env : Env
   pub fault : Option Fault
 
 -- the outcome of a line with this effect: the dependencies, the budget and the directory stay
 abbrev pub affected : State → Effect → Progress
-affected s e = record { state = record s { macros = e.macros; items = kept s.keeps s.items e.items; once = e.once; env = e.env }; fault = e.fault }
+affected s e = record { state = record s { macros = e.macros; items = kept s.keeps s.items e.items; once = e.once; pushed = e.pushed; env = e.env }; fault = e.fault }
 
 abbrev pub no_effect : State → Effect
-no_effect s = record { macros = s.macros; items = []; once = s.once; env = s.env; fault = None }
+no_effect s = record { macros = s.macros; items = []; once = s.once; pushed = s.pushed; env = s.env; fault = None }
 
 abbrev pub only_fault : State → Fault → Effect
-only_fault s f = record { macros = s.macros; items = []; once = s.once; env = s.env; fault = Some f }
+only_fault s f = record { macros = s.macros; items = []; once = s.once; pushed = s.pushed; env = s.env; fault = Some f }
 
 -- `#define`, `#undef`
 abbrev pub macros_effect : State → Result Macros Fault → Effect
-macros_effect s (Ok macros) = record { macros = macros; items = []; once = s.once; env = s.env; fault = None }
+macros_effect s (Ok macros) = record { macros = macros; items = []; once = s.once; pushed = s.pushed; env = s.env; fault = None }
 macros_effect s (Err f) = only_fault s f
+
+-- the macros that are kept after `push_macro`
+abbrev pub pushed_by_push : Option Name → Macros → List PushedMacro → List PushedMacro
+pushed_by_push None macros pushed = pushed
+pushed_by_push (Some name) macros pushed = with_pushed macros name pushed
+
+-- the macros, and those that are kept, after `pop_macro`
+abbrev pub macros_by_pop : Option Name → Macros → List PushedMacro → Macros
+macros_by_pop None macros pushed = macros
+macros_by_pop (Some name) macros pushed = macros_after_pop macros name pushed
+
+abbrev pub pushed_by_pop : Option Name → List PushedMacro → List PushedMacro
+pushed_by_pop None pushed = pushed
+pushed_by_pop (Some name) pushed = pushed_after_pop name pushed
 
 -- `#pragma`
 abbrev pub pragma_effect : Profile → ℕ → State → List Token → Effect
 pragma_effect profile row s line =
     record {
-      macros = s.macros;
+      macros = macros_by_pop (name_to_pop profile (operands line)) s.macros (pushed_by_push (name_to_push profile (operands line)) s.macros s.pushed);
       items = item.Pragma (hash_place line) (operands line) ∷ [];
       once = if is_once profile (operands line) then with_row row s.once else s.once;
+      pushed = pushed_by_pop (name_to_pop profile (operands line)) (pushed_by_push (name_to_push profile (operands line)) s.macros s.pushed);
       env = s.env;
       fault = None;
     }
@@ -69,7 +87,7 @@ immediate_effect _ _ _ s line = None
 abbrev pub line_effect : State → LogicalLine → Option Fault → Option Presumed → Effect
 line_effect s line (Some f) p = only_fault s f
 line_effect s line None None = only_fault s (line_fault 33 line.tokens [])
-line_effect s line None (Some p) = record { macros = s.macros; items = []; once = s.once; env = (renumbered s line p).env; fault = None }
+line_effect s line None (Some p) = record { macros = s.macros; items = []; once = s.once; pushed = s.pushed; env = (renumbered s line p).env; fault = None }
 
 -- the outcome is that of an effect: of a line that expands no operands, or of `#line` after the expansion of its operands
 pub data HasEffect (profile : Profile) (row : ℕ) (d : Option Directive) (s : State) (line : LogicalLine) (m : Progress) : Type 0 where

@@ -52,6 +52,7 @@ returns c =
       items = c.extend_if.new.self;
       deps = inside.deps;
       once = inside.once;
+      pushed = inside.pushed;
       meter = meter;
       env = inside.file_context.env;
       directory = inside.file_context.directory;
