@@ -26,6 +26,8 @@ ASKING = re.compile(r"""-std=[\w:.+]+ | -ansi | -O(?:[0-3sgz]|fast)? | -m[\w.+,=
 NOT_ASKED = tuple("""-fplugin -fpass-plugin -fdump -fsave -fprofile -fcallgraph -fopt-info -fsyntax-only -fpreprocessed -fdirectives-only
     -fcompare-debug -fmodule -ftime -fmem -fstack-usage -mllvm""".split())
 WORDS_ASKED = {"--sysroot", "-isysroot", "-target"}
+# options that say whether gcc replaces trigraphs: it replaces none under GNU C and C23, for which the group matches
+TRIGRAPHS = re.compile(r"--?(?:std=(gnu|c23|c2y|iso9899:2024)?.*|ansi|trigraphs)")
 # programs that come before a compiler's name and run it
 LAUNCHERS = {"ccache", "sccache", "distcc", "icecc", "buildcache", "gomacc", "env"}
 SUFFIXES = {".c": "c", ".h": "c"}
@@ -37,7 +39,8 @@ class Command:
     """Holds what a command asks of the preprocessor: directories, definitions in order, and files to include first.
 
     `compiler` is the word that names the compiler, after ccache and the like.  `asking` has the options that change what the compiler
-    answers.  `near` has the directories with a relative name in the command; the names of their files are relative, too."""
+    answers.  `near` has the directories with a relative name in the command; the names of their files are relative, too.  `trigraphs` says
+    whether gcc replaces trigraphs under the command's options."""
 
     def __init__(self, entry, report):
         self.directory = os.path.abspath(entry["directory"])
@@ -45,6 +48,7 @@ class Command:
         self.report, self.output, self.target = report, self.written(entry.get("output")), None
         self.folders = {kind: [] for kind in FOLDERS.values()}
         self.definitions, self.named, self.includes, self.asking, self.near = {}, set(), [], [], set()
+        self.trigraphs = False
         self.language = SUFFIXES.get(os.path.splitext(self.file)[1], "other")
         words = self.words_of(entry)
         if not (os.path.isabs(entry["file"]) and entry["file"] in words):
@@ -75,6 +79,8 @@ class Command:
         words = iter(words)
         for word in words:
             kind, option, tail = option_of(word)
+            if said := TRIGRAPHS.fullmatch(word):
+                self.trigraphs = said[1] is None
             if kind == "read":
                 yield option, next(words, "") if tail is None else tail
             elif kind == "asked":

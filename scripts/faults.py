@@ -48,6 +48,8 @@ class Sources:
         self.read, self.split, self.directives = {}, {}, {}
         self.files, self.units = listed["files"], listed["units"]
         self.search, self.once = listed.get("search", []), listed.get("profile") in ("later", "gnu")
+        # whether trigraphs are replaced
+        self.trigraphs = listed.get("profile") != "gnu"
         self.names = [row.get("name") if isinstance(row, dict) else None for row in self.files]
         lists = [self.search] + [unit.get(member, []) for unit in self.units if isinstance(unit, dict)
                                  for member in ("search", "define")]
@@ -100,7 +102,7 @@ class Sources:
         if row not in self.directives:
             data = self.data(row)
             try:
-                self.directives[row] = None if data is None else include_chain.Source(data)
+                self.directives[row] = None if data is None else include_chain.Source(data, self.trigraphs)
             except include_chain.Unclear:
                 self.directives[row] = None
         return self.directives[row]
@@ -189,7 +191,7 @@ class Fault:
     def rows_above(self):
         found = {row: self.sources.source(row) for row in self.opened_files()}
         if self.number in include_chain.READING:
-            found[self.row] = include_chain.Source(b"")
+            found[self.row] = include_chain.Source(b"", self.sources.trigraphs)
         if self.number == TOO_DEEP or None in found.values():
             return None
         listed = self.sources.units[self.unit.number]

@@ -20,7 +20,9 @@ CONDITION = re.compile(rb"#[ \t]*(?:el)?if\b([^\n]*)")
 CALLED = re.compile(rb"\b(?!defined\b)[A-Za-z_]\w*[ \t]*\([ \t]*([A-Za-z_]\w*)[ \t]*\)")
 # comments, and literals, in which `/*` begins no comment
 PASSED = re.compile(rb"/\*.*?\*/|//[^\n]*|\"(?:\\.|[^\"\\\n])*\"|'(?:\\.|[^'\\\n])*'", re.DOTALL)
-SPLICE = re.compile(rb"(?:\\|\?\?/)\r?\n")
+SPLICE = re.compile(rb"\\\r?\n")
+SPLICE_OR_TRIGRAPH = re.compile(rb"(?:\\|\?\?/)\r?\n")
+TRIGRAPH = re.compile(rb"\?\?[=/'()!<>-]")
 QUOTE, ANGLE, COMPUTED, EACH = "quote", "angle", "computed", "each"
 
 
@@ -33,7 +35,7 @@ class Files:
     def __init__(self, report, gnu, every=False):
         self.report, self.gnu, self.every = report, gnu, every
         self.lines, self.there, self.below, self.operators, self.nexts = {}, {}, {}, {}, {}
-        self.missing, self.settled, self.shadows, self.defines = set(), {}, {}, {}
+        self.missing, self.settled, self.shadows, self.defines, self.trigraphs = set(), {}, {}, {}, {}
 
     def is_file(self, path):
         if path not in self.there:
@@ -43,7 +45,7 @@ class Files:
     def includes(self, path):
         """Returns the include lines of a file, each as its form and its name."""
         if path not in self.lines:
-            text = joined_lines(content(path))
+            text = joined_lines(content(path), self.gnu)
             found = include_lines(text, self.gnu) if b"include" in text else []
             if any(form == COMPUTED for form, _ in found):
                 # it may be in a comment; to see that takes longer
@@ -57,6 +59,14 @@ class Files:
                 self.nexts[path] = unique((os.fsdecode(asked[1] or asked[2]), names_before(text, asked.start())) for asked in NEXT.finditer(text))
         return self.lines[path]
 
+    def say_trigraphs(self, paths):
+        """Reports each of these files that has a trigraph."""
+        for path in paths:
+            if path not in self.trigraphs:
+                self.trigraphs[path] = TRIGRAPH.search(content(path)) is not None
+            if self.trigraphs[path]:
+                self.report.add("%s: has a trigraph, which the compiler replaces under -std, -ansi or -trigraphs, and the profile gnu doesn't" % path)
+
     def computed_by(self, path):
         """Returns the macros that make the names of include lines of this file."""
         return {name for form, name in self.includes(path) if form == COMPUTED}
@@ -68,7 +78,7 @@ class Files:
         word = re.compile(rb"\bdefine" + BLANK + b"(%s)(?![\\w$])" % b"|".join(map(re.escape, words)))
         for path in paths:
             if (path, word) not in self.defines:
-                text = joined_lines(content(path))
+                text = joined_lines(content(path), self.gnu)
                 self.defines[path, word] = {os.fsdecode(name) for name in word.findall(text)} if any(name in text for name in words) else set()
             found |= self.defines[path, word]
         return found
@@ -232,11 +242,11 @@ def content(path):
         return b""
 
 
-def joined_lines(text):
-    """Returns the text with lines that end in a backslash joined to the next, and with trigraphs for # replaced."""
-    if b"\\\n" in text or b"\\\r\n" in text or b"??" in text:
-        return SPLICE.sub(b"", text).replace(b"??=", b"#")
-    return text
+def joined_lines(text, gnu):
+    """Returns the text with lines that end in a backslash joined to the next; except in the profile gnu, trigraphs for # and \\ count."""
+    if not gnu and b"??" in text:
+        return SPLICE_OR_TRIGRAPH.sub(b"", text).replace(b"??=", b"#")
+    return SPLICE.sub(b"", text) if b"\\\n" in text or b"\\\r\n" in text else text
 
 
 def joined(folder, name):

@@ -7,7 +7,8 @@ have in common at the location of the fault is certain; if they differ, there is
 import collections
 import re
 
-SPLICE = re.compile(rb"(?:\\|\?\?/)\r?\n")
+SPLICE = re.compile(rb"\\\r?\n")
+SPLICE_OR_TRIGRAPH = re.compile(rb"(?:\\|\?\?/)\r?\n")
 # a splice, or a line end within a comment, is replaced by a zero byte, so that lines can be counted
 PIECE = re.compile(rb"(^[ \t\v\f\r\0]*(?:#|%:)[ \t\0]*include(?:_next)?[ \t\0]*<[^>\n]*>)|/\*.*?(?:\*/|\Z)|//[^\n]*"
                    rb"|\"(?:\\.|[^\"\\\n])*\"|'(?:\\.|[^'\\\n])*'", re.DOTALL | re.MULTILINE)
@@ -31,13 +32,13 @@ class Unclear(Exception):
 class Source:
     """Holds a file's include lines, each with its line, depth and operand, its #error lines, its definitions, and its guard."""
 
-    def __init__(self, text):
+    def __init__(self, text, trigraphs):
         self.includes, self.errors, self.defined, self.undefined = [], [], {}, set()
         self.guard, self.once, self.dead, self.lines = None, False, [], 0
         # the line of the guard's #else, where a file that is opened again goes on
         self.other = None
         self.closed = self.guarded = False
-        for line, words in logical_lines(text):
+        for line, words in logical_lines(text, trigraphs):
             self.take(line, words)
         if not (self.closed and self.guarded):
             self.guard = None
@@ -89,11 +90,15 @@ class Source:
             self.once = True
 
 
-def logical_lines(text):
-    """Yields each line of a file, spliced and without comments, with the number of the physical line of its first token."""
+def logical_lines(text, trigraphs):
+    """Yields each line of a file, spliced and without comments, with the number of the physical line of its first token.
+
+    `trigraphs` says whether trigraphs are replaced."""
     if text.startswith(b"\xef\xbb\xbf"):
         text = text[3:]
-    text = SPLICE.sub(b"\0", text.replace(b"\0", b" ")).replace(b"??=", b"#")
+    text = (SPLICE_OR_TRIGRAPH if trigraphs else SPLICE).sub(b"\0", text.replace(b"\0", b" "))
+    if trigraphs:
+        text = text.replace(b"??=", b"#")
     if CUT.search(text):
         raise Unclear
     number = 1

@@ -59,13 +59,19 @@ class Builder:
         self.computing = set()
         for (search, quotes), members in groups.items():
             lookup = Lookup(self.files, search, quotes)
-            found = self.files.reach([path for command in members for path in self.starts(command)], lookup)
+            found = self.reached(members, lookup)
             reached.update(dict.fromkeys(found))
+            if self.files.gnu:
+                self.files.say_trigraphs(self.reached([command for command in members if command.trigraphs], lookup))
             if self.files.every:
                 self.computing.update(self.computing_of(members, found, lookup))
                 self.note_next(members, found, lookup)
         self.files.say_shadows(reached)
         self.paths = list(reached)
+
+    def reached(self, members, lookup):
+        """Returns the files that these units reach over a search."""
+        return self.files.reach([path for command in members for path in self.starts(command)], lookup)
 
     def computing_of(self, members, found, lookup):
         """Returns the units that reach an include line whose name is made by a macro that some file or command defines."""

@@ -236,6 +236,31 @@ class Lists(Builds):
         self.check(["gcc -Ione -Itwo -c a.c"], [["two", "k"]],
                    ["a.c", "one/h.h", "two/h.h", "two/b/q.h", "b/q.h", "b/r.h", "one/r.h", "two/k.h"])
 
+    def test_trigraphs(self):
+        """Wants a report of each file with a trigraph that a unit reaches whose command makes gcc replace it; the last option counts."""
+        write(self.top, {"a.c": '#include "h.h"\n#include "n.h"\n', "h.h": 'a "??)" // ??/\nb\n', "n.h": "/* ??-?? ?= */\n", "b.c": "n ??? :\n"})
+        wanted = ["build.py: %s/%s: has a trigraph, which the compiler replaces under -std, -ansi or -trigraphs, and the profile gnu doesn't"
+                  % (self.top, name) for name in ("h.h", "n.h")]
+        for options in ("-std=c90", "-std=c99", "-std=c11", "-std=iso9899:1999", "-ansi", "-trigraphs", "-std=gnu11 -trigraphs", "-Wp,-trigraphs",
+                        "-std=gnu99 -std=c99"):
+            tokens, messages = self.tokens(["gcc %s -c a.c" % options, "gcc %s -DX -c a.c" % options], status=1)
+            self.assertEqual((tokens, messages[:-1]), ([["a", '"??)"', "b"]] * 2, wanted), options)
+        for options in "", "-std=gnu11", "-std=c11 -std=gnu11", "-trigraphs -std=gnu90", "-ansi -std=gnu17", "-std=c23", "-o -ansi", "-MF -trigraphs":
+            tokens, messages = self.tokens(["gcc %s -c a.c" % options, ("gcc -std=c11 -c b.c", "b.c")])
+            self.assertEqual((tokens, len(messages)), ([["a", '"??)"', "b"], ["n", "?", "?", "?", ":"]], 1), options)
+        for task in "deps", "faults":
+            self.assertEqual(self.build(task, ["gcc -std=c11 -c a.c"], status=1)[1][:-1], wanted)
+        for profile in "c11", "later":
+            tokens, messages = self.tokens(["gcc -std=c11 -c a.c"], "--profile", profile)
+            self.assertEqual((tokens, len(messages)), ([["a", '"]"']], 1))
+
+    def test_include_lines_after_a_trigraph(self):
+        """Wants the file of an include line after a comment that `??/` ends, which splices no lines in the profile gnu."""
+        write(self.top, {"a.c": "// why??/\n#include \"h.h\"\n??=include \"n.h\"\n", "h.h": "h\n", "n.h": "n\n"})
+        self.check(["gcc -c a.c"], [["h", "?", "?", "=", "include", '"n.h"']], ["a.c", "h.h"])
+        tokens, names, _ = self.names(["gcc -c a.c"], "--profile", "later")
+        self.assertEqual((tokens, [os.path.relpath(name, self.top) for name in names]), ([["n"]], ["a.c", "n.h"]))
+
     def test_folders_for_names_in_quotes_alone(self):
         """Wants a report if a name in angle brackets is found in such a directory, and only then."""
         write(self.top, {"a.c": "#include <h.h>\n", "b/b.c": '#include "h.h"\n', "q/h.h": "q\n", "i/h.h": "i\n"})

@@ -197,6 +197,12 @@ class Chains(Faults):
         above = [("one/limits.h", 5), ("one/again.h", 1), ("one/limits.h", 3), ("a.c", 1)]
         self.assertEqual(self.chain(files, search=["one", "two"], profile="gnu"), above)
 
+    def test_trigraphs(self):
+        """Wants the line above a comment's `??/` in the profile gnu alone, where it splices nothing."""
+        files = {"a.c": "// a ??/\n#include \"h.h\"\n#include \"h.h\"\n", "h.h": "#ifndef H\n#define H\n#error x\n#endif\n"}
+        for profile, line in ("gnu", 2), ("later", 3), ("c11", 3):
+            self.assertEqual(self.chain(files, profile=profile), [("a.c", line)])
+
     def test_many_files_take_no_long_time(self):
         files = {"a.c": "".join("#ifndef X\n#include \"%d.h\"\n#endif\n" % n for n in range(1000)), "999.h": "#error x\n"}
         files = {**{"%d.h" % n: "#if X\n#include \"%d.h\"\n#include \"%d.h\"\n#endif\n" % (n * 7 % 1000, n) for n in range(999)}, **files}

@@ -110,11 +110,27 @@ TEXTS = [
     ("#define X 1\n#pragma push_macro(\"X\")\n#define X 2\n#if 0\n#pragma pop_macro(\"X\")\n#endif\nX\n", "pragma@0:2:1[ push_macro ( \"X\" ) ] 2 | 0 | ok"),
     ("#define X 1\n#pragma push_macro(\"X \")\n#undef X\n#pragma pop_macro(\"X \")\nX\n#pragma push_macro(\"\")\n#pragma pop_macro(\"1\")\n", "pragma@0:2:1[ push_macro ( \"X \" ) ] pragma@0:4:1[ pop_macro ( \"X \" ) ] X pragma@0:6:1[ push_macro ( \"\" ) ] pragma@0:7:1[ pop_macro ( \"1\" ) ] | 0 | ok"),
     ("#define X 1\n_Pragma(\"push_macro(\\\"X\\\")\")\n#define X 2\n_Pragma(\"pop_macro(\\\"X\\\")\")\nX\n", "_Pragma ( \"push_macro(\\\"X\\\")\" ) _Pragma ( \"pop_macro(\\\"X\\\")\" ) 2 | 0 | ok"),
+    # trigraphs, of which none is replaced
+    ("\"???)\" ??= x\n", "\"???)\" ? ? = x | 0 | ok"),
+    ("'??/'\n", "'??/' | 0 | ok"),
+    ("a ??/\nb\n", "a ? ? / b | 0 | ok"),
+    ("// a ??/\nb\n", "b | 0 | ok"),
+    ("a ??/\n", "a ? ? / | 0 | ok"),
+    ("a ??/", "a ? ? / | 0 | ok"),
+    ("??=define X 1\nX\n", "? ? = define X 1 X | 0 | ok"),
+    ("#define S(x) #x\nS(??) S(\"??/\")\n", "\"??\" \"\\\"??/\\\"\" | 0 | ok"),
     # all of the above in the later profile
     ("#if 0\n#elifdef __STDC__\n1\n#endif\n#pragma once\n", "1 pragma@0:5:1[ once ] | 0 | ok"),
 ]
 # The same for other profiles.
 OTHERS = [
+    ("c11", "\"???)\" ??= x\n", "\"?]\" # x | 0 | ok"),
+    ("later", "\"???)\" ??= x\n", "\"?]\" # x | 0 | ok"),
+    ("c11", "a ??/\nb\n", "a b | 0 | ok"),
+    ("later", "a ??/\nb\n", "a b | 0 | ok"),
+    ("c11", "// a ??/\nb\n", "| 0 | ok"),
+    ("c11", "a ??/\n", "| 0 | 2 0:1:3"),
+    ("c11", "??=define X 1\nX\n", "1 | 0 | ok"),
     ("later", "#define f(x...) x\n", "| 0 | 11 0:1:1 f"),
     ("c11", "#define f(a, ...) a\nf(1)\n", "| 0 | 18 0:2:1 f"),
     ("later", "#define f(a, ...) a\nf(1)\n", "| 0 | 18 0:2:1 f"),

@@ -3,9 +3,9 @@
 
     tests/phase_tests.py [PROGRAM] [-k NAME]
 
-Phase 1 removes a byte order mark and each return before a new-line, adds the last new-line and replaces trigraphs (5.2.1.1).  Phase 2 deletes
-each splice, and requires that the file doesn't end in one (5.1.1.2p1, phases 1 and 2).  Each character keeps the line and column of its first
-byte.
+Phase 1 removes a byte order mark and each return before a new-line, adds the last new-line and replaces trigraphs (5.2.1.1), except in the
+profile gnu.  Phase 2 deletes each splice, and requires that the file doesn't end in one (5.1.1.2p1, phases 1 and 2).  Each character keeps the
+line and column of its first byte.
 """
 import itertools
 import re
@@ -16,6 +16,7 @@ from counted import dumped, main, spelled
 
 MARK = "\ufeff".encode()
 TRIGRAPHS = dict(zip("=(/)'<!>-", "#[\\]^{|}~"))
+PROFILES = "c11", "gnu"
 
 
 @dataclass(frozen=True)
@@ -75,9 +76,11 @@ def without_splices(chars):
     return kept
 
 
-def cleaned(data):
+def cleaned(data, profile):
     """Returns the characters after phase 2, or the location of the backslash that the file must not end in."""
-    chars = without_trigraphs(terminated(without_returns(placed(data))))
+    chars = terminated(without_returns(placed(data)))
+    if profile != "gnu":
+        chars = without_trigraphs(chars)
     if stands(chars, len(chars) - 2, "\\\n"):
         return chars[-2].place
     return without_splices(chars)
@@ -98,11 +101,11 @@ def rest_after(token, chars):
     return rest[len(text):]
 
 
-def printed(texts):
+def printed(texts, profile):
     """Returns the result of a unit of each of these texts."""
     names = ["%d.c" % number for number in range(len(texts))]
     files = [{"name": name, "text": text.decode()} for name, text in zip(names, texts)]
-    return [result_of(lines) for lines in dumped(files, [{"file": name} for name in names])]
+    return [result_of(lines) for lines in dumped(files, [{"file": name} for name in names], profile=profile)]
 
 
 def result_of(lines):
@@ -143,7 +146,7 @@ TEXTS = [
     # many splices
     b"\r\n\r\n\r\n\r\n@\r\n\r\n",
     b"@;\r\n,~\r\n@;",
-    b"@??=??(??)??'??<??!??>??-@??=\n??-",
+    b"@??=??(??)??'??'??<??!??>??-@??=\n??-",
     b"\\\n\\\r\n??/\n??/\r\n\\\n@;\\\n\\\n,~\n",
     b"@;??/\n??/\n,~??/\r\n??/??/\n@;",
     b"@??;?\\?,\r\r\n??/??(\\\\\n\\\r\r~\n",
@@ -155,11 +158,16 @@ def short_texts(codes):
     return [bytes(text) for length in range(6) for text in itertools.product(codes, repeat=length)]
 
 
+def readings(texts):
+    """Returns each of these texts in each of the profiles, with the result of its unit."""
+    return [(data, profile, read) for profile in PROFILES for data, read in zip(texts, printed(texts, profile), strict=True)]
+
+
 class Phases(unittest.TestCase):
     def agree(self, texts):
-        for data, read in zip(texts, printed(texts), strict=True):
-            with self.subTest(data=data):
-                rest = cleaned(data)
+        for data, profile, read in readings(texts):
+            with self.subTest(data=data, profile=profile):
+                rest = cleaned(data, profile)
                 if isinstance(read, str) or isinstance(rest, str):
                     self.assertEqual(read, rest)
                     continue
@@ -176,17 +184,15 @@ class Phases(unittest.TestCase):
     def test_places_behind_a_comment(self):
         """Asks for each location at once, after everything before it."""
         fronts = [data[:length] for data in TEXTS for length in range(len(data) + 1) if length not in (1, 2) or not data.startswith(MARK)]
-        texts = [b"/*" + front + b"*/@" for front in fronts]
-        for data, read in zip(texts, printed(texts), strict=True):
-            with self.subTest(data=data):
-                self.assertEqual(read, [(cleaned(data)[-2].place, "@")])
+        for data, profile, read in readings([b"/*" + front + b"*/@" for front in fronts]):
+            with self.subTest(data=data, profile=profile):
+                self.assertEqual(read, [(cleaned(data, profile)[-2].place, "@")])
 
     def test_numbers_of_lines(self):
         """Wants that the line after the one that ends a `#line` has the given number (6.10.4p3)."""
-        texts = [b"#line 100 //" + text + b"\n\n__LINE__" for text in short_texts(b"?/\\\r\n")]
-        for data, read in zip(texts, printed(texts), strict=True):
-            with self.subTest(data=data):
-                chars = cleaned(data)
+        for data, profile, read in readings([b"#line 100 //" + text + b"\n\n__LINE__" for text in short_texts(b"?/\\\r\n")]):
+            with self.subTest(data=data, profile=profile):
+                chars = cleaned(data, profile)
                 end = next(char for char in chars if char.code == "\n")
                 name = chars[-len("__LINE__\n")]
                 self.assertEqual(read[-1], (name.place, str(100 + name.line - end.line - 1)))

@@ -5,10 +5,13 @@ use Rattle.std.proofs.lemmas.Bool.{false≢true, and_parts, eqb-true, ne_eqb}
 use Rattle.std.proofs.Math.Bool.{and-false}
 use Rattle.std.proofs.lemmas.Bool.Decides.{nat_tests}
 use Rattle.std.proofs.lemmas.List.{drop-map, drop-drop, drop_all, length-map}
+use Rattle.pptext.specs.declared.sources.Profile.{Profile}
+use Rattle.pptext.specs.declared.sources.Profile.TheVariants.{C11, Later, Gnu}
 use Rattle.pptext.specs.declared.tokens.Place.{Place}
 use Rattle.pptext.specs.declared.characters.Char.{Char}
 use Rattle.pptext.specs.Clean.{codes_of, head_code, is_return_at, without_returns, trigraph, trigraph_at, trigraphs_after, trigraphs, splices, splice_at_end}
-use Rattle.pptext.specs.code.Steps.{CharStep, Code, Removed, lacks_newline, leading_trigraph, leading_crlf, leading_newline, spliced, coded, step_of}
+use Rattle.pptext.specs.Profiles.{is_gnu}
+use Rattle.pptext.specs.code.Steps.{CharStep, Code, Removed, lacks_newline, trigraph_of, leading_trigraph, leading_crlf, leading_newline, spliced, coded, step_of}
 use Rattle.pptext.specs.code.CleanedText.{supply, unspliced}
 
 -- The tests on bytes equal the tests on characters.
@@ -17,11 +20,32 @@ return_same [] = refl
 return_same (c ∷ []) = sym (and-false (c.code == 13))
 return_same (c ∷ d ∷ cs) = refl
 
-pub trigraph_same : (cs : List Char) → leading_trigraph (codes_of cs) ≡ trigraph_at cs
-trigraph_same [] = refl
-trigraph_same (a ∷ []) = refl
-trigraph_same (a ∷ b ∷ []) = refl
-trigraph_same (a ∷ b ∷ c ∷ cs) = refl
+any_trigraph_same : (cs : List Char) → trigraph_of (codes_of cs) ≡ trigraph_at cs
+any_trigraph_same [] = refl
+any_trigraph_same (a ∷ []) = refl
+any_trigraph_same (a ∷ b ∷ []) = refl
+any_trigraph_same (a ∷ b ∷ c ∷ cs) = refl
+
+-- the character of the trigraph that is replaced here, or 0
+abbrev replaced_at : Profile → List Char → ℕ
+replaced_at profile cs = if is_gnu profile then 0 else trigraph_at cs
+
+pub trigraph_same : (profile : Profile) (cs : List Char) → leading_trigraph profile (codes_of cs) ≡ replaced_at profile cs
+trigraph_same profile cs = ap (λ n. if is_gnu profile then 0 else n) (any_trigraph_same cs)
+
+-- One step of `trigraphs`.
+trigraphs_own : (profile : Profile) (c : Char) (cs : List Char) → replaced_at profile (c ∷ cs) ≡ 0 → trigraphs profile (c ∷ cs) ≡ c ∷ trigraphs profile cs
+trigraphs_own C11 c cs none = let plain : trigraph_at (c ∷ cs) ≡ 0 = none in rw plain refl
+trigraphs_own Later c cs none = let plain : trigraph_at (c ∷ cs) ≡ 0 = none in rw plain refl
+trigraphs_own Gnu c cs none = refl
+
+-- After the last byte there is only the new-line, if it is supplied.
+pub after_all : (profile : Profile) (s : Bool) (e : Place) → unspliced profile s e [] ≡ supply s e
+after_all C11 true e = refl
+after_all C11 false e = refl
+after_all Later true e = refl
+after_all Later false e = refl
+after_all Gnu s e = refl
 
 -- the properties of a CR directly before an LF
 record Return (a : Char) (cs : List Char) : Type 0 where
@@ -96,13 +120,13 @@ trigraph_kept s e c (a ∷ cs) = by (is_return_at (a ∷ cs)) refl
         ∙ sym (third c a cs)
 
 -- One step of `unspliced`: a CR that is removed, or a character that is kept.
-pub return_step : (s : Bool) (e : Place) (c : Char) (cs : List Char) → is_return_at (c ∷ cs) ≡ true → unspliced s e (c ∷ cs) ≡ unspliced s e cs
-return_step s e c cs h = ap (λ z. trigraphs (z ++ supply s e)) (dropped c cs h)
+pub return_step : (profile : Profile) (s : Bool) (e : Place) (c : Char) (cs : List Char) → is_return_at (c ∷ cs) ≡ true → unspliced profile s e (c ∷ cs) ≡ unspliced profile s e cs
+return_step profile s e c cs h = ap (λ z. trigraphs profile (z ++ supply s e)) (dropped c cs h)
 
-pub own_step : (s : Bool) (e : Place) (c : Char) (cs : List Char) → is_return_at (c ∷ cs) ≡ false → trigraph_at (c ∷ cs) ≡ 0 → unspliced s e (c ∷ cs) ≡ c ∷ unspliced s e cs
-own_step s e c cs h t =
-    let k = trigraph_kept s e c cs ∙ t in
-    ap (λ z. trigraphs (z ++ supply s e)) (kept c cs h) ∙ rw k refl
+pub own_step : (profile : Profile) (s : Bool) (e : Place) (c : Char) (cs : List Char) → is_return_at (c ∷ cs) ≡ false → replaced_at profile (c ∷ cs) ≡ 0 → unspliced profile s e (c ∷ cs) ≡ c ∷ unspliced profile s e cs
+own_step profile s e c cs h t =
+    let k = ap (λ n. if is_gnu profile then 0 else n) (trigraph_kept s e c cs) ∙ t in
+    ap (λ z. trigraphs profile (z ++ supply s e)) (kept c cs h) ∙ trigraphs_own profile c (without_returns cs ++ supply s e) k
 
 -- The three characters of a trigraph are present, and none of them is removed as a CR.
 record Three (c : Char) (cs : List Char) : Type 0 where
@@ -133,25 +157,43 @@ three a (b ∷ c ∷ cs) h =
       kept = mark_kept a (b ∷ c ∷ cs) (eqb-true a.code 63 q.0) ∙ ap (λ z. a ∷ z) (mark_kept b (c ∷ cs) (eqb-true b.code 63 q.1) ∙ ap (λ z. b ∷ z) (kept c cs (no_return c cs (no_trigraph_cr c.code m.1))));
     }
 
-trigraph_step : (s : Bool) (e : Place) (a : Char) (cs : List Char) → (trigraph_at (a ∷ cs) ≡ 0 → ⊥) → unspliced s e (a ∷ cs) ≡ record { code = trigraph_at (a ∷ cs); at = a.at } ∷ unspliced s e (drop 2 cs)
-trigraph_step s e a [] h = absurd (h refl)
-trigraph_step s e a (b ∷ []) h = absurd (h refl)
-trigraph_step s e a (b ∷ c ∷ cs) h =
+replaced : (s : Bool) (e : Place) (a : Char) (cs : List Char) → (trigraph_at (a ∷ cs) ≡ 0 → ⊥) → unspliced C11 s e (a ∷ cs) ≡ record { code = trigraph_at (a ∷ cs); at = a.at } ∷ unspliced C11 s e (drop 2 cs)
+replaced s e a [] h = absurd (h refl)
+replaced s e a (b ∷ []) h = absurd (h refl)
+replaced s e a (b ∷ c ∷ cs) h =
     let t = three a (b ∷ c ∷ cs) h in
-    ap (λ z. trigraphs (z ++ supply s e)) t.kept ∙ rw (ne_eqb (trigraph_at (a ∷ b ∷ c ∷ cs)) 0 h) refl
+    ap (λ z. trigraphs_after 0 (z ++ supply s e)) t.kept ∙ rw (ne_eqb (trigraph_at (a ∷ b ∷ c ∷ cs)) 0 h) refl
+
+trigraph_step : (profile : Profile) (s : Bool) (e : Place) (a : Char) (cs : List Char)
+    → (replaced_at profile (a ∷ cs) ≡ 0 → ⊥)
+    → unspliced profile s e (a ∷ cs) ≡ record { code = replaced_at profile (a ∷ cs); at = a.at } ∷ unspliced profile s e (drop 2 cs)
+trigraph_step C11 s e a cs h = replaced s e a cs h
+trigraph_step Later s e a cs h = replaced s e a cs h
+trigraph_step Gnu s e a cs h = absurd (h refl)
+
+-- A trigraph that is replaced begins here.
+begins : (profile : Profile) (cs : List Char) → (replaced_at profile cs ≡ 0 → ⊥) → trigraph_at cs ≡ 0 → ⊥
+begins C11 cs h = h
+begins Later cs h = h
+begins Gnu cs h = absurd (h refl)
+
+not_replaced : (profile : Profile) (cs : List Char) → trigraph_at cs ≡ 0 → replaced_at profile cs ≡ 0
+not_replaced C11 cs h = h
+not_replaced Later cs h = h
+not_replaced Gnu cs h = refl
 
 -- The text begins with a new-line of m bytes. If m is 0, the text is empty and the new-line is supplied.
-record NewLine (s : Bool) (e : Place) (cs : List Char) (m : ℕ) : Type 0 where
+record NewLine (profile : Profile) (s : Bool) (e : Place) (cs : List Char) (m : ℕ) : Type 0 where
   fits : m ≤ length cs
-  more : 0 < m → (nl : Char) × (nl.code ≡ 10) × (unspliced s e cs ≡ nl ∷ unspliced s e (drop m cs))
+  more : 0 < m → (nl : Char) × (nl.code ≡ 10) × (unspliced profile s e cs ≡ nl ∷ unspliced profile s e (drop m cs))
   none : m ≡ 0 → (cs ≡ []) × (s ≡ true)
   last : 0 < m → m ≡ length cs → lacks_newline (codes_of cs) ≡ false
 
 some_is : (m n : ℕ) → Some m ≡ Some n → m ≡ n
 some_is m n e = cc
 
-plain_lf : (s : Bool) (e : Place) (c : Char) (cs : List Char) → c.code ≡ 10 → unspliced s e (c ∷ cs) ≡ c ∷ unspliced s e cs
-plain_lf s e c cs h = own_step s e c cs (lf_kept c cs h) (no_mark c cs (λ q. cc))
+plain_lf : (profile : Profile) (s : Bool) (e : Place) (c : Char) (cs : List Char) → c.code ≡ 10 → unspliced profile s e (c ∷ cs) ≡ c ∷ unspliced profile s e cs
+plain_lf profile s e c cs h = own_step profile s e c cs (lf_kept c cs h) (not_replaced profile (c ∷ cs) (no_mark c cs (λ q. cc)))
   where
     no_mark : (a : Char) (xs : List Char) → (a.code ≡ 63 → ⊥) → trigraph_at (a ∷ xs) ≡ 0
     no_mark a [] k = refl
@@ -162,37 +204,37 @@ last_lf : (y : Char) (ys : List Char) → y.code ≡ 10 → length ys ≡ 0 → 
 last_lf y [] p l0 = rw p refl
 last_lf y (w ∷ ys) p l0 = absurd (omega arith)
 
-newline_at : (s : Bool) (e : Place) (cs : List Char) (m : ℕ) → leading_newline s (codes_of cs) ≡ Some m → NewLine s e cs m
-newline_at true e [] m h =
+newline_at : (profile : Profile) (s : Bool) (e : Place) (cs : List Char) (m : ℕ) → leading_newline s (codes_of cs) ≡ Some m → NewLine profile s e cs m
+newline_at profile true e [] m h =
     let z = some_is 0 m h in
     record { fits = omega arith; more = λ lt. absurd (omega arith); none = λ q. (refl, refl); last = λ lt. absurd (omega arith) }
-newline_at false e [] m h = cc
-newline_at s e (c ∷ cs) m h = by (c.code == 10) refl
+newline_at profile false e [] m h = cc
+newline_at profile s e (c ∷ cs) m h = by (c.code == 10) refl
   where
-    two : (t : Bool) → leading_crlf (codes_of (c ∷ cs)) ≡ t → (if t then Some 2 else None) ≡ Some m → NewLine s e (c ∷ cs) m
+    two : (t : Bool) → leading_crlf (codes_of (c ∷ cs)) ≡ t → (if t then Some 2 else None) ≡ Some m → NewLine profile s e (c ∷ cs) m
     two false q k = cc
     two true q k =
         let z = some_is 2 m k in
         crlf cs z (sym (return_same (c ∷ cs)) ∙ q)
       where
-        crlf : (xs : List Char) → 2 ≡ m → is_return_at (c ∷ xs) ≡ true → NewLine s e (c ∷ xs) m
+        crlf : (xs : List Char) → 2 ≡ m → is_return_at (c ∷ xs) ≡ true → NewLine profile s e (c ∷ xs) m
         crlf [] z r = absurd (false≢true (sym (and-false (c.code == 13)) ∙ r))
         crlf (b ∷ xs) z r =
             let lf = (return_is c (b ∷ xs) r).lf in
             record {
               fits = omega arith;
-              more = λ lt. (b, lf, return_step s e c (b ∷ xs) r ∙ plain_lf s e b xs lf ∙ ap (λ n. b ∷ unspliced s e (drop n (c ∷ b ∷ xs))) z);
+              more = λ lt. (b, lf, return_step profile s e c (b ∷ xs) r ∙ plain_lf profile s e b xs lf ∙ ap (λ n. b ∷ unspliced profile s e (drop n (c ∷ b ∷ xs))) z);
               none = λ q2. absurd (omega arith);
               last = λ lt. λ l. last_lf b xs lf (omega arith);
             }
 
-    by : (t : Bool) → (c.code == 10) ≡ t → NewLine s e (c ∷ cs) m
+    by : (t : Bool) → (c.code == 10) ≡ t → NewLine profile s e (c ∷ cs) m
     by true q =
         let lf = eqb-true c.code 10 q in
         let z = some_is 1 m (rw q at h) in
         record {
           fits = omega arith;
-          more = λ lt. (c, lf, plain_lf s e c cs lf ∙ ap (λ n. c ∷ unspliced s e (drop n (c ∷ cs))) z);
+          more = λ lt. (c, lf, plain_lf profile s e c cs lf ∙ ap (λ n. c ∷ unspliced profile s e (drop n (c ∷ cs))) z);
           none = λ r. absurd (omega arith);
           last = λ lt. λ l. last_lf c cs lf (omega arith);
         }
@@ -217,32 +259,35 @@ trigraph_at_not (a ∷ []) = refl
 trigraph_at_not (a ∷ b ∷ []) = refl
 trigraph_at_not (a ∷ b ∷ c ∷ cs) = if_not (a.code == 63 && b.code == 63) (trigraph c.code) 0 (trigraph_not c.code) refl
 
+replaced_at_not : (profile : Profile) (cs : List Char) → (replaced_at profile cs == 10) ≡ false
+replaced_at_not profile cs = if_not (is_gnu profile) 0 (trigraph_at cs) refl (trigraph_at_not cs)
+
 some_not : (n : ℕ) → Some n ≡ None → ⊥
 some_not n e = cc
 
 abbrev two_bytes : Option ℕ
 two_bytes = Some 2
 
-no_newline : (s : Bool) (e : Place) (cs : List Char) → leading_newline s (codes_of cs) ≡ None → (head_code (unspliced s e cs) == 10) ≡ false
-no_newline true e [] h = cc
-no_newline false e [] h = refl
-no_newline s e (c ∷ cs) h = by (c.code == 10) refl
+no_newline : (profile : Profile) (s : Bool) (e : Place) (cs : List Char) → leading_newline s (codes_of cs) ≡ None → (head_code (unspliced profile s e cs) == 10) ≡ false
+no_newline profile true e [] h = cc
+no_newline profile false e [] h = ap (λ z. head_code z == 10) (after_all profile false e)
+no_newline profile s e (c ∷ cs) h = by (c.code == 10) refl
   where
-    own : (n : ℕ) → trigraph_at (c ∷ cs) ≡ n → (n == 0) ≡ true → (c.code == 10) ≡ false → is_return_at (c ∷ cs) ≡ false → (head_code (unspliced s e (c ∷ cs)) == 10) ≡ false
-    own n t z q r = rw (own_step s e c cs r (t ∙ eqb-true n 0 z)) q
+    own : (n : ℕ) → replaced_at profile (c ∷ cs) ≡ n → (n == 0) ≡ true → (c.code == 10) ≡ false → is_return_at (c ∷ cs) ≡ false → (head_code (unspliced profile s e (c ∷ cs)) == 10) ≡ false
+    own n t z q r = rw (own_step profile s e c cs r (t ∙ eqb-true n 0 z)) q
 
-    three_bytes : (trigraph_at (c ∷ cs) == 0) ≡ false → (head_code (unspliced s e (c ∷ cs)) == 10) ≡ false
-    three_bytes z = rw (trigraph_step s e c cs (λ k. false≢true (sym z ∙ rw k refl))) (trigraph_at_not (c ∷ cs))
+    three_bytes : (replaced_at profile (c ∷ cs) == 0) ≡ false → (head_code (unspliced profile s e (c ∷ cs)) == 10) ≡ false
+    three_bytes z = rw (trigraph_step profile s e c cs (λ k. false≢true (sym z ∙ rw k refl))) (replaced_at_not profile (c ∷ cs))
 
-    kinds : (t : Bool) → (trigraph_at (c ∷ cs) == 0) ≡ t → (c.code == 10) ≡ false → is_return_at (c ∷ cs) ≡ false → (head_code (unspliced s e (c ∷ cs)) == 10) ≡ false
-    kinds true z q r = own (trigraph_at (c ∷ cs)) refl z q r
+    kinds : (t : Bool) → (replaced_at profile (c ∷ cs) == 0) ≡ t → (c.code == 10) ≡ false → is_return_at (c ∷ cs) ≡ false → (head_code (unspliced profile s e (c ∷ cs)) == 10) ≡ false
+    kinds true z q r = own (replaced_at profile (c ∷ cs)) refl z q r
     kinds false z q r = three_bytes z
 
-    two : (t : Bool) → leading_crlf (codes_of (c ∷ cs)) ≡ t → (if t then two_bytes else None) ≡ None → (c.code == 10) ≡ false → (head_code (unspliced s e (c ∷ cs)) == 10) ≡ false
+    two : (t : Bool) → leading_crlf (codes_of (c ∷ cs)) ≡ t → (if t then two_bytes else None) ≡ None → (c.code == 10) ≡ false → (head_code (unspliced profile s e (c ∷ cs)) == 10) ≡ false
     two true r k q = absurd (some_not 2 k)
-    two false r k q = kinds (trigraph_at (c ∷ cs) == 0) refl q (sym (return_same (c ∷ cs)) ∙ r)
+    two false r k q = kinds (replaced_at profile (c ∷ cs) == 0) refl q (sym (return_same (c ∷ cs)) ∙ r)
 
-    by : (t : Bool) → (c.code == 10) ≡ t → (head_code (unspliced s e (c ∷ cs)) == 10) ≡ false
+    by : (t : Bool) → (c.code == 10) ≡ t → (head_code (unspliced profile s e (c ∷ cs)) == 10) ≡ false
     by true q =
         absurd (some_not 1 (rw q at h))
     by false q = two (leading_crlf (codes_of (c ∷ cs))) refl (rw q at h) q
@@ -267,22 +312,22 @@ not_end : (x : Char) (ys : List Char) → (x.code == 92 && head_code ys == 10) �
 not_end x ys h = rw (h, and-false (length ys == 1)) refl
 
 -- The result of a step: a character and the rest of the text, or only the rest.
-pub record CodeStep (s : Bool) (e : Place) (c : Char) (cs : List Char) (code n : ℕ) : Type 0 where
+pub record CodeStep (profile : Profile) (s : Bool) (e : Place) (c : Char) (cs : List Char) (code n : ℕ) : Type 0 where
   pub some : 0 < n
   pub fits : n ≤ suc (length cs)
-  pub text : splices (unspliced s e (c ∷ cs)) ≡ record { code = code; at = c.at } ∷ splices (unspliced s e (drop n (c ∷ cs)))
-  pub ends : splice_at_end (unspliced s e (c ∷ cs)) ≡ splice_at_end (unspliced s e (drop n (c ∷ cs)))
+  pub text : splices (unspliced profile s e (c ∷ cs)) ≡ record { code = code; at = c.at } ∷ splices (unspliced profile s e (drop n (c ∷ cs)))
+  pub ends : splice_at_end (unspliced profile s e (c ∷ cs)) ≡ splice_at_end (unspliced profile s e (drop n (c ∷ cs)))
 
-pub record RemovedStep (s : Bool) (e : Place) (c : Char) (cs : List Char) (n : ℕ) : Type 0 where
+pub record RemovedStep (profile : Profile) (s : Bool) (e : Place) (c : Char) (cs : List Char) (n : ℕ) : Type 0 where
   pub some : 0 < n
   pub fits : n ≤ suc (length cs)
-  pub text : n < suc (length cs) → splices (unspliced s e (c ∷ cs)) ≡ splices (unspliced s e (drop n (c ∷ cs)))
-  pub ends : n < suc (length cs) → splice_at_end (unspliced s e (c ∷ cs)) ≡ splice_at_end (unspliced s e (drop n (c ∷ cs)))
-  pub last : n ≡ suc (length cs) → s ≡ lacks_newline (codes_of (c ∷ cs)) → splice_at_end (unspliced s e (c ∷ cs)) ≡ Some c.at
+  pub text : n < suc (length cs) → splices (unspliced profile s e (c ∷ cs)) ≡ splices (unspliced profile s e (drop n (c ∷ cs)))
+  pub ends : n < suc (length cs) → splice_at_end (unspliced profile s e (c ∷ cs)) ≡ splice_at_end (unspliced profile s e (drop n (c ∷ cs)))
+  pub last : n ≡ suc (length cs) → s ≡ lacks_newline (codes_of (c ∷ cs)) → splice_at_end (unspliced profile s e (c ∷ cs)) ≡ Some c.at
 
-abbrev pub Outcome : Bool → Place → Char → List Char → CharStep → Type 0
-Outcome s e c cs (Code code n) = CodeStep s e c cs code n
-Outcome s e c cs (Removed n) = RemovedStep s e c cs n
+abbrev pub Outcome : Profile → Bool → Place → Char → List Char → CharStep → Type 0
+Outcome profile s e c cs (Code code n) = CodeStep profile s e c cs code n
+Outcome profile s e c cs (Removed n) = RemovedStep profile s e c cs n
 
 -- The passes before splicing do not make a non-empty text empty.
 pub returns_some : (cs : List Char) → 0 < length cs → 0 < length (without_returns cs)
@@ -293,15 +338,20 @@ returns_some (c ∷ cs) lt = by (λ k. returns_some cs k) (is_return_at (c ∷ c
     by more true h = rw (dropped c cs h) (more (return_is c cs h).in_bounds)
     by more false h = rw (kept c cs h) (omega arith)
 
-trigraphs_some : (cs : List Char) → 0 < length cs → 0 < length (trigraphs cs)
-trigraphs_some [] lt = absurd (omega arith)
-trigraphs_some (c ∷ cs) lt =
+replaced_some : (cs : List Char) → 0 < length cs → 0 < length (trigraphs_after 0 cs)
+replaced_some [] lt = absurd (omega arith)
+replaced_some (c ∷ cs) lt =
     elim (trigraph_at (c ∷ cs) == 0) as (λ t. 0 < length (if t then c ∷ trigraphs_after 0 cs else record { code = trigraph_at (c ∷ cs); at = c.at } ∷ trigraphs_after 2 cs)) [ true ↦ omega arith | false ↦ omega arith ]
 
-logical_some : (s : Bool) (e : Place) (cs : List Char) → 0 < length cs → 0 < length (unspliced s e cs)
-logical_some s e cs lt =
+trigraphs_some : (profile : Profile) (cs : List Char) → 0 < length cs → 0 < length (trigraphs profile cs)
+trigraphs_some C11 cs lt = replaced_some cs lt
+trigraphs_some Later cs lt = replaced_some cs lt
+trigraphs_some Gnu cs lt = lt
+
+logical_some : (profile : Profile) (s : Bool) (e : Place) (cs : List Char) → 0 < length cs → 0 < length (unspliced profile s e cs)
+logical_some profile s e cs lt =
     let w = returns_some cs lt in
-    trigraphs_some (without_returns cs ++ supply s e) (omega (arith, length-append (without_returns cs) (supply s e)))
+    trigraphs_some profile (without_returns cs ++ supply s e) (omega (arith, length-append (without_returns cs) (supply s e)))
 
 -- Each non-empty suffix of the bytes lacks a final new-line exactly if the whole does.
 pub open_end_drop : (n : ℕ) (bs : List ℕ) → n < length bs → lacks_newline (drop n bs) ≡ lacks_newline bs
@@ -317,11 +367,11 @@ no_line : (x : Char) (ys : List Char) → (head_code ys == 10) ≡ false → (x.
 no_line x ys h = rw (h, and-false (x.code == 92)) refl
 
 -- A character that does not begin a splice is kept.
-as_code : (s : Bool) (e : Place) (c : Char) (cs : List Char) (code k : ℕ) → 0 < k → k ≤ suc (length cs) → unspliced s e (c ∷ cs) ≡ record { code = code; at = c.at } ∷ unspliced s e (drop k (c ∷ cs))
-    → (code == 92 && head_code (unspliced s e (drop k (c ∷ cs))) == 10) ≡ false → CodeStep s e c cs code k
-as_code s e c cs code k lt fits is other =
+as_code : (profile : Profile) (s : Bool) (e : Place) (c : Char) (cs : List Char) (code k : ℕ) → 0 < k → k ≤ suc (length cs) → unspliced profile s e (c ∷ cs) ≡ record { code = code; at = c.at } ∷ unspliced profile s e (drop k (c ∷ cs))
+    → (code == 92 && head_code (unspliced profile s e (drop k (c ∷ cs))) == 10) ≡ false → CodeStep profile s e c cs code k
+as_code profile s e c cs code k lt fits is other =
     let x : Char = record { code = code; at = c.at } in
-    let ys = unspliced s e (drop k (c ∷ cs)) in
+    let ys = unspliced profile s e (drop k (c ∷ cs)) in
     record {
       some = lt;
       fits = fits;
@@ -330,43 +380,43 @@ as_code s e c cs code k lt fits is other =
     }
 
 -- A backslash and a new-line after it are removed. The new-line may be the supplied one.
-splice_more : (s : Bool) (e : Place) (c : Char) (cs : List Char) (code k m : ℕ)
+splice_more : (profile : Profile) (s : Bool) (e : Place) (c : Char) (cs : List Char) (code k m : ℕ)
     → k ≤ suc (length cs)
-    → unspliced s e (c ∷ cs) ≡ record { code = code; at = c.at } ∷ unspliced s e (drop k (c ∷ cs))
+    → unspliced profile s e (c ∷ cs) ≡ record { code = code; at = c.at } ∷ unspliced profile s e (drop k (c ∷ cs))
     → code ≡ 92
-    → NewLine s e (drop k (c ∷ cs)) m
+    → NewLine profile s e (drop k (c ∷ cs)) m
     → k + m < suc (length cs)
-    → (splices (unspliced s e (c ∷ cs)) ≡ splices (unspliced s e (drop (k + m) (c ∷ cs)))) × (splice_at_end (unspliced s e (c ∷ cs)) ≡ splice_at_end (unspliced s e (drop (k + m) (c ∷ cs))))
-splice_more s e c cs code k zero fits is p line lt =
+    → (splices (unspliced profile s e (c ∷ cs)) ≡ splices (unspliced profile s e (drop (k + m) (c ∷ cs)))) × (splice_at_end (unspliced profile s e (c ∷ cs)) ≡ splice_at_end (unspliced profile s e (drop (k + m) (c ∷ cs))))
+splice_more profile s e c cs code k zero fits is p line lt =
     let l = length-drop k (c ∷ cs) in
     let z : length (drop k (c ∷ cs)) ≡ 0 = ap length (line.none refl).0 in
     absurd (omega arith)
-splice_more s e c cs code k (suc m) fits is p line lt =
+splice_more profile s e c cs code k (suc m) fits is p line lt =
     let x : Char = record { code = code; at = c.at } in
     let rest = drop k (c ∷ cs) in
     let l = length-drop k (c ∷ cs) in
     let l2 = length-drop (suc m) rest in
     let f = line.more (omega arith) in
-    let ys = unspliced s e (drop (suc m) rest) in
+    let ys = unspliced profile s e (drop (suc m) rest) in
     let same = drop-drop (suc m) k (c ∷ cs) in (
-      ap splices (is ∙ ap (λ z. x ∷ z) f.2) ∙ splice_yes x f.0 ys p f.1 ∙ ap (λ z. splices (unspliced s e z)) same,
-      ap splice_at_end (is ∙ ap (λ z. x ∷ z) f.2) ∙ end_more x f.0 ys f.1 (logical_some s e (drop (suc m) rest) (omega arith)) ∙ ap (λ z. splice_at_end (unspliced s e z)) same,
+      ap splices (is ∙ ap (λ z. x ∷ z) f.2) ∙ splice_yes x f.0 ys p f.1 ∙ ap (λ z. splices (unspliced profile s e z)) same,
+      ap splice_at_end (is ∙ ap (λ z. x ∷ z) f.2) ∙ end_more x f.0 ys f.1 (logical_some profile s e (drop (suc m) rest) (omega arith)) ∙ ap (λ z. splice_at_end (unspliced profile s e z)) same,
     )
 
-splice_last : (s : Bool) (e : Place) (c : Char) (cs : List Char) (code k m : ℕ)
+splice_last : (profile : Profile) (s : Bool) (e : Place) (c : Char) (cs : List Char) (code k m : ℕ)
     → k ≤ suc (length cs)
-    → unspliced s e (c ∷ cs) ≡ record { code = code; at = c.at } ∷ unspliced s e (drop k (c ∷ cs))
+    → unspliced profile s e (c ∷ cs) ≡ record { code = code; at = c.at } ∷ unspliced profile s e (drop k (c ∷ cs))
     → code ≡ 92
-    → NewLine s e (drop k (c ∷ cs)) m
+    → NewLine profile s e (drop k (c ∷ cs)) m
     → k + m ≡ suc (length cs)
     → s ≡ lacks_newline (codes_of (c ∷ cs))
-    → splice_at_end (unspliced s e (c ∷ cs)) ≡ Some c.at
-splice_last s e c cs code k zero fits is p line lt o =
+    → splice_at_end (unspliced profile s e (c ∷ cs)) ≡ Some c.at
+splice_last profile s e c cs code k zero fits is p line lt o =
     let x : Char = record { code = code; at = c.at } in
     let nl : Char = record { code = 10; at = e } in
     let n = line.none refl in
-    ap splice_at_end (is ∙ ap (λ z. x ∷ unspliced s e z) n.0 ∙ ap (λ t. x ∷ unspliced t e []) n.1) ∙ end_here x nl p refl
-splice_last s e c cs code k (suc m) fits is p line lt o =
+    ap splice_at_end (is ∙ ap (λ z. x ∷ unspliced profile s e z) n.0 ∙ ap (λ t. x ∷ unspliced profile t e []) n.1 ∙ ap (λ z. x ∷ z) (after_all profile true e)) ∙ end_here x nl p refl
+splice_last profile s e c cs code k (suc m) fits is p line lt o =
     let x : Char = record { code = code; at = c.at } in
     let rest = drop k (c ∷ cs) in
     let l = length-drop k (c ∷ cs) in
@@ -375,33 +425,33 @@ splice_last s e c cs code k (suc m) fits is p line lt o =
     let in_bounds : k < length (codes_of (c ∷ cs)) = rw (length-map (c ∷ cs) (λ (y : Char). y.code)) (omega arith) in
     let closed : s ≡ false = o ∙ sym (open_end_drop k (codes_of (c ∷ cs)) in_bounds) ∙ ap lacks_newline (drop-map (λ (y : Char). y.code) k (c ∷ cs)) ∙ lf in
     let none = drop_all (suc m) rest (omega arith) in
-    ap splice_at_end (is ∙ ap (λ z. x ∷ z) f.2 ∙ ap (λ z. x ∷ f.0 ∷ unspliced s e z) none ∙ ap (λ t. x ∷ f.0 ∷ unspliced t e []) closed) ∙ end_here x f.0 p f.1
+    ap splice_at_end (is ∙ ap (λ z. x ∷ z) f.2 ∙ ap (λ z. x ∷ f.0 ∷ unspliced profile s e z) none ∙ ap (λ t. x ∷ f.0 ∷ unspliced profile t e []) closed ∙ ap (λ z. x ∷ f.0 ∷ z) (after_all profile false e)) ∙ end_here x f.0 p f.1
 
-as_splice : (s : Bool) (e : Place) (c : Char) (cs : List Char) (code k m : ℕ)
+as_splice : (profile : Profile) (s : Bool) (e : Place) (c : Char) (cs : List Char) (code k m : ℕ)
     → 0 < k
     → k ≤ suc (length cs)
-    → unspliced s e (c ∷ cs) ≡ record { code = code; at = c.at } ∷ unspliced s e (drop k (c ∷ cs))
+    → unspliced profile s e (c ∷ cs) ≡ record { code = code; at = c.at } ∷ unspliced profile s e (drop k (c ∷ cs))
     → code ≡ 92
-    → NewLine s e (drop k (c ∷ cs)) m
-    → RemovedStep s e c cs (k + m)
-as_splice s e c cs code k m lt fits is p line =
+    → NewLine profile s e (drop k (c ∷ cs)) m
+    → RemovedStep profile s e c cs (k + m)
+as_splice profile s e c cs code k m lt fits is p line =
     let l = length-drop k (c ∷ cs) in
     let f = line.fits in
     record {
       some = omega arith;
       fits = omega arith;
-      text = λ h. (splice_more s e c cs code k m fits is p line h).0;
-      ends = λ h. (splice_more s e c cs code k m fits is p line h).1;
-      last = λ h o. splice_last s e c cs code k m fits is p line h o;
+      text = λ h. (splice_more profile s e c cs code k m fits is p line h).0;
+      ends = λ h. (splice_more profile s e c cs code k m fits is p line h).1;
+      last = λ h o. splice_last profile s e c cs code k m fits is p line h o;
     }
 
 -- At a character, spliced or not, `coded` is the step of the three passes.
-as_coded : (s : Bool) (e : Place) (c : Char) (cs : List Char) (code k : ℕ)
+as_coded : (profile : Profile) (s : Bool) (e : Place) (c : Char) (cs : List Char) (code k : ℕ)
     → 0 < k
     → k ≤ suc (length cs)
-    → unspliced s e (c ∷ cs) ≡ record { code = code; at = c.at } ∷ unspliced s e (drop k (c ∷ cs))
-    → Outcome s e c cs (coded s (codes_of (c ∷ cs)) code k)
-as_coded s e c cs code k lt fits is = by (code == 92) refl
+    → unspliced profile s e (c ∷ cs) ≡ record { code = code; at = c.at } ∷ unspliced profile s e (drop k (c ∷ cs))
+    → Outcome profile s e c cs (coded s (codes_of (c ∷ cs)) code k)
+as_coded profile s e c cs code k lt fits is = by (code == 92) refl
   where
     rest : List Char
     rest = drop k (c ∷ cs)
@@ -409,21 +459,21 @@ as_coded s e c cs code k lt fits is = by (code == 92) refl
     x : Char
     x = record { code = code; at = c.at }
 
-    line : code ≡ 92 → (found : Option ℕ) → leading_newline s (drop k (codes_of (c ∷ cs))) ≡ found → Outcome s e c cs (spliced found code k)
+    line : code ≡ 92 → (found : Option ℕ) → leading_newline s (drop k (codes_of (c ∷ cs))) ≡ found → Outcome profile s e c cs (spliced found code k)
     line p None h =
-        as_code s e c cs code k lt fits is (no_line x (unspliced s e rest) (no_newline s e rest (ap (leading_newline s) (sym (drop-map (λ (y : Char). y.code) k (c ∷ cs))) ∙ h)))
-    line p (Some m) h = as_splice s e c cs code k m lt fits is p (newline_at s e rest m (ap (leading_newline s) (sym (drop-map (λ (y : Char). y.code) k (c ∷ cs))) ∙ h))
+        as_code profile s e c cs code k lt fits is (no_line x (unspliced profile s e rest) (no_newline profile s e rest (ap (leading_newline s) (sym (drop-map (λ (y : Char). y.code) k (c ∷ cs))) ∙ h)))
+    line p (Some m) h = as_splice profile s e c cs code k m lt fits is p (newline_at profile s e rest m (ap (leading_newline s) (sym (drop-map (λ (y : Char). y.code) k (c ∷ cs))) ∙ h))
 
-    by : (t : Bool) → (code == 92) ≡ t → Outcome s e c cs (if t then spliced (leading_newline s (drop k (codes_of (c ∷ cs)))) code k else Code code k)
+    by : (t : Bool) → (code == 92) ≡ t → Outcome profile s e c cs (if t then spliced (leading_newline s (drop k (codes_of (c ∷ cs)))) code k else Code code k)
     by true h = line (eqb-true code 92 h) (leading_newline s (drop k (codes_of (c ∷ cs)))) refl
-    by false h = as_code s e c cs code k lt fits is (no_code x (unspliced s e rest) h)
+    by false h = as_code profile s e c cs code k lt fits is (no_code x (unspliced profile s e rest) h)
 
 -- A CR directly before an LF is removed.
-as_return : (s : Bool) (e : Place) (c : Char) (cs : List Char) → is_return_at (c ∷ cs) ≡ true → RemovedStep s e c cs 1
-as_return s e c cs h =
+as_return : (profile : Profile) (s : Bool) (e : Place) (c : Char) (cs : List Char) → is_return_at (c ∷ cs) ≡ true → RemovedStep profile s e c cs 1
+as_return profile s e c cs h =
     let r = return_is c cs h in
     let in_bounds = r.in_bounds in
-    let same = return_step s e c cs h in
+    let same = return_step profile s e c cs h in
     record {
       some = omega arith;
       fits = omega arith;
@@ -433,29 +483,29 @@ as_return s e c cs h =
     }
 
 -- The step computed from the bytes, `step_of`, is the step of the three passes.
-pub outcome : (s : Bool) (e : Place) (c : Char) (cs : List Char) → Outcome s e c cs (step_of s (codes_of (c ∷ cs)))
-outcome s e c cs = first (leading_crlf (codes_of (c ∷ cs))) refl
+pub outcome : (profile : Profile) (s : Bool) (e : Place) (c : Char) (cs : List Char) → Outcome profile s e c cs (step_of profile s (codes_of (c ∷ cs)))
+outcome profile s e c cs = first (leading_crlf (codes_of (c ∷ cs))) refl
   where
-    one : is_return_at (c ∷ cs) ≡ false → (trigraph_at (c ∷ cs) == 0) ≡ true → Outcome s e c cs (coded s (codes_of (c ∷ cs)) c.code 1)
-    one r z = as_coded s e c cs c.code 1 (omega arith) (omega arith) (own_step s e c cs r (eqb-true (trigraph_at (c ∷ cs)) 0 z))
+    one : is_return_at (c ∷ cs) ≡ false → (replaced_at profile (c ∷ cs) == 0) ≡ true → Outcome profile s e c cs (coded s (codes_of (c ∷ cs)) c.code 1)
+    one r z = as_coded profile s e c cs c.code 1 (omega arith) (omega arith) (own_step profile s e c cs r (eqb-true (replaced_at profile (c ∷ cs)) 0 z))
 
-    three_bytes : (trigraph_at (c ∷ cs) == 0) ≡ false → Outcome s e c cs (coded s (codes_of (c ∷ cs)) (trigraph_at (c ∷ cs)) 3)
+    three_bytes : (replaced_at profile (c ∷ cs) == 0) ≡ false → Outcome profile s e c cs (coded s (codes_of (c ∷ cs)) (replaced_at profile (c ∷ cs)) 3)
     three_bytes z =
-        let some : trigraph_at (c ∷ cs) ≡ 0 → ⊥ = λ k. false≢true (sym z ∙ rw k refl) in
-        let in_bounds = (three c cs some).in_bounds in
-        as_coded s e c cs (trigraph_at (c ∷ cs)) 3 (omega arith) (omega arith) (trigraph_step s e c cs some)
+        let some : replaced_at profile (c ∷ cs) ≡ 0 → ⊥ = λ k. false≢true (sym z ∙ rw k refl) in
+        let in_bounds = (three c cs (begins profile (c ∷ cs) some)).in_bounds in
+        as_coded profile s e c cs (replaced_at profile (c ∷ cs)) 3 (omega arith) (omega arith) (trigraph_step profile s e c cs some)
 
-    second : is_return_at (c ∷ cs) ≡ false → (t : Bool) → (trigraph_at (c ∷ cs) == 0) ≡ t → Outcome s e c cs (if t then coded s (codes_of (c ∷ cs)) c.code 1 else coded s (codes_of (c ∷ cs)) (trigraph_at (c ∷ cs)) 3)
+    second : is_return_at (c ∷ cs) ≡ false → (t : Bool) → (replaced_at profile (c ∷ cs) == 0) ≡ t → Outcome profile s e c cs (if t then coded s (codes_of (c ∷ cs)) c.code 1 else coded s (codes_of (c ∷ cs)) (replaced_at profile (c ∷ cs)) 3)
     second r true z = one r z
     second r false z = three_bytes z
 
     first : (t : Bool)
         → leading_crlf (codes_of (c ∷ cs)) ≡ t
-        → Outcome s e c cs
+        → Outcome profile s e c cs
         (if t then Removed 1
-        else (if leading_trigraph (codes_of (c ∷ cs)) == 0 then coded s (codes_of (c ∷ cs)) c.code 1
-        else coded s (codes_of (c ∷ cs)) (leading_trigraph (codes_of (c ∷ cs))) 3))
-    first true h = as_return s e c cs (sym (return_same (c ∷ cs)) ∙ h)
+        else (if leading_trigraph profile (codes_of (c ∷ cs)) == 0 then coded s (codes_of (c ∷ cs)) c.code 1
+        else coded s (codes_of (c ∷ cs)) (leading_trigraph profile (codes_of (c ∷ cs))) 3))
+    first true h = as_return profile s e c cs (sym (return_same (c ∷ cs)) ∙ h)
     first false h =
-        subst (λ n. Outcome s e c cs (if n == 0 then coded s (codes_of (c ∷ cs)) c.code 1 else coded s (codes_of (c ∷ cs)) n 3)) (sym (trigraph_same (c ∷ cs)))
-        (second (sym (return_same (c ∷ cs)) ∙ h) (trigraph_at (c ∷ cs) == 0) refl)
+        subst (λ n. Outcome profile s e c cs (if n == 0 then coded s (codes_of (c ∷ cs)) c.code 1 else coded s (codes_of (c ∷ cs)) n 3)) (sym (trigraph_same profile (c ∷ cs)))
+        (second (sym (return_same (c ∷ cs)) ∙ h) (replaced_at profile (c ∷ cs) == 0) refl)

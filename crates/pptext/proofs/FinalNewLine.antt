@@ -9,6 +9,7 @@ use Rattle.pptext.specs.declared.tokens.Place.{Place}
 use Rattle.pptext.specs.declared.tokens.Token.{Token}
 use Rattle.pptext.specs.declared.characters.Char.{Char}
 use Rattle.pptext.specs.declared.sources.Profile.{Profile}
+use Rattle.pptext.specs.declared.sources.Profile.TheVariants.{C11, Later, Gnu}
 use Rattle.pptext.specs.Continuations.{last_of}
 use Rattle.pptext.specs.Clean.{codes_of, newline, next_col, terminated, line_ends, trigraph, trigraph_at, trigraphs_after, trigraphs, splice_at, splices_after, splices, splice_at_end, unless_at, cleaned}
 use Rattle.pptext.specs.Spellings.{is_blank, IsHeader, Spells}
@@ -116,12 +117,17 @@ spliced_end cs chars ended = cases (splice_at_end cs) refl
     cases None none e = let same : splices cs ≡ chars = cc in subst (λ (z : List Char). Ended z) same (kept none ended)
     cases (Some p) some e = cc
 
-pub cleaned_end : (file : ℕ) (bytes : List ℕ) (chars : List Char) → cleaned file bytes ≡ Ok chars → Ended chars
-cleaned_end file bytes chars e = spliced_end (trigraphs (line_ends file bytes)) chars (kept (line_ends file bytes) (terminated_end _)) e
+pub cleaned_end : (profile : Profile) (file : ℕ) (bytes : List ℕ) (chars : List Char) → cleaned profile file bytes ≡ Ok chars → Ended chars
+cleaned_end profile file bytes chars e = spliced_end (trigraphs profile (line_ends file bytes)) chars (kept profile (line_ends file bytes) (terminated_end _)) e
   where
-    kept : (cs : List Char) → Ended cs → Ended (trigraphs cs)
-    kept cs (inl is) = inl (ap trigraphs is)
-    kept cs (inr is) = inr (trigraphs_end 0 cs is)
+    replaced : (cs : List Char) → Ended cs → Ended (trigraphs_after 0 cs)
+    replaced cs (inl is) = inl (ap (trigraphs_after 0) is)
+    replaced cs (inr is) = inr (trigraphs_end 0 cs is)
+
+    kept : (profile : Profile) (cs : List Char) → Ended cs → Ended (trigraphs profile cs)
+    kept C11 cs ended = replaced cs ended
+    kept Later cs ended = replaced cs ended
+    kept Gnu cs ended = ended
 
 -- a lexeme that is the whole text and ends in a new-line is a new-line
 blank_last : (text : List ℕ) → length text ≡ 1 → (c : ℕ) → BeginsWith text (c ∷ []) → IsTrue (is_blank c) → last_of text ≡ 10 → ⊥
@@ -205,11 +211,11 @@ kept profile space ts (p ∷ []) e = kept_one profile space ts p.chars p.kind e
 kept profile space ts (p ∷ q ∷ ps) e = kept_more profile space ts p.chars p.kind (q ∷ ps) (λ after us. kept profile after us (q ∷ ps) e)
 
 pub keeps_every_token : (profile : Profile) (file : ℕ) (bytes : List ℕ) (chars : List Char) (lexemes : List Lexeme)
-    → cleaned file bytes ≡ Ok chars
+    → cleaned profile file bytes ≡ Ok chars
     → Tokenizes profile chars lexemes
     → line_tokens (lines_of profile lexemes) ≡ tokens_in true lexemes
 keeps_every_token profile file bytes chars [] clean tokenized = refl
-keeps_every_token profile file bytes chars (p ∷ ps) clean tokenized = cases (cleaned_end file bytes chars clean)
+keeps_every_token profile file bytes chars (p ∷ ps) clean tokenized = cases (cleaned_end profile file bytes chars clean)
   where
     some : 0 < length (characters_of (p ∷ ps))
     some =

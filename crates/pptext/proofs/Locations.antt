@@ -4,6 +4,8 @@ use Rattle.std.proofs.Common.{Ok, Err, ◌-◌, not, ◌++◌, take, sym, length
 use Rattle.std.proofs.lemmas.Bool.Decides.{nat_tests}
 use Rattle.std.specs.Prelude.{Option, Result}
 use Rattle.std.proofs.lemmas.List.{drop_more, take-append-drop, take-take, drop-take, length-map}
+use Rattle.pptext.specs.declared.sources.Profile.{Profile}
+use Rattle.pptext.specs.declared.sources.Profile.TheVariants.{C11, Later, Gnu}
 use Rattle.pptext.specs.declared.tokens.Place.{Place}
 use Rattle.pptext.specs.Clean.{newline, place, next_col, with_locations, without_bom, without_returns, is_return_at, missing_newline, terminated, trigraph_at, trigraphs_after, trigraphs, splice_at}
 use Rattle.pptext.specs.Clean.{splices_after, splices, splice_at_end, unless_at, cleaned, codes_of}
@@ -80,6 +82,11 @@ trigraphs_length zero (c ∷ cs) =
     (λ t. length (if t then c ∷ trigraphs_after 0 cs else record { code = trigraph_at (c ∷ cs); at = c.at } ∷ trigraphs_after 2 cs) ≤ suc (length cs))
     [ true ↦ omega arith | false ↦ omega arith ]
 
+replaced_length : (profile : Profile) (cs : List Char) → length (trigraphs profile cs) ≤ length cs
+replaced_length C11 cs = trigraphs_length 0 cs
+replaced_length Later cs = trigraphs_length 0 cs
+replaced_length Gnu cs = omega arith
+
 splices_length : (skip : ℕ) (cs : List Char) → length (splices_after skip cs) ≤ length cs
 splices_length zero [] = omega arith
 splices_length (suc skip) [] = omega arith
@@ -93,17 +100,17 @@ unless_ok : (o : Option Place) (cs chars : List Char) → unless_at o cs ≡ Ok 
 unless_ok None cs chars e = let both : ◌≡◌ {A = Result (List Char) Place} (Ok cs) (Ok chars) = e in cc
 unless_ok (Some p) cs chars e = let both : ◌≡◌ {A = Result (List Char) Place} (Err p) (Ok chars) = e in absurd cc
 
-pub cleaned_length : (file : ℕ) (bytes : List ℕ) (chars : List Char) → cleaned file bytes ≡ Ok chars → length chars ≤ length bytes + 1
-cleaned_length file bytes chars e =
+pub cleaned_length : (profile : Profile) (file : ℕ) (bytes : List ℕ) (chars : List Char) → cleaned profile file bytes ≡ Ok chars → length chars ≤ length bytes + 1
+cleaned_length profile file bytes chars e =
     let raw = without_bom bytes in
     let kept = without_returns (with_locations file 1 1 raw) in
     let ended = terminated kept in
-    let same : splices (trigraphs ended) ≡ chars = unless_ok (splice_at_end (trigraphs ended)) (splices (trigraphs ended)) chars e in
+    let same : splices (trigraphs profile ended) ≡ chars = unless_ok (splice_at_end (trigraphs profile ended)) (splices (trigraphs profile ended)) chars e in
     omega (
       arith,
       ap length same,
-      splices_length 0 (trigraphs ended),
-      trigraphs_length 0 ended,
+      splices_length 0 (trigraphs profile ended),
+      replaced_length profile ended,
       length-append kept (missing_newline kept),
       missing_length kept,
       returns_length (with_locations file 1 1 raw),

@@ -30,17 +30,17 @@ use Rattle.pptext.proofs.TextKinds.{HasKind, exactly, one, followed, repeated, s
 -- ---- reading a file has at most one result
 
 module _ (profile : Profile) (file : ℕ) (bytes : List ℕ) where
-  one_text : (c d : List Char) → cleaned file bytes ≡ Ok c → cleaned file bytes ≡ Ok d → c ≡ d
+  one_text : (c d : List Char) → cleaned profile file bytes ≡ Ok c → cleaned profile file bytes ≡ Ok d → c ≡ d
   one_text c d e f = let both : ◌≡◌ {A = Result (List Char) Place} (Ok c) (Ok d) = sym e ∙ f in cc
 
-  no_both : (c : List Char) (p : Place) → cleaned file bytes ≡ Ok c → cleaned file bytes ≡ Err p → ⊥
+  no_both : (c : List Char) (p : Place) → cleaned profile file bytes ≡ Ok c → cleaned profile file bytes ≡ Err p → ⊥
   no_both c p e f = let both : ◌≡◌ {A = Result (List Char) Place} (Ok c) (Err p) = sym e ∙ f in cc
 
   -- The lexemes of the text are unique.
-  one_lines : (c d : List Char) (ps qs : List Lexeme) → cleaned file bytes ≡ Ok c → cleaned file bytes ≡ Ok d → Tokenizes profile c ps → Tokenizes profile d qs → ps ≡ qs
+  one_lines : (c d : List Char) (ps qs : List Lexeme) → cleaned profile file bytes ≡ Ok c → cleaned profile file bytes ≡ Ok d → Tokenizes profile c ps → Tokenizes profile d qs → ps ≡ qs
   one_lines c d ps qs e f a b = one_tokenization profile c ps qs a (subst (λ (z : List Char). Tokenizes profile z qs) (sym (one_text c d e f)) b)
 
-  closed : (c d : List Char) (ps : List Lexeme) (p : Place) → cleaned file bytes ≡ Ok c → cleaned file bytes ≡ Ok d → Tokenizes profile c ps → Unclosed profile d p → ⊥
+  closed : (c d : List Char) (ps : List Lexeme) (p : Place) → cleaned profile file bytes ≡ Ok c → cleaned profile file bytes ≡ Ok d → Tokenizes profile c ps → Unclosed profile d p → ⊥
   closed c d ps p e f a u = cut_closed profile c ps p a (subst (λ (z : List Char). Unclosed profile z p) (sym (one_text c d e f)) u)
 
   no_fault : (lines : List LogicalLine) (f : Fault) → IsSource profile file bytes lines → IsFaultOf profile file bytes f → ⊥
@@ -313,17 +313,17 @@ module _ (profile : Profile) (file : ℕ) (bytes : List ℕ) where
   abbrev SomeReading : Type 0
   SomeReading = (r : Result (List LogicalLine) Fault) × Reads profile file bytes r
 
-  of_groups : (chars : List Char) (ps : List Lexeme) → cleaned file bytes ≡ Ok chars → Tokenizes profile chars ps → (o : Option Fault) → group_fault [] (lines_of profile ps) ≡ o → SomeReading
+  of_groups : (chars : List Char) (ps : List Lexeme) → cleaned profile file bytes ≡ Ok chars → Tokenizes profile chars ps → (o : Option Fault) → group_fault [] (lines_of profile ps) ≡ o → SomeReading
   of_groups chars ps e tokenized None g = (Ok (lines_of profile ps), record { chars = chars; lexemes = ps; cleaned = e; tokenized = tokenized; grouped = g; lines_are = refl })
   of_groups chars ps e tokenized (Some f) g = (Err f, bad_groups e tokenized g)
 
-  of_cut : (chars : List Char) → cleaned file bytes ≡ Ok chars → ((ps : List Lexeme) × Tokenizes profile chars ps) ⊎ ((p : Place) × Unclosed profile chars p) → SomeReading
+  of_cut : (chars : List Char) → cleaned profile file bytes ≡ Ok chars → ((ps : List Lexeme) × Tokenizes profile chars ps) ⊎ ((p : Place) × Unclosed profile chars p) → SomeReading
   of_cut chars e (inl (ps, tokenized)) = of_groups chars ps e tokenized (group_fault [] (lines_of profile ps)) refl
   of_cut chars e (inr (p, open_here)) = (Err (file_fault 1 p), open_comment e open_here)
 
-  of_cleaned : (r : Result (List Char) Place) → cleaned file bytes ≡ r → SomeReading
+  of_cleaned : (r : Result (List Char) Place) → cleaned profile file bytes ≡ r → SomeReading
   of_cleaned (Ok chars) e = of_cut chars e (some_cut profile chars)
   of_cleaned (Err p) e = (Err (file_fault 2 p), spliced_end e)
 
   pub some_reading : (r : Result (List LogicalLine) Fault) × Reads profile file bytes r
-  some_reading = of_cleaned (cleaned file bytes) refl
+  some_reading = of_cleaned (cleaned profile file bytes) refl

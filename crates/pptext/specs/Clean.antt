@@ -2,6 +2,8 @@
 use Rattle.std.specs.Prelude.{ℕ, zero, suc, ◌+◌, List, [], ◌∷◌, ◌++◌, map, Bool, false, ◌&&◌, ◌==◌, if◌then◌else◌, Option, None, Some, Result, Ok, Err, length, codes}
 use Rattle.pptext.specs.declared.tokens.Place.{Place}
 use Rattle.pptext.specs.declared.characters.Char.{Char}
+use Rattle.pptext.specs.declared.sources.Profile.{Profile}
+use Rattle.pptext.specs.declared.sources.Profile.TheVariants.{Gnu}
 
 abbrev pub place : ℕ → ℕ → ℕ → Place
 place file line col = record { file = file; line = line; col = col }
@@ -94,9 +96,10 @@ trigraphs_after zero (c ∷ cs) =
     let r = trigraph_at (c ∷ cs) in
     if r == 0 then c ∷ trigraphs_after 0 cs else record { code = r; at = c.at } ∷ trigraphs_after 2 cs
 
--- the second step: each trigraph is replaced
-abbrev pub trigraphs : List Char → List Char
-trigraphs cs = trigraphs_after 0 cs
+-- The second step: each trigraph is replaced. GNU C replaces none, unless an option asks for it (gcc's manual, "Initial processing").
+abbrev pub trigraphs : Profile → List Char → List Char
+trigraphs Gnu cs = cs
+trigraphs profile cs = trigraphs_after 0 cs
 
 -- whether a backslash and a new-line are here
 abbrev pub splice_at : List Char → Bool
@@ -122,5 +125,5 @@ unless_at None x = Ok x
 unless_at (Some p) x = Err p
 
 -- the characters after phases 1 and 2, or the location of a backslash at the end of the file
-abbrev pub cleaned : ℕ → List ℕ → Result (List Char) Place
-cleaned file bytes = let cs = trigraphs (line_ends file bytes) in unless_at (splice_at_end cs) (splices cs)
+abbrev pub cleaned : Profile → ℕ → List ℕ → Result (List Char) Place
+cleaned profile file bytes = let cs = trigraphs profile (line_ends file bytes) in unless_at (splice_at_end cs) (splices cs)

@@ -43,7 +43,7 @@ file_fault number at = fault number at []
 pub record IsSource (profile : Profile) (file : ℕ) (bytes : List ℕ) (lines : List LogicalLine) : Type 0 where
   pub chars : List Char
   pub lexemes : List Lexeme
-  pub cleaned : cleaned file bytes ≡ Ok chars
+  pub cleaned : cleaned profile file bytes ≡ Ok chars
   pub tokenized : Tokenizes profile chars lexemes
   pub grouped : group_fault [] (lines_of profile lexemes) ≡ None
   pub lines_are : lines ≡ lines_of profile lexemes
@@ -51,11 +51,11 @@ pub record IsSource (profile : Profile) (file : ℕ) (bytes : List ℕ) (lines :
 -- the first fault of a file
 pub data IsFaultOf (profile : Profile) (file : ℕ) (bytes : List ℕ) : Fault → Type 0 where
   -- the last line ends in a backslash
-  spliced_end : {p : Place} → cleaned file bytes ≡ Err p → IsFaultOf profile file bytes (file_fault 2 p)
+  spliced_end : {p : Place} → cleaned profile file bytes ≡ Err p → IsFaultOf profile file bytes (file_fault 2 p)
   -- otherwise a comment is not closed
-  open_comment : {chars : List Char} {p : Place} → cleaned file bytes ≡ Ok chars → Unclosed profile chars p → IsFaultOf profile file bytes (file_fault 1 p)
+  open_comment : {chars : List Char} {p : Place} → cleaned profile file bytes ≡ Ok chars → Unclosed profile chars p → IsFaultOf profile file bytes (file_fault 1 p)
   -- otherwise the groups have a fault
-  bad_groups : {chars : List Char} {lexemes : List Lexeme} {f : Fault} → cleaned file bytes ≡ Ok chars → Tokenizes profile chars lexemes → group_fault [] (lines_of profile lexemes) ≡ Some f → IsFaultOf profile file bytes f
+  bad_groups : {chars : List Char} {lexemes : List Lexeme} {f : Fault} → cleaned profile file bytes ≡ Ok chars → Tokenizes profile chars lexemes → group_fault [] (lines_of profile lexemes) ≡ Some f → IsFaultOf profile file bytes f
 
 -- the result of reading a file
 abbrev pub Reads : Profile → ℕ → List ℕ → Result (List LogicalLine) Fault → Type 0

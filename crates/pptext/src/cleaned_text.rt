@@ -15,6 +15,7 @@ ghost use Rattle.pptext.specs.declared.characters.Char.{Char};
 
 use crate::characters::advance::{move_after, place_after};
 use crate::characters::steps::{CharStep, lacks_newline, next_step};
+use crate::sources::Profile;
 use crate::tokens::Place;
 use std::marker::Model;
 
@@ -114,20 +115,20 @@ impl TextCursor {
     /// Advances the cursor to this character. No line ends from the character `line` up to it. From `line` on, no bytes
     /// are searched for ends of lines. There are two fast paths before `advance_over_notes`.
     #[inline(always)]
-    fn seek(&mut self, raw: &[u8], line_notes: &[u32], to: usize, line: usize)
+    fn seek(&mut self, raw: &[u8], line_notes: &[u32], profile: Profile, to: usize, line: usize)
         requires small { length raw.now ≤ longest }
-        requires is_there { IsCursorAt self.old.at.file raw.now line_notes.now self.old }
+        requires is_there { IsCursorAt profile self.old.at.file raw.now line_notes.now self.old }
         requires forward { self.old.consumed ≤ to }
-        requires within { to < length (text_from self.old.at.file raw.now 0) }
-        requires line { InLine (codes_of (text_from self.old.at.file raw.now 0)) line to }
-        ensures is_there { IsCursorAt self.old.at.file raw.now line_notes.now self.new }
+        requires within { to < length (text_from profile self.old.at.file raw.now 0) }
+        requires line { InLine (codes_of (text_from profile self.old.at.file raw.now 0)) line to }
+        ensures is_there { IsCursorAt profile self.old.at.file raw.now line_notes.now self.new }
         ensures consumed { self.new.consumed ≡ to }
         ensures file { self.new.at.file ≡ self.old.at.file }
-        ensures place { (d : Char) → self.new.at ≡ (slice_index_or (text_from self.old.at.file raw.now 0) to d).at }
+        ensures place { (d : Char) → self.new.at ≡ (slice_index_or (text_from profile self.old.at.file raw.now 0) to d).at }
     {
         let ahead = to - self.consumed;
         if ahead >= self.plain {
-            self.advance_over_notes(raw, line_notes, to);
+            self.advance_over_notes(raw, line_notes, profile, to);
             return;
         }
         if line <= self.consumed {
@@ -139,29 +140,35 @@ impl TextCursor {
 
     /// Advances the cursor to a character that may be after line notes.
     #[inline(never)]
-    fn advance_over_notes(&mut self, raw: &[u8], line_notes: &[u32], to: usize)
+    fn advance_over_notes(&mut self, raw: &[u8], line_notes: &[u32], profile: Profile, to: usize)
         requires small { length raw.now ≤ longest }
-        requires is_there { IsCursorAt self.old.at.file raw.now line_notes.now self.old }
+        requires is_there { IsCursorAt profile self.old.at.file raw.now line_notes.now self.old }
         requires forward { self.old.consumed ≤ to }
-        requires within { to < length (text_from self.old.at.file raw.now 0) }
-        ensures is_there { IsCursorAt self.old.at.file raw.now line_notes.now self.new }
+        requires within { to < length (text_from profile self.old.at.file raw.now 0) }
+        ensures is_there { IsCursorAt profile self.old.at.file raw.now line_notes.now self.new }
         ensures consumed { self.new.consumed ≡ to }
         ensures file { self.new.at.file ≡ self.old.at.file }
-        ensures place { (d : Char) → self.new.at ≡ (slice_index_or (text_from self.old.at.file raw.now 0) to d).at }
+        ensures place { (d : Char) → self.new.at ≡ (slice_index_or (text_from profile self.old.at.file raw.now 0) to d).at }
     {
-        *self = self.advanced_over_notes(raw, line_notes, to);
+        *self = self.advanced_over_notes(raw, line_notes, profile, to);
     }
 
     /// Returns the cursor at a character that may be after line notes.
-    fn advanced_over_notes(self, raw: &[u8], line_notes: &[u32], to: usize) -> TextCursor
+    fn advanced_over_notes(
+        self,
+        raw: &[u8],
+        line_notes: &[u32],
+        profile: Profile,
+        to: usize,
+    ) -> TextCursor
         requires small { length raw.now ≤ longest }
-        requires is_there { IsCursorAt self.at.file raw.now line_notes.now self }
+        requires is_there { IsCursorAt profile self.at.file raw.now line_notes.now self }
         requires forward { self.consumed ≤ to }
-        requires within { to < length (text_from self.at.file raw.now 0) }
-        ensures is_there { IsCursorAt self.at.file raw.now line_notes.now result }
+        requires within { to < length (text_from profile self.at.file raw.now 0) }
+        ensures is_there { IsCursorAt profile self.at.file raw.now line_notes.now result }
         ensures consumed { result.consumed ≡ to }
         ensures file { result.at.file ≡ self.at.file }
-        ensures place { (d : Char) → result.at ≡ (slice_index_or (text_from self.at.file raw.now 0) to d).at }
+        ensures place { (d : Char) → result.at ≡ (slice_index_or (text_from profile self.at.file raw.now 0) to d).at }
     {
         let supplied = lacks_newline(raw);
         let mut cursor = self;
@@ -176,7 +183,7 @@ impl TextCursor {
                 cursor.pass(raw, plain);
                 continue;
             }
-            match next_step(&raw[cursor.offset..], supplied) {
+            match next_step(&raw[cursor.offset..], supplied, profile) {
                 CharStep::Removed(len) => cursor = cursor.skip(raw, line_notes, len),
                 CharStep::Code(_, len) => {
                     if cursor.consumed == to {
@@ -216,6 +223,7 @@ fn notes_of(cleaned: &Option<ChangedText>) -> &[u32]
 pub(crate) struct CleanedText<'a> {
     file: u32,
     raw: &'a [u8],
+    profile: Profile,
     cleaned: Option<ChangedText>,
 }
 
@@ -228,20 +236,30 @@ impl<'a> Model for CleanedText<'a> {
 
     ghost use Rattle.pptext.specs.code.CleanedText.{IsChangedText, text_from};
 
-    ghost view = { λ t. text_from t.file t.raw.now 0 };
+    ghost view = { λ t. text_from t.profile t.file t.raw.now 0 };
 
-    ghost invariant = { λ t. (length t.raw.now ≤ longest) × MatchOption t.cleaned (IsChangedText t.raw.now t.raw.now []) (λ c. IsChangedText t.raw.now c.codes.items c.line_notes.items) };
+    ghost invariant = { λ t. (length t.raw.now ≤ longest) × MatchOption t.cleaned (IsChangedText t.profile t.raw.now t.raw.now []) (λ c. IsChangedText t.profile t.raw.now c.codes.items c.line_notes.items) };
 }
 
 impl<'a> CleanedText<'a> {
     /// Makes the text of a file's bytes after its byte order mark. `cleaned` is the changed text, if phases 1 and 2
     /// change anything.
-    pub(crate) fn new(file: u32, raw: &'a [u8], cleaned: Option<ChangedText>) -> CleanedText<'a>
+    pub(crate) fn new(
+        file: u32,
+        raw: &'a [u8],
+        profile: Profile,
+        cleaned: Option<ChangedText>,
+    ) -> CleanedText<'a>
         requires small { length raw.now ≤ longest }
-        requires is_cleaned { MatchOption cleaned (IsChangedText raw.now raw.now []) (λ c. IsChangedText raw.now c.codes.items c.line_notes.items) }
-        ensures { result ≡ text_from file raw.now 0 }
+        requires is_cleaned { MatchOption cleaned (IsChangedText profile raw.now raw.now []) (λ c. IsChangedText profile raw.now c.codes.items c.line_notes.items) }
+        ensures { result ≡ text_from profile file raw.now 0 }
     {
-        CleanedText { file, raw, cleaned }
+        CleanedText {
+            file,
+            raw,
+            profile,
+            cleaned,
+        }
     }
 
     /// Returns the codes of the characters.
@@ -274,6 +292,7 @@ impl<'a> CleanedText<'a> {
         Places {
             raw,
             line_notes,
+            profile: self.profile,
             cursor,
         }
     }
@@ -286,6 +305,7 @@ impl<'a> CleanedText<'a> {
 pub(crate) struct Places<'a> {
     raw: &'a [u8],
     line_notes: &'a [u32],
+    profile: Profile,
     cursor: TextCursor,
 }
 
@@ -298,9 +318,9 @@ impl<'a> Model for Places<'a> {
 
     ghost use Rattle.pptext.specs.code.CleanedText.{IsCursorAt, text_from};
 
-    ghost view = { λ t. record { chars = text_from t.cursor.at.file t.raw.now 0; consumed = t.cursor.consumed } };
+    ghost view = { λ t. record { chars = text_from t.profile t.cursor.at.file t.raw.now 0; consumed = t.cursor.consumed } };
 
-    ghost invariant = { λ t. (length t.raw.now ≤ longest) × IsCursorAt t.cursor.at.file t.raw.now t.line_notes.now t.cursor };
+    ghost invariant = { λ t. (length t.raw.now ≤ longest) × IsCursorAt t.profile t.cursor.at.file t.raw.now t.line_notes.now t.cursor };
 }
 
 impl<'a> Places<'a> {
@@ -316,7 +336,8 @@ impl<'a> Places<'a> {
     {
         let raw = self.raw;
         let line_notes = self.line_notes;
-        self.cursor.seek(raw, line_notes, at, line);
+        let profile = self.profile;
+        self.cursor.seek(raw, line_notes, profile, at, line);
         self.cursor.at
     }
 }

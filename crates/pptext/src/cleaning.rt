@@ -8,17 +8,18 @@ ghost use Rattle.pptext.specs.code.CleanedText.{Cleans, EndsAt, HasLineNotes, Is
 use crate::characters::advance::place_after;
 use crate::characters::steps::{CharStep, first_special, lacks_newline, next_step, without_bom};
 use crate::cleaned_text::{ChangedText, CleanedText};
+use crate::sources::Profile;
 use crate::tokens::Place;
 use std::alloc::{AllocError, Global};
 
 /// Returns the index of the first line note: the first byte that phases 1 and 2 remove or replace.
-fn first_note(bytes: &[u8], supplied: bool) -> Option<usize>
-    ensures { MatchOption result (PlainRun supplied bytes.now (length bytes.now)) (λ at. (at < length bytes.now) × PlainRun supplied bytes.now at) }
+fn first_note(bytes: &[u8], supplied: bool, profile: Profile) -> Option<usize>
+    ensures { MatchOption result (PlainRun profile supplied bytes.now (length bytes.now)) (λ at. (at < length bytes.now) × PlainRun profile supplied bytes.now at) }
 {
     let mut start = 0;
     while let Some(ahead) = first_special(&bytes[start..]) {
         let at = start + ahead;
-        match next_step(&bytes[at..], supplied) {
+        match next_step(&bytes[at..], supplied, profile) {
             CharStep::Code(_, len) => {
                 if len != 1 {
                     return Some(at);
@@ -33,15 +34,15 @@ fn first_note(bytes: &[u8], supplied: bool) -> Option<usize>
 
 /// Returns the number of line notes in a file, or the index of its last backslash if the file ends in a backslash and a
 /// new-line.
-fn count_notes(raw: &[u8], supplied: bool) -> Result<usize, usize>
+fn count_notes(raw: &[u8], supplied: bool, profile: Profile) -> Result<usize, usize>
     requires { supplied ≡ lacks_newline raw.now }
-    ensures { MatchResult result (HasLineNotes raw.now) (EndsAt raw.now) }
+    ensures { MatchResult result (HasLineNotes profile raw.now) (EndsAt profile raw.now) }
 {
     let mut count = 0;
     let mut start = 0;
-    while let Some(ahead) = first_note(&raw[start..], supplied) {
+    while let Some(ahead) = first_note(&raw[start..], supplied, profile) {
         let at = start + ahead;
-        match next_step(&raw[at..], supplied) {
+        match next_step(&raw[at..], supplied, profile) {
             CharStep::Code(_, len) => start = at + len,
             CharStep::Removed(len) if at + len == raw.len() => return Err(at),
             CharStep::Removed(len) => start = at + len,
@@ -57,21 +58,22 @@ fn copy_cleaned(
     alloc: Global,
     raw: &[u8],
     supplied: bool,
+    profile: Profile,
     count: usize,
 ) -> Result<ChangedText, AllocError>
     requires small { length raw.now ≤ longest }
     requires supplied { supplied ≡ lacks_newline raw.now }
-    requires line_notes { HasLineNotes raw.now count }
-    ensures { IfOk result (λ c. IsChangedText raw.now c.codes.items c.line_notes.items) }
+    requires line_notes { HasLineNotes profile raw.now count }
+    ensures { IfOk result (λ c. IsChangedText profile raw.now c.codes.items c.line_notes.items) }
 {
     let mut codes = Vec::with_capacity(alloc, raw.len() + 1)?;
     let mut line_notes = Vec::with_capacity(alloc, count)?;
     let mut start = 0;
-    while let Some(ahead) = first_note(&raw[start..], supplied) {
+    while let Some(ahead) = first_note(&raw[start..], supplied, profile) {
         let at = start + ahead;
         codes.extend_from_slice(&raw[start..at])?;
         line_notes.push(ahead as u32)?;
-        match next_step(&raw[at..], supplied) {
+        match next_step(&raw[at..], supplied, profile) {
             CharStep::Code(code, len) => {
                 codes.push(code)?;
                 start = at + len;
@@ -92,17 +94,18 @@ pub(crate) fn clean_text<'a>(
     alloc: Global,
     bytes: &'a [u8],
     file: u32,
+    profile: Profile,
 ) -> Result<Result<CleanedText<'a>, Place>, AllocError>
     requires { length bytes.now ≤ longest }
-    ensures { IfOk result (Cleans file bytes.now) }
+    ensures { IfOk result (Cleans profile file bytes.now) }
 {
     let raw = without_bom(bytes);
     let supplied = lacks_newline(raw);
-    match count_notes(raw, supplied) {
-        Ok(0) if !supplied => Ok(Ok(CleanedText::new(file, raw, None))),
+    match count_notes(raw, supplied, profile) {
+        Ok(0) if !supplied => Ok(Ok(CleanedText::new(file, raw, profile, None))),
         Ok(count) => {
-            let cleaned = copy_cleaned(alloc, raw, supplied, count)?;
-            Ok(Ok(CleanedText::new(file, raw, Some(cleaned))))
+            let cleaned = copy_cleaned(alloc, raw, supplied, profile, count)?;
+            Ok(Ok(CleanedText::new(file, raw, profile, Some(cleaned))))
         }
         Err(at) => {
             let start = Place {

@@ -43,7 +43,7 @@ pub fn some_reading()
 /// The tokens of a file's lines are exactly those of its lexemes, in order, each with its kind, spelling, location and
 /// leading-space flag. None is lost at the end, because a text ends in a new-line after phase 2 (5.1.1.2).
 pub fn keeps_every_token()
-    ensures { (profile : Profile) (file : ℕ) (bytes : List ℕ) (chars : List Char) (lexemes : List Lexeme) → cleaned file bytes ≡ Ok chars → Tokenizes profile chars lexemes → line_tokens (lines_of profile lexemes) ≡ tokens_in true lexemes }
+    ensures { (profile : Profile) (file : ℕ) (bytes : List ℕ) (chars : List Char) (lexemes : List Lexeme) → cleaned profile file bytes ≡ Ok chars → Tokenizes profile chars lexemes → line_tokens (lines_of profile lexemes) ≡ tokens_in true lexemes }
 {}
 
 /// Each token of a text, except a header name (6.4.7), is the one token of its spelling. So `relex` finds its kind

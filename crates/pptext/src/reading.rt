@@ -57,7 +57,7 @@ pub fn read_source(
     requires { length bytes.now ≤ longest }
     ensures { UnlessOutOfMemory result (Reads profile file bytes.now) }
 {
-    let text = match clean_text(alloc, bytes, file)? {
+    let text = match clean_text(alloc, bytes, file, profile)? {
         Ok(text) => text,
         Err(place) => return Err(Error::bare(alloc, 2, place)),
     };

@@ -18,6 +18,7 @@ pub enum Profile {
     /// `Later` with the rules of GNU C that the headers of Linux need: named variadic parameters, variable arguments
     /// that may be absent, a macro that is defined again with another definition, a `__STDC_VERSION__` that is defined
     /// again or undefined, `#include_next`, `__has_include`, and `#warning`, `#ident` and `#sccs`, which do nothing.
+    /// Trigraphs (5.2.1.1) aren't replaced.
     Gnu,
 }
 

@@ -1,8 +1,10 @@
 -- What the remaining bytes of a file begin with, for phases 1 and 2 in one pass (5.1.1.2). Only the contracts of private functions, and the view of
 -- a type's private fields, cite this.
 use Rattle.std.specs.Prelude.{◌≡◌, ◌≢◌, ℕ, ◌+◌, ◌<◌, ◌≤◌, List, [], ◌∷◌, Bool, true, false, not, ◌&&◌, ◌||◌, ◌==◌, if◌then◌else◌, Option, None, Some, length, drop, slice_index}
+use Rattle.pptext.specs.declared.sources.Profile.{Profile}
 use Rattle.pptext.specs.declared.tokens.Place.{Place}
 use Rattle.pptext.specs.Clean.{place, next_col, newline, backslash, trigraph}
+use Rattle.pptext.specs.Profiles.{is_gnu}
 
 -- whether the last line of these bytes has no LF
 abbrev pub lacks_newline : List ℕ → Bool
@@ -23,9 +25,13 @@ abbrev pub StopsAt : List ℕ → ℕ → Type 0
 StopsAt bs n = (n < length bs) × PlainPrefix bs n × (is_special (slice_index bs n) ≡ true)
 
 -- the code of the trigraph that begins the bytes, or 0
-abbrev pub leading_trigraph : List ℕ → ℕ
-leading_trigraph (a ∷ b ∷ c ∷ bs) = if a == 63 && b == 63 then trigraph c else 0
-leading_trigraph bs = 0
+abbrev pub trigraph_of : List ℕ → ℕ
+trigraph_of (a ∷ b ∷ c ∷ bs) = if a == 63 && b == 63 then trigraph c else 0
+trigraph_of bs = 0
+
+-- the code of the trigraph that is replaced at the beginning of the bytes, or 0
+abbrev pub leading_trigraph : Profile → List ℕ → ℕ
+leading_trigraph profile bs = if is_gnu profile then 0 else trigraph_of bs
 
 -- whether a CR directly before an LF begins the bytes
 abbrev pub leading_crlf : List ℕ → Bool
@@ -52,13 +58,13 @@ abbrev pub coded : Bool → List ℕ → ℕ → ℕ → CharStep
 coded supplied bs code n = if code == backslash then spliced (leading_newline supplied (drop n bs)) code n else Code code n
 
 -- the character that begins the bytes, or the bytes that are removed
-abbrev pub step_of : Bool → List ℕ → CharStep
-step_of supplied bs =
-    if leading_crlf bs then Removed 1 else (if leading_trigraph bs == 0 then coded supplied bs (slice_index bs 0) 1 else coded supplied bs (leading_trigraph bs) 3)
+abbrev pub step_of : Profile → Bool → List ℕ → CharStep
+step_of profile supplied bs =
+    if leading_crlf bs then Removed 1 else (if leading_trigraph profile bs == 0 then coded supplied bs (slice_index bs 0) 1 else coded supplied bs (leading_trigraph profile bs) 3)
 
 -- the first byte isn't a character of its own
-abbrev pub IsChanged : Bool → List ℕ → Type 0
-IsChanged supplied bs = (code : ℕ) → step_of supplied bs ≢ Code code 1
+abbrev pub IsChanged : Profile → Bool → List ℕ → Type 0
+IsChanged profile supplied bs = (code : ℕ) → step_of profile supplied bs ≢ Code code 1
 
 -- the location after a byte at this location
 abbrev pub after_byte : ℕ → Place → Place

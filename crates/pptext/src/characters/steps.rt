@@ -3,6 +3,7 @@ ghost use Rattle.std.specs.Prelude.{◌≡◌, ◌<◌, MatchOption, length};
 ghost use Rattle.pptext.specs.Clean.{trigraph, without_bom};
 ghost use Rattle.pptext.specs.code.Steps.{Code, PlainPrefix, Removed, StopsAt, leading_newline, lacks_newline, step_of, leading_trigraph};
 
+use crate::sources::Profile;
 use memchr::memchr3;
 
 /// What the remaining bytes of a file begin with.
@@ -59,10 +60,13 @@ pub(crate) fn first_special(rest: &[u8]) -> Option<usize>
     memchr3(b'\\', b'?', b'\r', rest)
 }
 
-/// Returns the character of the trigraph that begins the bytes, or 0.
-fn leading_trigraph(rest: &[u8]) -> u8
-    ensures { result ≡ leading_trigraph rest.now }
+/// Returns the character of the trigraph that begins the bytes, or 0. GNU C replaces no trigraph.
+fn leading_trigraph(rest: &[u8], profile: Profile) -> u8
+    ensures { result ≡ leading_trigraph profile rest.now }
 {
+    if profile.is_gnu() {
+        return 0;
+    }
     match rest {
         [b'?', b'?', third, ..] => trigraph(*third),
         _ => 0,
@@ -84,14 +88,14 @@ fn newline_len(rest: &[u8], supplied: bool) -> Option<usize>
 
 /// Returns what the remaining bytes begin with. `supplied` says whether the file's last new-line is missing and
 /// supplied.
-pub(crate) fn next_step(rest: &[u8], supplied: bool) -> CharStep
+pub(crate) fn next_step(rest: &[u8], supplied: bool, profile: Profile) -> CharStep
     requires { 0 < length rest.now }
-    ensures { (elim result [ CharStep.Code code n ↦ Code code n | CharStep.Removed n ↦ Removed n ]) ≡ step_of supplied rest.now }
+    ensures { (elim result [ CharStep.Code code n ↦ Code code n | CharStep.Removed n ↦ Removed n ]) ≡ step_of profile supplied rest.now }
 {
     if let [b'\r', b'\n', ..] = rest {
         return CharStep::Removed(1);
     }
-    let (code, len) = match leading_trigraph(rest) {
+    let (code, len) = match leading_trigraph(rest, profile) {
         0 => (rest[0], 1),
         code => (code, 3),
     };

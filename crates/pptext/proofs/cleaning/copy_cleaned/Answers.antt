@@ -20,9 +20,9 @@ overflow_add-start c =
     let at = c.loop-ahead.start + c.in-Some.ahead in
     let ahead = simp take_rest at c.in-Some.ensures in
     let l = length-drop c.loop-ahead.start raw in
-    let is : step_of (lacks_newline raw) (drop at raw) ≡ Code c.in-Code.code c.in-Code.len = ap (λ s. step_of s (drop at raw)) (sym c.requires.supplied) ∙ sym (simp take_rest at c.in-Code.ensures) in
+    let is : step_of c.args.profile (lacks_newline raw) (drop at raw) ≡ Code c.in-Code.code c.in-Code.len = ap (λ s. step_of c.args.profile s (drop at raw)) (sym c.requires.supplied) ∙ sym (simp take_rest at c.in-Code.ensures) in
     let here : at < length raw = omega (arith, ahead.0) in
-    omega (arith, (code_at 0 raw at c.in-Code.code c.in-Code.len here is).fits, c.requires.small)
+    omega (arith, (code_at c.args.profile 0 raw at c.in-Code.code c.in-Code.len here is).fits, c.requires.small)
 
 pub overflow_add-start-in-Removed : goal.overflow_add-start-in-Removed
 overflow_add-start-in-Removed c =
@@ -30,9 +30,9 @@ overflow_add-start-in-Removed c =
     let at = c.loop-ahead.start + c.in-Some.ahead in
     let ahead = simp take_rest at c.in-Some.ensures in
     let l = length-drop c.loop-ahead.start raw in
-    let is : step_of (lacks_newline raw) (drop at raw) ≡ Removed c.in-Removed.len = ap (λ s. step_of s (drop at raw)) (sym c.requires.supplied) ∙ sym (simp take_rest at c.in-Removed.ensures) in
+    let is : step_of c.args.profile (lacks_newline raw) (drop at raw) ≡ Removed c.in-Removed.len = ap (λ s. step_of c.args.profile s (drop at raw)) (sym c.requires.supplied) ∙ sym (simp take_rest at c.in-Removed.ensures) in
     let here : at < length raw = omega (arith, ahead.0) in
-    omega (arith, (removed_at 0 raw at c.in-Removed.len here is).fits, c.requires.small)
+    omega (arith, (removed_at c.args.profile 0 raw at c.in-Removed.len here is).fits, c.requires.small)
 
 pub loop-ahead-smaller-in-Code : goal.loop-ahead-smaller-in-Code
 loop-ahead-smaller-in-Code c =
@@ -40,9 +40,9 @@ loop-ahead-smaller-in-Code c =
     let at = c.loop-ahead.start + c.in-Some.ahead in
     let ahead = simp take_rest at c.in-Some.ensures in
     let l = length-drop c.loop-ahead.start raw in
-    let is : step_of (lacks_newline raw) (drop at raw) ≡ Code c.in-Code.code c.in-Code.len = ap (λ s. step_of s (drop at raw)) (sym c.requires.supplied) ∙ sym (simp take_rest at c.in-Code.ensures) in
+    let is : step_of c.args.profile (lacks_newline raw) (drop at raw) ≡ Code c.in-Code.code c.in-Code.len = ap (λ s. step_of c.args.profile s (drop at raw)) (sym c.requires.supplied) ∙ sym (simp take_rest at c.in-Code.ensures) in
     let here : at < length raw = omega (arith, ahead.0) in
-    nearer c.loop-ahead.start c.in-Some.ahead c.in-Code.len (length raw) here (code_at 0 raw at c.in-Code.code c.in-Code.len here is).some
+    nearer c.loop-ahead.start c.in-Some.ahead c.in-Code.len (length raw) here (code_at c.args.profile 0 raw at c.in-Code.code c.in-Code.len here is).some
 
 pub loop-ahead-smaller : goal.loop-ahead-smaller
 loop-ahead-smaller c =
@@ -50,9 +50,9 @@ loop-ahead-smaller c =
     let at = c.loop-ahead.start + c.in-Some.ahead in
     let ahead = simp take_rest at c.in-Some.ensures in
     let l = length-drop c.loop-ahead.start raw in
-    let is : step_of (lacks_newline raw) (drop at raw) ≡ Removed c.in-Removed.len = ap (λ s. step_of s (drop at raw)) (sym c.requires.supplied) ∙ sym (simp take_rest at c.in-Removed.ensures) in
+    let is : step_of c.args.profile (lacks_newline raw) (drop at raw) ≡ Removed c.in-Removed.len = ap (λ s. step_of c.args.profile s (drop at raw)) (sym c.requires.supplied) ∙ sym (simp take_rest at c.in-Removed.ensures) in
     let here : at < length raw = omega (arith, ahead.0) in
-    nearer c.loop-ahead.start c.in-Some.ahead c.in-Removed.len (length raw) here (removed_at 0 raw at c.in-Removed.len here is).some
+    nearer c.loop-ahead.start c.in-Some.ahead c.in-Removed.len (length raw) here (removed_at c.args.profile 0 raw at c.in-Removed.len here is).some
 
 pub loop-ahead-preserved-in-Code : goal.loop-ahead-preserved-in-Code
 loop-ahead-preserved-in-Code c =
@@ -60,10 +60,10 @@ loop-ahead-preserved-in-Code c =
     let start = c.loop-ahead.start in
     let n = c.in-Some.ahead in
     let ahead = simp take_rest at c.in-Some.ensures in
-    let plain_run : PlainRun (lacks_newline raw) (drop start raw) n = subst (λ s. PlainRun s (drop start raw) n) c.requires.supplied ahead.1 in
-    let is : step_of (lacks_newline raw) (drop (start + n) raw) ≡ Code c.in-Code.code c.in-Code.len = ap (λ s. step_of s (drop (start + n) raw)) (sym c.requires.supplied) ∙ sym (simp take_rest at c.in-Code.ensures) in
+    let plain_run : PlainRun c.args.profile (lacks_newline raw) (drop start raw) n = subst (λ s. PlainRun c.args.profile s (drop start raw) n) c.requires.supplied ahead.1 in
+    let is : step_of c.args.profile (lacks_newline raw) (drop (start + n) raw) ≡ Code c.in-Code.code c.in-Code.len = ap (λ s. step_of c.args.profile s (drop (start + n) raw)) (sym c.requires.supplied) ∙ sym (simp take_rest at c.in-Code.ensures) in
     let codes = c.in_ok-push-in-Code.ensures.items ∙ ap (λ z. z ++ c.in-Code.code ∷ []) (c.in_ok-extend_from_slice.ensures.items ∙ stretch_codes raw c.loop-ahead.codes.items start n) in
-    rw (codes, c.in_ok-push.ensures.items) (copies_code raw start n c.in-Code.code c.in-Code.len c.loop-ahead.codes.items c.loop-ahead.line_notes.items c.loop-ahead.invariant ahead.0 plain_run is)
+    rw (codes, c.in_ok-push.ensures.items) (copies_code c.args.profile raw start n c.in-Code.code c.in-Code.len c.loop-ahead.codes.items c.loop-ahead.line_notes.items c.loop-ahead.invariant ahead.0 plain_run is)
 
 pub loop-ahead-preserved : goal.loop-ahead-preserved
 loop-ahead-preserved c =
@@ -71,20 +71,20 @@ loop-ahead-preserved c =
     let start = c.loop-ahead.start in
     let n = c.in-Some.ahead in
     let ahead = simp take_rest at c.in-Some.ensures in
-    let plain_run : PlainRun (lacks_newline raw) (drop start raw) n = subst (λ s. PlainRun s (drop start raw) n) c.requires.supplied ahead.1 in
-    let is : step_of (lacks_newline raw) (drop (start + n) raw) ≡ Removed c.in-Removed.len = ap (λ s. step_of s (drop (start + n) raw)) (sym c.requires.supplied) ∙ sym (simp take_rest at c.in-Removed.ensures) in
+    let plain_run : PlainRun c.args.profile (lacks_newline raw) (drop start raw) n = subst (λ s. PlainRun c.args.profile s (drop start raw) n) c.requires.supplied ahead.1 in
+    let is : step_of c.args.profile (lacks_newline raw) (drop (start + n) raw) ≡ Removed c.in-Removed.len = ap (λ s. step_of c.args.profile s (drop (start + n) raw)) (sym c.requires.supplied) ∙ sym (simp take_rest at c.in-Removed.ensures) in
     let codes = c.in_ok-extend_from_slice.ensures.items ∙ stretch_codes raw c.loop-ahead.codes.items start n in
-    rw (codes, c.in_ok-push.ensures.items) (copies_removed raw start n c.in-Removed.len c.loop-ahead.codes.items c.loop-ahead.line_notes.items c.loop-ahead.invariant (c.requires.line_notes.ends 0) ahead.0 plain_run is)
+    rw (codes, c.in_ok-push.ensures.items) (copies_removed c.args.profile raw start n c.in-Removed.len c.loop-ahead.codes.items c.loop-ahead.line_notes.items c.loop-ahead.invariant (c.requires.line_notes.ends 0) ahead.0 plain_run is)
 
 pub returns : goal.returns
 returns c =
     let raw = c.args.raw.now in
     let start = c.loop-ahead.start in
     let line_notes = c.loop-ahead.line_notes.items in
-    let last : PlainRun (lacks_newline raw) (drop start raw) (length (drop start raw)) = subst (λ s. PlainRun s (drop start raw) (length (drop start raw))) c.requires.supplied (simp take_rest at c.in_default.ensures) in
-    let all = copies_all raw start c.loop-ahead.codes.items line_notes c.loop-ahead.invariant last in
+    let last : PlainRun c.args.profile (lacks_newline raw) (drop start raw) (length (drop start raw)) = subst (λ s. PlainRun c.args.profile s (drop start raw) (length (drop start raw))) c.requires.supplied (simp take_rest at c.in_default.ensures) in
+    let all = copies_all c.args.profile raw start c.loop-ahead.codes.items line_notes c.loop-ahead.invariant last in
     let same = simp take_rest at c.in_ok-extend_from_slice-2.ensures.items in
     elim c.if-supplied.branch [
-      | then-supplied+in_ok-push-2 w ↦ rw (w.codes-is, w.in_ok-push-2.ensures.items, same) (whole_open raw (c.loop-ahead.codes.items ++ drop start raw) line_notes all.0 all.1 (sym c.requires.supplied ∙ w.if-supplied.true))
-      | else-supplied w ↦ rw (w.codes-is, same) (whole_closed raw (c.loop-ahead.codes.items ++ drop start raw) line_notes all.0 all.1 (sym c.requires.supplied ∙ w.if-supplied.false))
+      | then-supplied+in_ok-push-2 w ↦ rw (w.codes-is, w.in_ok-push-2.ensures.items, same) (whole_open c.args.profile raw (c.loop-ahead.codes.items ++ drop start raw) line_notes all.0 all.1 (sym c.requires.supplied ∙ w.if-supplied.true))
+      | else-supplied w ↦ rw (w.codes-is, same) (whole_closed c.args.profile raw (c.loop-ahead.codes.items ++ drop start raw) line_notes all.0 all.1 (sym c.requires.supplied ∙ w.if-supplied.false))
     ]
