@@ -1,6 +1,6 @@
 -- Lemmas for the loop that expands the arguments of an invocation in the order of the profile, and puts each expansion at its parameter.
 use Rattle.std.proofs.Common.{◌≡◌, ℕ, zero, suc, ◌+◌, ◌<◌, ◌≤◌, List, [], ◌∷◌, ◌++◌, map, take, drop, set, replicate, get_or, Option, Some, None, Ok, Err, Vec}
-use Rattle.std.proofs.Common.{Global, refl, sym, ap, ◌∙◌, subst, length, min, add-one, arith}
+use Rattle.std.proofs.Common.{Global, refl, sym, ap, ◌∙◌, subst, length, add-one, arith}
 use Rattle.std.proofs.lemmas.List.{get_or_default, take_more, take_all, drop_all, length-take, length-append}
 use Rattle.pptext.specs.declared.tokens.Token.{Token}
 use Rattle.pptext.specs.declared.tokens.Fault.{Fault}

@@ -8,8 +8,8 @@ use Rattle.pptext.specs.Tokens.{fault}
 use Rattle.ppmacro.specs.Names.{Macros}
 use Rattle.ppmacro.specs.Hiding.{Hiding}
 use Rattle.ppexpand.specs.declared.env.Env.{Env}
-use Rattle.ppexpand.specs.ExpansionStep.{Invocation, ExpansionStep, Done, TokenFault, Emits, ReplacementFault, Replaced, Invoked, expansion_step, arguments_to_expand, ExpandedArguments, Counts, counter_value}
-use Rattle.ppexpand.specs.Budget.{with_budget, without_budget, is_used_up, is_exhausted, one_less, spend_one, exhausted_step, refused, in_budget, count_on}
+use Rattle.ppexpand.specs.ExpansionStep.{Invocation, ExpansionStep, Done, TokenFault, Emits, ReplacementFault, Replaced, Invoked, expansion_step, arguments_to_expand, ExpandedArguments, Counts}
+use Rattle.ppexpand.specs.Budget.{with_budget, without_budget, is_used_up, is_exhausted, one_less, spend_one, exhausted_step, refused, in_budget}
 use Rattle.ppexpand.specs.Expansion.{Outcome, stops_with, with_emitted, step_in_budget, Expands, done, token_fault, emits, replacement_fault, replaced, argument_fault, invocation_fault, counts}
 use Rattle.ppexpand.specs.Expansion.{invocation_replaced, ExpandsArguments, none, too_deep, pre_expanded, pre_expansion_fault}
 use Rattle.ppexpand.specs.Expansion.{count, count_arguments, Expansion, IsExpansion, count_expansion}

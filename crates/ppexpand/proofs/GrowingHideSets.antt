@@ -1,12 +1,12 @@
 -- Adding hide sets does not change the values of arguments and invocations.
-use Rattle.std.proofs.Common.{◌≡◌, ℕ, zero, suc, List, [], ◌∷◌, ◌++◌, length, unwrap_or, Some, Vec, Global, refl, ap}
+use Rattle.std.proofs.Common.{◌≡◌, ℕ, zero, suc, List, [], ◌∷◌, unwrap_or, Some, Vec, Global, refl, ap}
 use Rattle.std.specs.Option.{option_map}
 use Rattle.std.specs.FinSet as set
 use Rattle.ppmacro.specs.Names.{HideSet}
 use Rattle.ppmacro.specs.HideSetPool.{HideSetPool}
 use Rattle.ppmacro.specs.HideSets.{set_at, hiding, hidings, HasSets, AllKnown, KeepsSets}
-use Rattle.ppmacro.specs.Substitution.{argument_at, expanded_at}
-use Rattle.ppmacro.specs.Substituting.{lists_of, expansion_if_computed, expansions_if_computed, ListsKnown, ArgumentsKnown}
+use Rattle.ppmacro.specs.Substitution.{expanded_at}
+use Rattle.ppmacro.specs.Substituting.{expansion_if_computed, expansions_if_computed, ListsKnown, ArgumentsKnown}
 use Rattle.ppmacro.specs.declared.hidden_token.Hidden.{Hidden}
 use Rattle.ppmacro.specs.declared.hidden_token.ArgumentExpansion.{ArgumentExpansion}
 use Rattle.ppmacro.specs.declared.hidden_token.ArgumentExpansion.TheVariants.{Unused, AsGiven, Owned}

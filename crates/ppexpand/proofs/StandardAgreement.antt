@@ -18,7 +18,7 @@ use Rattle.ppexpand.specs.Arguments.{is_open, Gathered, Closed, UnmatchedQuote, 
 use Rattle.ppexpand.specs.ExpansionStep.{predefined_value, Invocation, ExpansionStep, Done, TokenFault, Emits, ReplacementFault, Replaced, Invoked, followed_by, replaced_by, fault_at_expansion, Counts, counter_value}
 use Rattle.ppexpand.specs.ExpansionStep.{quote_fault, names_to_hide_for, closed_invocation_step, invocation_step, function_step, macro_step, named_step, macro_of}
 use Rattle.ppexpand.specs.ExpansionStep.{expansion_step, arguments_to_expand, finish_by_parameter, finish_invocation, ExpandedArguments}
-use Rattle.ppexpand.specs.Budget.{new_meter, without_budget, one_less}
+use Rattle.ppexpand.specs.Budget.{without_budget, one_less}
 use Rattle.ppexpand.specs.Expansion.{Outcome, step_in_budget, Expands, ExpandsTo, ExpandsArguments, Expansion, IsExpansion}
 use Rattle.ppexpand.specs.Expansion as in_budget
 use Rattle.ppexpand.specs.Standard.{NamesMacro, StartsInvocation, Invokes, opens_next, object_result, invocation_result, StandardExpands, StandardExpandsArguments, IsStandardExpansion}

@@ -68,14 +68,16 @@ parts_at_within n true hash part ps qs e h k = (tt, h)
 parts_at_within n false true part ps qs e h k = k
 parts_at_within n false false part ps qs e h k = (e, h)
 
-parts_within : (kind : MacroKind) (hash : Option HashSign) (ts : List Token) → AllByRecursion (IsPartWithin (length (parameter_names kind))) (parts_after kind hash ts)
+parts_within : (kind : MacroKind) (hash : Option HashSign) (ts : List Token)
+    → AllByRecursion (IsPartWithin (length (parameter_names kind))) (parts_after kind hash ts)
 parts_within kind hash [] = tt
 parts_within kind (Some hash) (t ∷ ts) = (stringized_within (length (parameter_names kind)) (parameter_of kind t) hash t, parts_within kind None ts)
 parts_within kind None (t ∷ ts) =
     parts_at_within (length (parameter_names kind)) (is_paste t) (is_operator_hash kind t) (plain_part (parameter_of kind t) t)
     (parts_after kind None ts)
     (parts_after kind (Some (hash_sign t)) ts)
-    (plain_within (length (parameter_names kind)) (parameter_of kind t) t (parameter_within kind t)) (parts_within kind None ts) (parts_within kind (Some (hash_sign t)) ts)
+    (plain_within (length (parameter_names kind)) (parameter_of kind t) t (parameter_within kind t)) (parts_within kind None ts)
+    (parts_within kind (Some (hash_sign t)) ts)
 
 -- If a chain is a parameter alone, it is one of the first n.
 abbrev IsChainWithin : ℕ → Chain → Type 0
@@ -88,7 +90,10 @@ lone_within n (Param i) (p ∷ os) h = tt
 lone_within n (Str i at) os h = tt
 lone_within n (VariadicAfterComma i) os h = tt
 
-joined_within : (n : ℕ) (space : Bool) (o : Operand) (cs : List Chain) → IsOperandWithin n o → AllByRecursion (IsChainWithin n) cs → AllByRecursion (IsChainWithin n) (join_first space o cs)
+joined_within : (n : ℕ) (space : Bool) (o : Operand) (cs : List Chain)
+    → IsOperandWithin n o
+    → AllByRecursion (IsChainWithin n) cs
+    → AllByRecursion (IsChainWithin n) (join_first space o cs)
 joined_within n space o [] h k = (lone_within n o [] h, tt)
 joined_within n space o (c ∷ cs) h k = (lone_within n o c.operands h, k.1)
 
@@ -117,7 +122,9 @@ lone_ending i (Param j ∷ (p ∷ (q ∷ (r ∷ os)))) = refl
 lone_ending i (Str j at ∷ (p ∷ (q ∷ os))) = refl
 lone_ending i (VariadicAfterComma j ∷ (p ∷ (q ∷ os))) = refl
 
-variadic_within : (n : ℕ) (lenient : Option ℕ) (cs : List Chain) → AllByRecursion (IsChainWithin n) cs → AllByRecursion (IsChainWithin n) (map (with_variadic lenient) cs)
+variadic_within : (n : ℕ) (lenient : Option ℕ) (cs : List Chain)
+    → AllByRecursion (IsChainWithin n) cs
+    → AllByRecursion (IsChainWithin n) (map (with_variadic lenient) cs)
 variadic_within n lenient [] h = tt
 variadic_within n None (c ∷ cs) h = (h.0, variadic_within n None cs h.1)
 variadic_within n (Some i) (c ∷ cs) h = (subst (IsWithin n) (lone_ending i c.operands) h.0, variadic_within n (Some i) cs h.1)
@@ -155,7 +162,8 @@ seen_more : (i j : ℕ) (seen : List ℕ) (b : Bool) → list_any (λ k. j == k)
 seen_more i j seen true is = other_or i j (list_any (λ k. i == k) seen) (list_any (λ k. j == k) seen) is (ap (λ n. list_any (λ k. n == k) seen))
 seen_more i j seen false is = list_any-append (λ k. i == k) seen (j ∷ []) ∙ ap (λ b. list_any (λ k. i == k) seen || b) (or-false (i == j))
 
-seen_with : (i : ℕ) (seen : List ℕ) (used : Option ℕ) → list_any (λ k. i == k) (with_use seen used) ≡ (list_any (λ k. i == k) seen || is_use i used)
+seen_with : (i : ℕ) (seen : List ℕ) (used : Option ℕ)
+    → list_any (λ k. i == k) (with_use seen used) ≡ (list_any (λ k. i == k) seen || is_use i used)
 seen_with i seen None = sym (or-false (list_any (λ k. i == k) seen))
 seen_with i seen (Some j) = seen_more i j seen (list_any (λ k. j == k) seen) refl
 
@@ -163,7 +171,8 @@ or_assoc : (a b c : Bool) → ((a || b) || c) ≡ (a || (b || c))
 or_assoc true b c = refl
 or_assoc false b c = refl
 
-seen_after : (i : ℕ) (seen : List ℕ) (us : List (Option ℕ)) → list_any (λ k. i == k) (fold with_use seen us) ≡ (list_any (λ k. i == k) seen || list_any (is_use i) us)
+seen_after : (i : ℕ) (seen : List ℕ) (us : List (Option ℕ))
+    → list_any (λ k. i == k) (fold with_use seen us) ≡ (list_any (λ k. i == k) seen || list_any (is_use i) us)
 seen_after i seen [] = sym (or-false (list_any (λ k. i == k) seen))
 seen_after i seen (u ∷ us) =
     seen_after i (with_use seen u) us
@@ -200,7 +209,9 @@ filter_takes p i is = sym (filter_next p i ∙ ap (λ b. filter p (range_with_le
 
 filter_below : (p q : ℕ → Bool) (a n : ℕ) → ((i : ℕ) → i < a + n → p i ≡ q i) → filter p (range_with_len a n) ≡ filter q (range_with_len a n)
 filter_below p q a zero h = refl
-filter_below p q a (suc n) h = λ k. cond (h a (omega arith) k) (a ∷ filter_below p q (a + 1) n (λ i less. h i (omega (arith, less))) k) (filter_below p q (a + 1) n (λ i less. h i (omega (arith, less))) k)
+filter_below p q a (suc n) h =
+    let rest = filter_below p q (a + 1) n (λ i less. h i (omega (arith, less))) in
+    λ k. cond (h a (omega arith) k) (a ∷ rest k) (rest k)
 
 pub marked_parameters : (marks : List Bool) (n : ℕ) (us : List (Option ℕ)) → length marks ≡ n → AreMarked marks (fold with_use [] us)
     → filter (λ i. get_or marks i false) (range_with_len 0 n) ≡ filter (λ i. list_any (is_use i) us) (range_with_len 0 n)

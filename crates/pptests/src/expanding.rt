@@ -241,14 +241,7 @@ fn assert_repeated<'x>(
     let mut scratch = Scratch::new(alloc, table.hashing())?;
     for _ in 0..3 {
         let mut meter = Meter::new(None);
-        assert_spelled(
-            rt,
-            table,
-            tokens,
-            &mut scratch,
-            &mut meter,
-            ".a.1.b.2.2.1",
-        )?;
+        assert_spelled(rt, table, tokens, &mut scratch, &mut meter, ".a.1.b.2.2.1")?;
         assert_list_spelled(rt, table, tokens, &mut scratch, ".a.a.a.1.b.2.2.1")?;
     }
     Ok(())

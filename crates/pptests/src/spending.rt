@@ -26,7 +26,12 @@ fn counts_on(rt: HostRuntime) {
         };
         let counted = meter.count_on();
         assert!(rt;
-            counted.counter == after && counted == Meter { counter: after, ..meter.spend_one() },
+            counted.counter == after
+                && counted
+                    == Meter {
+                        counter: after,
+                        ..meter.spend_one()
+                    },
             "{counter}"
         );
     }

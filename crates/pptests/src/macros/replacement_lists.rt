@@ -58,37 +58,40 @@ fn makes_chains_where_tokens_are_made(rt: HostRuntime) -> Result<(), Fail> {
     Ok(())
 }
 
-/// Macros, and the parameters whose arguments are expanded, in the order of the profile.
-const EXPANDED: &[(&str, Profile, &[usize])] = &[
-    ("#define O x", Profile::Gnu, &[]),
-    ("#define D(x, y) y", Profile::C11, &[1]),
-    ("#define S(x, y) #x y", Profile::C11, &[1]),
-    ("#define P(x, y) x ## y", Profile::Gnu, &[]),
-    ("#define V(x, ...) x __VA_ARGS__", Profile::C11, &[0, 1]),
-    ("#define W(x, y) y x y", Profile::C11, &[0, 1]),
-    ("#define W(x, y) y x y", Profile::Later, &[0, 1]),
-    ("#define W(x, y) y x y", Profile::Gnu, &[1, 0]),
-    ("#define B(x, y, z) #x z y x", Profile::Gnu, &[2, 1, 0]),
+/// Macros, their number of parameters, and the parameters whose arguments are expanded, in the order of the profile.
+const EXPANDED: &[(&str, Profile, usize, &[usize])] = &[
+    ("#define O x", Profile::Gnu, 0, &[]),
+    ("#define D(x, y) y", Profile::C11, 2, &[1]),
+    ("#define S(x, y) #x y", Profile::C11, 2, &[1]),
+    ("#define P(x, y) x ## y", Profile::Gnu, 2, &[]),
+    ("#define V(x, ...) x __VA_ARGS__", Profile::C11, 2, &[0, 1]),
+    ("#define W(x, y) y x y", Profile::C11, 2, &[0, 1]),
+    ("#define W(x, y) y x y", Profile::Later, 2, &[0, 1]),
+    ("#define W(x, y) y x y", Profile::Gnu, 2, &[1, 0]),
+    ("#define B(x, y, z) #x z y x", Profile::Gnu, 3, &[2, 1, 0]),
 ];
 
-/// Returns whether the arguments of these parameters of a macro are expanded, in this order, and no others.
+/// Returns whether a macro has this number of parameters, and the arguments of these are expanded, in this order, and no others.
 fn expands(
     rt: &impl Abort,
     alloc: Global,
     line: &Source,
     profile: Profile,
-    wanted: &[usize],
+    (count, wanted): (usize, &[usize]),
 ) -> Result<bool, Fail> {
     let table = table_of(rt, alloc, line)?;
     let named = macro_of(&table, line.tokens()).ok_or("no macro")?;
-    Ok(named.expansion_order(profile) == wanted)
+    Ok(named.parameter_count() == count && named.expansion_order(profile) == wanted)
 }
 
 #[test]
 fn tells_which_arguments_are_expanded(rt: HostRuntime) -> Result<(), Fail> {
-    for &(line, profile, wanted) in EXPANDED {
+    for &(line, profile, count, wanted) in EXPANDED {
         let source = source_of(&rt, rt.alloc(), line.as_bytes())?;
-        assert!(rt; expands(&rt, rt.alloc(), &source, profile, wanted)?, "{line}");
+        assert!(rt;
+            expands(&rt, rt.alloc(), &source, profile, (count, wanted))?,
+            "{line}"
+        );
     }
     Ok(())
 }

@@ -1,6 +1,5 @@
 use Rattle.std.proofs.Common.{◌≡◌, ◌∙◌, ◌∷◌, IfSome, sym, ap, subst}
-use Rattle.std.specs.FinSet as set
-use Rattle.ppmacro.specs.HideSets.{IsKnown, HasSets, hide_of, hiding, hidings, AllKnown}
+use Rattle.ppmacro.specs.HideSets.{IsKnown, HasSets, hiding, hidings, AllKnown}
 use Rattle.ppmacro.specs.Hiding.{Hiding}
 use Rattle.ppmacro.proofs.PoolGrowthLemmas.{hiding-keeps, hidings-keeps, known-keeps}
 use Rattle.ppexpand.specs.ExpansionStep.{counter_value}

@@ -26,7 +26,8 @@ new-requires-2 c =
     let us = c.as_slice-2.result.now in
     let none : list_any is_operator c.args.body.now ≡ false = sym c.has_operator.ensures ∙ c.if-has_operator.false in
     let alone : us ≡ lone_parameters (chains_of d) =
-    c.as_slice-2.ensures.value ∙ c.in_ok-uses-2.ensures ∙ uses-alone c.args.kind c.args.body.now ∙ ap lone_parameters (entry_chains c.args.kind c.args.body.now none) in
+    c.as_slice-2.ensures.value ∙ c.in_ok-uses-2.ensures ∙ uses-alone c.args.kind c.args.body.now
+    ∙ ap lone_parameters (entry_chains c.args.kind c.args.body.now none) in
     subst (λ ns. (k : ℕ) → k < length us → IfSome (get_or us k None) (λ i. i < length ns)) (sym c.parameter_names-count.ensures) (each_within d us alone)
 
 pub returns-then-has_operator-clause-prepared : goal.returns-then-has_operator-clause-prepared
@@ -39,7 +40,8 @@ returns-then-has_operator-clause-prepared c =
     ∙ chains-alone body c.in_ok-chains.chains.items ∙ ap lone_parameters c.in_ok-chains.ensures in record {
       chains = c.in_ok-chains.ensures;
       lone = sym (ap (λ b. b && not (list_any is_paste body)) (not-object c.args.kind c.requires));
-      by_parameter = c.in_ok-used.ensures.by_parameter ∙ used_in_order (chains_of d) _ us alone ∙ ap (λ ns. used_parameters (chains_of d) (length ns)) c.parameter_names-count.ensures;
+      by_parameter = c.in_ok-used.ensures.by_parameter ∙ used_in_order (chains_of d) _ us alone
+          ∙ ap (λ ns. used_parameters (chains_of d) (length ns)) c.parameter_names-count.ensures;
       by_use = c.in_ok-used.ensures.by_use ∙ ap (fold with_use []) alone;
     }
 
@@ -51,9 +53,11 @@ returns-clause-prepared c =
     let none : list_any is_operator body ≡ false = sym c.has_operator.ensures ∙ c.if-has_operator.false in
     let uses = c.in_ok-uses-2.ensures in
     let us = c.as_slice-2.result.now in
-    let alone : us ≡ lone_parameters (chains_of d) = c.as_slice-2.ensures.value ∙ uses ∙ uses-alone kind body ∙ ap lone_parameters (entry_chains kind body none) in record {
+    let alone : us ≡ lone_parameters (chains_of d) =
+    c.as_slice-2.ensures.value ∙ uses ∙ uses-alone kind body ∙ ap lone_parameters (entry_chains kind body none) in record {
       chains = ap (λ us. map entry_chain (entries_at us body)) uses ∙ ap (map entry_chain) (entries-of kind body) ∙ entry_chains kind body none;
       lone = sym (ap (λ b. b && not (list_any is_paste body)) (not-object kind c.requires));
-      by_parameter = c.in_ok-used-2.ensures.by_parameter ∙ used_in_order (chains_of d) _ us alone ∙ ap (λ ns. used_parameters (chains_of d) (length ns)) c.parameter_names-count.ensures;
+      by_parameter = c.in_ok-used-2.ensures.by_parameter ∙ used_in_order (chains_of d) _ us alone
+          ∙ ap (λ ns. used_parameters (chains_of d) (length ns)) c.parameter_names-count.ensures;
       by_use = c.in_ok-used-2.ensures.by_use ∙ ap (fold with_use []) alone;
     }
