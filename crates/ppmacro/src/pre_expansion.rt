@@ -4,7 +4,7 @@ ghost use Rattle.std.specs.List.{filter, fold, list_any, range_with_len};
 ghost use Rattle.ppmacro.specs.PreExpansion.{lone_parameter, with_use};
 ghost use Rattle.ppmacro.specs.code.KeptOperands.{operands_at};
 ghost use Rattle.ppmacro.specs.code.KeptChains.{lone_parameter_at};
-ghost use Rattle.ppmacro.specs.code.PreparedDefinitions.{is_use, AreMarked};
+ghost use Rattle.ppmacro.specs.code.PreparedDefinitions.{is_use, order_of_uses, uses_of, AreMarked};
 
 use crate::kept_chains::{KeptChain, KeptOperand, operand_at};
 use crate::macros::Operand;
@@ -16,8 +16,8 @@ use std::alloc::Global;
 pub struct UsedParameters {
     /// In their own order.
     pub(crate) by_parameter: Vec<usize>,
-    /// In the order of their first uses.
-    pub(crate) by_use: Vec<usize>,
+    /// In the order of their first uses, if that isn't their own order.
+    pub(crate) by_use: Option<Vec<usize>>,
 }
 
 /// Returns the parameter that a chain consists of, if it consists of one alone.
@@ -90,11 +90,11 @@ fn push_uses(
     Ok(())
 }
 
-/// Returns the indexes of the marks.
-fn marked(alloc: Global, marks: &[bool]) -> Result<Vec<usize>, Memory>
+/// Returns the indexes of the marks, which are this many.
+fn marked(alloc: Global, marks: &[bool], count: usize) -> Result<Vec<usize>, Memory>
     ensures { IfOk result (λ v. v.items ≡ filter (λ i. get_or marks.now i false) (range_with_len 0 (length marks.now))) }
 {
-    let mut indexes = Vec::new(alloc);
+    let mut indexes = Vec::with_capacity(alloc, count)?;
     for (index, mark) in marks.iter().enumerate() {
         if !*mark {
             continue;
@@ -104,15 +104,25 @@ fn marked(alloc: Global, marks: &[bool]) -> Result<Vec<usize>, Memory>
     Ok(indexes)
 }
 
+/// Returns the parameters in the order of their first uses, if that isn't their own order.
+fn unless_same(by_parameter: &[usize], by_use: Vec<usize>) -> Option<Vec<usize>>
+    ensures { order_of_uses by_parameter.now result ≡ by_use.items }
+{
+    if by_use.as_slice() == by_parameter {
+        return None;
+    }
+    Some(by_use)
+}
+
 impl UsedParameters {
     /// Returns no parameters.
     pub(crate) fn none(alloc: Global) -> UsedParameters
         ensures by_parameter { result.by_parameter.items ≡ [] }
-        ensures by_use { result.by_use.items ≡ [] }
+        ensures by_use { uses_of result ≡ [] }
     {
         UsedParameters {
             by_parameter: Vec::new(alloc),
-            by_use: Vec::new(alloc),
+            by_use: None,
         }
     }
 
@@ -125,15 +135,26 @@ impl UsedParameters {
     ) -> Result<UsedParameters, Memory>
         requires { (k : ℕ) → k < length uses.now → IfSome (get_or uses.now k None) (λ i. i < parameters) }
         ensures by_parameter { IfOk result (λ p. p.by_parameter.items ≡ filter (λ i. list_any (is_use i) uses.now) (range_with_len 0 parameters)) }
-        ensures by_use { IfOk result (λ p. p.by_use.items ≡ fold with_use [] uses.now) }
+        ensures by_use { IfOk result (λ p. uses_of p ≡ fold with_use [] uses.now) }
     {
         let mut marks = vec![in alloc; false; parameters]?;
         let mut by_use = Vec::new(alloc);
         push_uses(&mut marks, &mut by_use, uses)?;
-        let by_parameter = marked(alloc, marks.as_slice())?;
+        let by_parameter = marked(alloc, marks.as_slice(), by_use.len())?;
+        let by_use = unless_same(by_parameter.as_slice(), by_use);
         Ok(UsedParameters {
             by_parameter,
             by_use,
         })
+    }
+
+    /// Returns the parameters in the order of their first uses.
+    pub(crate) fn in_order_of_use(&self) -> &[usize]
+        ensures { result.now ≡ uses_of self.now }
+    {
+        match &self.by_use {
+            Some(by_use) => by_use.as_slice(),
+            None => self.by_parameter.as_slice(),
+        }
     }
 }

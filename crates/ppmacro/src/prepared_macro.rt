@@ -192,7 +192,7 @@ impl<'a> PreparedMacro<'a> {
     {
         let used = &self.definition.get().used;
         if profile.is_gnu() {
-            used.by_use.as_slice()
+            used.in_order_of_use()
         } else {
             used.by_parameter.as_slice()
         }

@@ -1,5 +1,5 @@
 -- Definitions in the form that expansion reads, and `#define` lines that are read once for all units.
-use Rattle.std.specs.Prelude.{◌≡◌, ◌≤◌, ◌<◌, ◌==◌, ◌&&◌, not, ℕ, Bool, false, List, Option, Some, None, Ok, Err, IfSome, MatchResult, Box, length, map, drop, get_or}
+use Rattle.std.specs.Prelude.{◌≡◌, ◌≤◌, ◌<◌, ◌==◌, ◌&&◌, not, ℕ, Bool, false, List, Option, Some, None, Ok, Err, IfSome, MatchResult, Box, Vec, length, map, drop, get_or}
 use Rattle.std.specs.List.{list_any}
 use Rattle.std.specs.Global.{Global}
 use Rattle.std.specs.FinMap as table
@@ -16,6 +16,7 @@ use Rattle.ppmacro.specs.PreExpansion.{used_parameters, first_uses}
 use Rattle.ppmacro.specs.Define.{check_define}
 use Rattle.ppmacro.specs.DefineLines.{DefineLine, IsDefineLine}
 use Rattle.ppmacro.specs.declared.macros.Chain.{Chain}
+use Rattle.ppmacro.specs.declared.pre_expansion.UsedParameters.{UsedParameters}
 use Rattle.ppmacro.specs.declared.definition.Definition.{Definition}
 use Rattle.ppmacro.specs.declared.definition.ListForm.{ListForm}
 use Rattle.ppmacro.specs.declared.definition.ListForm.TheVariants.{Plain, Pasted}
@@ -32,6 +33,14 @@ is_use i (Some j) = i == j
 abbrev pub AreMarked : List Bool → List ℕ → Type 0
 AreMarked marks used = (i : ℕ) → i < length marks → get_or marks i false ≡ list_any (λ j. i == j) used
 
+-- The parameters in the order of their uses, which is kept only if it isn't their own order.
+abbrev pub order_of_uses : List ℕ → Option (Vec ℕ Global) → List ℕ
+order_of_uses by_parameter None = by_parameter
+order_of_uses by_parameter (Some by_use) = by_use.items
+
+abbrev pub uses_of : UsedParameters → List ℕ
+uses_of u = order_of_uses u.by_parameter.items u.by_use
+
 -- The chains of a replacement list in the form of a definition.
 abbrev pub form_chains : List Token → ListForm → List Chain
 form_chains body (Plain v) = map entry_chain (entries_at v.items body)
@@ -42,7 +51,7 @@ pub record IsPrepared (d : Definition) (body : List Token) : Type 0 where
   pub chains : form_chains body d.form ≡ chains_of (record { kind = d.kind; body = body })
   pub lone : d.lone ≡ (is_object_like d.kind && not (list_any is_paste body))
   pub by_parameter : d.used.by_parameter.items ≡ used_parameters (chains_of (record { kind = d.kind; body = body })) (length (parameter_names d.kind))
-  pub by_use : d.used.by_use.items ≡ first_uses (chains_of (record { kind = d.kind; body = body }))
+  pub by_use : uses_of d.used ≡ first_uses (chains_of (record { kind = d.kind; body = body }))
 
 -- What is the definition of a line without a fault, as if its name had no other definition. The replacement list is the end of the line.
 pub record IsDefinedBy (profile : Profile) (at : Place) (line : List Token) (d : Defined) : Type 0 where
