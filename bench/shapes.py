@@ -129,6 +129,12 @@ def searched(folders, includes):
     return dict(DATE, search=["d%d" % i for i in range(folders)], files=files, units=[{"file": "a.c"}])
 
 
+def directives_within(count):
+    """Returns an invocation with this number of directives among its arguments, in a list of GNU C."""
+    text = lines("#define f(...) __VA_ARGS__", "f(1", (line for i in range(count) for line in ("#define a%d 1" % i, ", a%d" % i)), ")")
+    return dict(list_of_text(text), profile="gnu")
+
+
 # ---- names that collide
 
 
@@ -178,6 +184,7 @@ SHAPES = [
     Shape("1,000 tokens through macros", (4_000, 8_000, 16_000), lambda size: argument_through(1_000, size), quick=1),
     Shape("#undef in order", (60_000, 120_000, 240_000), undefined_in_order),
     Shape("arguments", (100_000, 200_000, 400_000), arguments),
+    Shape("directives among arguments", (50_000, 100_000, 200_000), listed=directives_within),
     *SHORT,
     *(many(shape) for shape in SHORT),
     Shape("uses of a long name", (10_000, 20_000, 40_000), lambda size: used_name(100_000, size), quick=1),

@@ -29,8 +29,8 @@ FAULTS = {
     16: ("conflicting redefinition of macro %s", "conflicting redefinition of a macro",
          "`#undef` the name first, or put the definition after `#ifndef`."),
     17: ("unterminated invocation of macro %s", "unterminated invocation of a macro",
-         "Close it. If a directive is among the arguments (gcc and clang obey it, with a warning), choose the argument by"
-         " a macro that `#if` defines before it."),
+         "Close it. If a directive is among the arguments, use the profile `gnu`, or choose the argument by a macro that"
+         " `#if` defines before it."),
     18: ("wrong number of arguments of macro %s", "wrong number of arguments of a macro",
          "Put arguments with commas into parentheses. For a variadic macro without more arguments write `f(1,)`, or leave"
          " the named parameter out."),

@@ -1,6 +1,6 @@
 #!/usr/bin/env python3
-"""Tests rows of the profile gnu by the program's output: variadic macros, wrapper headers, `__COUNTER__` and pushed macros as in gcc's manual, and
-`__has_include`.
+"""Tests rows of the profile gnu by the program's output: variadic macros, wrapper headers, `__COUNTER__` and pushed macros as in gcc's manual,
+directives among the arguments of a macro, and `__has_include`.
 
     tests/gnu_tests.py [PROGRAM] [-k NAME]
 
@@ -110,6 +110,52 @@ TEXTS = [
     ("#define X 1\n#pragma push_macro(\"X\")\n#define X 2\n#if 0\n#pragma pop_macro(\"X\")\n#endif\nX\n", "pragma@0:2:1[ push_macro ( \"X\" ) ] 2 | 0 | ok"),
     ("#define X 1\n#pragma push_macro(\"X \")\n#undef X\n#pragma pop_macro(\"X \")\nX\n#pragma push_macro(\"\")\n#pragma pop_macro(\"1\")\n", "pragma@0:2:1[ push_macro ( \"X \" ) ] pragma@0:4:1[ pop_macro ( \"X \" ) ] X pragma@0:6:1[ push_macro ( \"\" ) ] pragma@0:7:1[ pop_macro ( \"1\" ) ] | 0 | ok"),
     ("#define X 1\n_Pragma(\"push_macro(\\\"X\\\")\")\n#define X 2\n_Pragma(\"pop_macro(\\\"X\\\")\")\nX\n", "_Pragma ( \"push_macro(\\\"X\\\")\" ) _Pragma ( \"pop_macro(\\\"X\\\")\" ) 2 | 0 | ok"),
+    ("#define X 1\n#define f(x) [x]\n#pragma push_macro(\"X\")\n#define X 2\nX f(X\n#pragma pop_macro(\"X\")\nX)\n", "pragma@0:3:1[ push_macro ( \"X\" ) ] 2 pragma@0:6:1[ pop_macro ( \"X\" ) ] [ 1 1 ] | 0 | ok"),
+    ("#define f(x) [x]\nf(1\n#pragma push_macro(\"f\")\n2)\n#define f 3\n#pragma pop_macro(\"f\")\nf(4)\n", "pragma@0:3:1[ push_macro ( \"f\" ) ] [ 1 2 ] pragma@0:6:1[ pop_macro ( \"f\" ) ] [ 4 ] | 0 | ok"),
+    ("#define f(x) [x]\n#pragma push_macro(\"f\")\nf(1\n#pragma pop_macro(\"f\")\n2)\n", "pragma@0:2:1[ push_macro ( \"f\" ) ] | 0 | 17 0:3:1 f"),
+    # directives among the arguments of a macro
+    ("#define f(x) [x]\na f(1\n#define Q 7\nQ) b\n", "a [ 1 7 ] b | 0 | ok"),
+    ("#define struct_group(N, M...) union { struct { M } ; struct { M } N ; }\nstruct_group(headers,\n  int a;\n#ifdef X\n  int b;\n#else\n  int c;\n#endif\n  int d;\n)\n", "union { struct { int a ; int c ; int d ; } ; struct { int a ; int c ; int d ; } headers ; } | 0 | ok"),
+    ("#define f(x, y...) [x|y]\nf(1\n#ifdef X\n, 2)\n#else\n)\n#endif\n3\n", "[ 1 | ] 3 | 0 | ok"),
+    ("#define f(x) [x]\n#if 1\nf(1\n#else\n2\n#endif\n) 3\n", "[ 1 ] 3 | 0 | ok"),
+    ("#define f(x) [x]\nf(1\n#if 1\n) 2\n#endif\n", "[ 1 ] 2 | 0 | ok"),
+    ("#define f(x) [x]\nf(1\n#if 0\n2\n#elif 1\n3\n#endif\n)\n", "[ 1 3 ] | 0 | ok"),
+    ("#define X 1\n#define f(x) [x]\nX f(X\n#define X 2\nX) X\n", "1 [ 2 2 ] 2 | 0 | ok"),
+    ("#define f(x) [x]\n#define g(x, y) <x y>\nf(g(1,\n#define X 7\n2) g(\n#define Y 8\nX, Y)\n# \n)\n", "[ < 1 2 > < 7 8 > ] | 0 | ok"),
+    ("#define f(x) [x]\nf(1\n#define X 2\n) f(X\n#define X 3\nX) X\n", "[ 1 ] [ 3 3 ] 3 | 0 | ok"),
+    ("#define f(x) [x]\nf(g\n#define g(x) <x>\n(1)) g\n#undef g\n(2)\n", "[ < 1 > ] g ( 2 ) | 0 | ok"),
+    ("#define f(x) [x]\n#define LOG f\nLOG(LOG\n#undef LOG\nLOG) LOG\n", "[ LOG LOG ] LOG | 0 | ok"),
+    ("#define f(x) [x]\n#define g(x) x f\ng(1)(2\n#define g 5\ng)\n", "1 [ 2 5 ] | 0 | ok"),
+    ("#define f(x) [x]\n#define O __COUNTER__ f\nO(__COUNTER__\n#define Q\n2) __COUNTER__\n", "0 [ 1 2 ] 2 | 0 | ok"),
+    ("#define f(x) [x]\n#define O f(\nO 1\n#define Q\n2)\n", "| 0 | 17 0:3:1 f"),
+    ("#define f(x) [x]\n#define O f(\nO 1\n2)\n", "[ 1 2 ] | 0 | ok"),
+    ("#define f(x) [x]\nf\n#define Q\n(1)\n", "f ( 1 ) | 0 | ok"),
+    ("#define f(x) [x]\nf(1\n#define f(x) <x>\n2) f(3)\n", "| 0 | 17 0:2:1 f"),
+    ("#define f(x) [x]\nf(1\n#undef f\n2)\n", "| 0 | 17 0:2:1 f"),
+    ("#define f(x) [x]\n#define O f\nO(1\n#define O 2\nO) O\n", "[ 1 2 ] 2 | 0 | ok"),
+    ("#define f(x) [x]\nf(1\n#include\n)\n", "| 0 | 17 0:2:1 f"),
+    ("#define f(x) [x]\nf(1\n#if 0\n#include \"h.h\"\n#endif\n)\n", "[ 1 ] | 0 | ok"),
+    ("#define f(x) [x]\nf(1\n#line 7\n)\n", "| 0 | 17 0:2:1 f"),
+    ("#define f(x) [x]\na\n f(1\n#define Q\n2\n", "a | 0 | 17 0:3:2 f"),
+    ("#define f(x) [x]\nf(1\n#define Q\n", "| 0 | 17 0:2:1 f"),
+    ("#define f(x) [x]\na f(1\n#pragma p X\n2) b\n", "a pragma@0:3:1[ p X ] [ 1 2 ] b | 0 | ok"),
+    ("#define f(x) [x]\na f(1\n#error no\n)\n", "a | 0 | 34 0:3:1 no"),
+    ("#define f(x) [x]\nf(1\n#foo\n)\n", "| 0 | 8 0:3:1 foo"),
+    ("#define f(x) [x]\nf(1\n#include '\n)\n", "| 0 | 7 0:3:10 '"),
+    ("#define f(x) [x]\nf(1\n#define Q\n2 ' )\n", "| 0 | 7 0:4:3 '"),
+    ("#define f(x) [x]\nf(1 '\n#define Q\n2)\n", "| 0 | 7 0:2:5 '"),
+    ("#define f(x) [x]\nf(1\n#\n#warning w\n2)\n", "[ 1 2 ] | 0 | ok"),
+    ("#define f(x) [x]\nf(1\n#define Q\n, 2)\n", "| 0 | 18 0:2:1 f"),
+    ("#define f(x) [x]\n#if f(1\n#endif\n)\n", "| 0 | 17 0:2:5 f"),
+    ("#define f(x) [x]\n#define X 1\nf(2\n#if f(X\n#endif\n)\n", "| 0 | 17 0:4:5 f"),
+    ("#define f(x) [x]\n#define O f(\n#define id(x) x\nid(O 1\n#define Q\n)\n", "| 0 | 17 0:4:4 f"),
+    ("#define S(x...) #x\n#define T(x...) S(x)\nT(a\n#define Q\nb ,\n#undef Q\n c\n# \n-) S( a\n#define Q\n) S\n(b\n#undef Q\nc)\n", "\"a b , c -\" \"a\" \"b c\" | 0 | ok"),
+    ("#define f(x) [x]\n#define E\n#define g(x) f x\n E f(1\n#define Q\n) g() (2\n#undef Q\n)\n", "[ 1 ] [ 2 ] | 0 | ok"),
+    ("#define f(x) [x]\n__LINE__ f(__LINE__\n#define Q\n__LINE__\n) __LINE__\n", "2 [ 2 4 ] 5 | 0 | ok"),
+    ("#define f(x) [x]\nf(__COUNTER__\n#if __COUNTER__ == 0\n__COUNTER__\n#endif\n) __COUNTER__\n", "[ 1 2 ] 3 | 0 | ok"),
+    ("#define f(x) [x]\nf(1\n#if __has_include(\"a.c\")\n2\n#endif\n)\n", "[ 1 2 ] | 0 | ok"),
+    ("#define log(f, a...) p(f, ## a)\nlog(\"x\"\n#ifdef Q\n, 1\n#endif\n) log(\"y\"\n#ifndef Q\n, 2\n#endif\n)\n", "p ( \"x\" ) p ( \"y\" , 2 ) | 0 | ok"),
+    ("#define f(x) [x]\n#define P(a, b) a ## b\nx P(, f)(1\n#define Q 2\nQ\n# \n)\n", "x [ 1 2 ] | 0 | ok"),
     # trigraphs, of which none is replaced
     ("\"???)\" ??= x\n", "\"???)\" ? ? = x | 0 | ok"),
     ("'??/'\n", "'??/' | 0 | ok"),
@@ -140,6 +186,8 @@ OTHERS = [
     ("later", "#define X 1\n#define X 2\n", "| 0 | 16 0:2:1 X"),
     ("later", "#define X 1\n#pragma push_macro(\"X\")\n#undef X\n#pragma pop_macro(\"X\")\nX\n", "pragma@0:2:1[ push_macro ( \"X\" ) ] pragma@0:4:1[ pop_macro ( \"X\" ) ] X | 0 | ok"),
     ("c11", "#define X 1\n#pragma push_macro(\"X\")\n#undef X\n#pragma pop_macro(\"X\")\nX\n", "pragma@0:2:1[ push_macro ( \"X\" ) ] pragma@0:4:1[ pop_macro ( \"X\" ) ] X | 0 | ok"),
+    ("later", "#define f(x) [x]\nf(1\n#define Q\n)\n", "| 0 | 17 0:2:1 f"),
+    ("c11", "#define f(x) [x]\nf(1\n#define Q\n)\n", "| 0 | 17 0:2:1 f"),
     ("later", "#if __has_include(\"a.c\")\n1\n#endif\n", "| 0 | 23 0:1:1"),
     ("later", "__COUNTER__\n#ifdef __COUNTER__\n1\n#endif\n", "__COUNTER__ | 0 | ok"),
     ("c11", "#define f(a) a\n#define g(a) a\n#define sw(a, b) b a\nsw(f(1,2), g(1,2))\n", "| 0 | 18 0:4:4 f"),
@@ -275,6 +323,49 @@ LISTS = [
     ([
         ("a.c", "#define X 1\n#pragma push_macro(\"X\")\n#pragma pop_macro(\"X\")\nX\n"),
     ], {}, {"budget": 2}, "pragma@0:2:1[ push_macro ( \"X\" ) ] pragma@0:3:1[ pop_macro ( \"X\" ) ] 1 | 0 | ok"),
+    # directives among the arguments of a macro
+    ([
+        ("a.c", "#define f(x) [x]\na f(1\n#include \"h.h\"\n)\n"),
+        ("h.h", "2\n"),
+    ], {}, {}, "a | 0 | 17 0:2:3 f"),
+    ([
+        ("a.c", "#define f(x) [x]\nf(1\n#include_next <h.h>\n)\n"),
+        ("h.h", "2\n"),
+    ], {}, {}, "| 0 | 17 0:2:1 f"),
+    ([
+        ("a.c", "#include \"h.h\"\n)\n"),
+        ("h.h", "#define f(x) [x]\nf(1\n#define Q\n"),
+    ], {}, {}, "| 0 1 | 17 1:2:1 f"),
+    ([
+        ("a.c", "#define f(x) [x]\n#include \"h.h\"\n2\n"),
+        ("h.h", "f(1\n#define Q\n) f\n"),
+    ], {}, {}, "[ 1 ] f 2 | 0 1 | ok"),
+    ([
+        ("a.c", "#include \"h.h\"\n#include \"h.h\"\n"),
+        ("h.h", "#define f(x) [x]\nf(1\n#pragma once\n2)\n"),
+    ], {}, {}, "pragma@1:3:1[ once ] [ 1 2 ] | 0 1 | ok"),
+    ([
+        ("a.c", "#define f(x) [x]\nf(1\n#define Q\n2\n#undef Q\n)\n"),
+    ], {}, {"budget": 2}, "[ 1 2 ] | 0 | ok"),
+    ([
+        ("a.c", "#define f(x) [x]\nf(1\n#define Q\n2\n#undef Q\n)\n"),
+    ], {}, {"budget": 1}, "| 0 | 35 0:2:1"),
+    ([
+        ("a.c", "#define f(x) [x]\n#define X 1\nf(1\n#if X\n2\n#endif\n)\n"),
+    ], {}, {"budget": 3}, "[ 1 2 ] | 0 | ok"),
+    ([
+        ("a.c", "#define f(x) [x]\n#define X 1\nf(1\n#if X\n2\n#endif\n)\n"),
+    ], {}, {"budget": 2}, "| 0 | 35 0:4:5"),
+    ([
+        ("a.c", "#define f(x) [x]\nf(1\n#define Q\n"),
+    ], {}, {"budget": 2}, "| 0 | 17 0:2:1 f"),
+    ([
+        ("a.c", "#define f(x) [x]\nf(1\n#define Q\n"),
+    ], {}, {"budget": 1}, "| 0 | 35 0:2:1"),
+    ([
+        ("a.c", "#include \"h.h\"\n#include \"h.h\"\nf(2)\n"),
+        ("h.h", "#ifndef H\n#define H\n#define f(x) [x]\nf(1\n#ifdef Q\n#else\n3\n#endif\n)\n#endif\n"),
+    ], {}, {}, "[ 1 3 ] [ 2 ] | 0 1 | ok"),
     # `__STDC_VERSION__`
     ([
         ("a.c", "__STDC_VERSION__\n#if __STDC_VERSION__ < 201112L\n1\n#endif\n"),
@@ -306,18 +397,63 @@ LISTS = [
     ], {"define": ["__has_attribute(x) __has_attribute_1(x)", "__has_attribute_1(x) __has_attribute_ ## x", "__has_attribute___unused__ 1"]}, {}, "1 | 0 | ok"),
 ]
 
-# The locations of tokens after a comma, and of one after a comma that was deleted.
+# Texts of a.c, and the lines of a unit of it: tokens after a comma, and one after a comma that was deleted; directives among arguments.
 PLACED = [
-    b"tok 0:2:4 0:2:2 n+ 1",
-    b"tok 0:2:7 0:2:7 p+ +",
-    b"tok 0:3:3 0:3:1 n+ 1",
-    b"tok 0:1:20 0:3:1 p- ,",
-    b"tok 0:3:7 0:3:1 n+ 2",
-    b"tok 0:3:8 0:3:1 p- ,",
-    b"tok 0:3:10 0:3:1 n+ 3",
-    b"tok 0:3:12 0:3:12 p- +",
-    b"dep 0 a.c",
-    b"ok",
+    ("#define e(f,a...) f,##a\n e(1) +\ne(1,  2, 3)+\n", [
+        b"tok 0:2:4 0:2:2 n+ 1",
+        b"tok 0:2:7 0:2:7 p+ +",
+        b"tok 0:3:3 0:3:1 n+ 1",
+        b"tok 0:1:20 0:3:1 p- ,",
+        b"tok 0:3:7 0:3:1 n+ 2",
+        b"tok 0:3:8 0:3:1 p- ,",
+        b"tok 0:3:10 0:3:1 n+ 3",
+        b"tok 0:3:12 0:3:12 p- +",
+        b"dep 0 a.c",
+        b"ok",
+    ]),
+    ("#define f(x) [x]\na f(1\n#define Q 7\nQ) b\n", [
+        b"tok 0:2:1 0:2:1 i+ a",
+        b"tok 0:1:14 0:2:3 p+ [",
+        b"tok 0:2:5 0:2:3 n- 1",
+        b"tok 0:3:11 0:2:3 n+ 7",
+        b"tok 0:1:16 0:2:3 p- ]",
+        b"tok 0:4:4 0:4:4 i+ b",
+        b"dep 0 a.c",
+        b"ok",
+    ]),
+    ("#define f(x) [x]\n#define O __COUNTER__ f\nO(__COUNTER__\n#define Q\n2) __COUNTER__\n", [
+        b"tok 0:2:11 0:3:1 n+ 0",
+        b"tok 0:1:14 0:3:1 p+ [",
+        b"tok 0:3:3 0:3:1 n- 1",
+        b"tok 0:5:1 0:3:1 n+ 2",
+        b"tok 0:1:16 0:3:1 p- ]",
+        b"tok 0:5:4 0:5:4 n+ 2",
+        b"dep 0 a.c",
+        b"ok",
+    ]),
+    ("#define f(x) [x]\na f(1\n#pragma p X\n2) b\n", [
+        b"tok 0:2:1 0:2:1 i+ a",
+        b"prag 0:3:1",
+        b"ptok 0:3:9 0:3:9 i+ p",
+        b"ptok 0:3:11 0:3:11 i+ X",
+        b"tok 0:1:14 0:2:3 p+ [",
+        b"tok 0:2:5 0:2:3 n- 1",
+        b"tok 0:4:1 0:2:3 n+ 2",
+        b"tok 0:1:16 0:2:3 p- ]",
+        b"tok 0:4:4 0:4:4 i+ b",
+        b"dep 0 a.c",
+        b"ok",
+    ]),
+    ("#define f(x) [x]\n#define E\n#define g(x) f x\n E f(1\n#define Q\n) g() (2\n#undef Q\n)\n", [
+        b"tok 0:1:14 0:4:4 p+ [",
+        b"tok 0:4:6 0:4:4 n- 1",
+        b"tok 0:1:16 0:4:4 p- ]",
+        b"tok 0:1:14 0:6:3 p+ [",
+        b"tok 0:6:8 0:6:3 n- 2",
+        b"tok 0:1:16 0:6:3 p- ]",
+        b"dep 0 a.c",
+        b"ok",
+    ]),
 ]
 
 
@@ -343,14 +479,19 @@ class Gnu(unittest.TestCase):
         text = "__COUNTER__\n#undef __COUNTER__\n__COUNTER__\n"
         found = results([("a.c", text), ("b.c", "__COUNTER__ __COUNTER__\n")], [{"file": name} for name in ("a.c", "b.c", "a.c", "b.c")], profile="gnu")
         self.assertEqual(found, ["0 __COUNTER__ | 0 | ok", "0 1 | 1 | ok"] * 2)
+
     def test_pushed_macros_of_each_unit(self):
         text = "#pragma pop_macro(\"X\")\nX\n#define X 2\n#pragma push_macro(\"X\")\n"
         wanted = "pragma@0:1:1[ pop_macro ( \"X\" ) ] X pragma@0:4:1[ push_macro ( \"X\" ) ] | 0 | ok"
         self.assertEqual(results([("a.c", text)], [{"file": "a.c"}] * 2, profile="gnu"), [wanted, wanted])
 
+    def test_an_open_invocation_of_each_unit(self):
+        text = "#define f(x) [x]\nf(1\n#define Q\n"
+        self.assertEqual(results([("a.c", text)], [{"file": "a.c"}] * 2, profile="gnu"), ["| 0 | 17 0:2:1 f"] * 2)
+
     def test_places_and_marks(self):
-        found = dumped([{"name": "a.c", "text": "#define e(f,a...) f,##a\n e(1) +\ne(1,  2, 3)+\n"}], [{"file": "a.c"}], profile="gnu")
-        self.assertEqual(found, [PLACED])
+        for text, lines in PLACED:
+            self.assertEqual(dumped([{"name": "a.c", "text": text}], [{"file": "a.c"}], profile="gnu"), [lines], text)
 
 
 if __name__ == "__main__":

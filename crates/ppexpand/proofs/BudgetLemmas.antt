@@ -13,9 +13,11 @@ use Rattle.ppexpand.specs.Budget.{with_budget, without_budget, is_used_up, is_ex
 use Rattle.ppexpand.specs.Expansion.{Outcome, stops_with, with_emitted, step_in_budget, Expands, done, token_fault, emits, replacement_fault, replaced, argument_fault, invocation_fault, counts}
 use Rattle.ppexpand.specs.Expansion.{invocation_replaced, ExpandsArguments, none, too_deep, pre_expanded, pre_expansion_fault}
 use Rattle.ppexpand.specs.Expansion.{count, count_arguments, Expansion, IsExpansion, count_expansion}
+use Rattle.ppexpand.specs.OpenInvocations.{stopped_at, still_open, open_expansion}
 use Rattle.ppexpand.specs.Laws.{plus, IsPrefix, IsOver, CapsExpansion}
 use Rattle.ppexpand.proofs.StepLemmas.{IsFree, refused_is_free, unrefused-in_budget, free-in_budget, exhausted-in_budget}
 use Rattle.ppexpand.proofs.OutcomeUniqueness.{same_outcome}
+use Rattle.ppexpand.proofs.StoppedLists.{stops_now}
 use native.Mathlib.Decide.{dec_lt}
 
 -- a step that costs one replacement
@@ -444,6 +446,44 @@ module _ (macros : Macros) (env : Env) where
     fault_is = x.fault_is;
     meter_is = ap (with_budget (Some n)) x.meter_is;
   }
+
+  -- A budget that suffices doesn't change where an expansion stops.
+  enough_stop : {level steps : ℕ} {meter : Meter} {list : List Hiding} {out : Outcome} (b : ℕ)
+      → (is : Covers meter.remaining b)
+      → (d : Expands macros env level meter steps list out) (n : ℕ)
+      → (sum : b ≡ count macros env d + n)
+      → stopped_at macros env (enough b is d n sum) ≡ stopped_at macros env d
+  unfolding enough
+  enough_stop {level = level} {meter = meter} {list = list} b is (done e) n sum =
+      stops_now macros env {level = level} {meter = with_budget (Some b) meter} {list = list} {out = leaving n (stops_with meter None)} (enough {level = level} {meter = meter} {list = list} b is (done e) n sum) refl
+  enough_stop {level = level} {meter = meter} {list = list} b is (token_fault {f = f} e) n sum =
+      stops_now macros env {level = level} {meter = with_budget (Some b) meter} {list = list} {out = leaving n (stops_with meter (Some f))} (enough {level = level} {meter = meter} {list = list} b is (token_fault e) n sum) refl
+  enough_stop b is (emits e more) n sum = enough_stop b is more n sum
+  enough_stop zero is (replacement_fault e) n sum = absurd (omega arith)
+  enough_stop {level = level} {meter = meter} {list = list} (suc b) is (replacement_fault {f = f} e) n sum =
+      stops_now macros env {level = level} {meter = with_budget (Some (suc b)) meter} {list = list} {out = leaving n (stops_with (spend_one meter) (Some f))}
+      (enough {level = level} {meter = meter} {list = list} (suc b) is (replacement_fault e) n sum) refl
+  enough_stop zero is (replaced e more) n sum = absurd (omega arith)
+  enough_stop (suc b) is (replaced e more) n sum = enough_stop b (covers_less is) more n (omega arith)
+  enough_stop zero is (counts e more) n sum = absurd (omega arith)
+  enough_stop (suc b) is (counts e more) n sum = enough_stop b (covers_less is) more n (omega arith)
+  enough_stop zero is (argument_fault e a) n sum = absurd (omega arith)
+  enough_stop (suc b) is (argument_fault e a) n sum = refl
+  enough_stop zero is (invocation_fault e a f) n sum = absurd (omega arith)
+  enough_stop (suc b) is (invocation_fault e a f) n sum = refl
+  enough_stop zero is (invocation_replaced e a f more) n sum = absurd (omega arith)
+  enough_stop (suc b) is (invocation_replaced e a f more) n sum =
+      let k = count macros env more in
+      enough_stop (k + n) (arguments_rest b (k + n) (covers_less is) a (omega arith)) more n refl
+
+  -- A budget that suffices leaves the same tokens open.
+  pub enough_open : {meter : Meter} {tokens : List Token} {e : Expansion} (b : ℕ)
+      → (is : Covers meter.remaining b)
+      → (x : IsExpansion macros env meter tokens e) (n : ℕ)
+      → (sum : b ≡ count_expansion x + n)
+      → open_expansion (expansion_enough b is x n sum) ≡ open_expansion x
+  unfolding expansion_enough
+  enough_open b is x n sum = ap (still_open macros x.outcome.fault) (enough_stop b is x.expands.1 n sum)
 
   -- the expansion within the budget b ends in fault 35, after a prefix of the tokens of `whole`
   pub record StopsEarly (meter : Meter) (b : ℕ) (tokens : List Token) (whole : Expansion) : Type 0 where

@@ -42,3 +42,15 @@ pub mod SkippedTokens
 pub mod PassedSteps
 -- The expansion step of a list whose next token names an object-like macro without `##`.
 pub mod LoneSteps
+-- The list at which an expansion stops is the same in each expansion of a list.
+pub mod StoppedLists
+-- Lists that begin with an open invocation, and what an expansion leaves open.
+pub mod OpenLists
+-- Lists of tokens that begin with an open invocation: how deep in parentheses they end, and their expansion.
+pub mod WaitingLists
+-- What an expansion leaves open, from a state of the loop over its steps.
+pub mod OpenExpansions
+-- How the number of a hide set tells whether it is empty.
+pub mod EmptyHideSets
+-- The expansion of a list that begins with an invocation counts this invocation.
+pub mod CountedInvocations

@@ -31,6 +31,7 @@ use Rattle.ppexpand.specs.declared.meter.Meter.{Meter}
 use Rattle.ppexpand.specs.ExpansionStep.{Emits, Replaced, named_step, macro_step, macro_of, space_next, replaced_by, no_arguments}
 use Rattle.ppexpand.specs.Budget.{in_budget, is_exhausted, spend_one}
 use Rattle.ppexpand.specs.Expansion.{step_in_budget, emits, replaced}
+use Rattle.ppexpand.specs.Laws.{by_emitting, by_replacing}
 use Rattle.ppexpand.specs.code.Lists.{placed, lone_replaced, next_macro}
 use Rattle.ppexpand.specs.code.Skipping.{HasSkipped}
 use Rattle.ppexpand.specs.code.ProgramValues.{HasPassed}
@@ -65,7 +66,7 @@ kind_unquoted Header o m b h = refl
 kind_unquoted Other o m b h = absurd (cc h)
 
 -- A token that names a macro is no unmatched quote.
-named_unquoted : (macros : Macros) (t : Token) (m : Macro) → macro_of macros t ≡ Some m → is_unmatched_quote t ≡ false
+pub named_unquoted : (macros : Macros) (t : Token) (m : Macro) → macro_of macros t ≡ Some m → is_unmatched_quote t ≡ false
 named_unquoted macros t m h = kind_unquoted t.kind _ m _ h
 
 lone_kind : (m : Macro) (body : List Token) → lone_tokens m ≡ Some body → is_object_like m.kind ≡ true
@@ -153,7 +154,7 @@ module _ (macros : Macros) (env : Env) (level : ℕ) (meter : Meter) (s t : Hide
       let shown : hidings t more ≡ hidings s emitted ++ hiding s h ∷ [] =
       ap (hidings t) emits_it ∙ hidings-keeps (emitted ++ h ∷ []) keeps all ∙ map-append (hiding s) emitted (h ∷ []) in
       passed-step macros env level meter (hidings s list) (hidings s emitted) meter (hidings t rest) (hidings t more)
-      (hiding s h ∷ [], shown, record { prepends_step = λ n out d. emits step d })
+      (hiding s h ∷ [], shown, record { prepends_step = λ n out d. emits step d; leads = by_emitting step })
 
   pub passed_lone : (body : List Token) (hide : ℕ) (next more : List Hidden) (meter_after : Meter)
       → lone_tokens m ≡ Some body
@@ -171,7 +172,7 @@ module _ (macros : Macros) (env : Env) (level : ℕ) (meter : Meter) (s t : Hide
       ∙ lone_name macros env meter (hiding s h) (hidings s rest) m (first_named macros h rest list m is named) body lone chains remains free t hide rest names rest_kept in
       let same : hidings t emitted ≡ hidings s emitted ++ [] = hidings-keeps emitted keeps emitted_known ∙ sym (append-nil _) in
       let one = passed-step macros env level meter (hidings s list) (hidings s emitted) (spend_one meter) (hidings t middle) (hidings t emitted)
-      ([], same, record { prepends_step = λ n out d. replaced step d }) in
+      ([], same, record { prepends_step = λ n out d. replaced step d; leads = by_replacing step }) in
       subst (λ after. HasPassed 1 macros env level meter (hidings s list) (hidings s emitted) after (hidings t next) (hidings t more)) (sym spent)
       (passed-on macros env level 1 0 meter (hidings s list) (hidings s emitted) (spend_one meter) (hidings t middle) (hidings t emitted) (spend_one meter) (hidings t next) (hidings t more)
       one (passed-skip macros env level (spend_one meter) t middle emitted next more skipped))

@@ -13,6 +13,7 @@ use Rattle.ppexpand.specs.ExpansionStep.{Invocation, ExpansionStep, ReplacementF
 use Rattle.ppexpand.specs.Budget.{spend_one}
 use Rattle.ppexpand.specs.Expansion.{Outcome, step_in_budget, Expands, ExpandsTo, ExpandsArguments, token_fault, replacement_fault, argument_fault, invocation_fault, invocation_replaced, none, too_deep, pre_expanded, pre_expansion_fault}
 use Rattle.ppexpand.specs.code.ProgramValues.{HasFailed, at_token, in_replacement, Advances, EndsWith, HasAdvanced, HasEnded, HasStepped, HasInvoked, ClosedStepsTo, fault_in_arguments, finishes, ExpandsArgument, expands, raises, deep}
+use Rattle.ppexpand.specs.Laws.{by_invoking}
 use Rattle.ppexpand.proofs.OutcomeExistence.{total}
 use Rattle.ppexpand.proofs.OutcomeUniqueness.{same_outcome}
 
@@ -100,7 +101,7 @@ module _ (macros : Macros) (env : Env) (level : ℕ) (meter : Meter) (list : Lis
       → t ≡ Replaced next
       → Advances macros env level meter list meter_after next []
   invocation_goes_on (fault_in_arguments args) next e = absurd (cc e)
-  invocation_goes_on (finishes args) next e = record { prepends_step = λ n out d. invocation_replaced found args.2 (ap (finish_by_parameter invocation) (sym args.1) ∙ e) d }
+  invocation_goes_on (finishes args) next e = record { prepends_step = λ n out d. invocation_replaced found args.2 (ap (finish_by_parameter invocation) (sym args.1) ∙ e) d; leads = by_invoking found args.2 (ap (finish_by_parameter invocation) (sym args.1) ∙ e) }
 
   -- If the invocation is replaced, the list advances by one expansion step.
   pub invocation_taken : (s : HideSetPool) (hs : List Hidden) (emitted more : List Hiding) (meter_after : Meter) → more ≡ emitted

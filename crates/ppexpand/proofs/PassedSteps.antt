@@ -9,16 +9,18 @@ use Rattle.ppmacro.specs.declared.hidden_token.Hidden.{Hidden}
 use Rattle.ppexpand.specs.declared.env.Env.{Env}
 use Rattle.ppexpand.specs.declared.meter.Meter.{Meter}
 use Rattle.ppexpand.specs.Expansion.{Expands, ExpandsTo}
+use Rattle.ppexpand.specs.Laws.{stays, steps}
 use Rattle.ppexpand.specs.code.Skipping.{HasSkipped}
 use Rattle.ppexpand.specs.code.ProgramValues.{HasPassed, HasAdvanced}
-use Rattle.ppexpand.proofs.SkippedTokens.{skipped_after, expands-nothing}
+use Rattle.ppexpand.proofs.SkippedTokens.{skipped_after, skipped_leads, expands-nothing}
 use Rattle.ppexpand.proofs.OutcomeExistence.{total}
 use Rattle.ppexpand.proofs.OutcomeUniqueness.{same_outcome}
 use Rattle.ppexpand.proofs.LoopInvariants.{Follows, turns_left}
+use Rattle.ppexpand.proofs.StoppedLists.{leads_further}
 
 module _ (macros : Macros) (env : Env) (level : ℕ) where
   pub passed-none : (meter : Meter) (list emitted : List Hiding) → HasPassed 0 macros env level meter list emitted meter list emitted
-  passed-none meter list emitted = record { tokens = []; emits = sym (append-nil emitted); takes = λ n out d. record { steps = n; more = omega arith; is = d } }
+  passed-none meter list emitted = record { tokens = []; emits = sym (append-nil emitted); takes = λ n out d. record { steps = n; more = omega arith; is = d }; number = 0; leads = stays }
 
   -- Tokens that are emitted unchanged take steps.
   pub passed-skip : (meter : Meter) (s : HideSetPool) (list emitted next more : List Hidden)
@@ -31,6 +33,8 @@ module _ (macros : Macros) (env : Env) (level : ℕ) where
         let onward = skipped_after macros env level meter s list emitted next more k n out d in
         let high = onward.more in
         record { steps = onward.steps; more = omega (arith, high); is = onward.is };
+    number = (skipped_leads macros env level meter s list emitted next more k).0;
+    leads = (skipped_leads macros env level meter s list emitted next more k).1;
   }
 
   pub passed-step : (meter : Meter) (list emitted : List Hiding) (meter_after : Meter) (next more : List Hiding)
@@ -40,6 +44,8 @@ module _ (macros : Macros) (env : Env) (level : ℕ) where
     tokens = h.0;
     emits = h.1;
     takes = λ n out d. record { steps = suc n; more = omega arith; is = h.2.prepends_step n out d };
+    number = 1;
+    leads = steps h.2.leads stays;
   }
 
   pub passed-on : (few some : ℕ) (meter : Meter) (list emitted : List Hiding) (between : Meter) (next more : List Hiding) (meter_after : Meter) (last all : List Hiding)
@@ -59,6 +65,8 @@ module _ (macros : Macros) (env : Env) (level : ℕ) where
           more = omega (arith, low, high);
           is = subst (λ ts. Expands macros env level meter whole.steps list (record { tokens = ts; fault = out.fault; meter = out.meter })) (sym (append_assoc h.tokens k.tokens out.tokens)) whole.is;
         };
+    number = (leads_further macros env h.leads k.leads).0;
+    leads = (leads_further macros env h.leads k.leads).1;
   }
 
   pub passed-fewer : (least : ℕ) (meter : Meter) (list emitted : List Hiding) (meter_after : Meter) (next more : List Hiding)
@@ -71,6 +79,8 @@ module _ (macros : Macros) (env : Env) (level : ℕ) where
         let whole = h.takes n out d in
         let high = whole.more in
         record { steps = whole.steps; more = omega (arith, high); is = whole.is };
+    number = h.number;
+    leads = h.leads;
   }
 
   -- Steps preserve `Follows`.

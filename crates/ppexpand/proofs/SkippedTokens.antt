@@ -20,6 +20,7 @@ use Rattle.ppexpand.specs.Budget.{in_budget}
 use Rattle.ppexpand.specs.Expansion.{Outcome, step_in_budget, Expands, ExpandsTo, Expansion, IsExpansion, emits, done, stops_with}
 use Rattle.ppexpand.specs.declared.meter.Meter.{Meter}
 use Rattle.ppexpand.specs.code.Lists.{with_set, never_expands, NeverExpand}
+use Rattle.ppexpand.specs.Laws.{LeadsOn, stays, steps, by_emitting}
 use Rattle.ppexpand.specs.code.Skipping.{HasSkipped}
 use Rattle.ppexpand.specs.code.ProgramValues.{Takes}
 use Rattle.ppexpand.proofs.StepLemmas.{expansion_step-unnamed, done-in_budget, emits-in_budget}
@@ -76,6 +77,18 @@ module _ (macros : Macros) (env : Env) (level : ℕ) (meter : Meter) (s : HideSe
       → Takes macros env level meter n (hidings s list) (record { tokens = hidings s k.skipped ++ out.tokens; fault = out.fault; meter = out.meter })
   skipped_after list emitted next more k n out d =
       subst (λ l. Takes macros env level meter n (hidings s l) (record { tokens = hidings s k.skipped ++ out.tokens; fault = out.fault; meter = out.meter })) (sym k.laid_out) (skips k.skipped next k.unexpanded n out d)
+
+  abbrev Reaches : List Hiding → List Hiding → Type 0
+  Reaches list next = (n : ℕ) × LeadsOn macros env level n meter list meter next
+
+  skips_lead : (hs rest : List Hidden) → NeverExpand macros hs → Reaches (hidings s (hs ++ rest)) (hidings s rest)
+  skips_lead [] rest h = (0, stays)
+  skips_lead (t ∷ ts) rest h =
+      let onward = skips_lead ts rest (record { each = h.each.1 }) in
+      (suc onward.0, steps (by_emitting (expansion_step-unhidden macros env meter (hiding s t) (hidings s (ts ++ rest)) h.each.0)) onward.1)
+
+  pub skipped_leads : (list emitted next more : List Hidden) → HasSkipped macros list emitted next more → Reaches (hidings s list) (hidings s next)
+  skipped_leads list emitted next more k = subst (λ l. Reaches (hidings s l) (hidings s next)) (sym k.laid_out) (skips_lead k.skipped next k.unexpanded)
 
 pub next-known : {macros : Macros} (s : HideSetPool) (list emitted next more : List Hidden) → HasSkipped macros list emitted next more → AllKnown s list → AllKnown s next
 next-known s list emitted next more k h = known-rest k.skipped next (subst (AllKnown s) k.laid_out h)

@@ -36,6 +36,15 @@ one_less (Some (suc n)) = Some n
 abbrev pub spend_one : Meter → Meter
 spend_one meter = record meter { remaining = one_less meter.remaining }
 
+-- a budget that is larger by one
+abbrev pub one_more : Option ℕ → Option ℕ
+one_more None = None
+one_more (Some n) = Some (suc n)
+
+-- the meter before a replacement that this meter counts already
+abbrev pub give_back_one : Meter → Meter
+give_back_one meter = record meter { remaining = one_more meter.remaining }
+
 -- the meter after a replacement of `__COUNTER__`, whose number has 32 bits
 abbrev pub count_on : Meter → Meter
 count_on meter = record { remaining = one_less meter.remaining; counter = (meter.counter + 1) % 2 ^ 32 }

@@ -1,19 +1,21 @@
 -- The statements of the theorems about expansion.
-use Rattle.std.specs.Prelude.{◌≡◌, ◌≢◌, ℕ, suc, ◌+◌, ◌-◌, ◌<◌, ◌≤◌, Bool, true, false, not, ◌&&◌, ◌||◌, List, [], ◌∷◌, ◌++◌, Option, Some, None, Ok}
+use Rattle.std.specs.Prelude.{◌≡◌, ◌≢◌, ℕ, suc, ◌+◌, ◌-◌, ◌<◌, ◌≤◌, Bool, true, false, not, ◌&&◌, ◌||◌, List, [], ◌∷◌, ◌++◌, map, Option, Some, None, Ok}
 use Rattle.std.specs.FinSet as set
 use Rattle.pptext.specs.declared.tokens.Token.{Token}
 use Rattle.pptext.specs.declared.tokens.Fault.{Fault}
-use Rattle.pptext.specs.Tokens.{is_unmatched_quote}
+use Rattle.pptext.specs.Tokens.{is_unmatched_quote, fault}
 use Rattle.ppmacro.specs.Names.{Macros}
 use Rattle.ppmacro.specs.Hiding.{Hiding}
+use Rattle.ppmacro.specs.Substitution.{unhidden}
 use Rattle.ppmacro.specs.Chains.{is_function_like}
 use Rattle.ppmacro.specs.declared.macros.Macro.{Macro}
 use Rattle.ppexpand.specs.declared.env.Env.{Env}
 use Rattle.ppexpand.specs.declared.meter.Meter.{Meter}
-use Rattle.ppexpand.specs.Arguments.{argument_role, separates, fewer, Quote, Open, Close, Comma, Inner}
+use Rattle.ppexpand.specs.Arguments.{is_open, argument_role, separates, fewer, Quote, Open, Close, Comma, Inner}
 use Rattle.ppexpand.specs.ExpansionStep.{Invocation, Emits, Replaced, Counts, Invoked, counter_value, macro_of, arguments_to_expand, finish_invocation}
 use Rattle.ppexpand.specs.Budget.{with_budget, without_budget, spend_one, count_on}
 use Rattle.ppexpand.specs.Expansion.{Outcome, step_in_budget, ExpandsTo, ExpandsArguments, Expansion, IsExpansion}
+use Rattle.ppexpand.specs.OpenInvocations.{open_expansion}
 
 -- ---- exactly one expansion, and termination
 
@@ -160,3 +162,23 @@ pub record StopsAtQuote (list : List Hiding) (quote : Hiding) : Type 0 where
   pub laid_out : list ≡ prefix ++ quote ∷ following
   pub not_closed : NeverClosed prefix
   pub lone : argument_role quote.token ≡ Quote
+
+-- ---- the open invocation (6.10.3, paragraph 11)
+
+-- An expansion with this fault leaves these tokens open: none, or a function-like macro's name, `(`, and tokens without a matching `)` and
+-- without an unmatched quote; and the fault is 17 at this name.
+pub data LeavesOpen (macros : Macros) : Option Fault → List Token → Type 0 where
+  nothing_open : {f : Option Fault} → LeavesOpen macros f []
+  invocation_open : {t paren : Token} {inside : List Token} {d : Macro}
+      → macro_of macros t ≡ Some d
+      → is_function_like d.kind ≡ true
+      → is_open paren ≡ true
+      → NeverClosed (map unhidden inside)
+      → LeavesOpen macros (Some (fault 17 t.used t.text)) (t ∷ paren ∷ inside)
+
+-- a list of tokens leaves the same tokens open in each expansion
+abbrev pub LeavesTheSameOpen : Type 0
+LeavesTheSameOpen =
+    (macros : Macros) (env : Env) (meter : Meter) (tokens : List Token) (e other : Expansion)
+    (x : IsExpansion macros env meter tokens e) (y : IsExpansion macros env meter tokens other)
+    → open_expansion x ≡ open_expansion y

@@ -2,6 +2,7 @@ pub mod Arguments
 pub mod ExpansionStep
 pub mod Budget
 pub mod Expansion
+pub mod OpenInvocations
 pub mod Standard
 pub mod Termination
 pub mod Laws

@@ -143,7 +143,7 @@ fn put_expansion<'x>(
 
 impl<'x> Expander<'x> {
     /// Makes the hide sets anew if there are many, or if they are hashed in another way.
-    fn renew_sets(&mut self, hashing: Hashing) -> Result<(), Memory>
+    pub(crate) fn renew_sets(&mut self, hashing: Hashing) -> Result<(), Memory>
         ensures hashing { OnOk result (self.new.replacer.sets.hashing ≡ hashing) }
         ensures meter { self.new.meter ≡ self.old.meter }
     {
@@ -325,7 +325,7 @@ impl<'x> Expander<'x> {
     /// Appends emitted tokens to `emitted` and removes the processed tokens from `list`. `invocation` is an out-parameter, so that its value
     /// is in the caller's frame.
     #[cycle(expansion)]
-    fn advance<'t, 'a: 'x>(
+    pub(crate) fn advance<'t, 'a: 'x>(
         &mut self,
         context: &Context<'t, 'a>,
         named: Option<&'t PreparedMacro<'a>>,
@@ -405,7 +405,7 @@ pub struct Expanded<'x> {
 }
 
 /// Keeps a vector for the stack of the next expansion, unless it is large.
-fn keep_stack<'x>(stack: &mut Vec<Hidden<'x>>, pushed: Vec<Hidden<'x>>) {
+pub(crate) fn keep_stack<'x>(stack: &mut Vec<Hidden<'x>>, pushed: Vec<Hidden<'x>>) {
     if pushed.capacity() <= MOST_KEPT {
         *stack = pushed;
     }

@@ -13,7 +13,8 @@ ghost use Rattle.ppexpand.specs.declared.meter.Meter.{Meter};
 ghost use Rattle.ppexpand.specs.Expansion.{Outcome, step_in_budget, Expands, ExpandsTo, Expansion, IsExpansion, count};
 ghost use Rattle.ppexpand.specs.Standard.{StandardExpands, IsStandardExpansion};
 ghost use Rattle.ppexpand.specs.Laws.{HasOneOutcome, HasOneExpansion, EndsWithin, plus, CapsExpansion, OnlyBudgetsRefuse, is_fully_expanded, IsInvocation};
-ghost use Rattle.ppexpand.specs.Laws.{StopsAtQuote, NeverClosed, Leads};
+ghost use Rattle.ppexpand.specs.Laws.{StopsAtQuote, NeverClosed, Leads, LeavesOpen, LeavesTheSameOpen};
+ghost use Rattle.ppexpand.specs.OpenInvocations.{open_expansion};
 ghost use Rattle.ppexpand.specs.Termination.{hides, IsSubset, HidesNames, names_left, IsOutside, Step, Ends, PrefixEnds};
 
 /// Each list of tokens with hide sets has exactly one outcome, for all macros and at each level of arguments.
@@ -104,4 +105,13 @@ pub fn budget_caps()
 /// Without a budget no expansion ends in fault 35.
 pub fn only_budgets_refuse()
     ensures { OnlyBudgetsRefuse }
+{}
+
+/// The tokens that an expansion leaves open are none, or an invocation without its `)`: a function-like macro's name and `(`, neither a matching
+/// `)` nor an unmatched quote after it, and fault 17 at the name. They are the same in each expansion of a list (6.10.3p11).
+pub fn leaves_open()
+    ensures is { (macros : Macros) (env : Env) (meter : Meter) (tokens : List Token) (e : Expansion)
+        → (x : IsExpansion macros env meter tokens e)
+        → LeavesOpen macros e.fault (open_expansion x) }
+    ensures one { LeavesTheSameOpen }
 {}

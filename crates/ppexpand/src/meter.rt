@@ -1,6 +1,8 @@
 //! The meter of an expansion: what is counted through all expansions of a unit.
-ghost use Rattle.std.specs.Prelude.{◌≡◌};
-ghost use Rattle.ppexpand.specs.Budget.{new_meter, is_exhausted, spend_one, count_on};
+ghost use Rattle.std.specs.Prelude.{◌≡◌, IfOk};
+ghost use Rattle.ppexpand.specs.Budget.{new_meter, is_exhausted, spend_one, give_back_one, count_on};
+
+use pptext::Memory;
 
 /// What is counted through all expansions of a unit.
 #[derive(Clone, Copy, PartialEq, Eq, Debug)]
@@ -41,6 +43,21 @@ impl Meter {
             after.remaining = Some(more.saturating_sub(1));
         }
         after
+    }
+
+    /// Returns the meter before a replacement that this meter counts already. Does not allocate. Fails only if the budget is
+    /// 18,446,744,073,709,551,615, which no meter has after a replacement.
+    pub fn give_back_one(self) -> Result<Meter, Memory>
+        ensures { IfOk result (λ meter. meter ≡ give_back_one self) }
+    {
+        let mut before = self;
+        if let Some(remaining) = self.remaining {
+            let Some(more) = remaining.checked_add(1) else {
+                return Err(Memory);
+            };
+            before.remaining = Some(more);
+        }
+        Ok(before)
     }
 
     /// Returns the meter after one more replacement of `__COUNTER__`. After 4,294,967,295 the counter is 0 again. Does not allocate.

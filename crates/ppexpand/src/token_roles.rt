@@ -3,10 +3,13 @@ ghost use Rattle.std.specs.Prelude.{◌≡◌, []};
 ghost use Rattle.pptext.specs.Errors.{Raises};
 ghost use Rattle.pptext.specs.Tokens.{is_unmatched_quote, fault};
 ghost use Rattle.ppexpand.specs.ExpansionStep.{quote_fault};
-ghost use Rattle.ppexpand.specs.Arguments.{is_open, argument_role, Quote, Open, Close, Comma, Inner};
+ghost use Rattle.ppexpand.specs.Arguments.{is_open, argument_role};
+ghost use Rattle.ppexpand.specs.Slices.{ref_token};
+ghost use Rattle.ppexpand.specs.code.OpenSearch.{role_value};
 
+use crate::token_slice::TokenRef;
 use ppmacro::Hidden;
-use pptext::{Error, Kind};
+use pptext::{Error, Kind, Token};
 use std::alloc::Global;
 
 /// Returns whether a token is `(`.
@@ -30,9 +33,25 @@ pub(crate) enum ArgumentRole {
 
 /// Returns the role of a token in the search for the `)` of an invocation.
 pub(crate) fn argument_role(hidden: &Hidden) -> ArgumentRole
-    ensures { (elim result [ ArgumentRole.Quote ↦ Quote | ArgumentRole.Open ↦ Open | ArgumentRole.Close ↦ Close | ArgumentRole.Comma ↦ Comma | ArgumentRole.Inner ↦ Inner ]) ≡ argument_role hidden.now.token }
+    ensures { role_value result ≡ argument_role hidden.now.token }
 {
-    let token = hidden.token();
+    token_role(hidden.token())
+}
+
+/// Returns what `argument_role` does, for a borrowed token.
+pub(crate) fn role_of(token: TokenRef) -> ArgumentRole
+    ensures { role_value result ≡ argument_role (ref_token token.entry) }
+{
+    match token {
+        TokenRef::InFile(token) => token_role(token),
+        TokenRef::Hidden(hidden) => argument_role(hidden),
+    }
+}
+
+/// Returns what `argument_role` does, for a token without hide set.
+fn token_role(token: &Token) -> ArgumentRole
+    ensures { role_value result ≡ argument_role token.now }
+{
     let Kind::Punct = token.kind else {
         return if token.is_unmatched_quote() {
             ArgumentRole::Quote

@@ -2,7 +2,10 @@
 //! are in tests/row_tests.py and tests/token_tests.py, which compare the program's output.
 use crate::defining::{directed, env, source_of};
 use crate::showing::assert_shown;
-use ppexpand::{Expanded, Meter, Piece, Scratch, TokenRef, TokenSlice, expand, expand_list};
+use ppexpand::{
+    Expanded, Meter, OpenExpansion, Piece, Scratch, TokenList, TokenRef, TokenSlice, WaitingTokens,
+    expand, expand_list, expand_open,
+};
 use ppmacro::{Hidden, Table};
 use pptext::{BoxedFault, Hashing, Memory, Source, Token};
 use std::alloc::{AllocError, Global};
@@ -273,6 +276,7 @@ fn assert_counted<'x>(
         assert_spelled(rt, table, tokens, &mut scratch, &mut meter, wanted)?;
     }
     assert!(rt; meter.remaining == Some(1) && meter.counter == 3);
+    assert!(rt; meter.give_back_one()?.remaining == Some(2));
     Ok(())
 }
 
@@ -283,5 +287,132 @@ fn counts_replacements_of_counter(rt: HostRuntime) -> Result<(), Fail> {
     table.predefine_counter()?;
     let tokens = directed(&rt, rt.alloc(), &mut table, &source)?;
     assert_counted(&rt, rt.alloc(), &table, tokens)?;
+    Ok(())
+}
+
+/// Asserts that the expansion of a list has these spellings and this fault, or 0. Returns the tokens of the invocation that is open.
+fn expanded_open<'x>(
+    rt: &impl Abort,
+    table: &Table<'x>,
+    list: TokenList<'x>,
+    scratch: &mut Scratch<'x>,
+    (wanted, number): (&str, u8),
+) -> Result<TokenList<'x>, Memory> {
+    let mut meter = Meter::new(Some(9));
+    let OpenExpansion { fault, unclosed } = expand_open(table, &env(0), &mut meter, list, scratch)?;
+    assert_shown(rt, spelled(&[], scratch)?.as_slice(), wanted);
+    assert!(rt; number_of(fault) == number, "at {wanted}");
+    Ok(unclosed)
+}
+
+/// Asserts that the last token closes an invocation that is open before it.
+fn assert_closed_later<'x>(
+    rt: &impl Abort,
+    table: &Table<'x>,
+    tokens: &'x [Token],
+    scratch: &mut Scratch<'x>,
+) -> Result<(), Memory> {
+    let mut list = scratch.list();
+    for token in tokens.iter().take(tokens.len().saturating_sub(1)) {
+        list.push_borrowed(token)?;
+    }
+    let mut list = expanded_open(rt, table, list, scratch, (".a", 17))?;
+    assert!(rt;
+        list.first()
+            .is_some_and(|first| first.text() == b"f".as_slice())
+    );
+    for token in tokens.iter().rev().take(1) {
+        list.push_borrowed(token)?;
+    }
+    let rest = expanded_open(rt, table, list, scratch, (".[.1.b.]", 0))?;
+    assert!(rt; rest.is_empty() && rest.first().is_none());
+    Ok(())
+}
+
+#[test]
+fn closes_an_open_invocation_later(rt: HostRuntime) -> Result<(), Fail> {
+    let text = b"#define f(x) [x]\n#define O f\na O(1 b)";
+    let source = source_of(&rt, rt.alloc(), text.as_slice())?;
+    let mut table = Table::new(rt.alloc())?;
+    let tokens = directed(&rt, rt.alloc(), &mut table, &source)?;
+    let mut scratch = Scratch::new(rt.alloc(), table.hashing())?;
+    assert_closed_later(&rt, &table, tokens, &mut scratch)?;
+    Ok(())
+}
+
+/// Returns the tokens of a list that has an open invocation and appends it again, so that it is open in itself.
+fn waiting_twice<'x>(
+    rt: &impl Abort,
+    table: &Table<'x>,
+    invocation: &'x [Token],
+    scratch: &mut Scratch<'x>,
+) -> Result<WaitingTokens<'x>, Memory> {
+    let mut none = WaitingTokens::of(scratch.list());
+    assert!(rt; none.is_empty() && none.first().is_none());
+    assert!(rt; !none.append_if_open(table, invocation)?);
+    let mut list = none.into_list();
+    list.push_all_borrowed(invocation)?;
+    let mut waiting = WaitingTokens::of(list);
+    assert!(rt; waiting.append_if_open(table, invocation)?);
+    assert!(rt;
+        waiting
+            .first()
+            .is_some_and(|first| first.text() == b"f".as_slice())
+    );
+    Ok(waiting)
+}
+
+/// Asserts that an invocation in itself stays open after the first of two last tokens `)`, and not after the other.
+fn assert_stays_open<'x>(
+    rt: &impl Abort,
+    table: &Table<'x>,
+    tokens: &'x [Token],
+    scratch: &mut Scratch<'x>,
+) -> Result<(), Memory> {
+    let (invocation, close) = tokens.split_at(tokens.len().saturating_sub(1));
+    let mut waiting = waiting_twice(rt, table, invocation, scratch)?;
+    for stays in [true, false] {
+        assert!(rt; waiting.append_if_open(table, close)? == stays);
+    }
+    let mut list = waiting.into_list();
+    list.push_all_borrowed(close)?;
+    let rest = expanded_open(rt, table, list, scratch, (".[.1.b.[.1.b.].]", 0))?;
+    assert!(rt; rest.is_empty());
+    Ok(())
+}
+
+#[test]
+fn keeps_an_invocation_waiting(rt: HostRuntime) -> Result<(), Fail> {
+    let text = b"#define f(x) [x]\nf(1 b)";
+    let source = source_of(&rt, rt.alloc(), text.as_slice())?;
+    let mut table = Table::new(rt.alloc())?;
+    let tokens = directed(&rt, rt.alloc(), &mut table, &source)?;
+    let mut scratch = Scratch::new(rt.alloc(), table.hashing())?;
+    assert_stays_open(&rt, &table, tokens, &mut scratch)?;
+    Ok(())
+}
+
+/// Asserts that the expansion of all tokens of a file ends in fault 17, and leaves nothing open.
+fn assert_nothing_open<'x>(
+    rt: &impl Abort,
+    table: &Table<'x>,
+    tokens: &'x [Token],
+    scratch: &mut Scratch<'x>,
+) -> Result<(), Memory> {
+    let mut list = scratch.list();
+    list.push_all_borrowed(tokens)?;
+    let rest = expanded_open(rt, table, list, scratch, (".a", 17))?;
+    assert!(rt; rest.is_empty());
+    Ok(())
+}
+
+#[test]
+fn leaves_no_invocation_of_a_replacement_open(rt: HostRuntime) -> Result<(), Fail> {
+    let text = b"#define f(x) [x]\n#define O f(\na O 1 b";
+    let source = source_of(&rt, rt.alloc(), text.as_slice())?;
+    let mut table = Table::new(rt.alloc())?;
+    let tokens = directed(&rt, rt.alloc(), &mut table, &source)?;
+    let mut scratch = Scratch::new(rt.alloc(), table.hashing())?;
+    assert_nothing_open(&rt, &table, tokens, &mut scratch)?;
     Ok(())
 }

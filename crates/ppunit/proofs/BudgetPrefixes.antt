@@ -14,6 +14,7 @@ use Rattle.ppunit.specs.Unit.{initial_state, context_of_unit, Translates, IsUnit
 use Rattle.ppunit.specs.Laws.{HasOneValue, HasSomeValue, Grows}
 use Rattle.ppunit.specs.Capped.{HasFault, AtMost, CapsUnit, unlimited, BudgetCaps, OnlyBudgetsRefuse, with_budget, GivesNoLess, LargerBudgetsGiveNoLess}
 use Rattle.ppunit.proofs.OutputPrefixes.{same_beginning}
+use Rattle.ppunit.proofs.WaitingInvocations.{nothing_waits}
 use Rattle.ppunit.proofs.SufficientBudgets.{budgeted, holding, unit_suffices}
 use native.Mathlib.Decide.{dec_lt}
 use Rattle.ppunit.proofs.ExhaustedBudgets.{unit_short}
@@ -70,13 +71,14 @@ unit_caps one grows only names files setting unit out are p b more whole budget 
     (one names more setting unit (output r) out are within there).0 in
     elim (dec_lt b c) [
       | yes less ↦
-          (let x = unit_short context b without q.translates less in
+          (let x = unit_short context b without nothing_waits q.translates less in
           let items : IsPrefix x.0.items whole.items = subst (λ o. IsPrefix x.0.items o.items) (sym q.is_output) x.2.before.0 in
           let deps : IsPrefix x.0.deps whole.deps = subst (λ o. IsPrefix x.0.deps o.deps) (sym q.is_output) x.2.before.1 in
           stopped_early b c x.0 x.1 whole out (same (stopped x.0 x.1) x.3) x.2.number items deps less (only names more (unlimited setting) unit whole refl q))
       | no not_less ↦
           (let n = b - c in
-          came_through b c whole out (q.is_output ∙ same (holding n q.progress) (unit_suffices context b without q.translates n (omega arith))) (omega arith))
+          let there = unit_suffices context b without nothing_waits q.translates n (omega arith) in
+          came_through b c whole out (q.is_output ∙ same (holding n q.progress) there) (omega arith))
     ]
 
 -- If each file is known, the unit also has a value without a budget.
@@ -112,7 +114,7 @@ no_less_here one names files setting unit b wide out more are most p q =
     λ r d. (one names files here unit (output r) out are (record { progress = r; translates = d; is_output = refl }) p).0 in
     elim (dec_lt b c) [
       | yes less ↦
-          (let x = unit_short context b covers q.translates less in
+          (let x = unit_short context b covers nothing_waits q.translates less in
           subst (λ o. GivesNoLess o more) (same (stopped x.0 x.1) x.3)
           (record {
             items = subst (λ o. IsPrefix x.0.items o.items) (sym q.is_output) x.2.before.0;
@@ -121,7 +123,7 @@ no_less_here one names files setting unit b wide out more are most p q =
           }))
       | no not_less ↦
           (let n = b - c in
-          let whole : more ≡ out = q.is_output ∙ same (holding n q.progress) (unit_suffices context b covers q.translates n (omega arith)) in
+          let whole : more ≡ out = q.is_output ∙ same (holding n q.progress) (unit_suffices context b covers nothing_waits q.translates n (omega arith)) in
           subst (λ o. GivesNoLess o more) whole (record { items = same_beginning more.items; deps = same_beginning more.deps; same = inl refl }))
     ]
 

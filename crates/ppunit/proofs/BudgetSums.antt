@@ -1,5 +1,5 @@
 -- The budget is the count of phase 4 plus the remaining budget.
-use Rattle.std.proofs.Common.{◌≡◌, ℕ, zero, suc, ◌+◌, List, Bool, true, false, Option, Some, None, Result, Ok, Err, refl, sym, ap, ◌∙◌, arith}
+use Rattle.std.proofs.Common.{◌≡◌, ℕ, zero, suc, ◌+◌, ◌-◌, List, Bool, true, false, Option, Some, None, Result, Ok, Err, refl, sym, ap, ◌∙◌, arith}
 use Rattle.pptext.specs.declared.tokens.Place.{Place}
 use Rattle.pptext.specs.declared.tokens.Token.{Token}
 use Rattle.pptext.specs.declared.tokens.Fault.{Fault}
@@ -23,11 +23,13 @@ use Rattle.ppunit.specs.Including.{IncludeName, begins_with_header}
 use Rattle.ppunit.specs.Conditions.{Decides}
 use Rattle.ppunit.specs.Directives.{EmitsText, NamesHeaderBy, NamesHeader, ExecutesDirective}
 use Rattle.ppunit.specs.Group.{ExecutesGroup, ExecutesBranches, ExecutesControlLine, ExecutesInclude, OpensFile}
-use Rattle.ppunit.specs.Counts.{count_decides, count_names_header_by, count_names_header, count_control_by, count_group, count_branches, count_control, count_includes, count_opening}
+use Rattle.ppunit.specs.Counts.{counted_before, count_decides, count_names_header_by, count_names_header, count_control_by, count_group, count_branches, count_control, count_includes, count_opening}
 use Rattle.ppunit.specs.Unit.{Defines, unread, processed, Translates, definitions_fault, translated, IsUnit, count, count_defines, count_translates}
 use Rattle.ppunit.specs.Capped.{AtMost}
 use Rattle.ppunit.specs.code.Effects.{HasEffect}
 use Rattle.ppunit.proofs.DirectiveEffects.{effect_of, count_effect, same_count}
+use Rattle.ppunit.proofs.WaitingInvocations.{nothing_waits, WaitsIn, run_waits, group_waits, branches_waits, control_waits, defines_waits}
+use Rattle.ppunit.proofs.TextBudgets.{counts_before, spent_at_text}
 
 -- ---- sums
 
@@ -84,59 +86,82 @@ pub control_by_spends : (profile : Profile) (row : ℕ) (d : Option Directive) (
 control_by_spends profile row d s line m g =
     effect_spends (effect_of profile row d s line m g) ∙ ap (λ n. plus n m.state.meter.remaining) (sym (same_count profile row d s line m g))
 
-pub run_spends : (s : State) (tokens : List Token) (m : Progress) (g : EmitsText s tokens m) → s.meter.remaining ≡ plus (count_expansion g.expands) m.state.meter.remaining
-run_spends s tokens m g = expansion_spends s.macros s.env g.expands ∙ ap (plus (count_expansion g.expands)) (sym (ap (λ x. x.state.meter.remaining) g.is))
+-- the replacements of text lines, less the invocation that was counted before
+abbrev pub count_run : {profile : Profile} {s : State} {tokens : List Token} {m : Progress} → EmitsText profile s tokens m → ℕ
+count_run {s = s} g = count_expansion g.expands - counted_before s.waiting
+
+pub run_spends : (profile : Profile) (s : State) (tokens : List Token) (m : Progress) → WaitsIn s → (g : EmitsText profile s tokens m)
+    → s.meter.remaining ≡ plus (count_run g) m.state.meter.remaining
+run_spends profile s tokens m w g =
+    let c = count_expansion g.expands in
+    let after : m.state.meter.remaining ≡ g.expanded.meter.remaining = ap (λ x. x.state.meter.remaining) g.is in
+    spent_at_text s.waiting s.meter c g.expanded.meter.remaining (counts_before s.meter tokens w g.expands) (expansion_spends s.macros s.env g.expands)
+    ∙ ap (plus (count_run g)) (sym after)
 
 -- ---- groups
 
 module _ (context : Context) where
   mutual
-    pub group_spends : {depth row : ℕ} {r : Progress} {ps : GroupParts} {end : Progress} (d : ExecutesGroup context depth row r ps end) → r.state.meter.remaining ≡ plus (count_group d) end.state.meter.remaining
-    group_spends (ExecutesGroup.already_stopped {s = s}) = plus-nothing s.meter.remaining
-    group_spends (ExecutesGroup.no_parts {s = s}) = plus-nothing s.meter.remaining
-    group_spends (ExecutesGroup.text_lines {s = s} {lines = lines} {m = m} gives rest) = both _ _ _ (run_spends s (text_tokens lines) m gives) (group_spends rest)
-    group_spends (ExecutesGroup.control here rest) = both _ _ _ (control_spends here) (group_spends rest)
-    group_spends (ExecutesGroup.taken decides here rest) =
-        both _ _ _ (decides_spends decides) (both _ _ _ (group_spends here) (group_spends rest))
-    group_spends (ExecutesGroup.skipped decides here rest) =
-        both _ _ _ (decides_spends decides) (both _ _ _ (branches_spend here) (group_spends rest))
-    group_spends (ExecutesGroup.condition_fault decides) = decides_spends decides
+    pub group_spends : {depth row : ℕ} {r : Progress} {ps : GroupParts} {end : Progress} → WaitsIn r.state → (d : ExecutesGroup context depth row r ps end)
+        → r.state.meter.remaining ≡ plus (count_group d) end.state.meter.remaining
+    group_spends w (ExecutesGroup.already_stopped {s = s}) = plus-nothing s.meter.remaining
+    group_spends w (ExecutesGroup.no_parts {s = s}) = plus-nothing s.meter.remaining
+    group_spends w (ExecutesGroup.text_lines {s = s} {lines = lines} {m = m} gives rest) =
+        both _ _ _ (run_spends context.profile s (text_tokens lines) m w gives) (group_spends (run_waits context.profile s (text_tokens lines) m gives) rest)
+    group_spends w (ExecutesGroup.control here rest) = both _ _ _ (control_spends w here) (group_spends (control_waits context w here) rest)
+    group_spends w (ExecutesGroup.taken decides here rest) =
+        both _ _ _ (decides_spends decides) (both _ _ _ (group_spends w here) (group_spends (group_waits context w here) rest))
+    group_spends w (ExecutesGroup.skipped decides here rest) =
+        both _ _ _ (decides_spends decides) (both _ _ _ (branches_spend w here) (group_spends (branches_waits context w here) rest))
+    group_spends w (ExecutesGroup.condition_fault decides) = decides_spends decides
 
-    pub branches_spend : {depth row : ℕ} {s : State} {bs : Branches} {m : Progress} (d : ExecutesBranches context depth row s bs m) → s.meter.remaining ≡ plus (count_branches d) m.state.meter.remaining
-    branches_spend (ExecutesBranches.no_branch_taken {s = s}) = plus-nothing s.meter.remaining
-    branches_spend (ExecutesBranches.else_group e here) = group_spends here
-    branches_spend (ExecutesBranches.branch_taken e decides here) = both _ _ _ (decides_spends decides) (group_spends here)
-    branches_spend (ExecutesBranches.branch_skipped e decides rest) = both _ _ _ (decides_spends decides) (branches_spend rest)
-    branches_spend (ExecutesBranches.branch_condition_fault e decides) = decides_spends decides
+    pub branches_spend : {depth row : ℕ} {s : State} {bs : Branches} {m : Progress} → WaitsIn s → (d : ExecutesBranches context depth row s bs m)
+        → s.meter.remaining ≡ plus (count_branches d) m.state.meter.remaining
+    branches_spend w (ExecutesBranches.no_branch_taken {s = s}) = plus-nothing s.meter.remaining
+    branches_spend w (ExecutesBranches.else_group e here) = group_spends w here
+    branches_spend w (ExecutesBranches.branch_taken e decides here) = both _ _ _ (decides_spends decides) (group_spends w here)
+    branches_spend w (ExecutesBranches.branch_skipped e decides rest) = both _ _ _ (decides_spends decides) (branches_spend w rest)
+    branches_spend w (ExecutesBranches.branch_condition_fault e decides) = decides_spends decides
 
-    pub control_spends : {depth row : ℕ} {s : State} {line : LogicalLine} {m : Progress} (d : ExecutesControlLine context depth row s line m) → s.meter.remaining ≡ plus (count_control d) m.state.meter.remaining
-    control_spends (ExecutesControlLine.error {s = s} e) = plus-nothing s.meter.remaining
-    control_spends (ExecutesControlLine.ignored {s = s} e) = plus-nothing s.meter.remaining
-    control_spends (ExecutesControlLine.quote_fault {s = s} e q) = plus-nothing s.meter.remaining
-    control_spends {row = row} (ExecutesControlLine.executed {s = s} {line = line} {m = m} q does) = control_by_spends context.profile row line.directive s line m does
-    control_spends (ExecutesControlLine.include e q here) = includes_spend here
+    pub control_spends : {depth row : ℕ} {s : State} {line : LogicalLine} {m : Progress} → WaitsIn s → (d : ExecutesControlLine context depth row s line m)
+        → s.meter.remaining ≡ plus (count_control d) m.state.meter.remaining
+    control_spends w (ExecutesControlLine.error {s = s} e) = plus-nothing s.meter.remaining
+    control_spends w (ExecutesControlLine.ignored {s = s} e) = plus-nothing s.meter.remaining
+    control_spends w (ExecutesControlLine.quote_fault {s = s} e q) = plus-nothing s.meter.remaining
+    control_spends w (ExecutesControlLine.refused {s = s} e q waits) = plus-nothing s.meter.remaining
+    control_spends {row = row} w (ExecutesControlLine.executed {s = s} {line = line} {m = m} q free does) =
+        control_by_spends context.profile row line.directive s line m does
+    control_spends w (ExecutesControlLine.include e q free here) = includes_spend w here
 
-    pub includes_spend : {depth row : ℕ} {following : Option ℕ} {s : State} {line : LogicalLine} {m : Progress} (d : ExecutesInclude context depth row following s line m) → s.meter.remaining ≡ plus (count_includes d) m.state.meter.remaining
-    includes_spend (ExecutesInclude.operand_fault {s = s} {line = line} {meter_after = meter_after} {f = f} asks) = asks_spends s line.tokens meter_after (Err f) asks
-    includes_spend (ExecutesInclude.missing {s = s} {line = line} {meter_after = meter_after} a asks finds) = asks_spends s line.tokens meter_after (Ok a) asks
-    includes_spend (ExecutesInclude.included {s = s} {line = line} {meter_after = meter_after} a found asks finds opens) =
-        both _ _ _ (asks_spends s line.tokens meter_after (Ok a) asks) (opened_spends opens)
+    pub includes_spend : {depth row : ℕ} {following : Option ℕ} {s : State} {line : LogicalLine} {m : Progress} → WaitsIn s
+        → (d : ExecutesInclude context depth row following s line m)
+        → s.meter.remaining ≡ plus (count_includes d) m.state.meter.remaining
+    includes_spend w (ExecutesInclude.operand_fault {s = s} {line = line} {meter_after = meter_after} {f = f} asks) =
+        asks_spends s line.tokens meter_after (Err f) asks
+    includes_spend w (ExecutesInclude.missing {s = s} {line = line} {meter_after = meter_after} a asks finds) =
+        asks_spends s line.tokens meter_after (Ok a) asks
+    includes_spend w (ExecutesInclude.included {s = s} {line = line} {meter_after = meter_after} a found asks finds opens) =
+        both _ _ _ (asks_spends s line.tokens meter_after (Ok a) asks) (opened_spends w opens)
 
-    pub opened_spends : {depth row : ℕ} {directory : Option ℕ} {at : Place} {s : State} {m : Progress} (d : OpensFile context depth at s row directory m) → s.meter.remaining ≡ plus (count_opening d) m.state.meter.remaining
-    opened_spends (OpensFile.too_deep {s = s} deep) = plus-nothing s.meter.remaining
-    opened_spends (OpensFile.exhausted {s = s} fits spent) = plus-nothing s.meter.remaining
-    opened_spends (OpensFile.not_read_again {s = s} fits more once) = pays s.meter more
-    opened_spends (OpensFile.not_readable {s = s} fits more once file) = pays s.meter more
-    opened_spends (OpensFile.content_fault {s = s} fits more once file reads) = pays s.meter more
-    opened_spends (OpensFile.read {s = s} {m = m} fits more once file reads tree here) = pays_then s.meter m.state.meter _ more (group_spends here)
+    pub opened_spends : {depth row : ℕ} {directory : Option ℕ} {at : Place} {s : State} {m : Progress} → WaitsIn s
+        → (d : OpensFile context depth at s row directory m)
+        → s.meter.remaining ≡ plus (count_opening d) m.state.meter.remaining
+    opened_spends w (OpensFile.too_deep {s = s} deep) = plus-nothing s.meter.remaining
+    opened_spends w (OpensFile.exhausted {s = s} fits spent) = plus-nothing s.meter.remaining
+    opened_spends w (OpensFile.not_read_again {s = s} fits more once) = pays s.meter more
+    opened_spends w (OpensFile.not_readable {s = s} fits more once file) = pays s.meter more
+    opened_spends w (OpensFile.content_fault {s = s} fits more once file reads) = pays s.meter more
+    opened_spends w (OpensFile.read {s = s} {m = m} fits more once file reads tree here) = pays_then s.meter m.state.meter _ more (group_spends w here)
 
-  pub defines_spends : {defines : List (List ℕ)} {s : State} {m : Progress} (d : Defines context defines s m) → s.meter.remaining ≡ plus (count_defines d) m.state.meter.remaining
-  defines_spends (unread {s = s} reads) = plus-nothing s.meter.remaining
-  defines_spends (processed reads tree here) = group_spends here
+  pub defines_spends : {defines : List (List ℕ)} {s : State} {m : Progress} → WaitsIn s → (d : Defines context defines s m)
+      → s.meter.remaining ≡ plus (count_defines d) m.state.meter.remaining
+  defines_spends w (unread {s = s} reads) = plus-nothing s.meter.remaining
+  defines_spends w (processed reads tree here) = group_spends w here
 
-  pub unit_spends : {defines : List (List ℕ)} {row : ℕ} {s : State} {m : Progress} (d : Translates context defines row s m) → s.meter.remaining ≡ plus (count_translates d) m.state.meter.remaining
-  unit_spends (definitions_fault here) = defines_spends here
-  unit_spends (translated here opens) = both _ _ _ (defines_spends here) (opened_spends opens)
+  pub unit_spends : {defines : List (List ℕ)} {row : ℕ} {s : State} {m : Progress} → WaitsIn s → (d : Translates context defines row s m)
+      → s.meter.remaining ≡ plus (count_translates d) m.state.meter.remaining
+  unit_spends w (definitions_fault here) = defines_spends w here
+  unit_spends w (translated here opens) = both _ _ _ (defines_spends w here) (opened_spends (defines_waits context w here) opens)
 
 -- ---- units
 
@@ -146,4 +171,4 @@ at_most (Some b) None n e = absurd (cc)
 at_most (Some b) (Some k) n e = let sum : b ≡ n + k = cc in omega arith
 
 pub stays_in_budget : (names : List (List ℕ)) (files : Files) (setting : Setting) (unit : UnitOfList) (out : UnitOut) (p : IsUnit names files setting unit out) → AtMost setting.budget (count p)
-stays_in_budget names files setting unit out p = at_most setting.budget p.progress.state.meter.remaining (count p) (unit_spends _ p.translates)
+stays_in_budget names files setting unit out p = at_most setting.budget p.progress.state.meter.remaining (count p) (unit_spends _ nothing_waits p.translates)

@@ -13,7 +13,7 @@ use Rattle.ppunit.specs.Including.{IncludeName}
 use Rattle.ppunit.specs.States.{State, Context, Progress, running, stopped, with_meter}
 use Rattle.ppunit.specs.DirectiveLines.{operands, line_fault}
 use Rattle.ppunit.specs.Quotes.{unmatched_quote}
-use Rattle.ppunit.specs.Directives.{ExecutesDirective, message, checks_quotes, NamesHeader, FindsFile}
+use Rattle.ppunit.specs.Directives.{ExecutesDirective, refusal, message, checks_quotes, NamesHeader, FindsFile}
 use Rattle.ppunit.specs.Group.{ExecutesControlLine, ExecutesInclude, OpensFile}
 use Rattle.ppunit.proofs.LineUniqueness.{OneExpansion, OneDecision, OneRow, control_by_once, asks_once}
 use Rattle.ppunit.proofs.SectionUniqueness.{stopped_again}
@@ -25,6 +25,13 @@ error_quiet c is looks = absurd (cc)
 
 ignored_quiet : (c : Option Class) → c ≡ Some class.Ignored → checks_quotes c ≡ true → ⊥
 ignored_quiet c is looks = absurd (cc)
+
+-- A line is refused or not.
+refused_or_free : {f : Fault} (s : State) (line : LogicalLine)
+    → refusal s.waiting line.directive (operands line.tokens) ≡ Some f
+    → refusal s.waiting line.directive (operands line.tokens) ≡ None
+    → ⊥
+refused_or_free {f = f} s line waits free = let differs : Some f ≡ None = sym waits ∙ free in absurd (cc)
 
 module _ (expansions : OneExpansion) (decisions : OneDecision) (rows : OneRow) (context : Context) (once : AreNames context.names) where
   finds_once : (from : ℕ) (following : Option ℕ) (include_name : IncludeName) (a b : Option (ℕ × ℕ)) → FindsFile context from following include_name a → FindsFile context from following include_name b → a ≡ b
@@ -43,8 +50,11 @@ module _ (expansions : OneExpansion) (decisions : OneDecision) (rows : OneRow) (
   at_error e (ExecutesControlLine.error is) = refl
   at_error e (ExecutesControlLine.ignored is) = let differs : Some class.Error ≡ Some class.Ignored = sym e ∙ is in absurd (cc)
   at_error {line = line} e (ExecutesControlLine.quote_fault is q) = absurd (error_quiet (class_by line.directive) e is)
-  at_error {row = row} {s = s} {line = line} {m = m} e (ExecutesControlLine.executed q does) = let differs = not_other row class.Error s line m e does in absurd (cc)
-  at_error e (ExecutesControlLine.include {include_next = next} is q here) = let differs : Some class.Error ≡ Some (class.Includes next) = sym e ∙ is in absurd (cc)
+  at_error {line = line} e (ExecutesControlLine.refused is q waits) = absurd (error_quiet (class_by line.directive) e is)
+  at_error {row = row} {s = s} {line = line} {m = m} e (ExecutesControlLine.executed q free does) =
+      let differs = not_other row class.Error s line m e does in absurd (cc)
+  at_error e (ExecutesControlLine.include {include_next = next} is q free here) =
+      let differs : Some class.Error ≡ Some (class.Includes next) = sym e ∙ is in absurd (cc)
 
   pub at_ignored : {depth row : ℕ} {s : State} {line : LogicalLine} {m : Progress}
       → class_by line.directive ≡ Some class.Ignored
@@ -53,8 +63,11 @@ module _ (expansions : OneExpansion) (decisions : OneDecision) (rows : OneRow) (
   at_ignored e (ExecutesControlLine.error is) = let differs : Some class.Ignored ≡ Some class.Error = sym e ∙ is in absurd (cc)
   at_ignored e (ExecutesControlLine.ignored is) = refl
   at_ignored {line = line} e (ExecutesControlLine.quote_fault is q) = absurd (ignored_quiet (class_by line.directive) e is)
-  at_ignored {row = row} {s = s} {line = line} {m = m} e (ExecutesControlLine.executed q does) = let differs = not_other row class.Ignored s line m e does in absurd (cc)
-  at_ignored e (ExecutesControlLine.include {include_next = next} is q here) = let differs : Some class.Ignored ≡ Some (class.Includes next) = sym e ∙ is in absurd (cc)
+  at_ignored {line = line} e (ExecutesControlLine.refused is q waits) = absurd (ignored_quiet (class_by line.directive) e is)
+  at_ignored {row = row} {s = s} {line = line} {m = m} e (ExecutesControlLine.executed q free does) =
+      let differs = not_other row class.Ignored s line m e does in absurd (cc)
+  at_ignored e (ExecutesControlLine.include {include_next = next} is q free here) =
+      let differs : Some class.Ignored ≡ Some (class.Includes next) = sym e ∙ is in absurd (cc)
 
   pub at_quote : {depth row : ℕ} {s : State} {line : LogicalLine} {f : Fault} {m : Progress}
       → checks_quotes (class_by line.directive) ≡ true
@@ -64,33 +77,56 @@ module _ (expansions : OneExpansion) (decisions : OneDecision) (rows : OneRow) (
   at_quote {line = line} looks e (ExecutesControlLine.error is) = absurd (error_quiet (class_by line.directive) is looks)
   at_quote {line = line} looks e (ExecutesControlLine.ignored is) = absurd (ignored_quiet (class_by line.directive) is looks)
   at_quote {s = s} {f = f} looks e (ExecutesControlLine.quote_fault {f = g} is q) = let same : f ≡ g = cc in ap (λ x. stopped s x) same
-  at_quote looks e (ExecutesControlLine.executed q does) = absurd (cc)
-  at_quote looks e (ExecutesControlLine.include is q here) = absurd (cc)
+  at_quote looks e (ExecutesControlLine.refused is q waits) = absurd (cc)
+  at_quote looks e (ExecutesControlLine.executed q free does) = absurd (cc)
+  at_quote looks e (ExecutesControlLine.include is q free here) = absurd (cc)
+
+  pub at_refused : {depth row : ℕ} {s : State} {line : LogicalLine} {f : Fault} {m : Progress}
+      → checks_quotes (class_by line.directive) ≡ true
+      → unmatched_quote line.tokens ≡ None
+      → refusal s.waiting line.directive (operands line.tokens) ≡ Some f
+      → ExecutesControlLine context depth row s line m
+      → stopped s f ≡ m
+  at_refused {line = line} looks q waits (ExecutesControlLine.error is) = absurd (error_quiet (class_by line.directive) is looks)
+  at_refused {line = line} looks q waits (ExecutesControlLine.ignored is) = absurd (ignored_quiet (class_by line.directive) is looks)
+  at_refused looks q waits (ExecutesControlLine.quote_fault is e) = absurd (cc)
+  at_refused {s = s} {f = f} looks q waits (ExecutesControlLine.refused {f = g} is q' waits') =
+      let both : Some f ≡ Some g = sym waits ∙ waits' in
+      let same : f ≡ g = cc in
+      ap (λ x. stopped s x) same
+  at_refused {s = s} {line = line} looks q waits (ExecutesControlLine.executed q' free does) = absurd (refused_or_free s line waits free)
+  at_refused {s = s} {line = line} looks q waits (ExecutesControlLine.include is q' free here) = absurd (refused_or_free s line waits free)
 
   pub at_other : {depth row : ℕ} {s : State} {line : LogicalLine} {k m : Progress}
       → unmatched_quote line.tokens ≡ None
+      → refusal s.waiting line.directive (operands line.tokens) ≡ None
       → ExecutesDirective context.profile row line.directive s line k
       → ExecutesControlLine context depth row s line m
       → k ≡ m
-  at_other {row = row} {s = s} {line = line} {k = k} q does (ExecutesControlLine.error is) = let differs = not_other row class.Error s line k is does in absurd (cc)
-  at_other {row = row} {s = s} {line = line} {k = k} q does (ExecutesControlLine.ignored is) = let differs = not_other row class.Ignored s line k is does in absurd (cc)
-  at_other q does (ExecutesControlLine.quote_fault is e) = absurd (cc)
-  at_other {row = row} {s = s} {line = line} {k = k} {m = m} q does (ExecutesControlLine.executed e does') =
+  at_other {row = row} {s = s} {line = line} {k = k} q free does (ExecutesControlLine.error is) =
+      let differs = not_other row class.Error s line k is does in absurd (cc)
+  at_other {row = row} {s = s} {line = line} {k = k} q free does (ExecutesControlLine.ignored is) =
+      let differs = not_other row class.Ignored s line k is does in absurd (cc)
+  at_other q free does (ExecutesControlLine.quote_fault is e) = absurd (cc)
+  at_other {s = s} {line = line} q free does (ExecutesControlLine.refused is e waits) = absurd (refused_or_free s line waits free)
+  at_other {row = row} {s = s} {line = line} {k = k} {m = m} q free does (ExecutesControlLine.executed e free' does') =
       control_by_once expansions decisions context.profile row line.directive s line k m does does'
-  at_other {row = row} {s = s} {line = line} {k = k} q does (ExecutesControlLine.include {include_next = next} is e here) =
+  at_other {row = row} {s = s} {line = line} {k = k} q free does (ExecutesControlLine.include {include_next = next} is e free' here) =
       let differs = not_other row (class.Includes next) s line k is does in absurd (cc)
 
   pub at_include : {depth row : ℕ} {next : Bool} {s : State} {line : LogicalLine} {m : Progress}
       → class_by line.directive ≡ Some (class.Includes next)
       → unmatched_quote line.tokens ≡ None
+      → refusal s.waiting line.directive (operands line.tokens) ≡ None
       → ExecutesControlLine context depth row s line m
       → ExecutesInclude context depth row (if next then s.directory else None) s line m
-  at_include {next = next} e q (ExecutesControlLine.error is) = let differs : Some (class.Includes next) ≡ Some class.Error = sym e ∙ is in absurd (cc)
-  at_include {next = next} e q (ExecutesControlLine.ignored is) = let differs : Some (class.Includes next) ≡ Some class.Ignored = sym e ∙ is in absurd (cc)
-  at_include e q (ExecutesControlLine.quote_fault is q') = absurd (cc)
-  at_include {row = row} {next = next} {s = s} {line = line} {m = m} e q (ExecutesControlLine.executed q' does) =
+  at_include {next = next} e q free (ExecutesControlLine.error is) = let differs : Some (class.Includes next) ≡ Some class.Error = sym e ∙ is in absurd (cc)
+  at_include {next = next} e q free (ExecutesControlLine.ignored is) = let differs : Some (class.Includes next) ≡ Some class.Ignored = sym e ∙ is in absurd (cc)
+  at_include e q free (ExecutesControlLine.quote_fault is q') = absurd (cc)
+  at_include {s = s} {line = line} e q free (ExecutesControlLine.refused is q' waits) = absurd (refused_or_free s line waits free)
+  at_include {row = row} {next = next} {s = s} {line = line} {m = m} e q free (ExecutesControlLine.executed q' free' does) =
       let differs = not_other row (class.Includes next) s line m e does in absurd (cc)
-  at_include {depth = depth} {row = row} {next = next} {s = s} {line = line} {m = m} e q (ExecutesControlLine.include {include_next = other} is q' here) =
+  at_include {depth = depth} {row = row} {next = next} {s = s} {line = line} {m = m} e q free (ExecutesControlLine.include {include_next = other} is q' free' here) =
       let both : Some (class.Includes other) ≡ Some (class.Includes next) = sym is ∙ e in
       let same : other ≡ next = cc in
       subst (λ (b : Bool). ExecutesInclude context depth row (if b then s.directory else None) s line m) same here

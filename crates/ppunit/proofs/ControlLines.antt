@@ -1,5 +1,5 @@
 -- A walk over a control line. The postconditions of the code imply its effect and the step to the next line.
-use Rattle.std.proofs.Common.{◌≡◌, ℕ, ◌+◌, ◌<◌, false, List, ◌∷◌, length, drop, sym, ap, ◌∙◌, subst, Option, None, Some, suc, Bool, Result, Ok, Err, if◌then◌else◌}
+use Rattle.std.proofs.Common.{◌≡◌, ℕ, ◌+◌, ◌<◌, true, false, List, ◌∷◌, length, drop, refl, sym, ap, ◌∙◌, subst, Option, None, Some, suc, Bool, Result, Ok, Err, if◌then◌else◌}
 use Rattle.pptext.specs.declared.tokens.Fault.{Fault}
 use Rattle.pptext.specs.declared.sources.Directive.{Directive}
 use Rattle.pptext.specs.declared.sources.Directive.TheVariants.{Null}
@@ -11,14 +11,15 @@ use Rattle.ppunit.specs.Group.{ExecutesGroup, ExecutesControlLine, ExecutesInclu
 use Rattle.ppshelf.specs.Files.{Files, Extends}
 use Rattle.ppunit.specs.code.Walk.{line_at, EnclosingSections, lines_to_end, AreEnclosingSections, HasPartsAt, Ends, Advances, Passes, PassesFrom, Leads, StepsTo, Steps, restored}
 use Rattle.ppunit.proofs.FirstLineCases.{lay_control, control_role, First, text, control, opening, ending}
-use Rattle.ppunit.proofs.WalkSteps.{ends_front, ends_stop, stands_behind, AdvancesFrom, advances, first_at, run_result}
+use Rattle.ppunit.proofs.FileWalk.{ends_front, ends_stop, stands_behind, AdvancesFrom, advances, first_at, run_result}
 use Rattle.pptext.specs.declared.tokens.Place.{Place}
 use Rattle.pptext.specs.declared.tokens.Token.{Token}
 use Rattle.pptext.specs.declared.sources.Profile.{Profile}
 use Rattle.ppunit.specs.Including.{IncludeName}
 use Rattle.ppunit.specs.code.Opening.{Entered}
-use Rattle.ppunit.specs.Directives.{NamesHeader, FindsFile, ExecutesDirective}
-use Rattle.ppunit.specs.code.Lines.{directed}
+use Rattle.ppunit.specs.DirectiveLines.{operands}
+use Rattle.ppunit.specs.Directives.{NamesHeader, FindsFile, refusal, or_fault, at_end, checks_quotes, ExecutesDirective}
+use Rattle.ppunit.specs.code.Lines.{directed, line_refusal}
 use Rattle.ppunit.specs.Quotes.{unmatched_quote}
 use Rattle.pptext.specs.declared.directives.Class.TheVariants as class
 use Rattle.ppexpand.specs.declared.meter.Meter.{Meter}
@@ -112,12 +113,32 @@ pub other_control : (context : Context) (depth row : ℕ) (by : Profile) (s t : 
     → by ≡ context.profile
     → r.directive ≡ Some d
     → unmatched_quote r.tokens ≡ None
+    → refusal s.waiting (Some d) (operands r.tokens) ≡ None
     → ExecutesDirective by row (Some d) s r (record { state = t; fault = f })
     → ExecutesControlLine context depth row s r (record { state = t; fault = f })
-other_control context depth row by s t d r f one is alone does =
+other_control context depth row by s t d r f one is alone free does =
     let here = subst (λ (z : Profile). ExecutesDirective z row (Some d) s r (record { state = t; fault = f })) one does in
     let line = subst (λ (z : Option Directive). ExecutesDirective context.profile row z s r (record { state = t; fault = f })) (sym is) here in
-    ExecutesControlLine.executed alone line
+    ExecutesControlLine.executed alone (ap (λ (z : Option Directive). refusal s.waiting z (operands r.tokens)) is ∙ free) line
+
+-- A line with such a fault stops the unit.
+pub refused_line : (context : Context) (depth row : ℕ) (s : State) (line : LogicalLine) (f : Fault)
+    → checks_quotes (class_by line.directive) ≡ true
+    → Some f ≡ line_refusal s line
+    → ExecutesControlLine context depth row s line (stopped s f)
+refused_line context depth row s line f checked refuses = by (unmatched_quote line.tokens) refl
+  where
+    by : (quote : Option Fault) → unmatched_quote line.tokens ≡ quote → ExecutesControlLine context depth row s line (stopped s f)
+    by (Some g) quote =
+        ExecutesControlLine.quote_fault checked
+        (quote ∙ sym (refuses ∙ ap (λ (q : Option Fault). or_fault q (refusal s.waiting line.directive (operands line.tokens))) quote))
+    by None quote =
+        ExecutesControlLine.refused checked quote (sym (refuses ∙ ap (λ (q : Option Fault). or_fault q (refusal s.waiting line.directive (operands line.tokens))) quote))
+
+-- neither of two faults
+pub neither : (f g : Option Fault) → None ≡ or_fault f g → (f ≡ None) × (g ≡ None)
+neither None g e = (refl, sym e)
+neither (Some f) g e = absurd (cc)
 
 -- ---- the step to the next line, or into a file
 
@@ -133,7 +154,7 @@ leads_on context files depth one other t (Ok (Some e)) expansion_step leads = re
   few = leads.few;
   parts = leads.parts;
   tree = leads.tree;
-  group = λ more grows m group. expansion_step more (restored e.outer m) (leads.group more grows m group);
+  group = λ more grows m group. expansion_step more (restored e.outer (at_end m)) (leads.group more grows m group);
 }
 leads_on context files depth one other t (Err f) expansion_step leads = λ more grows. expansion_step more (stopped t f) (leads more grows)
 
@@ -158,11 +179,12 @@ pub leads_include : (context : Files → Context) (files : Files) (depth row : �
     → directory ≡ (if next then s.directory else None)
     → class_by line.directive ≡ Some (class.Includes next)
     → unmatched_quote line.tokens ≡ None
+    → refusal s.waiting line.directive (operands line.tokens) ≡ None
     → Leads context files (suc depth) (λ more m. ExecutesInclude (context more) depth row directory s line m) t r
     → Leads context files (suc depth) (λ more m. ExecutesControlLine (context more) depth row s line m) t r
-leads_include context files depth row next directory line s t r its is alone leads =
+leads_include context files depth row next directory line s t r its is alone free leads =
     leads_on context files (suc depth) (λ more m. ExecutesInclude (context more) depth row directory s line m) (λ more m. ExecutesControlLine (context more) depth row s line m) t r
-    (λ more m here. ExecutesControlLine.include is alone (subst (λ (z : Option ℕ). ExecutesInclude (context more) depth row z s line m) its here)) leads
+    (λ more m here. ExecutesControlLine.include is alone free (subst (λ (z : Option ℕ). ExecutesInclude (context more) depth row z s line m) its here)) leads
 
 pub steps_line : (context : Files → Context) (files : Files) (depth row : ℕ) (lines : List LogicalLine) (index : ℕ) (s t : State)
     (next : ℕ) (r : ℕ × Option Entered)

@@ -24,8 +24,8 @@ use Rattle.ppshelf.proofs.SearchResults.{first_within}
 
 -- ---- effects that leave the dependencies unchanged
 
-run_keeps : (s : State) (tokens : List Token) (m : Progress) → EmitsText s tokens m → m.state.deps ≡ s.deps
-run_keeps s tokens m gives = ap (λ (r : Progress). r.state.deps) gives.is
+run_keeps : (profile : Profile) (s : State) (tokens : List Token) (m : Progress) → EmitsText profile s tokens m → m.state.deps ≡ s.deps
+run_keeps profile s tokens m gives = ap (λ (r : Progress). r.state.deps) gives.is
 
 effect_keeps : {profile : Profile} {row : ℕ} {d : Option Directive} {s : State} {r : LogicalLine} {m : Progress} → HasEffect profile row d s r m → m.state.deps ≡ s.deps
 effect_keeps (HasEffect.immediate is gives) = ap (λ (z : Progress). z.state.deps) gives
@@ -53,7 +53,8 @@ module _ (context : Context) where
     group_within : {depth row : ℕ} {r : Progress} {ps : GroupParts} {end : Progress} → ExecutesGroup context depth row r ps end → Within r.state.deps → Within end.state.deps
     group_within ExecutesGroup.already_stopped all = all
     group_within ExecutesGroup.no_parts all = all
-    group_within (ExecutesGroup.text_lines {s = s} {lines = lines} {m = m} gives rest) all = group_within rest (subst Within (sym (run_keeps s (text_tokens lines) m gives)) all)
+    group_within (ExecutesGroup.text_lines {s = s} {lines = lines} {m = m} gives rest) all =
+        group_within rest (subst Within (sym (run_keeps context.profile s (text_tokens lines) m gives)) all)
     group_within (ExecutesGroup.control here rest) all = group_within rest (control_within here all)
     group_within (ExecutesGroup.taken decides here rest) all = group_within rest (group_within here all)
     group_within (ExecutesGroup.skipped decides here rest) all = group_within rest (branches_within here all)
@@ -70,9 +71,10 @@ module _ (context : Context) where
     control_within (ExecutesControlLine.error is) all = all
     control_within (ExecutesControlLine.ignored is) all = all
     control_within (ExecutesControlLine.quote_fault is q) all = all
-    control_within {row = row} {s = s} {line = line} {m = m} (ExecutesControlLine.executed q does) all =
+    control_within (ExecutesControlLine.refused is q waits) all = all
+    control_within {row = row} {s = s} {line = line} {m = m} (ExecutesControlLine.executed q free does) all =
         subst Within (sym (control_keeps context.profile row line.directive s line m does)) all
-    control_within (ExecutesControlLine.include is q here) all = includes_within here all
+    control_within (ExecutesControlLine.include is q free here) all = includes_within here all
 
     includes_within : {depth row : ℕ} {following : Option ℕ} {s : State} {line : LogicalLine} {m : Progress} → ExecutesInclude context depth row following s line m → Within s.deps → Within m.state.deps
     includes_within (ExecutesInclude.operand_fault asks) all = all

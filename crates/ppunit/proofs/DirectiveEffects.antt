@@ -1,33 +1,134 @@
 -- A control line that opens no file and isn't `#error` has an effect. Only this file splits on the directives of these
--- lines: the other lemmas cite what it says of effects.
-use Rattle.std.proofs.Common.{◌≡◌, ◌≢◌, ℕ, ◌≤◌, ◌⊎◌, inl, inr, List, [], ◌∷◌, Bool, true, false, Option, Some, None, Result, Ok, Err, refl, sym, ap, ◌∙◌, subst, arith, if◌then◌else◌}
+-- lines: the other lemmas cite what it says of effects. Lines that define, undefine or bring back one name leave what each
+-- other name is.
+use Rattle.std.proofs.Common.{◌≡◌, ℕ, Bool, true, false, cond, List, [], ◌∷◌, Option, Some, None, Result, Ok, Err, codes, refl, sym, ap, ◌∙◌, if◌then◌else◌, ◌≢◌, ◌≤◌, ◌⊎◌, inl, inr, subst, arith}
+use Rattle.std.specs.FinMap as table
+use Rattle.std.specs.Ordering.{nat_cmp, eq_by_cmp}
+use Rattle.std.specs.Cmp.Lexicographic.{slice_cmp, nat_list_eq_equiv}
+use Rattle.std.specs.Str.{bytes_eq}
+use Rattle.std.proofs.lemmas.Map.Text.{is_eq-slice_cmp}
+use Rattle.std.proofs.lemmas.Cmp.{nat_list_cmp_total}
+use Rattle.pptext.specs.declared.tokens.Place.{Place}
 use Rattle.pptext.specs.declared.tokens.Token.{Token}
 use Rattle.pptext.specs.declared.tokens.Fault.{Fault}
+use Rattle.pptext.specs.declared.sources.Profile.{Profile}
+use Rattle.pptext.specs.Profiles.{is_gnu}
+use Rattle.pptext.specs.Tokens.{is_identifier, fault}
+use Rattle.ppmacro.specs.Names.{Name, Macros}
+use Rattle.ppmacro.specs.Define.{Refusal, is_reserved, with_macro_name, read_definition, check_body, insert_definition, remove_name, after_define, after_undef, Leaves}
+use Rattle.ppmacro.specs.PushedMacros.{put, last_of, macros_by}
+use Rattle.ppmacro.specs.declared.macros.Macro.{Macro}
+use Rattle.ppmacro.specs.declared.pushed_macros.PushedMacro.{PushedMacro}
+use Rattle.ppexpand.specs.ExpansionStep.{macro_of}
+use Rattle.ppunit.specs.Directives.{names_token, is_name, name_after, name_to_pop, ExecutesDirective, SetsLine, with_macros, renumbered_by, is_once, name_to_push, noting_push, noting_pop, pragma_emitted, checks_quotes, is_refused}
+use Rattle.ppunit.specs.code.Effects.{macros_by_pop, Effect, affected, no_effect, only_fault, macros_effect, pushed_by_push, pushed_by_pop, pragma_effect, immediate_effect, line_effect, HasEffect}
 use Rattle.pptext.specs.declared.sources.Directive.{Directive}
 use Rattle.pptext.specs.declared.sources.Directive.TheVariants.{Define, Undef, Line, Pragma, Null, Unknown}
-use Rattle.pptext.specs.declared.sources.Profile.{Profile}
 use Rattle.pptext.specs.declared.directives.Class.{Class}
 use Rattle.pptext.specs.declared.directives.Class.TheVariants as class
 use Rattle.pptext.specs.Classes.{class_by, class_of, opens, ends}
 use Rattle.pptext.specs.Lines.{LogicalLine}
 use Rattle.pptext.specs.Tree.{hash_place}
-use Rattle.ppmacro.specs.Names.{Name, Macros}
 use Rattle.std.specs.Result.{result_err}
-use Rattle.ppmacro.specs.Define.{after_define, after_undef, Leaves}
 use Rattle.ppmacro.proofs.FaultNumbers.{define_number, undef_number}
 use Rattle.ppexpand.specs.declared.meter.Meter.{Meter}
 use Rattle.ppexpand.specs.declared.env.Env.{Env}
-use Rattle.ppexpand.specs.Expansion.{Expansion}
-use Rattle.ppexpand.specs.Expansion.{IsExpansion, count_expansion}
+use Rattle.ppexpand.specs.Expansion.{Expansion, IsExpansion, count_expansion}
 use Rattle.ppunit.specs.declared.units.Item.TheVariants as item
 use Rattle.ppunit.specs.Dependencies.{with_row}
 use Rattle.ppunit.specs.States.{State, Progress, running, stopped, emitted, with_once, with_meter}
 use Rattle.ppunit.specs.DirectiveLines.{operands, line_fault, named_fault}
 use Rattle.ppunit.specs.LineControl.{Presumed, presumed, renumbered}
-use Rattle.ppunit.specs.Directives.{ExecutesDirective, SetsLine, with_macros, renumbered_by, is_once, name_to_push, name_to_pop, noting_push, noting_pop, pragma_emitted, checks_quotes}
 use Rattle.ppunit.specs.Counts.{count_control_by}
-use Rattle.ppunit.specs.code.Effects.{Effect, affected, no_effect, only_fault, macros_effect, pushed_by_push, macros_by_pop, pushed_by_pop, pragma_effect, immediate_effect, line_effect, HasEffect}
 use Rattle.ppunit.proofs.KeptItems.{kept-nothing}
+
+-- ---- tables
+
+same_test : (name other : Name) → bytes_eq name other ≡ eq_by_cmp (slice_cmp nat_cmp) other name
+same_test name other = symm name other ∙ sym (is_eq-slice_cmp other name)
+  where
+    symm : (x y : Name) → bytes_eq x y ≡ bytes_eq y x
+    symm = nat_list_eq_equiv.symm
+
+is_other : (name other : Name) → bytes_eq name other ≡ false → eq_by_cmp (slice_cmp nat_cmp) other name ≡ false
+is_other name other h = sym (same_test name other) ∙ h
+
+inserted : (macros : Macros) (name other : Name) (d : Macro) → bytes_eq name other ≡ false
+    → table.get (table.insert macros name d) other ≡ table.get macros other
+inserted macros name other d h =
+    table.get-insert nat_list_cmp_total macros name d other ∙ ap (λ b. cond b (Some d) (table.get macros other)) (is_other name other h)
+
+removed : (macros : Macros) (name other : Name) → bytes_eq name other ≡ false → table.get (table.remove macros name) other ≡ table.get macros other
+removed macros name other h = table.get-remove nat_list_cmp_total macros name other ∙ ap (λ b. cond b None (table.get macros other)) (is_other name other h)
+
+put_other : (macros : Macros) (name other : Name) (definition : Option Macro) → bytes_eq name other ≡ false
+    → table.get (put macros name definition) other ≡ table.get macros other
+put_other macros name other (Some d) h = inserted macros name other d h
+put_other macros name other None h = removed macros name other h
+
+-- ---- tokens
+
+-- the macro that the token names is the same in both tables
+abbrev pub Unchanged : Token → Macros → Macros → Type 0
+Unchanged t macros new = macro_of new t ≡ macro_of macros t
+
+unchanged : (t : Token) (macros new : Macros) → table.get new t.text ≡ table.get macros t.text → Unchanged t macros new
+unchanged t macros new same = ap (λ (g : Option Macro). if is_identifier t then g else None) same
+
+-- the same after a line, if it has no fault
+abbrev pub UnchangedBy : Token → Macros → Result Macros Fault → Type 0
+UnchangedBy t macros (Ok new) = Unchanged t macros new
+UnchangedBy t macros (Err f) = Unit {0}
+
+-- `#define` of another name
+pub define_other : (profile : Profile) (macros : Macros) (at : Place) (os : List Token) (t : Token) → names_token t os ≡ false
+    → UnchangedBy t macros (after_define profile macros at os)
+define_other profile macros at [] t h = tt
+define_other profile macros at (o ∷ os) t h = chosen (is_identifier o) (is_reserved profile o.text)
+  where
+    named : (r : Result Macro Refusal) → UnchangedBy t macros (insert_definition macros (with_macro_name at o.text r))
+    named (Ok d) = unchanged t macros (table.insert macros o.text d) (inserted macros o.text t.text d h)
+    named (Err r) = tt
+
+    chosen : (identifier reserved : Bool) → UnchangedBy t macros (insert_definition macros (
+        if identifier then (
+        if reserved then Err (fault 10 at o.text) else
+        with_macro_name at o.text (check_body profile macros o.text (read_definition profile os))) else Err (fault 9 at (codes "define"))))
+    chosen true true = tt
+    chosen true false = named (check_body profile macros o.text (read_definition profile os))
+    chosen false reserved = tt
+
+-- `#undef` of another name
+pub undef_other : (profile : Profile) (macros : Macros) (at : Place) (os : List Token) (t : Token) → names_token t os ≡ false
+    → UnchangedBy t macros (after_undef profile macros at os)
+undef_other profile macros at [] t h = tt
+undef_other profile macros at (o ∷ []) t h = chosen (is_identifier o) (is_reserved profile o.text)
+  where
+    chosen : (identifier reserved : Bool) → UnchangedBy t macros (remove_name macros (
+        if identifier then (if reserved then Err (fault 10 at o.text) else Ok o.text) else Err (fault 9 at (codes "undef"))))
+    chosen true true = tt
+    chosen true false = unchanged t macros (table.remove macros o.text) (removed macros o.text t.text h)
+    chosen false reserved = tt
+undef_other profile macros at (o ∷ (p ∷ os)) t h = tt
+
+-- `#pragma pop_macro` of another name
+popped_other : (t : Token) (macros : Macros) (pushed : List PushedMacro) (name : Option Name) → is_name t.text name ≡ false
+    → Unchanged t macros (macros_by_pop name macros pushed)
+popped_other t macros pushed None h = refl
+popped_other t macros pushed (Some name) h = by (last_of name pushed)
+  where
+    by : (last : Option (PushedMacro × List PushedMacro)) → Unchanged t macros (macros_by macros name last)
+    by None = refl
+    by (Some (last, others)) = unchanged t macros (put macros name last.definition) (put_other macros name t.text last.definition h)
+
+pub pop_other : (profile : Profile) (t : Token) (macros : Macros) (pushed : List PushedMacro) (os : List Token)
+    → is_name t.text (name_after (codes "pop_macro") os) ≡ false
+    → Unchanged t macros (macros_by_pop (name_to_pop profile os) macros pushed)
+pop_other profile t macros pushed os h = popped_other t macros pushed (name_to_pop profile os) (in_profile (is_gnu profile))
+  where
+    in_profile : (gnu : Bool) → is_name t.text (if gnu then name_after (codes "pop_macro") os else None) ≡ false
+    in_profile true = h
+    in_profile false = refl
 
 -- ---- the outcome of each effect
 
@@ -219,6 +320,40 @@ pub effect_other : {profile : Profile} {row : ℕ} {d : Option Directive} {s : S
 effect_other {profile} {row} {d} {s} {line} expansions (HasEffect.immediate {e = e} is gives) = subst (λ (r : Progress). IsOther r.fault) (sym gives) (immediate_effect_other profile row d s line e is)
 effect_other {s = s} {line = line} expansions (HasEffect.expanding x is expands gives) =
     subst (λ (r : Progress). IsOther r.fault) (sym gives) (line_effect_other s line x.fault (presumed x.tokens) (expansions x expands))
+
+-- ---- the name of an invocation that waits
+
+by_table : (s : State) (t : Token) (r : Result Macros Fault) → UnchangedBy t s.macros r → Unchanged t s.macros (macros_effect s r).macros
+by_table s t (Ok macros) h = h
+by_table s t (Err f) h = refl
+
+-- A line that isn't refused while an invocation waits leaves what its name is.
+pub effect_keeps : (profile : Profile) (row : ℕ) (d : Option Directive) (s : State) (line : LogicalLine) (e : Effect) (t : Token)
+    → immediate_effect profile row d s line ≡ Some e
+    → is_refused t d (operands line.tokens) ≡ false
+    → Unchanged t s.macros e.macros
+effect_keeps profile row (Some Null) s line e t is h = subst (λ (z : Effect). Unchanged t s.macros z.macros) (same_effect (no_effect s) e is) refl
+effect_keeps profile row (Some Define) s line e t is h =
+    let r = after_define profile s.macros (hash_place line.tokens) (operands line.tokens) in
+    subst (λ (z : Effect). Unchanged t s.macros z.macros) (same_effect (macros_effect s r) e is)
+    (by_table s t r (define_other profile s.macros (hash_place line.tokens) (operands line.tokens) t h))
+effect_keeps profile row (Some Undef) s line e t is h =
+    let r = after_undef profile s.macros (hash_place line.tokens) (operands line.tokens) in
+    subst (λ (z : Effect). Unchanged t s.macros z.macros) (same_effect (macros_effect s r) e is)
+    (by_table s t r (undef_other profile s.macros (hash_place line.tokens) (operands line.tokens) t h))
+effect_keeps profile row (Some Pragma) s line e t is h =
+    let pushed = pushed_by_push (name_to_push profile (operands line.tokens)) s.macros s.pushed in
+    subst (λ (z : Effect). Unchanged t s.macros z.macros) (same_effect (pragma_effect profile row s line.tokens) e is)
+    (pop_other profile t s.macros pushed (operands line.tokens) h)
+effect_keeps profile row (Some Unknown) s line e t is h =
+    subst (λ (z : Effect). Unchanged t s.macros z.macros) (same_effect (only_fault s (named_fault 8 line.tokens)) e is) refl
+effect_keeps profile row d s line e t is h = absurd (no_immediate e is)
+
+-- `#line` changes no macro.
+pub line_keeps : (s : State) (line : LogicalLine) (f : Option Fault) (p : Option Presumed) → s.macros ≡ (line_effect s line f p).macros
+line_keeps s line (Some f) p = refl
+line_keeps s line None None = refl
+line_keeps s line None (Some p) = refl
 
 -- ---- classes of directives
 

@@ -1,5 +1,5 @@
 -- If their budget is too small, lines, groups and units stop with fault 35, after a prefix of their full output.
-use Rattle.std.proofs.Common.{◌≡◌, ℕ, ◌<◌, List, [], ◌++◌, map, Bool, true, false, Option, Some, Result, Ok, Err, refl, sym, ap, ◌∙◌, subst, arith, append-nil, zero, suc, ◌+◌, ◌-◌, ◌≤◌}
+use Rattle.std.proofs.Common.{◌≡◌, ℕ, ◌<◌, List, [], ◌++◌, map, Bool, true, false, Option, Some, Result, Ok, Err, refl, sym, ap, ◌∙◌, subst, arith, append-nil, zero, suc, ◌+◌, ◌-◌, ◌≤◌, if◌then◌else◌}
 use Rattle.std.proofs.lemmas.List.{map-append}
 use Rattle.pptext.specs.declared.tokens.Place.{Place}
 use Rattle.pptext.specs.declared.tokens.Token.{Token}
@@ -13,14 +13,17 @@ use Rattle.ppexpand.specs.Expansion.{count_expansion}
 use Rattle.ppexpand.proofs.BudgetLemmas.{StopsEarly, Covers, expansion_short, covers_less}
 use Rattle.ppexpr.proofs.ConditionBudgets.{condition_short}
 use Rattle.ppunit.specs.declared.units.Item.{Item}
-use Rattle.ppunit.specs.States.{State, Progress, stopped, emitted, kept, with_meter, Search, file_context, in_file_context, Context, with_dependency, with_one_spent}
+use Rattle.ppunit.specs.States.{State, Progress, stopped, emitted, kept, with_meter, with_waiting, Search, file_context, in_file_context, Context, with_dependency, with_one_spent}
 use Rattle.ppunit.specs.DirectiveLines.{operands, line_fault, text_tokens}
 use Rattle.ppunit.specs.LineControl.{presumed}
 use Rattle.ppunit.specs.Including.{IncludeName, begins_with_header, name_of_expansion_or}
 use Rattle.ppunit.specs.Conditions.{Decides}
-use Rattle.ppunit.specs.Directives.{EmitsText, NamesHeaderBy, NamesHeader, ExecutesDirective}
+use Rattle.ppunit.specs.Directives.{meter_at_text, waits_in, text_emitted, EmitsText, NamesHeaderBy, NamesHeader, ExecutesDirective}
 use Rattle.ppunit.specs.Counts.{count_decides, count_names_header_by, count_names_header, count_control_by, count_group, count_branches, count_control, count_includes, count_opening}
 use Rattle.ppunit.proofs.OutputPrefixes.{Before, before_then, control_by_before, same_state, depends, group_before, branches_before, opened_before}
+use Rattle.ppunit.proofs.WaitingInvocations.{WaitsIn, run_waits, group_waits, branches_waits, control_waits, defines_waits}
+use Rattle.ppunit.proofs.TextBudgets.{budget_at_text, covers_at_text, less_at_text, expands_at_text}
+use Rattle.ppunit.proofs.BudgetSums.{count_run}
 use Rattle.ppunit.specs.code.Effects.{affected, line_effect, HasEffect}
 use Rattle.ppunit.proofs.DirectiveEffects.{effect_of, executes, count_effect, same_count, fault_affects}
 use Rattle.pptext.specs.Tokens.{fault}
@@ -31,7 +34,11 @@ use Rattle.ppunit.proofs.SufficientBudgets.{budgeted, holding, run_enough, asks_
 use Rattle.ppunit.proofs.SufficientBudgets.{group_rest, branches_rest, control_rest, defines_rest, group_enough, branches_enough, control_enough, defines_enough}
 use native.Mathlib.Decide.{dec_lt}
 use Rattle.ppunit.specs.declared.units.Item.TheVariants as item
-use Rattle.ppexpand.specs.Laws.{IsPrefix}
+use Rattle.ppexpand.specs.Laws.{IsPrefix, LeavesOpen, nothing_open, invocation_open}
+use Rattle.ppexpand.specs.OpenInvocations.{open_expansion}
+use Rattle.ppexpand.proofs.OpenLists.{leaves}
+use Rattle.ppmacro.specs.Names.{Macros}
+use Rattle.pptext.specs.Profiles.{is_gnu}
 use Rattle.ppunit.proofs.KeptItems.{kept-first}
 
 -- ---- if its budget is too small, a line stops with fault 35, after a prefix of its full output
@@ -52,22 +59,43 @@ over_then s t u f o h = record { number = o.number; before = before_then s t u o
 
 -- ---- lines
 
-pub run_short : (s : State) (tokens : List Token) (m : Progress) (b : ℕ) → Covers s.meter.remaining b
-    → (g : EmitsText s tokens m)
-    → b < count_expansion g.expands
-    → Stops m.state (λ t f. EmitsText (budgeted s b) tokens (stopped t f))
-run_short s tokens m b is g less =
-    let x : StopsEarly s.macros s.env s.meter b tokens g.expanded = expansion_short s.macros s.env b is g.expands less in
+-- An expansion that stops with fault 35 leaves nothing open.
+nothing_left : {macros : Macros} {o : Option Fault} {ts : List Token} (f : Fault) → LeavesOpen macros o ts → o ≡ Some f → f.number ≡ 35 → ts ≡ []
+nothing_left f nothing_open is number = refl
+nothing_left f (invocation_open {t = t} named function_like opens unclosed) is number =
+    let same : fault 17 t.used t.text ≡ f = cc in
+    let wrong : ◌≡◌ {A = ℕ} 17 35 = ap (λ g. g.number) same ∙ number in
+    absurd (omega arith)
+
+none_waits : (profile : Profile) → waits_in profile [] ≡ []
+none_waits profile = elim (is_gnu profile) as (λ b. ◌≡◌ {A = List Token} (if b then [] else []) []) [ true ↦ refl | false ↦ refl ]
+
+pub run_short : (profile : Profile) (s : State) (tokens : List Token) (m : Progress) (b : ℕ) → Covers s.meter.remaining b
+    → (g : EmitsText profile s tokens m)
+    → b < count_run g
+    → Stops m.state (λ t f. EmitsText profile (budgeted s b) tokens (stopped t f))
+run_short profile s tokens m b is g less =
+    let at_text : ℕ = budget_at_text s.waiting b in
+    let list : List Token = s.waiting ++ tokens in
+    let covers : Covers (meter_at_text s.waiting s.meter).remaining at_text = covers_at_text s.waiting b s.meter is in
+    let low : at_text < count_expansion g.expands = less_at_text s.waiting b (count_expansion g.expands) less in
+    let x : StopsEarly s.macros s.env (meter_at_text s.waiting s.meter) at_text list g.expanded = expansion_short s.macros s.env at_text covers g.expands low in
+    let y = expands_at_text s.macros s.env s.waiting tokens b s.meter x.expansion x.is in
+    let left = leaves s.macros s.env (meter_at_text s.waiting (with_budget (Some b) s.meter)) list x.expansion y.expands in
+    let none : open_expansion y.expands ≡ [] = nothing_left x.fault left x.stopped x.number in
     let items : List Item = map item.Token x.expansion.tokens in
     let more : List Item = map item.Token x.begins.0 in
     let made : map item.Token g.expanded.tokens ≡ items ++ more = ap (λ ts. map item.Token ts) x.begins.1 ∙ map-append item.Token x.expansion.tokens x.begins.0 in
     let whole : m.state.items ≡ kept s.keeps s.items (items ++ more) = ap (λ r. r.state.items) g.is ∙ ap (kept s.keeps s.items) made in
     let begins : IsPrefix (kept s.keeps s.items items) m.state.items = subst (IsPrefix (kept s.keeps s.items items)) (sym whole) (kept-first s.keeps s.items items more) in
-    let deps : m.state.deps ≡ s.deps = ap (λ r. r.state.deps) g.is in (
-      emitted (with_meter s x.expansion.meter) items,
+    let deps : m.state.deps ≡ s.deps = ap (λ r. r.state.deps) g.is in
+    let reached : State = with_waiting (emitted (with_meter s x.expansion.meter) items) [] in
+    let stops : stopped reached x.fault ≡ text_emitted (budgeted s b) x.expansion [] = λ i. record { state = reached; fault = (sym x.stopped) i } in
+    let nothing : [] ≡ waits_in profile (open_expansion y.expands) = sym (ap (waits_in profile) none ∙ none_waits profile) in (
+      reached,
       x.fault,
       record { number = x.number; before = (begins, ([], deps ∙ sym (append-nil s.deps))) },
-      record { expanded = x.expansion; expands = x.is; is = λ i. record { state = emitted (with_meter s x.expansion.meter) items; fault = (sym x.stopped) i } },
+      record { expanded = x.expansion; expands = y.expands; is = stops ∙ ap (text_emitted (budgeted s b) x.expansion) nothing },
     )
 
 asks_by_short : (header : Bool) (s : State) (line : List Token) (meter_after : Meter) (include_name : Result IncludeName Fault) (b : ℕ) → Covers s.meter.remaining b
@@ -126,36 +154,39 @@ module _ (context : Context) where
 
   mutual
     pub group_short : {depth row : ℕ} {r : Progress} {ps : GroupParts} {end : Progress} (b : ℕ) → Covers r.state.meter.remaining b
+        → WaitsIn r.state
         → (d : ExecutesGroup context depth row r ps end)
         → b < count_group d
         → Stops end.state (λ t f. ExecutesGroup context depth row (holding b r) ps (stopped t f))
-    group_short b is ExecutesGroup.already_stopped less = absurd (omega arith)
-    group_short b is ExecutesGroup.no_parts less = absurd (omega arith)
-    group_short {end = end} b is (ExecutesGroup.text_lines {s = s} {lines = lines} {m = m} gives rest) less =
-        let c = count_expansion gives.expands in
+    group_short b is w ExecutesGroup.already_stopped less = absurd (omega arith)
+    group_short b is w ExecutesGroup.no_parts less = absurd (omega arith)
+    group_short {end = end} b is w (ExecutesGroup.text_lines {s = s} {lines = lines} {m = m} gives rest) less =
+        let c = count_run gives in
+        let after = run_waits context.profile s (text_tokens lines) m gives in
         elim (dec_lt b c) [
           | yes less ↦
-              (let x = run_short s (text_tokens lines) m b is gives less in
+              (let x = run_short context.profile s (text_tokens lines) m b is gives less in
               (x.0, x.1, over_then x.0 m.state end.state x.1 x.2 (group_before context rest), ExecutesGroup.text_lines x.3 ExecutesGroup.already_stopped))
           | no not_less ↦
               (let sum : b ≡ c + (b - c) = omega arith in
-              let covers = run_rest s (text_tokens lines) m b (b - c) is gives sum in
-              let x = group_short (b - c) covers rest (omega arith) in
-              (x.0, x.1, x.2, ExecutesGroup.text_lines {end = stopped x.0 x.1} (run_enough s (text_tokens lines) m b is gives (b - c) sum) x.3))
+              let covers = run_rest context.profile s (text_tokens lines) m b (b - c) is w gives sum in
+              let x = group_short (b - c) covers after rest (omega arith) in
+              let here = run_enough context.profile s (text_tokens lines) m b is w gives (b - c) sum in
+              (x.0, x.1, x.2, ExecutesGroup.text_lines {end = stopped x.0 x.1} here x.3))
         ]
-    group_short {end = end} b is (ExecutesGroup.control {m = m} here rest) less =
+    group_short {end = end} b is w (ExecutesGroup.control {m = m} here rest) less =
         let c = count_control here in
         elim (dec_lt b c) [
           | yes less ↦
-              (let x = control_short b is here less in
+              (let x = control_short b is w here less in
               (x.0, x.1, over_then x.0 m.state end.state x.1 x.2 (group_before context rest), ExecutesGroup.control x.3 ExecutesGroup.already_stopped))
           | no not_less ↦
               (let sum : b ≡ c + (b - c) = omega arith in
-              let covers = control_rest context b (b - c) is here sum in
-              let x = group_short (b - c) covers rest (omega arith) in
-              (x.0, x.1, x.2, ExecutesGroup.control {end = stopped x.0 x.1} (control_enough context b is here (b - c) sum) x.3))
+              let covers = control_rest context b (b - c) is w here sum in
+              let x = group_short (b - c) covers (control_waits context w here) rest (omega arith) in
+              (x.0, x.1, x.2, ExecutesGroup.control {end = stopped x.0 x.1} (control_enough context b is w here (b - c) sum) x.3))
         ]
-    group_short {end = end} b is (ExecutesGroup.taken {s = s} {m = m} decides here rest) less =
+    group_short {end = end} b is w (ExecutesGroup.taken {s = s} {m = m} decides here rest) less =
         let c = count_decides decides in
         let j = count_group here in
         let k = count_group rest in
@@ -170,17 +201,18 @@ module _ (context : Context) where
               let covers = decides_rest b (b - c) is decides sum in
               elim (dec_lt (b - c) j) [
                 | yes less ↦
-                    (let x = group_short (b - c) covers here less in
+                    (let x = group_short (b - c) covers w here less in
                     (x.0, x.1, over_then x.0 m.state end.state x.1 x.2 two, ExecutesGroup.taken {end = stopped x.0 x.1} (decides_enough b is decides (b - c) sum) x.3 ExecutesGroup.already_stopped))
                 | no not_less2 ↦
                     (let n = b - c - j in
                     let sum2 : b - c ≡ j + n = omega arith in
-                    let next = group_rest context (b - c) n covers here sum2 in
-                    let x = group_short n next rest (omega arith) in
-                    (x.0, x.1, x.2, ExecutesGroup.taken {end = stopped x.0 x.1} (decides_enough b is decides (b - c) sum) (group_enough context (b - c) covers here n sum2) x.3))
+                    let next = group_rest context (b - c) n covers w here sum2 in
+                    let x = group_short n next (group_waits context w here) rest (omega arith) in
+                    let inside = group_enough context (b - c) covers w here n sum2 in
+                    (x.0, x.1, x.2, ExecutesGroup.taken {end = stopped x.0 x.1} (decides_enough b is decides (b - c) sum) inside x.3))
               ])
         ]
-    group_short {end = end} b is (ExecutesGroup.skipped {s = s} {m = m} decides here rest) less =
+    group_short {end = end} b is w (ExecutesGroup.skipped {s = s} {m = m} decides here rest) less =
         let c = count_decides decides in
         let j = count_branches here in
         let k = count_group rest in
@@ -195,29 +227,31 @@ module _ (context : Context) where
               let covers = decides_rest b (b - c) is decides sum in
               elim (dec_lt (b - c) j) [
                 | yes less ↦
-                    (let x = branches_short (b - c) covers here less in
+                    (let x = branches_short (b - c) covers w here less in
                     (x.0, x.1, over_then x.0 m.state end.state x.1 x.2 two, ExecutesGroup.skipped {end = stopped x.0 x.1} (decides_enough b is decides (b - c) sum) x.3 ExecutesGroup.already_stopped))
                 | no not_less2 ↦
                     (let n = b - c - j in
                     let sum2 : b - c ≡ j + n = omega arith in
-                    let next = branches_rest context (b - c) n covers here sum2 in
-                    let x = group_short n next rest (omega arith) in
-                    (x.0, x.1, x.2, ExecutesGroup.skipped {end = stopped x.0 x.1} (decides_enough b is decides (b - c) sum) (branches_enough context (b - c) covers here n sum2) x.3))
+                    let next = branches_rest context (b - c) n covers w here sum2 in
+                    let x = group_short n next (branches_waits context w here) rest (omega arith) in
+                    let inside = branches_enough context (b - c) covers w here n sum2 in
+                    (x.0, x.1, x.2, ExecutesGroup.skipped {end = stopped x.0 x.1} (decides_enough b is decides (b - c) sum) inside x.3))
               ])
         ]
-    group_short b is (ExecutesGroup.condition_fault {s = s} {meter_after = meter_after} decides) less =
+    group_short b is w (ExecutesGroup.condition_fault {s = s} {meter_after = meter_after} decides) less =
         let x = decides_short b is decides less in
         (with_meter s x.2, x.0, over_same s (with_meter s meter_after) x.2 x.0 x.1 (same_state s), ExecutesGroup.condition_fault x.3)
 
     branches_short : {depth row : ℕ} {s : State} {bs : Branches} {m : Progress} (b : ℕ) → Covers s.meter.remaining b
+        → WaitsIn s
         → (d : ExecutesBranches context depth row s bs m)
         → b < count_branches d
         → Stops m.state (λ t f. ExecutesBranches context depth row (budgeted s b) bs (stopped t f))
-    branches_short b is ExecutesBranches.no_branch_taken less = absurd (omega arith)
-    branches_short b is (ExecutesBranches.else_group e here) less =
-        let x = group_short b is here less in
+    branches_short b is w ExecutesBranches.no_branch_taken less = absurd (omega arith)
+    branches_short b is w (ExecutesBranches.else_group e here) less =
+        let x = group_short b is w here less in
         (x.0, x.1, x.2, ExecutesBranches.else_group e x.3)
-    branches_short {m = m} b is (ExecutesBranches.branch_taken {s = s} e decides here) less =
+    branches_short {m = m} b is w (ExecutesBranches.branch_taken {s = s} e decides here) less =
         let c = count_decides decides in
         elim (dec_lt b c) [
           | yes less ↦
@@ -226,10 +260,10 @@ module _ (context : Context) where
           | no not_less ↦
               (let sum : b ≡ c + (b - c) = omega arith in
               let covers = decides_rest b (b - c) is decides sum in
-              let x = group_short (b - c) covers here (omega arith) in
+              let x = group_short (b - c) covers w here (omega arith) in
               (x.0, x.1, x.2, ExecutesBranches.branch_taken {m = stopped x.0 x.1} e (decides_enough b is decides (b - c) sum) x.3))
         ]
-    branches_short {m = m} b is (ExecutesBranches.branch_skipped {s = s} e decides here) less =
+    branches_short {m = m} b is w (ExecutesBranches.branch_skipped {s = s} e decides here) less =
         let c = count_decides decides in
         elim (dec_lt b c) [
           | yes less ↦
@@ -238,38 +272,41 @@ module _ (context : Context) where
           | no not_less ↦
               (let sum : b ≡ c + (b - c) = omega arith in
               let covers = decides_rest b (b - c) is decides sum in
-              let x = branches_short (b - c) covers here (omega arith) in
+              let x = branches_short (b - c) covers w here (omega arith) in
               (x.0, x.1, x.2, ExecutesBranches.branch_skipped {m = stopped x.0 x.1} e (decides_enough b is decides (b - c) sum) x.3))
         ]
-    branches_short b is (ExecutesBranches.branch_condition_fault {s = s} {meter_after = meter_after} e decides) less =
+    branches_short b is w (ExecutesBranches.branch_condition_fault {s = s} {meter_after = meter_after} e decides) less =
         let x = decides_short b is decides less in
         (with_meter s x.2, x.0, over_same s (with_meter s meter_after) x.2 x.0 x.1 (same_state s), ExecutesBranches.branch_condition_fault e x.3)
 
     control_short : {depth row : ℕ} {s : State} {line : LogicalLine} {m : Progress} (b : ℕ) → Covers s.meter.remaining b
+        → WaitsIn s
         → (d : ExecutesControlLine context depth row s line m)
         → b < count_control d
         → Stops m.state (λ t f. ExecutesControlLine context depth row (budgeted s b) line (stopped t f))
-    control_short b is (ExecutesControlLine.error e) less = absurd (omega arith)
-    control_short b is (ExecutesControlLine.ignored e) less = absurd (omega arith)
-    control_short b is (ExecutesControlLine.quote_fault e q) less = absurd (omega arith)
-    control_short {row = row} b is (ExecutesControlLine.executed {s = s} {line = line} {m = m} q does) less =
+    control_short b is w (ExecutesControlLine.error e) less = absurd (omega arith)
+    control_short b is w (ExecutesControlLine.ignored e) less = absurd (omega arith)
+    control_short b is w (ExecutesControlLine.quote_fault e q) less = absurd (omega arith)
+    control_short b is w (ExecutesControlLine.refused e q waits) less = absurd (omega arith)
+    control_short {row = row} b is w (ExecutesControlLine.executed {s = s} {line = line} {m = m} q free does) less =
         let x = control_by_short context.profile row line.directive s line m b is does less in
-        (x.0, x.1, x.2, ExecutesControlLine.executed q x.3)
-    control_short b is (ExecutesControlLine.include e q here) less =
-        let x = includes_short b is here less in
-        (x.0, x.1, x.2, ExecutesControlLine.include e q x.3)
+        (x.0, x.1, x.2, ExecutesControlLine.executed q free x.3)
+    control_short b is w (ExecutesControlLine.include e q free here) less =
+        let x = includes_short b is w here less in
+        (x.0, x.1, x.2, ExecutesControlLine.include e q free x.3)
 
     includes_short : {depth row : ℕ} {following : Option ℕ} {s : State} {line : LogicalLine} {m : Progress} (b : ℕ) → Covers s.meter.remaining b
+        → WaitsIn s
         → (d : ExecutesInclude context depth row following s line m)
         → b < count_includes d
         → Stops m.state (λ t f. ExecutesInclude context depth row following (budgeted s b) line (stopped t f))
-    includes_short b is (ExecutesInclude.operand_fault {s = s} {line = line} {meter_after = meter_after} {f = f} asks) less =
+    includes_short b is w (ExecutesInclude.operand_fault {s = s} {line = line} {meter_after = meter_after} {f = f} asks) less =
         let x = asks_short s line.tokens meter_after (Err f) b is asks less in
         (with_meter s x.2, x.0, over_same s (with_meter s meter_after) x.2 x.0 x.1 (same_state s), ExecutesInclude.operand_fault x.3)
-    includes_short b is (ExecutesInclude.missing {s = s} {line = line} {meter_after = meter_after} a asks finds) less =
+    includes_short b is w (ExecutesInclude.missing {s = s} {line = line} {meter_after = meter_after} a asks finds) less =
         let x = asks_short s line.tokens meter_after (Ok a) b is asks less in
         (with_meter s x.2, x.0, over_same s (with_meter s meter_after) x.2 x.0 x.1 (same_state s), ExecutesInclude.operand_fault x.3)
-    includes_short b is (ExecutesInclude.included {s = s} {line = line} {meter_after = meter_after} a found {m = m} asks finds opens) less =
+    includes_short b is w (ExecutesInclude.included {s = s} {line = line} {meter_after = meter_after} a found {m = m} asks finds opens) less =
         let c = count_names_header s line.tokens meter_after (Ok a) asks in
         elim (dec_lt b c) [
           | yes less ↦
@@ -278,56 +315,59 @@ module _ (context : Context) where
           | no not_less ↦
               (let sum : b ≡ c + (b - c) = omega arith in
               let covers = asks_rest s line.tokens meter_after (Ok a) b (b - c) is asks sum in
-              let x = opened_short (b - c) covers opens (omega arith) in
+              let x = opened_short (b - c) covers w opens (omega arith) in
               (x.0, x.1, x.2, ExecutesInclude.included a found {m = stopped x.0 x.1} (asks_enough s line.tokens meter_after (Ok a) b is asks (b - c) sum) finds x.3))
         ]
 
     pub opened_short : {depth row : ℕ} {directory : Option ℕ} {at : Place} {s : State} {m : Progress} (b : ℕ) → Covers s.meter.remaining b
+        → WaitsIn s
         → (d : OpensFile context depth at s row directory m)
         → b < count_opening d
         → Stops m.state (λ t f. OpensFile context depth at (budgeted s b) row directory (stopped t f))
-    opened_short b is (OpensFile.too_deep deep) less = absurd (omega arith)
-    opened_short b is (OpensFile.exhausted fits spent) less = absurd (omega arith)
-    opened_short {depth} {row} {directory} {at} zero is (OpensFile.not_read_again {s = s} fits more once) less =
+    opened_short b is w (OpensFile.too_deep deep) less = absurd (omega arith)
+    opened_short b is w (OpensFile.exhausted fits spent) less = absurd (omega arith)
+    opened_short {depth} {row} {directory} {at} zero is w (OpensFile.not_read_again {s = s} fits more once) less =
         over_here {depth = depth} {row = row} {directory = directory} {at = at} s (with_dependency (with_one_spent s) row) fits (depends s row)
-    opened_short (suc b) is (OpensFile.not_read_again fits more once) less = absurd (omega arith)
-    opened_short {depth} {row} {directory} {at} zero is (OpensFile.not_readable {s = s} fits more once file) less =
+    opened_short (suc b) is w (OpensFile.not_read_again fits more once) less = absurd (omega arith)
+    opened_short {depth} {row} {directory} {at} zero is w (OpensFile.not_readable {s = s} fits more once file) less =
         over_here {depth = depth} {row = row} {directory = directory} {at = at} s (with_dependency (with_one_spent s) row) fits (depends s row)
-    opened_short (suc b) is (OpensFile.not_readable fits more once file) less = absurd (omega arith)
-    opened_short {depth} {row} {directory} {at} zero is (OpensFile.content_fault {s = s} fits more once file reads) less =
+    opened_short (suc b) is w (OpensFile.not_readable fits more once file) less = absurd (omega arith)
+    opened_short {depth} {row} {directory} {at} zero is w (OpensFile.content_fault {s = s} fits more once file reads) less =
         over_here {depth = depth} {row = row} {directory = directory} {at = at} s (with_dependency (with_one_spent s) row) fits (depends s row)
-    opened_short (suc b) is (OpensFile.content_fault fits more once file reads) less = absurd (omega arith)
-    opened_short {depth} {row} {directory} {at} zero is (OpensFile.read {s = s} {m = m} fits more once file reads tree here) less =
+    opened_short (suc b) is w (OpensFile.content_fault fits more once file reads) less = absurd (omega arith)
+    opened_short {depth} {row} {directory} {at} zero is w (OpensFile.read {s = s} {m = m} fits more once file reads tree here) less =
         over_here {depth = depth} {row = row} {directory = directory} {at = at} s (in_file_context (file_context s) m.state) fits (before_then s (with_dependency s row) m.state (depends s row) (group_before context here))
-    opened_short (suc b) is (OpensFile.read {s = s} fits more once file reads tree here) less =
-        let x = group_short b (covers_less is) here (omega arith) in
+    opened_short (suc b) is w (OpensFile.read {s = s} fits more once file reads tree here) less =
+        let x = group_short b (covers_less is) w here (omega arith) in
         (in_file_context (file_context s) x.0, x.1, record { number = x.2.number; before = x.2.before }, OpensFile.read fits refl once file reads tree x.3)
 
   defines_short : {defines : List (List ℕ)} {s : State} {m : Progress} (b : ℕ) → Covers s.meter.remaining b
+      → WaitsIn s
       → (d : Defines context defines s m)
       → b < count_defines d
       → Stops m.state (λ t f. Defines context defines (budgeted s b) (stopped t f))
-  defines_short b is (unread reads) less = absurd (omega arith)
-  defines_short b is (processed reads tree here) less =
-      let x = group_short b is here less in
+  defines_short b is w (unread reads) less = absurd (omega arith)
+  defines_short b is w (processed reads tree here) less =
+      let x = group_short b is w here less in
       (x.0, x.1, x.2, processed reads tree x.3)
 
   pub unit_short : {defines : List (List ℕ)} {row : ℕ} {s : State} {m : Progress} (b : ℕ) → Covers s.meter.remaining b
+      → WaitsIn s
       → (d : Translates context defines row s m)
       → b < count_translates d
       → Stops m.state (λ t f. Translates context defines row (budgeted s b) (stopped t f))
-  unit_short b is (definitions_fault here) less =
-      let x = defines_short b is here less in
+  unit_short b is w (definitions_fault here) less =
+      let x = defines_short b is w here less in
       (x.0, x.1, x.2, definitions_fault x.3)
-  unit_short {m = m} b is (translated {t = t} here opens) less =
+  unit_short {m = m} b is w (translated {t = t} here opens) less =
       let c = count_defines here in
       elim (dec_lt b c) [
         | yes less ↦
-            (let x = defines_short b is here less in
+            (let x = defines_short b is w here less in
             (x.0, x.1, over_then x.0 t m.state x.1 x.2 (opened_before context opens), definitions_fault x.3))
         | no not_less ↦
             (let sum : b ≡ c + (b - c) = omega arith in
-            let covers = defines_rest context b (b - c) is here sum in
-            let x = opened_short (b - c) covers opens (omega arith) in
-            (x.0, x.1, x.2, translated (defines_enough context b is here (b - c) sum) x.3))
+            let covers = defines_rest context b (b - c) is w here sum in
+            let x = opened_short (b - c) covers (defines_waits context w here) opens (omega arith) in
+            (x.0, x.1, x.2, translated (defines_enough context b is w here (b - c) sum) x.3))
       ]

@@ -15,6 +15,7 @@ use Rattle.ppunit.specs.declared.states.FileContext.{FileContext}
 use Rattle.ppunit.specs.States.{State, file_context, Progress, running, stopped, with_dependency, entering, with_one_spent, literal, Context}
 use Rattle.ppunit.specs.code.Contexts.{UnitContext, context_over}
 use Rattle.ppunit.specs.Dependencies.{has_row}
+use Rattle.ppunit.specs.Directives.{at_end}
 use Rattle.ppunit.specs.Group.{depth_limit, ExecutesGroup, OpensFile}
 use Rattle.ppunit.specs.code.Opening.{Entered, IsRefusedOpening, SpendsOpening, HasLines, HasFault, Begins}
 use Rattle.ppunit.specs.code.Walk.{EntersFile, Leads, restored}
@@ -96,9 +97,10 @@ pub opens_begun : (library : UnitContext) (files : Files) (depth row : ℕ) (dir
     → name ≡ name_in library.shelf.names row
     → Begins name row directory lines t u entered
     → Leads (context_over library) files depth (λ more m. OpensFile (context_over library more) depth at s row directory m) u (Ok entered)
-opens_begun library files depth row directory at s t u name lines None (fits, some, new, is) (content, known, reads) named (remaining, same) =
+opens_begun library files depth row directory at s t u name lines None (fits, some, new, is) (content, known, reads) named (none, remaining, same) =
     λ more grows. subst (λ (z : State). OpensFile (context_over library more) depth at s row directory (running z)) (sym same)
-    (opens_left_out (context_over library more) depth row directory at s t content lines fits some (grows row content known) reads is remaining)
+    (opens_left_out (context_over library more) depth row directory at s t content lines fits some (grows row content known) reads is
+    (ap (λ (z : State). z.waiting) (sym is) ∙ none) remaining)
 opens_begun library files depth row directory at s t u name lines (Some e) noted (unreadable, known, reads) named begins = absurd reads
 opens_begun library files depth row directory at s t u name lines (Some e) (fits, some, new, is) (readable bytes, known, reads) named
     (file, few, takes_branch) =
@@ -113,6 +115,6 @@ opens_begun library files depth row directory at s t u name lines (Some e) (fits
       group = λ more grows m group.
           let inside = subst (λ (z : State). ExecutesGroup (context_over library more) depth row (running z) tree.0 m)
           (entering_is (context_over library more) row directory (with_one_spent s) t u name is takes_branch named) group in
-          subst (λ (z : FileContext). OpensFile (context_over library more) depth at s row directory (restored z m)) (sym (ap file_context is))
+          subst (λ (z : FileContext). OpensFile (context_over library more) depth at s row directory (restored z (at_end m))) (sym (ap file_context is))
           (OpensFile.read fits some new (grows row (readable bytes) known) reads tree.1 inside);
     })

@@ -1,15 +1,15 @@
 -- A walk over the lines of a file and of all files that it includes, with a stack of suspended files.
-use Rattle.std.proofs.Common.{◌≡◌, ℕ, suc, ◌≤◌, List, [], ◌∷◌, length, Option, None, Some, Err}
+use Rattle.std.proofs.Common.{◌≡◌, ℕ, suc, ◌≤◌, List, [], ◌∷◌, length, Option, None, Some, Err, refl, sym, ap, subst}
 use Rattle.pptext.specs.declared.tokens.Fault.{Fault}
 use Rattle.pptext.specs.Lines.{LogicalLine}
 use Rattle.pptext.specs.Tree.{GroupParts, Tree}
 use Rattle.ppshelf.specs.Files.{Files, Extends}
 use Rattle.ppunit.specs.code.Opening.{OpenFile, Entered}
+use Rattle.ppunit.specs.Directives.{fault_at_end, at_end}
 use Rattle.ppunit.specs.Group.{ExecutesGroup, ExecutesControlLine}
 use Rattle.ppunit.specs.States.{State, in_file_context, Context, Progress, running, stopped}
-use Rattle.ppunit.specs.code.Walk.{line_at, EnclosingSections, HasPartsAt, Ends, Advances, Passes, EntersFile, StepsTo, SuspendedFile, Walks, restored, next_file, next_suspended, contexts_restored}
-use Rattle.ppunit.proofs.FileWalk.{FileSoFar, file_start, file_more, file_stop, file_done, extends_trans}
-use Rattle.ppunit.proofs.WalkSteps.{ends_stop}
+use Rattle.ppunit.specs.code.Walk.{line_at, EnclosingSections, HasPartsAt, Ends, Advances, Passes, EntersFile, StepsTo, SuspendedFile, EndsAt, Walks, restored, next_file, next_suspended, contexts_restored}
+use Rattle.ppunit.proofs.FileWalk.{FileSoFar, file_start, file_more, file_stop, file_done, extends_trans, ends_stop}
 
 -- the rest of a file: its parts, and the if-sections around them
 abbrev pub Rest : Type 0
@@ -21,10 +21,10 @@ Waits [] [] = Unit {0}
 Waits (w ∷ ws) ((ps, k) ∷ rests) = HasPartsAt w.file.lines w.file.index ps k × Waits ws rests
 Waits ws rests = ⊥
 
--- The goal of the current file, which ends in m: all that the last suspended file reaches from m, in its own context,
--- meets the goal of that file. Without suspended files, the goal is `whole`.
+-- The goal of the current file, whose lines end in m: all that the last suspended file reaches from the file's end, in its own
+-- context, meets the goal of that file. Without suspended files, the goal is `whole`.
 abbrev pub Owes : (Files → Context) → (Files → Progress → Type 0) → List SuspendedFile → List Rest → Files → Progress → Type 0
-Owes context whole (w ∷ ws) ((ps, k) ∷ rests) more m = (end : Progress) → Ends (context more) (length ws) w.file.row (restored w.file_context m) ps k end → Owes context whole ws rests more end
+Owes context whole (w ∷ ws) ((ps, k) ∷ rests) more m = (end : Progress) → Ends (context more) (length ws) w.file.row (restored w.file_context (at_end m)) ps k end → Owes context whole ws rests more end
 Owes context whole ws rests more m = whole more m
 
 -- the walk has reached the current line of `file` in state t, and the files `ws` are suspended
@@ -63,7 +63,7 @@ enters_at context old new whole next t u ws file e at wider passes takes_branch 
           file_start context new (Owes context whole (record { file = record file { index = next }; file_context = e.outer } ∷ ws) ((g.0, g.1) ∷ at.rests))
           (suc (length ws)) e.file.row e.file.lines e.file.index u takes_branch.parts takes_branch.begins takes_branch.tree
           (λ more grows m group end rest. f.ends more (extends_trans more new old grows wider) end
-          (g.3 (context more) (restored e.outer m) end (takes_branch.group more grows m group) rest));
+          (g.3 (context more) (restored e.outer (at_end m)) end (takes_branch.group more grows m group) rest));
     }
 
 next_at : (context : Files → Context) (old new : Files) (whole : Files → Progress → Type 0) (next : ℕ) (t u : State) (ws : List SuspendedFile)
@@ -98,14 +98,19 @@ pub next_depth : (context : Files → Context) (files : Files) (row : ℕ) (line
 next_depth context files row lines index next s t ws file None deep step = deep
 next_depth context files row lines index next s t ws file (Some e) deep step = step.1.fits
 
+-- without tokens that wait, the end of a file changes nothing
+at_end_of : (t : State) → fault_at_end t.waiting ≡ None → at_end (running t) ≡ running t
+at_end_of t none = ap (λ (f : Option Fault). record { state = t; fault = f }) none
+
 leaves_at : (context : Files → Context) (files : Files) (whole : Files → Progress → Type 0) (w : SuspendedFile) (ws : List SuspendedFile) (file : OpenFile)
     (t : State) (rests : List Rest)
     → Waits (w ∷ ws) rests
     → FileSoFar context files (Owes context whole (w ∷ ws) rests) (suc (length ws)) file.row file.lines file.index t
     → length file.lines ≤ file.index
+    → fault_at_end t.waiting ≡ None
     → StackAt context files whole ws w.file (in_file_context w.file_context t)
-leaves_at context files whole w ws file t [] waits sofar over = absurd waits
-leaves_at context files whole w ws file t ((ps, k) ∷ rests) waits sofar over = record {
+leaves_at context files whole w ws file t [] waits sofar over none = absurd waits
+leaves_at context files whole w ws file t ((ps, k) ∷ rests) waits sofar over none = record {
   rests = rests;
   waits = waits.1;
   file_so_far =
@@ -114,7 +119,8 @@ leaves_at context files whole w ws file t ((ps, k) ∷ rests) waits sofar over =
         outer = k;
         stands = waits.0;
         ends = λ more grows end rest. file_done context files
-            (Owes context whole (w ∷ ws) ((ps, k) ∷ rests)) (suc (length ws)) file.row file.lines file.index t sofar over more grows end rest;
+            (Owes context whole (w ∷ ws) ((ps, k) ∷ rests)) (suc (length ws)) file.row file.lines file.index t sofar over more grows end
+            (subst (λ (z : Progress). Ends (context more) (length ws) w.file.row (restored w.file_context z) ps k end) (sym (at_end_of t none)) rest);
       };
 }
 
@@ -122,23 +128,28 @@ pub stack_leaves : (context : Files → Context) (files : Files) (row : ℕ) (li
     (ws : List SuspendedFile) (file : OpenFile)
     → StackSoFar context files row lines s (w ∷ ws) file t
     → length file.lines ≤ file.index
+    → fault_at_end t.waiting ≡ None
     → StackSoFar context files row lines s ws w.file (in_file_context w.file_context t)
-stack_leaves context files row lines s t w ws file sofar over = record {
+stack_leaves context files row lines s t w ws file sofar over none = record {
   so_far = λ parts tree.
       let f = sofar.so_far parts tree in
-      leaves_at context files (λ more m. ExecutesGroup (context more) 0 row (running s) parts m) w ws file t f.rests f.waits f.file_so_far over;
+      leaves_at context files (λ more m. ExecutesGroup (context more) 0 row (running s) parts m) w ws file t f.rests f.waits f.file_so_far over none;
 }
 
-stops_at : (context : Files → Context) (whole : Files → Progress → Type 0) (more : Files) (t : State) (fault : Fault) (ws : List SuspendedFile)
+-- the lines of the current file end in m, and the file's end has a fault: each suspended file stops
+stops_at : (context : Files → Context) (whole : Files → Progress → Type 0) (more : Files) (t : State) (fault : Fault) (m : Progress) (ws : List SuspendedFile)
     (rests : List Rest)
+    → at_end m ≡ stopped t fault
     → Waits ws rests
-    → Owes context whole ws rests more (stopped t fault)
-    → whole more (stopped (contexts_restored ws t) fault)
-stops_at context whole more t fault [] rests waits owes = owes
-stops_at context whole more t fault (w ∷ ws) [] waits owes = absurd waits
-stops_at context whole more t fault (w ∷ ws) ((ps, k) ∷ rests) waits owes =
+    → Owes context whole ws rests more m
+    → EndsAt whole more (stopped (contexts_restored ws t) fault)
+stops_at context whole more t fault m [] rests is waits owes = (m, owes, sym is)
+stops_at context whole more t fault m (w ∷ ws) [] is waits owes = absurd waits
+stops_at context whole more t fault m (w ∷ ws) ((ps, k) ∷ rests) is waits owes =
     let u = in_file_context w.file_context t in
-    stops_at context whole more u fault ws rests waits.1 (owes (stopped u fault) (ends_stop (context more) (length ws) w.file.row (stopped u fault) u fault ps k ExecutesGroup.already_stopped))
+    let stays = ends_stop (context more) (length ws) w.file.row (stopped u fault) u fault ps k ExecutesGroup.already_stopped in
+    stops_at context whole more u fault (stopped u fault) ws rests refl waits.1 (owes (stopped u fault)
+    (subst (λ (z : Progress). Ends (context more) (length ws) w.file.row (restored w.file_context z) ps k (stopped u fault)) (sym is) stays))
 
 pub stack_stops : (context : Files → Context) (old new : Files) (row : ℕ) (lines : List LogicalLine) (s t u : State) (fault : Fault)
     (ws : List SuspendedFile) (file : OpenFile)
@@ -149,13 +160,28 @@ pub stack_stops : (context : Files → Context) (old new : Files) (row : ℕ) (l
 stack_stops context old new row lines s t u fault ws file sofar wider step parts tree more grows =
     let f = sofar.so_far parts tree in
     let whole : Files → Progress → Type 0 = λ more m. ExecutesGroup (context more) 0 row (running s) parts m in
-    stops_at context whole more u fault ws f.rests f.waits (file_stop context old new (Owes context whole ws f.rests) (length ws) file.row file.lines file.index t u fault f.file_so_far wider step more grows)
+    stops_at context whole more u fault (stopped u fault) ws f.rests refl f.waits
+    (file_stop context old new (Owes context whole ws f.rests) (length ws) file.row file.lines file.index t u fault f.file_so_far wider step more grows)
+
+-- a file ends, and an invocation still waits
+pub stack_refused : (context : Files → Context) (files : Files) (row : ℕ) (lines : List LogicalLine) (s t : State) (fault : Fault) (ws : List SuspendedFile)
+    (file : OpenFile)
+    → StackSoFar context files row lines s ws file t
+    → length file.lines ≤ file.index
+    → Some fault ≡ fault_at_end t.waiting
+    → Walks context files 0 row lines s (stopped (contexts_restored ws t) fault)
+stack_refused context files row lines s t fault ws file sofar over waits parts tree more grows =
+    let f = sofar.so_far parts tree in
+    let whole : Files → Progress → Type 0 = λ more m. ExecutesGroup (context more) 0 row (running s) parts m in
+    stops_at context whole more t fault (running t) ws f.rests (ap (λ (g : Option Fault). record { state = t; fault = g }) (sym waits)) f.waits
+    (file_done context files (Owes context whole ws f.rests) (length ws) file.row file.lines file.index t f.file_so_far over more grows)
 
 pub stack_done : (context : Files → Context) (files : Files) (row : ℕ) (lines : List LogicalLine) (s t : State) (file : OpenFile)
     → StackSoFar context files row lines s [] file t
     → length file.lines ≤ file.index
+    → fault_at_end t.waiting ≡ None
     → Walks context files 0 row lines s (running t)
-stack_done context files row lines s t file sofar over parts tree more grows =
+stack_done context files row lines s t file sofar over none parts tree more grows =
     let f = sofar.so_far parts tree in
     let whole : Files → Progress → Type 0 = λ more m. ExecutesGroup (context more) 0 row (running s) parts m in
-    file_done context files (Owes context whole [] f.rests) 0 file.row file.lines file.index t f.file_so_far over more grows
+    (running t, file_done context files (Owes context whole [] f.rests) 0 file.row file.lines file.index t f.file_so_far over more grows, sym (at_end_of t none))

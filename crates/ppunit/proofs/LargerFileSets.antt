@@ -1,5 +1,5 @@
 -- The value of a unit over some files is its value over any larger set of files, with the same count.
-use Rattle.std.proofs.Common.{◌≡◌, ℕ, suc, ◌+◌, List, Option, Ok, refl, ap}
+use Rattle.std.proofs.Common.{◌≡◌, ℕ, suc, ◌+◌, ◌-◌, List, Option, Ok, refl, ap}
 use Rattle.pptext.specs.declared.tokens.Place.{Place}
 use Rattle.pptext.specs.Lines.{LogicalLine}
 use Rattle.pptext.specs.Tree.{GroupParts, Branches}
@@ -8,7 +8,7 @@ use Rattle.ppshelf.specs.Content.{unreadable}
 use Rattle.ppshelf.specs.Files.{Files, Extends}
 use Rattle.ppunit.specs.States.{State, Context, Progress}
 use Rattle.ppunit.specs.Group.{ExecutesGroup, ExecutesBranches, ExecutesControlLine, ExecutesInclude, OpensFile}
-use Rattle.ppunit.specs.Counts.{count_decides, count_names_header, count_group, count_branches, count_control, count_includes, count_opening}
+use Rattle.ppunit.specs.Counts.{count_decides, count_names_header, counted_before, count_group, count_branches, count_control, count_includes, count_opening}
 use Rattle.ppunit.specs.Unit.{Defines, unread, processed, Translates, definitions_fault, translated, context_of_unit, count_defines, count_translates}
 use Rattle.ppunit.specs.Laws.{Grows}
 
@@ -24,9 +24,9 @@ module _ (context : Context) (more : Files) (grows : Extends more context.files)
     pub group_grows : {depth row : ℕ} {r : Progress} {ps : GroupParts} {end : Progress} (d : ExecutesGroup context depth row r ps end) → (e : ExecutesGroup wider depth row r ps end) × (count_group e ≡ count_group d)
     group_grows ExecutesGroup.already_stopped = (ExecutesGroup.already_stopped, refl)
     group_grows ExecutesGroup.no_parts = (ExecutesGroup.no_parts, refl)
-    group_grows (ExecutesGroup.text_lines gives rest) =
+    group_grows (ExecutesGroup.text_lines {s = s} gives rest) =
         let r = group_grows rest in
-        (ExecutesGroup.text_lines gives r.0, ap (λ n. count_expansion gives.expands + n) r.1)
+        (ExecutesGroup.text_lines gives r.0, ap (λ n. (count_expansion gives.expands - counted_before s.waiting) + n) r.1)
     group_grows (ExecutesGroup.control here rest) =
         let h = control_grows here in
         let r = group_grows rest in
@@ -56,8 +56,9 @@ module _ (context : Context) (more : Files) (grows : Extends more context.files)
     control_grows (ExecutesControlLine.error is) = (ExecutesControlLine.error is, refl)
     control_grows (ExecutesControlLine.ignored is) = (ExecutesControlLine.ignored is, refl)
     control_grows (ExecutesControlLine.quote_fault is q) = (ExecutesControlLine.quote_fault is q, refl)
-    control_grows (ExecutesControlLine.executed q does) = (ExecutesControlLine.executed q does, refl)
-    control_grows (ExecutesControlLine.include is q here) = let h = includes_grow here in (ExecutesControlLine.include is q h.0, h.1)
+    control_grows (ExecutesControlLine.refused is q waits) = (ExecutesControlLine.refused is q waits, refl)
+    control_grows (ExecutesControlLine.executed q free does) = (ExecutesControlLine.executed q free does, refl)
+    control_grows (ExecutesControlLine.include is q free here) = let h = includes_grow here in (ExecutesControlLine.include is q free h.0, h.1)
 
     includes_grow : {depth row : ℕ} {following : Option ℕ} {s : State} {line : LogicalLine} {m : Progress} (d : ExecutesInclude context depth row following s line m)
         → (e : ExecutesInclude wider depth row following s line m) × (count_includes e ≡ count_includes d)

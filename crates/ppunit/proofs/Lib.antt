@@ -5,7 +5,8 @@
 pub mod OperandTexts
 -- The value of a unit over some files is its value over any larger set of files, with the same count.
 pub mod LargerFileSets
--- A control line that opens no file and isn't `#error` has an effect, and what holds of each effect.
+-- A control line that opens no file and isn't `#error` has an effect, and what holds of each effect. Lines that define,
+-- undefine or bring back one name leave what each other name is.
 pub mod DirectiveEffects
 -- The effect of a line that opens no file is unique, and so is the meter after it.
 pub mod LineUniqueness
@@ -15,7 +16,9 @@ pub mod SectionUniqueness
 pub mod ControlLineUniqueness
 -- Over the same files the opening of a file has one outcome, if the group of the file has one.
 pub mod OpeningUniqueness
--- Over the same files a unit reaches one state, with one meter after it: it has one value and one count.
+-- Over the same files a group, the opening of a file and a unit reach one state each, with one meter after it.
+pub mod GroupUniqueness
+-- Over the same files a unit has one value and one count.
 pub mod UnitUniqueness
 -- The value of a unit, from the reading of its definitions and the walk over its lines.
 pub mod UnitValue
@@ -24,16 +27,16 @@ pub mod UnitValue
 pub mod UnitTest
 -- The group-part to which the first line belongs, by the directive of the line.
 pub mod FirstLineCases
--- One step of a walk: the lines from here on reach all that the lines after the step reach.
-pub mod WalkSteps
--- A walk over a text run, and the end of a text run. A run without tokens, for example of blank lines, emits nothing.
+-- A walk over a text run, and the end of a text run.
 pub mod TextRuns
+-- What text lines emit, from the expansion of their tokens. A run without tokens, for example of blank lines, emits nothing.
+pub mod EmittedText
 -- A walk from the end of a group to the end of its if-section, the search for the branch that is taken, and a walk into an
 -- if-section.
 pub mod SectionWalks
 -- A walk over a control line. The postconditions of the code imply its effect and the step to the next line.
 pub mod ControlLines
--- A walk over the lines of a file, from the first line to the end. What each call of the preprocessor preserves, two calls
+-- One step of a walk. A walk over the lines of a file, from the first line to the end. What each call of the preprocessor preserves, two calls
 -- in sequence preserve.
 pub mod FileWalk
 -- Whether an option is `None`.
@@ -60,9 +63,14 @@ pub mod QuoteFreeTokens
 pub mod GuardLines
 -- Opening a file whose guard is defined only adds a dependency and spends one of the budget (6.10.1).
 pub mod GuardedFiles
+-- What may wait for more text lines, between the lines of phase 4: an invocation of a function-like macro. Each line keeps this.
+pub mod WaitingInvocations
+-- The budget at text lines, where an invocation that waits is counted already. An expansion within a sufficient budget
+-- stops at the same list.
+pub mod TextBudgets
 -- The budget is the count of phase 4 plus the remaining budget.
 pub mod BudgetSums
--- Items of a unit, if they are kept.
+-- Items of a unit, if they are kept, and items to which the pieces of an expansion are appended one after another.
 pub mod KeptItems
 -- Whether items are kept changes nothing else.
 pub mod UnkeptItems
@@ -78,5 +86,3 @@ pub mod BudgetPrefixes
 pub mod UnlimitedUnits
 -- If the content of each file is known, a unit has a value.
 pub mod UnitExistence
--- Items to which the pieces of an expansion are appended one after another.
-pub mod EmittedPieces

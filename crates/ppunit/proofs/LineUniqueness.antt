@@ -1,5 +1,5 @@
 -- The effect of a line that opens no file is unique, and so is the meter after it.
-use Rattle.std.proofs.Common.{◌≡◌, ℕ, Bool, true, false, List, [], map, Option, Some, Result, sym, ap, ◌∙◌, subst, Ok, Err}
+use Rattle.std.proofs.Common.{◌≡◌, ℕ, Bool, true, false, List, [], ◌++◌, Option, Some, Result, sym, ap, ◌∙◌, subst, Ok, Err}
 use Rattle.pptext.specs.declared.tokens.Place.{Place}
 use Rattle.pptext.specs.declared.tokens.Token.{Token}
 use Rattle.pptext.specs.declared.tokens.Fault.{Fault}
@@ -14,18 +14,19 @@ use Rattle.ppexpand.specs.declared.meter.Meter.{Meter}
 use Rattle.ppexpand.specs.declared.env.Env.{Env}
 use Rattle.ppexpand.specs.Expansion.{Expansion}
 use Rattle.ppexpand.specs.Expansion.{IsExpansion}
+use Rattle.ppexpand.specs.OpenInvocations.{open_expansion}
+use Rattle.ppexpand.proofs.OpenLists.{leaves_same}
 use Rattle.ppexpr.specs.Conditions.{IsCondition}
 use Rattle.ppshelf.specs.Names.{AreNames}
 use Rattle.ppshelf.specs.Search.{Candidate, IsFirstRow}
-use Rattle.ppunit.specs.States.{State, Progress, emitted, with_meter, Search}
+use Rattle.ppunit.specs.States.{State, Progress, with_meter, Search}
 use Rattle.ppunit.specs.DirectiveLines.{operands, line_fault, one_identifier}
 use Rattle.ppunit.specs.LineControl.{presumed}
 use Rattle.ppunit.specs.Including.{IncludeName, begins_with_header, name_of_expansion_or}
 use Rattle.ppunit.specs.Conditions.{by_name, Decides}
-use Rattle.ppunit.specs.Directives.{EmitsText, ExecutesDirective, NamesHeader, NamesHeaderBy}
+use Rattle.ppunit.specs.Directives.{EmitsText, meter_at_text, waits_in, text_emitted, ExecutesDirective, NamesHeader, NamesHeaderBy}
 use Rattle.ppunit.specs.code.Effects.{affected, line_effect, HasEffect}
 use Rattle.ppunit.proofs.DirectiveEffects.{effect_of, line_is_not_immediate}
-use Rattle.ppunit.specs.declared.units.Item.TheVariants as item
 
 abbrev pub OneExpansion : Type 0
 OneExpansion =
@@ -50,12 +51,14 @@ abbrev pub OneRow : Type 0
 OneRow = (names : List (List ℕ)) → AreNames names → (candidates : List Candidate) (a b : Option (ℕ × ℕ)) → IsFirstRow names candidates a → IsFirstRow names candidates b → a ≡ b
 
 module _ (expansions : OneExpansion) (decisions : OneDecision) where
-  pub run_once : (s : State) (tokens : List Token) (a b : Progress) → EmitsText s tokens a → EmitsText s tokens b → a ≡ b
-  run_once s tokens a b p q =
-      p.is
-      ∙ ap (λ (e : Expansion). record { state = emitted (with_meter s e.meter) (map item.Token e.tokens); fault = e.fault })
-      (expansions s.macros s.env s.meter tokens p.expanded q.expanded p.expands q.expands)
-      ∙ sym q.is
+  -- Text lines have one expansion, and leave the same invocation open.
+  pub run_once : (profile : Profile) (s : State) (tokens : List Token) (a b : Progress) → EmitsText profile s tokens a → EmitsText profile s tokens b → a ≡ b
+  run_once profile s tokens a b p q =
+      let meter : Meter = meter_at_text s.waiting s.meter in
+      let all : List Token = s.waiting ++ tokens in
+      let one = expansions s.macros s.env meter all p.expanded q.expanded p.expands q.expands in
+      let opens : open_expansion p.expands ≡ open_expansion q.expands = leaves_same s.macros s.env meter all p.expanded q.expanded p.expands q.expands in
+      p.is ∙ (λ i. text_emitted s (one i) (waits_in profile (opens i))) ∙ sym q.is
 
   effect_once : (profile : Profile) (row : ℕ) (d : Option Directive) (s : State) (r : LogicalLine) (a b : Progress)
       → HasEffect profile row d s r a

@@ -12,6 +12,7 @@ use Rattle.ppshelf.specs.Files.{file_at}
 use Rattle.ppshelf.specs.Names.{name_in}
 use Rattle.ppunit.specs.Dependencies.{has_row}
 use Rattle.ppunit.specs.States.{State, Context, Progress, running, stopped, with_dependency, entering, leaving, with_one_spent}
+use Rattle.ppunit.specs.Directives.{at_end}
 use Rattle.ppunit.specs.Group.{depth_limit, ExecutesGroup, OpensFile}
 use Rattle.ppunit.proofs.LineUniqueness.{OneReading, OneTree}
 
@@ -88,7 +89,7 @@ module _ (readings : OneReading) (trees : OneTree) (context : Context) where
     by_lines : {lines : List LogicalLine} {parts : GroupParts} {m : Progress}
         → Tree lines parts
         → ExecutesGroup context depth row (running (entering context (with_one_spent s) row directory)) parts m
-        → AfterReading depth at s row directory (Ok lines) (leaving s m)
+        → AfterReading depth at s row directory (Ok lines) (leaving s (at_end m))
 
   pub at_reading : {depth row : ℕ} {directory : Option ℕ} {at : Place} {s : State} {m : Progress} (bytes : List ℕ) (x : Result (List LogicalLine) Fault)
       → depth ≤ depth_limit
@@ -107,7 +108,7 @@ module _ (readings : OneReading) (trees : OneTree) (context : Context) where
       subst (λ z. AfterReading depth at s row directory z (stopped (with_dependency (with_one_spent s) row) g)) (same_reading row c bytes (Err g) x is reads e p) by_fault
   at_reading {depth = depth} {row = row} {directory = directory} {at = at} {s = s} bytes x fits some new e p
       (OpensFile.read {bytes = c} {lines = lines} {m = m} f more n is reads tree here) =
-      subst (λ z. AfterReading depth at s row directory z (leaving s m)) (same_reading row c bytes (Ok lines) x is reads e p) (by_lines tree here)
+      subst (λ z. AfterReading depth at s row directory z (leaving s (at_end m))) (same_reading row c bytes (Ok lines) x is reads e p) (by_lines tree here)
 
   pub after_fault : {depth row : ℕ} {directory : Option ℕ} {at : Place} {s : State} {f : Fault} {x : Result (List LogicalLine) Fault} {m : Progress}
       → Err f ≡ x
@@ -117,7 +118,7 @@ module _ (readings : OneReading) (trees : OneTree) (context : Context) where
   after_fault e (by_lines tree here) = absurd (cc)
 
   abbrev pub AfterLines : ℕ → State → ℕ → Option ℕ → GroupParts → Progress → Type 0
-  AfterLines depth s row directory parts m = (n : Progress) × (m ≡ leaving s n) × ExecutesGroup context depth row (running (entering context (with_one_spent s) row directory)) parts n
+  AfterLines depth s row directory parts m = (n : Progress) × (m ≡ leaving s (at_end n)) × ExecutesGroup context depth row (running (entering context (with_one_spent s) row directory)) parts n
 
   pub after_lines : {depth row : ℕ} {directory : Option ℕ} {at : Place} {s : State} {lines : List LogicalLine} {parts : GroupParts} {x : Result (List LogicalLine) Fault}
       {m : Progress}

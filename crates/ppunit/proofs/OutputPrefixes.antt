@@ -49,15 +49,17 @@ effect_before {s = s} {line = line} (HasEffect.expanding x is expands gives) =
 pub control_by_before : (profile : Profile) (row : ℕ) (d : Option Directive) (s : State) (line : LogicalLine) (m : Progress) → ExecutesDirective profile row d s line m → Before s m.state
 control_by_before profile row d s line m g = effect_before (effect_of profile row d s line m g)
 
-run_before : (s : State) (tokens : List Token) (m : Progress) → EmitsText s tokens m → Before s m.state
-run_before s tokens m g = subst (λ x. Before s x.state) (sym g.is) (kept-before s.keeps s.items (map item.Token g.expanded.tokens), same_beginning s.deps)
+run_before : (profile : Profile) (s : State) (tokens : List Token) (m : Progress) → EmitsText profile s tokens m → Before s m.state
+run_before profile s tokens m g =
+    subst (λ x. Before s x.state) (sym g.is) (kept-before s.keeps s.items (map item.Token g.expanded.tokens), same_beginning s.deps)
 
 module _ (context : Context) where
   mutual
     pub group_before : {depth row : ℕ} {r : Progress} {ps : GroupParts} {end : Progress} → ExecutesGroup context depth row r ps end → Before r.state end.state
     group_before (ExecutesGroup.already_stopped {s = s}) = same_state s
     group_before (ExecutesGroup.no_parts {s = s}) = same_state s
-    group_before (ExecutesGroup.text_lines {s = s} {lines = lines} {m = m} {end = end} gives rest) = before_then s m.state end.state (run_before s (text_tokens lines) m gives) (group_before rest)
+    group_before (ExecutesGroup.text_lines {s = s} {lines = lines} {m = m} {end = end} gives rest) =
+        before_then s m.state end.state (run_before context.profile s (text_tokens lines) m gives) (group_before rest)
     group_before (ExecutesGroup.control {s = s} {m = m} {end = end} here rest) = before_then s m.state end.state (control_before here) (group_before rest)
     group_before (ExecutesGroup.taken {s = s} {m = m} {end = end} decides here rest) = before_then s m.state end.state (group_before here) (group_before rest)
     group_before (ExecutesGroup.skipped {s = s} {m = m} {end = end} decides here rest) = before_then s m.state end.state (branches_before here) (group_before rest)
@@ -74,8 +76,10 @@ module _ (context : Context) where
     control_before (ExecutesControlLine.error {s = s} e) = same_state s
     control_before (ExecutesControlLine.ignored {s = s} e) = same_state s
     control_before (ExecutesControlLine.quote_fault {s = s} e q) = same_state s
-    control_before {row = row} (ExecutesControlLine.executed {s = s} {line = line} {m = m} q does) = control_by_before context.profile row line.directive s line m does
-    control_before (ExecutesControlLine.include e q here) = includes_before here
+    control_before (ExecutesControlLine.refused {s = s} e q waits) = same_state s
+    control_before {row = row} (ExecutesControlLine.executed {s = s} {line = line} {m = m} q free does) =
+        control_by_before context.profile row line.directive s line m does
+    control_before (ExecutesControlLine.include e q free here) = includes_before here
 
     includes_before : {depth row : ℕ} {following : Option ℕ} {s : State} {line : LogicalLine} {m : Progress} → ExecutesInclude context depth row following s line m → Before s m.state
     includes_before (ExecutesInclude.operand_fault {s = s} asks) = same_state s

@@ -14,7 +14,7 @@ use Rattle.ppunit.proofs.LineUniqueness.{OneExpansion, OneDecision, decides_once
 
 module _ (expansions : OneExpansion) (decisions : OneDecision) (context : Context) where
   abbrev pub AfterRun : ℕ → ℕ → State → List LogicalLine → GroupParts → Progress → Type 0
-  AfterRun depth row s rs ps end = (m : Progress) × EmitsText s (text_tokens rs) m × ExecutesGroup context depth row m ps end
+  AfterRun depth row s rs ps end = (m : Progress) × EmitsText context.profile s (text_tokens rs) m × ExecutesGroup context depth row m ps end
 
   pub at_run : {depth row : ℕ} {s : State} {rs : List LogicalLine} {ps : GroupParts} {end : Progress} → ExecutesGroup context depth row (running s) (TextLines rs ps) end → AfterRun depth row s rs ps end
   at_run (ExecutesGroup.text_lines {m = m} gives rest) = (m, gives, rest)
@@ -51,8 +51,8 @@ module _ (expansions : OneExpansion) (decisions : OneDecision) (context : Contex
   at_section (ExecutesGroup.skipped decides here rest) = is_skipped decides here rest
   at_section (ExecutesGroup.condition_fault decides) = is_refused decides
 
-  pub at_end : {depth row : ℕ} {s : State} {line : LogicalLine} {m : Progress} → ExecutesBranches context depth row s (End line) m → running s ≡ m
-  at_end ExecutesBranches.no_branch_taken = refl
+  pub at_endif : {depth row : ℕ} {s : State} {line : LogicalLine} {m : Progress} → ExecutesBranches context depth row s (End line) m → running s ≡ m
+  at_endif ExecutesBranches.no_branch_taken = refl
 
   pub data AfterBranch (depth row : ℕ) (s : State) (line : LogicalLine) (ps : GroupParts) (bs : Branches) : Progress → Type 0 where
     is_else : {m : Progress} → line.directive ≡ Some Else → ExecutesGroup context depth row (running s) ps m → AfterBranch depth row s line ps bs m

@@ -14,7 +14,7 @@ use Rattle.ppshelf.specs.Files.{Files}
 use Rattle.ppunit.specs.code.Walk.{line_at, EnclosingSections, lines_to_end, HasPartsAt, Advances, AreEnclosingSections, Ends, BranchesAt, ContinuesBy, TakesBranch, FindsBranch}
 use Rattle.pptext.proofs.IndexedLines.{at_index, drop_further}
 use Rattle.ppunit.proofs.FirstLineCases.{Differs, ending_role, First, text, control, opening, ending, lay_branch, endif_directive, else_directive, not_else, condition_decides, lay_section, opening_role}
-use Rattle.ppunit.proofs.WalkSteps.{AdvancesFrom, first_at, stands_behind, ends_front, ends_stop, advances}
+use Rattle.ppunit.proofs.FileWalk.{AdvancesFrom, first_at, stands_behind, ends_front, ends_stop, advances}
 use Rattle.pptext.specs.declared.tokens.Fault.{Fault}
 use Rattle.pptext.specs.declared.sources.Directive.TheVariants.{Elif, Else, Endif, If}
 use Rattle.ppexpand.specs.declared.meter.Meter.{Meter}

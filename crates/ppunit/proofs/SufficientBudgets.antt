@@ -7,7 +7,8 @@ use Rattle.pptext.specs.declared.sources.Directive.{Directive}
 use Rattle.pptext.specs.declared.sources.Profile.{Profile}
 use Rattle.pptext.specs.Lines.{LogicalLine}
 use Rattle.pptext.specs.Tree.{GroupParts, Branches, Done, End}
-use Rattle.ppexpand.specs.Expansion.{count_expansion}
+use Rattle.ppexpand.specs.Expansion.{Expansion, count_expansion}
+use Rattle.ppexpand.specs.OpenInvocations.{open_expansion}
 use Rattle.ppexpand.specs.Budget.{with_budget, is_exhausted, is_used_up}
 use Rattle.ppexpand.proofs.BudgetLemmas.{Covers, larger, covers_rest, expansion_enough, without, covers_less}
 use Rattle.ppexpr.proofs.ConditionBudgets.{condition_enough}
@@ -16,9 +17,11 @@ use Rattle.ppunit.specs.DirectiveLines.{operands, text_tokens}
 use Rattle.ppunit.specs.LineControl.{presumed}
 use Rattle.ppunit.specs.Including.{IncludeName, begins_with_header}
 use Rattle.ppunit.specs.Conditions.{Decides}
-use Rattle.ppunit.specs.Directives.{EmitsText, NamesHeaderBy, NamesHeader, ExecutesDirective}
+use Rattle.ppunit.specs.Directives.{meter_at_text, waits_in, text_emitted, EmitsText, NamesHeaderBy, NamesHeader, ExecutesDirective}
 use Rattle.ppunit.specs.Counts.{count_decides, count_names_header_by, count_names_header, count_control_by, count_group, count_branches, count_control, count_includes, count_opening}
-use Rattle.ppunit.proofs.BudgetSums.{asks_spends, decides_spends, run_spends, group_spends, branches_spend, control_spends, defines_spends}
+use Rattle.ppunit.proofs.BudgetSums.{asks_spends, decides_spends, count_run, run_spends, group_spends, branches_spend, control_spends, defines_spends}
+use Rattle.ppunit.proofs.WaitingInvocations.{WaitsIn, run_waits, group_waits, branches_waits, control_waits, defines_waits}
+use Rattle.ppunit.proofs.TextBudgets.{counts_before, budget_at_text, covers_at_text, sum_at_text, expands_at_text, same_open}
 use Rattle.ppunit.specs.code.Effects.{affected, HasEffect}
 use Rattle.ppunit.proofs.DirectiveEffects.{effect_of, executes, count_effect, same_count, effect_of_any_meter, line_of_any_meter}
 use Rattle.pptext.specs.Tokens.{fault}
@@ -39,15 +42,20 @@ holding n r = record r { state = budgeted r.state n }
 same_rest : (n b : ℕ) (meter meter_after : Meter) → n ≡ b → meter_after ≡ meter → with_budget (Some n) meter_after ≡ with_budget (Some b) meter
 same_rest n b meter meter_after e f = λ i. with_budget (Some (e i)) (f i)
 
-pub run_enough : (s : State) (tokens : List Token) (m : Progress) (b : ℕ) → Covers s.meter.remaining b
-    → (g : EmitsText s tokens m) (n : ℕ)
-    → b ≡ count_expansion g.expands + n
-    → EmitsText (budgeted s b) tokens (holding n m)
-run_enough s tokens m b is g n sum = record {
-  expanded = record g.expanded { meter = with_budget (Some n) g.expanded.meter };
-  expands = expansion_enough s.macros s.env b is g.expands n sum;
-  is = ap (holding n) g.is;
-}
+pub run_enough : (profile : Profile) (s : State) (tokens : List Token) (m : Progress) (b : ℕ) → Covers s.meter.remaining b
+    → WaitsIn s
+    → (g : EmitsText profile s tokens m) (n : ℕ)
+    → b ≡ count_run g + n
+    → EmitsText profile (budgeted s b) tokens (holding n m)
+run_enough profile s tokens m b is w g n sum =
+    let at_text : ℕ = budget_at_text s.waiting b in
+    let covers : Covers (meter_at_text s.waiting s.meter).remaining at_text = covers_at_text s.waiting b s.meter is in
+    let all : at_text ≡ count_expansion g.expands + n = sum_at_text s.waiting b (count_expansion g.expands) n (counts_before s.meter tokens w g.expands) sum in
+    let whole : Expansion = record g.expanded { meter = with_budget (Some n) g.expanded.meter } in
+    let x = expansion_enough s.macros s.env at_text covers g.expands n all in
+    let y = expands_at_text s.macros s.env s.waiting tokens b s.meter whole x in
+    let same : open_expansion y.expands ≡ open_expansion g.expands = y.leaves_open ∙ same_open s.macros s.env at_text covers g.expands n all x in
+    record { expanded = whole; expands = y.expands; is = ap (holding n) g.is ∙ ap (λ ts. text_emitted (budgeted s b) whole (waits_in profile ts)) (sym same) }
 
 asks_by_enough : (header : Bool) (s : State) (line : List Token) (meter_after : Meter) (include_name : Result IncludeName Fault) (b : ℕ) → Covers s.meter.remaining b
     → (g : NamesHeaderBy header s line meter_after include_name) (n : ℕ)
@@ -109,11 +117,12 @@ pub decides_rest : {search : Search} {row : ℕ} {s : State} {line : LogicalLine
     → Covers meter_after.remaining m
 decides_rest {meter_after = meter_after} b m is g sum = covers_rest meter_after.remaining (count_decides g) m is (decides_spends g) sum
 
-pub run_rest : (s : State) (tokens : List Token) (r : Progress) (b m : ℕ) → Covers s.meter.remaining b
-    → (g : EmitsText s tokens r)
-    → b ≡ count_expansion g.expands + m
+pub run_rest : (profile : Profile) (s : State) (tokens : List Token) (r : Progress) (b m : ℕ) → Covers s.meter.remaining b
+    → WaitsIn s
+    → (g : EmitsText profile s tokens r)
+    → b ≡ count_run g + m
     → Covers r.state.meter.remaining m
-run_rest s tokens r b m is g sum = covers_rest r.state.meter.remaining (count_expansion g.expands) m is (run_spends s tokens r g) sum
+run_rest profile s tokens r b m is w g sum = covers_rest r.state.meter.remaining (count_run g) m is (run_spends profile s tokens r w g) sum
 
 covered_budget : (budget : Option ℕ) (b : ℕ) → Covers budget (suc b) → is_used_up budget ≡ true → ⊥
 covered_budget None b is e = absurd (cc)
@@ -127,155 +136,178 @@ covered meter b is e = covered_budget meter.remaining b is e
 
 module _ (context : Context) where
   pub group_rest : {depth row : ℕ} {r : Progress} {ps : GroupParts} {end : Progress} (b m : ℕ) → Covers r.state.meter.remaining b
+      → WaitsIn r.state
       → (d : ExecutesGroup context depth row r ps end)
       → b ≡ count_group d + m
       → Covers end.state.meter.remaining m
-  group_rest {end = end} b m is d sum = covers_rest end.state.meter.remaining (count_group d) m is (group_spends context d) sum
+  group_rest {end = end} b m is w d sum = covers_rest end.state.meter.remaining (count_group d) m is (group_spends context w d) sum
 
   pub branches_rest : {depth row : ℕ} {s : State} {bs : Branches} {r : Progress} (b m : ℕ) → Covers s.meter.remaining b
+      → WaitsIn s
       → (d : ExecutesBranches context depth row s bs r)
       → b ≡ count_branches d + m
       → Covers r.state.meter.remaining m
-  branches_rest {r = r} b m is d sum = covers_rest r.state.meter.remaining (count_branches d) m is (branches_spend context d) sum
+  branches_rest {r = r} b m is w d sum = covers_rest r.state.meter.remaining (count_branches d) m is (branches_spend context w d) sum
 
   pub control_rest : {depth row : ℕ} {s : State} {line : LogicalLine} {r : Progress} (b m : ℕ) → Covers s.meter.remaining b
+      → WaitsIn s
       → (d : ExecutesControlLine context depth row s line r)
       → b ≡ count_control d + m
       → Covers r.state.meter.remaining m
-  control_rest {r = r} b m is d sum = covers_rest r.state.meter.remaining (count_control d) m is (control_spends context d) sum
+  control_rest {r = r} b m is w d sum = covers_rest r.state.meter.remaining (count_control d) m is (control_spends context w d) sum
 
   pub defines_rest : {defines : List (List ℕ)} {s : State} {r : Progress} (b m : ℕ) → Covers s.meter.remaining b
+      → WaitsIn s
       → (d : Defines context defines s r)
       → b ≡ count_defines d + m
       → Covers r.state.meter.remaining m
-  defines_rest {r = r} b m is d sum = covers_rest r.state.meter.remaining (count_defines d) m is (defines_spends context d) sum
+  defines_rest {r = r} b m is w d sum = covers_rest r.state.meter.remaining (count_defines d) m is (defines_spends context w d) sum
 
   mutual
     pub group_enough : {depth row : ℕ} {r : Progress} {ps : GroupParts} {end : Progress} (b : ℕ) → Covers r.state.meter.remaining b
+        → WaitsIn r.state
         → (d : ExecutesGroup context depth row r ps end) (n : ℕ)
         → b ≡ count_group d + n
         → ExecutesGroup context depth row (holding b r) ps (holding n end)
-    group_enough {depth} {row} {r} {ps} b is (ExecutesGroup.already_stopped {s = s} {f = f}) n sum =
+    group_enough {depth} {row} {r} {ps} b is w (ExecutesGroup.already_stopped {s = s} {f = f}) n sum =
         let same : b ≡ n = omega arith in
         subst (λ x. ExecutesGroup context depth row (holding b (stopped s f)) ps (holding x (stopped s f))) same ExecutesGroup.already_stopped
-    group_enough {depth} {row} b is (ExecutesGroup.no_parts {s = s}) n sum =
+    group_enough {depth} {row} b is w (ExecutesGroup.no_parts {s = s}) n sum =
         let same : b ≡ n = omega arith in
         subst (λ x. ExecutesGroup context depth row (holding b (running s)) Done (holding x (running s))) same ExecutesGroup.no_parts
-    group_enough b is (ExecutesGroup.text_lines {s = s} {lines = lines} {m = m} gives rest) n sum =
+    group_enough b is w (ExecutesGroup.text_lines {s = s} {lines = lines} {m = m} gives rest) n sum =
         let k = count_group rest in
-        ExecutesGroup.text_lines (run_enough s (text_tokens lines) m b is gives (k + n) (omega arith)) (group_enough (k + n) (run_rest s (text_tokens lines) m b (k + n) is gives (omega arith)) rest n refl)
-    group_enough b is (ExecutesGroup.control here rest) n sum =
+        let next = run_waits context.profile s (text_tokens lines) m gives in
+        ExecutesGroup.text_lines (run_enough context.profile s (text_tokens lines) m b is w gives (k + n) (omega arith))
+        (group_enough (k + n) (run_rest context.profile s (text_tokens lines) m b (k + n) is w gives (omega arith)) next rest n refl)
+    group_enough b is w (ExecutesGroup.control here rest) n sum =
         let k = count_group rest in
-        ExecutesGroup.control (control_enough b is here (k + n) (omega arith)) (group_enough (k + n) (control_rest b (k + n) is here (omega arith)) rest n refl)
-    group_enough b is (ExecutesGroup.taken decides here rest) n sum =
+        ExecutesGroup.control (control_enough b is w here (k + n) (omega arith))
+        (group_enough (k + n) (control_rest b (k + n) is w here (omega arith)) (control_waits context w here) rest n refl)
+    group_enough b is w (ExecutesGroup.taken decides here rest) n sum =
         let j = count_group here in
         let k = count_group rest in
         let covers = decides_rest b (j + (k + n)) is decides (omega arith) in
-        ExecutesGroup.taken (decides_enough b is decides (j + (k + n)) (omega arith)) (group_enough (j + (k + n)) covers here (k + n) refl) (group_enough (k + n) (group_rest (j + (k + n)) (k + n) covers here refl) rest n refl)
-    group_enough b is (ExecutesGroup.skipped decides here rest) n sum =
+        ExecutesGroup.taken (decides_enough b is decides (j + (k + n)) (omega arith)) (group_enough (j + (k + n)) covers w here (k + n) refl)
+        (group_enough (k + n) (group_rest (j + (k + n)) (k + n) covers w here refl) (group_waits context w here) rest n refl)
+    group_enough b is w (ExecutesGroup.skipped decides here rest) n sum =
         let j = count_branches here in
         let k = count_group rest in
         let covers = decides_rest b (j + (k + n)) is decides (omega arith) in
         ExecutesGroup.skipped (decides_enough b is decides (j + (k + n)) (omega arith))
-        (branches_enough (j + (k + n)) covers here (k + n) refl) (group_enough (k + n) (branches_rest (j + (k + n)) (k + n) covers here refl) rest n refl)
-    group_enough b is (ExecutesGroup.condition_fault decides) n sum = ExecutesGroup.condition_fault (decides_enough b is decides n sum)
+        (branches_enough (j + (k + n)) covers w here (k + n) refl)
+        (group_enough (k + n) (branches_rest (j + (k + n)) (k + n) covers w here refl) (branches_waits context w here) rest n refl)
+    group_enough b is w (ExecutesGroup.condition_fault decides) n sum = ExecutesGroup.condition_fault (decides_enough b is decides n sum)
 
     pub branches_enough : {depth row : ℕ} {s : State} {bs : Branches} {m : Progress} (b : ℕ) → Covers s.meter.remaining b
+        → WaitsIn s
         → (d : ExecutesBranches context depth row s bs m) (n : ℕ)
         → b ≡ count_branches d + n
         → ExecutesBranches context depth row (budgeted s b) bs (holding n m)
-    branches_enough {depth} {row} b is (ExecutesBranches.no_branch_taken {s = s} {line = line}) n sum =
+    branches_enough {depth} {row} b is w (ExecutesBranches.no_branch_taken {s = s} {line = line}) n sum =
         let same : b ≡ n = omega arith in
         subst (λ x. ExecutesBranches context depth row (budgeted s b) (End line) (holding x (running s))) same ExecutesBranches.no_branch_taken
-    branches_enough b is (ExecutesBranches.else_group e here) n sum = ExecutesBranches.else_group e (group_enough b is here n sum)
-    branches_enough b is (ExecutesBranches.branch_taken e decides here) n sum =
+    branches_enough b is w (ExecutesBranches.else_group e here) n sum = ExecutesBranches.else_group e (group_enough b is w here n sum)
+    branches_enough b is w (ExecutesBranches.branch_taken e decides here) n sum =
         let j = count_group here in
-        ExecutesBranches.branch_taken e (decides_enough b is decides (j + n) (omega arith)) (group_enough (j + n) (decides_rest b (j + n) is decides (omega arith)) here n refl)
-    branches_enough b is (ExecutesBranches.branch_skipped e decides rest) n sum =
+        ExecutesBranches.branch_taken e (decides_enough b is decides (j + n) (omega arith))
+        (group_enough (j + n) (decides_rest b (j + n) is decides (omega arith)) w here n refl)
+    branches_enough b is w (ExecutesBranches.branch_skipped e decides rest) n sum =
         let j = count_branches rest in
-        ExecutesBranches.branch_skipped e (decides_enough b is decides (j + n) (omega arith)) (branches_enough (j + n) (decides_rest b (j + n) is decides (omega arith)) rest n refl)
-    branches_enough b is (ExecutesBranches.branch_condition_fault e decides) n sum =
+        ExecutesBranches.branch_skipped e (decides_enough b is decides (j + n) (omega arith))
+        (branches_enough (j + n) (decides_rest b (j + n) is decides (omega arith)) w rest n refl)
+    branches_enough b is w (ExecutesBranches.branch_condition_fault e decides) n sum =
         ExecutesBranches.branch_condition_fault e (decides_enough b is decides n sum)
 
     pub control_enough : {depth row : ℕ} {s : State} {line : LogicalLine} {m : Progress} (b : ℕ) → Covers s.meter.remaining b
+        → WaitsIn s
         → (d : ExecutesControlLine context depth row s line m) (n : ℕ)
         → b ≡ count_control d + n
         → ExecutesControlLine context depth row (budgeted s b) line (holding n m)
-    control_enough {depth} {row} {s} {line} {m} b is (ExecutesControlLine.error e) n sum =
+    control_enough {depth} {row} {s} {line} {m} b is w (ExecutesControlLine.error e) n sum =
         let same : b ≡ n = omega arith in
         subst (λ x. ExecutesControlLine context depth row (budgeted s b) line (holding x m)) same (ExecutesControlLine.error e)
-    control_enough {depth} {row} {s} {line} {m} b is (ExecutesControlLine.ignored e) n sum =
+    control_enough {depth} {row} {s} {line} {m} b is w (ExecutesControlLine.ignored e) n sum =
         let same : b ≡ n = omega arith in
         subst (λ x. ExecutesControlLine context depth row (budgeted s b) line (holding x m)) same (ExecutesControlLine.ignored e)
-    control_enough {depth} {row} {s} {line} {m} b is (ExecutesControlLine.quote_fault e q) n sum =
+    control_enough {depth} {row} {s} {line} {m} b is w (ExecutesControlLine.quote_fault e q) n sum =
         let same : b ≡ n = omega arith in
         subst (λ x. ExecutesControlLine context depth row (budgeted s b) line (holding x m)) same (ExecutesControlLine.quote_fault e q)
-    control_enough {row = row} b is (ExecutesControlLine.executed {s = s} {line = line} {m = m} q does) n sum =
-        ExecutesControlLine.executed q (control_by_enough context.profile row line.directive s line m b is does n sum)
-    control_enough b is (ExecutesControlLine.include e q here) n sum = ExecutesControlLine.include e q (includes_enough b is here n sum)
+    control_enough {depth} {row} {s} {line} {m} b is w (ExecutesControlLine.refused e q waits) n sum =
+        let same : b ≡ n = omega arith in
+        subst (λ x. ExecutesControlLine context depth row (budgeted s b) line (holding x m)) same (ExecutesControlLine.refused e q waits)
+    control_enough {row = row} b is w (ExecutesControlLine.executed {s = s} {line = line} {m = m} q free does) n sum =
+        ExecutesControlLine.executed q free (control_by_enough context.profile row line.directive s line m b is does n sum)
+    control_enough b is w (ExecutesControlLine.include e q free here) n sum = ExecutesControlLine.include e q free (includes_enough b is w here n sum)
 
     includes_enough : {depth row : ℕ} {following : Option ℕ} {s : State} {line : LogicalLine} {m : Progress} (b : ℕ) → Covers s.meter.remaining b
+        → WaitsIn s
         → (d : ExecutesInclude context depth row following s line m) (n : ℕ)
         → b ≡ count_includes d + n
         → ExecutesInclude context depth row following (budgeted s b) line (holding n m)
-    includes_enough b is (ExecutesInclude.operand_fault {s = s} {line = line} {meter_after = meter_after} {f = f} asks) n sum =
+    includes_enough b is w (ExecutesInclude.operand_fault {s = s} {line = line} {meter_after = meter_after} {f = f} asks) n sum =
         ExecutesInclude.operand_fault (asks_enough s line.tokens meter_after (Err f) b is asks n sum)
-    includes_enough b is (ExecutesInclude.missing {s = s} {line = line} {meter_after = meter_after} a asks finds) n sum =
+    includes_enough b is w (ExecutesInclude.missing {s = s} {line = line} {meter_after = meter_after} a asks finds) n sum =
         ExecutesInclude.missing a (asks_enough s line.tokens meter_after (Ok a) b is asks n sum) finds
-    includes_enough b is (ExecutesInclude.included {s = s} {line = line} {meter_after = meter_after} a found asks finds opens) n sum =
+    includes_enough b is w (ExecutesInclude.included {s = s} {line = line} {meter_after = meter_after} a found asks finds opens) n sum =
         let j = count_opening opens in
         ExecutesInclude.included a found (asks_enough s line.tokens meter_after (Ok a) b is asks (j + n) (omega arith)) finds
-        (opened_enough (j + n) (asks_rest s line.tokens meter_after (Ok a) b (j + n) is asks (omega arith)) opens n refl)
+        (opened_enough (j + n) (asks_rest s line.tokens meter_after (Ok a) b (j + n) is asks (omega arith)) w opens n refl)
 
     pub opened_enough : {depth row : ℕ} {directory : Option ℕ} {at : Place} {s : State} {m : Progress} (b : ℕ) → Covers s.meter.remaining b
+        → WaitsIn s
         → (d : OpensFile context depth at s row directory m) (n : ℕ)
         → b ≡ count_opening d + n
         → OpensFile context depth at (budgeted s b) row directory (holding n m)
-    opened_enough {depth} {row} {directory} {at} {s} {m} b is (OpensFile.too_deep deep) n sum =
+    opened_enough {depth} {row} {directory} {at} {s} {m} b is w (OpensFile.too_deep deep) n sum =
         let same : b ≡ n = omega arith in
         subst (λ x. OpensFile context depth at (budgeted s b) row directory (holding x m)) same (OpensFile.too_deep deep)
-    opened_enough {depth} {row} {directory} {at} {s} zero is (OpensFile.exhausted fits spent) n sum =
+    opened_enough {depth} {row} {directory} {at} {s} zero is w (OpensFile.exhausted fits spent) n sum =
         let same : 0 ≡ n = omega arith in
         subst (λ x. OpensFile context depth at (budgeted s 0) row directory (holding x (stopped s (fault 35 at [])))) same (OpensFile.exhausted fits refl)
-    opened_enough (suc b) is (OpensFile.exhausted {s = s} fits spent) n sum = absurd (covered s.meter b is spent)
-    opened_enough zero is (OpensFile.not_read_again fits more once) n sum = absurd (omega arith)
-    opened_enough {depth} {row} {directory} {at} {s} {m} (suc b) is (OpensFile.not_read_again fits more once) n sum =
+    opened_enough (suc b) is w (OpensFile.exhausted {s = s} fits spent) n sum = absurd (covered s.meter b is spent)
+    opened_enough zero is w (OpensFile.not_read_again fits more once) n sum = absurd (omega arith)
+    opened_enough {depth} {row} {directory} {at} {s} {m} (suc b) is w (OpensFile.not_read_again fits more once) n sum =
         let same : b ≡ n = omega arith in
         subst (λ x. OpensFile context depth at (budgeted s (suc b)) row directory (holding x m)) same (OpensFile.not_read_again fits refl once)
-    opened_enough zero is (OpensFile.not_readable fits more once file) n sum = absurd (omega arith)
-    opened_enough {depth} {row} {directory} {at} {s} {m} (suc b) is (OpensFile.not_readable fits more once file) n sum =
+    opened_enough zero is w (OpensFile.not_readable fits more once file) n sum = absurd (omega arith)
+    opened_enough {depth} {row} {directory} {at} {s} {m} (suc b) is w (OpensFile.not_readable fits more once file) n sum =
         let same : b ≡ n = omega arith in
         subst (λ x. OpensFile context depth at (budgeted s (suc b)) row directory (holding x m)) same (OpensFile.not_readable fits refl once file)
-    opened_enough zero is (OpensFile.content_fault fits more once file reads) n sum = absurd (omega arith)
-    opened_enough {depth} {row} {directory} {at} {s} {m} (suc b) is (OpensFile.content_fault fits more once file reads) n sum =
+    opened_enough zero is w (OpensFile.content_fault fits more once file reads) n sum = absurd (omega arith)
+    opened_enough {depth} {row} {directory} {at} {s} {m} (suc b) is w (OpensFile.content_fault fits more once file reads) n sum =
         let same : b ≡ n = omega arith in
         subst (λ x. OpensFile context depth at (budgeted s (suc b)) row directory (holding x m)) same (OpensFile.content_fault fits refl once file reads)
-    opened_enough zero is (OpensFile.read fits more once file reads tree here) n sum = absurd (omega arith)
-    opened_enough (suc b) is (OpensFile.read fits more once file reads tree here) n sum =
-        OpensFile.read fits refl once file reads tree (group_enough b (covers_less is) here n (omega arith))
+    opened_enough zero is w (OpensFile.read fits more once file reads tree here) n sum = absurd (omega arith)
+    opened_enough (suc b) is w (OpensFile.read fits more once file reads tree here) n sum =
+        OpensFile.read fits refl once file reads tree (group_enough b (covers_less is) w here n (omega arith))
 
   pub defines_enough : {defines : List (List ℕ)} {s : State} {m : Progress} (b : ℕ) → Covers s.meter.remaining b
+      → WaitsIn s
       → (d : Defines context defines s m) (n : ℕ)
       → b ≡ count_defines d + n
       → Defines context defines (budgeted s b) (holding n m)
-  defines_enough {defines} {s} {m} b is (unread reads) n sum =
+  defines_enough {defines} {s} {m} b is w (unread reads) n sum =
       let same : b ≡ n = omega arith in
       subst (λ x. Defines context defines (budgeted s b) (holding x m)) same (unread reads)
-  defines_enough b is (processed reads tree here) n sum = processed reads tree (group_enough b is here n sum)
+  defines_enough b is w (processed reads tree here) n sum = processed reads tree (group_enough b is w here n sum)
 
   -- With a sufficient budget, the outcome of a unit is unchanged, and the rest of the budget remains.
   pub unit_suffices : {defines : List (List ℕ)} {row : ℕ} {s : State} {m : Progress} (b : ℕ) → Covers s.meter.remaining b
+      → WaitsIn s
       → (d : Translates context defines row s m) (n : ℕ)
       → b ≡ count_translates d + n
       → Translates context defines row (budgeted s b) (holding n m)
-  unit_suffices b is (definitions_fault here) n sum = definitions_fault (defines_enough b is here n sum)
-  unit_suffices b is (translated here opens) n sum =
+  unit_suffices b is w (definitions_fault here) n sum = definitions_fault (defines_enough b is w here n sum)
+  unit_suffices b is w (translated here opens) n sum =
       let j = count_opening opens in
-      translated (defines_enough b is here (j + n) (omega arith)) (opened_enough (j + n) (defines_rest b (j + n) is here (omega arith)) opens n refl)
+      translated (defines_enough b is w here (j + n) (omega arith))
+      (opened_enough (j + n) (defines_rest b (j + n) is w here (omega arith)) (defines_waits context w here) opens n refl)
 
   -- A unit without a budget has the same outcome with a sufficient budget.
   pub unit_enough : {defines : List (List ℕ)} {row : ℕ} {s : State} {m : Progress} → s.meter.remaining ≡ None
+      → WaitsIn s
       → (d : Translates context defines row s m) (b n : ℕ)
       → b ≡ count_translates d + n
       → Translates context defines row (budgeted s b) (holding n m)
-  unit_enough is d b n sum = unit_suffices b (subst (λ budget. Covers budget b) (sym is) without) d n sum
+  unit_enough is w d b n sum = unit_suffices b (subst (λ budget. Covers budget b) (sym is) without) w d n sum

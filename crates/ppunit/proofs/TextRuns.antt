@@ -1,17 +1,16 @@
--- A walk over a text run, and the end of a text run. A run without tokens, for example of blank lines, emits nothing.
-use Rattle.std.proofs.Common.{◌≡◌, ℕ, List, [], ◌∷◌, length, nat_eq, Option, None, Some, refl, sym, true, suc, arith, ◌≢◌, ◌+◌, ◌-◌, ◌<◌, ◌++◌, take, drop, ap, ◌∙◌, subst, ◌≤◌, add-one, Bool, false, if◌then◌else◌}
-use Rattle.std.proofs.lemmas.Bool.{eqb-true}
-use Rattle.pptext.specs.declared.tokens.Token.{Token}
+-- A walk over a text run, and the end of a text run.
+use Rattle.std.proofs.Common.{◌≡◌, ℕ, List, [], ◌∷◌, length, Option, None, Some, refl, sym, true, arith, ◌≢◌, ◌+◌, ◌-◌, ◌<◌, ◌++◌, take, drop, ap, ◌∙◌, subst, ◌≤◌, add-one, Bool, false, if◌then◌else◌}
 use Rattle.ppmacro.specs.Names.{Macros}
 use Rattle.ppexpand.specs.declared.env.Env.{Env}
 use Rattle.ppexpand.specs.Budget.{is_exhausted, refused}
 use Rattle.ppexpand.specs.ExpansionStep.{Done, expansion_step}
-use Rattle.ppexpand.specs.Expansion.{stops_with, done, step_in_budget}
+use Rattle.ppexpand.specs.Expansion.{step_in_budget}
 use Rattle.ppunit.specs.States.{State, Context, running}
 use Rattle.ppunit.specs.Directives.{EmitsText}
 use Rattle.std.proofs.lemmas.List.{take_at}
 use Rattle.std.specs.List.{AllByRecursion}
 use Rattle.pptext.specs.declared.tokens.Fault.{Fault}
+use Rattle.pptext.specs.declared.sources.Profile.{Profile}
 use Rattle.pptext.specs.Lines.{LogicalLine}
 use Rattle.pptext.specs.Tree.{GroupParts, Done, TextLines, Control, Section, End, Branch, part_lines, branch_lines, BeginsTextLines, AreGroupParts, role, role_by}
 use Rattle.ppexpand.specs.declared.meter.Meter.{Meter}
@@ -20,11 +19,10 @@ use Rattle.ppunit.specs.DirectiveLines.{text_tokens}
 use Rattle.ppshelf.specs.Files.{Files}
 use Rattle.ppunit.specs.code.Walk.{line_at, EnclosingSections, lines_to_end, AreEnclosingSections, HasPartsAt, Advances, IsTextLine, StartsWithoutTextLine}
 use Rattle.ppunit.proofs.FirstLineCases.{lay_run, text_directive, branches_differ, First, text, control, opening, ending}
-use Rattle.ppunit.proofs.WalkSteps.{ends_front, ends_stop, AdvancesFrom, advances, first_at, run_result}
+use Rattle.ppunit.proofs.FileWalk.{ends_front, ends_stop, AdvancesFrom, advances, first_at, run_result}
 use Rattle.pptext.proofs.IndexedLines.{at_index, from_index}
-use Rattle.ppunit.proofs.KeptItems.{kept-nothing}
 
--- ---- a text run without tokens, for example of blank lines, emits nothing
+-- ---- a text run without tokens, for example of blank lines
 
 done_anyway : (exhausted : Bool) → (if exhausted then refused [] Done else Done) ≡ Done
 done_anyway true = refl
@@ -34,23 +32,6 @@ done_anyway false = refl
 pub none_next : (macros : Macros) (env : Env) (meter : Meter) → step_in_budget macros env meter [] ≡ Done
 unfolding expansion_step
 none_next macros env meter = done_anyway (is_exhausted meter)
-
-without_tokens : (s : State) → EmitsText s [] (record { state = s; fault = None })
-without_tokens s = record {
-  expanded = record { tokens = []; fault = None; meter = s.meter };
-  expands = record {
-    outcome = stops_with s.meter None;
-    expands = (0, done (none_next s.macros s.env s.meter));
-    emitted = refl;
-    fault_is = refl;
-    meter_is = refl;
-  };
-  is = λ i. record { state = record s { items = sym (kept-nothing s.keeps s.items) i }; fault = None };
-}
-
-pub empty_run : (s : State) (ts : List Token) → nat_eq (length ts) 0 ≡ true → EmitsText s ts (record { state = s; fault = None })
-empty_run s [] h = without_tokens s
-empty_run s (t ∷ ts) h = absurd (omega (arith, eqb-true (suc (length ts)) 0 h))
 
 -- ---- a walk over a text run
 
@@ -82,48 +63,50 @@ run_tokens_are lines front rest index end e is =
     let count : length front ≡ end - index = omega arith in
     ap (take (end - index)) e ∙ take_at front rest (end - index) count
 
-run_by : (context : Files → Context) (files : Files) (depth row : ℕ) (lines : List LogicalLine) (index end : ℕ) (s t : State) (f : Option Fault)
+run_by : (profile : Profile) (context : Files → Context) (files : Files) (depth row : ℕ) (lines : List LogicalLine) (index end : ℕ) (s t : State) (f : Option Fault)
     (ps : GroupParts) (k : EnclosingSections)
     → role (line_at lines index) ≡ role_by None
     → First (line_at lines index) ps k
     → HasPartsAt lines index ps k
     → RunOf lines index end
-    → EmitsText s (text_tokens (take (end - index) (drop index lines))) (record { state = t; fault = f })
-    → (rs : List LogicalLine) × (qs : GroupParts) × (ps ≡ TextLines rs qs) × (drop end lines ≡ lines_to_end qs k) × EmitsText s (text_tokens rs)
+    → EmitsText profile s (text_tokens (take (end - index) (drop index lines))) (record { state = t; fault = f })
+    → (rs : List LogicalLine) × (qs : GroupParts) × (ps ≡ TextLines rs qs) × (drop end lines ≡ lines_to_end qs k) × EmitsText profile s (text_tokens rs)
     (record { state = t; fault = f })
-run_by context files depth row lines index end s t f (TextLines rs ps) k is (text same) stands run gives =
+run_by profile context files depth row lines index end s t f (TextLines rs ps) k is (text same) stands run gives =
     let there = stands.rest ∙ lay_run rs ps k in
     let parts = stands.parts in
     let over = run rs (lines_to_end ps k) there (text_lines rs parts.1) (behind_run ps k parts.3 stands.outer parts.2) in
-    (rs, ps, refl, over.1, subst (λ (z : List LogicalLine). EmitsText s (text_tokens z) (record { state = t; fault = f })) (run_tokens_are lines rs (lines_to_end ps k) index end there over.0) gives)
-run_by context files depth row lines index end s t f ps k is (control same other) stands run gives = absurd (cc)
-run_by context files depth row lines index end s t f ps k is (opening same other) stands run gives = absurd (cc)
-run_by context files depth row lines index end s t f ps k is (ending differs) stands run gives = absurd (differs.not_text is)
+    (rs, ps, refl, over.1, subst (λ (z : List LogicalLine). EmitsText profile s (text_tokens z) (record { state = t; fault = f })) (run_tokens_are lines rs (lines_to_end ps k) index end there over.0) gives)
+run_by profile context files depth row lines index end s t f ps k is (control same other) stands run gives = absurd (cc)
+run_by profile context files depth row lines index end s t f ps k is (opening same other) stands run gives = absurd (cc)
+run_by profile context files depth row lines index end s t f ps k is (ending differs) stands run gives = absurd (differs.not_text is)
 
 run_on : (context : Files → Context) (files : Files) (depth row : ℕ) (lines : List LogicalLine) (index end : ℕ) (s t : State) (f : Option Fault)
     (rs : List LogicalLine) (qs : GroupParts) (k : EnclosingSections)
     → AreGroupParts qs
     → AreEnclosingSections k
     → drop end lines ≡ lines_to_end qs k
-    → EmitsText s (text_tokens rs) (record { state = t; fault = f })
+    → ((more : Files) → EmitsText (context more).profile s (text_tokens rs) (record { state = t; fault = f }))
     → AdvancesFrom context files depth row lines s t (run_result end f) (TextLines rs qs) k
 run_on context files depth row lines index end s t None rs qs k are outer there gives =
-    (qs, k, record { rest = there; parts = are; outer = outer }, λ more grows last rest. ends_front (context more) depth row (running s) (running t) (TextLines rs qs) qs k last (λ o g. ExecutesGroup.text_lines gives g) rest)
+    (qs, k, record { rest = there; parts = are; outer = outer }, λ more grows last rest. ends_front (context more) depth row (running s) (running t) (TextLines rs qs) qs k last (λ o g. ExecutesGroup.text_lines (gives more) g) rest)
 run_on context files depth row lines index end s t (Some f) rs qs k are outer there gives =
-    λ more grows. ends_stop (context more) depth row (running s) t f (TextLines rs qs) k (ExecutesGroup.text_lines gives ExecutesGroup.already_stopped)
+    λ more grows. ends_stop (context more) depth row (running s) t f (TextLines rs qs) k (ExecutesGroup.text_lines (gives more) ExecutesGroup.already_stopped)
 
-pub run_advances : (context : Files → Context) (files : Files) (depth row : ℕ) (lines : List LogicalLine) (index end : ℕ) (s t : State)
+pub run_advances : (profile : Profile) (context : Files → Context) (files : Files) (depth row : ℕ) (lines : List LogicalLine) (index end : ℕ) (s t : State)
     (f : Option Fault)
+    → ((more : Files) → profile ≡ (context more).profile)
     → index < length lines
     → (line_at lines index).directive ≡ None
     → RunOf lines index end
-    → EmitsText s (text_tokens (take (end - index) (drop index lines))) (record { state = t; fault = f })
+    → EmitsText profile s (text_tokens (take (end - index) (drop index lines))) (record { state = t; fault = f })
     → Advances context files depth row lines index s t (run_result end f)
-run_advances context files depth row lines index end s t f within is run gives =
+run_advances profile context files depth row lines index end s t f one within is run gives =
     advances context files depth row lines index s t (run_result end f) (λ ps k stands.
-    let b = run_by context files depth row lines index end s t f ps k (ap role_by is) (first_at lines index ps k within stands) stands run gives in
+    let b = run_by profile context files depth row lines index end s t f ps k (ap role_by is) (first_at lines index ps k within stands) stands run gives in
     let are = subst AreGroupParts b.2 stands.parts in
-    subst (λ (z : GroupParts). AdvancesFrom context files depth row lines s t (run_result end f) z k) (sym b.2) (run_on context files depth row lines index end s t f b.0 b.1 k are.3 stands.outer b.3 b.4))
+    subst (λ (z : GroupParts). AdvancesFrom context files depth row lines s t (run_result end f) z k) (sym b.2) (run_on context files depth row lines index end s t f b.0 b.1 k are.3 stands.outer b.3
+    (λ more. subst (λ (z : Profile). EmitsText z s (text_tokens b.0) (record { state = t; fault = f })) (one more) b.4)))
 
 -- ---- the end of a text run
 

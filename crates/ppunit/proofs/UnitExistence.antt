@@ -1,5 +1,5 @@
 -- If the content of each file is known, a unit has a value.
-use Rattle.std.proofs.Common.{◌≡◌, ◌≢◌, ℕ, zero, suc, ◌+◌, ◌<◌, ◌≤◌, ◌⊎◌, inl, inr, Bool, true, false, List, [], length, IsSome, map, Option, Some, None, Result, Ok, Err, refl, ap, ◌∙◌, arith, if◌then◌else◌}
+use Rattle.std.proofs.Common.{◌≡◌, ◌≢◌, ℕ, zero, suc, ◌+◌, ◌<◌, ◌≤◌, ◌⊎◌, inl, inr, Bool, true, false, List, [], ◌++◌, length, IsSome, Option, Some, None, Result, Ok, Err, refl, ap, ◌∙◌, arith, if◌then◌else◌}
 use Rattle.std.proofs.lemmas.Bool.{cases_lt}
 use Rattle.pptext.specs.declared.tokens.Place.{Place}
 use Rattle.pptext.specs.declared.tokens.Token.{Token}
@@ -21,6 +21,7 @@ use Rattle.ppexpand.specs.declared.meter.Meter.{Meter}
 use Rattle.ppexpand.specs.declared.env.Env.{Env}
 use Rattle.ppexpand.specs.Expansion.{Expansion}
 use Rattle.ppexpand.specs.Expansion.{IsExpansion}
+use Rattle.ppexpand.specs.OpenInvocations.{open_expansion}
 use Rattle.ppexpand.specs.Budget.{is_exhausted}
 use Rattle.ppexpr.specs.Conditions.{IsCondition}
 use Rattle.ppshelf.specs.Content.{Content, unreadable, readable}
@@ -30,15 +31,14 @@ use Rattle.ppshelf.specs.Search.{Candidate, IsFirstRow}
 use Rattle.ppshelf.proofs.SearchResults.{first_within}
 use Rattle.ppunit.proofs.FirstLineCases.{else_directive, not_else}
 use Rattle.ppunit.specs.Dependencies.{has_row}
-use Rattle.ppunit.specs.declared.units.Item.TheVariants as item
-use Rattle.ppunit.specs.States.{State, Search, Context, search_of, Progress, running, stopped, output, emitted, with_meter, with_dependency, entering, leaving, with_one_spent}
+use Rattle.ppunit.specs.States.{State, Search, Context, search_of, Progress, running, stopped, output, with_meter, with_dependency, entering, leaving, with_one_spent}
 use Rattle.ppunit.specs.DirectiveLines.{operands, line_fault, one_identifier, text_tokens}
 use Rattle.ppunit.specs.Quotes.{unmatched_quote}
 use Rattle.ppunit.specs.LineControl.{presumed}
 use Rattle.ppunit.specs.Including.{IncludeName, begins_with_header, name_of_header, name_or, name_of_expansion_or, if_possible_name}
 use Rattle.ppunit.specs.Probing.{condition_tokens}
 use Rattle.ppunit.specs.Conditions.{Decides, by_name}
-use Rattle.ppunit.specs.Directives.{EmitsText, ExecutesDirective, NamesHeader, NamesHeaderBy, candidates_for, FindsFile, message, checks_quotes}
+use Rattle.ppunit.specs.Directives.{EmitsText, meter_at_text, waits_in, text_emitted, refusal, at_end, ExecutesDirective, NamesHeader, NamesHeaderBy, candidates_for, FindsFile, message, checks_quotes}
 use Rattle.ppunit.specs.code.Effects.{Effect, affected, immediate_effect, line_effect, HasEffect}
 use Rattle.ppunit.proofs.DirectiveEffects.{executes, control_has_effect}
 use Rattle.ppunit.specs.Group.{depth_limit, ExecutesGroup, ExecutesBranches, ExecutesControlLine, ExecutesInclude, OpensFile}
@@ -86,10 +86,10 @@ elif_conditional (Some d) e = elif_asks (class_of d) e
 -- ---- lines
 
 module _ (expansions : SomeExpansion) (decisions : SomeDecision) where
-  some_run : (s : State) (tokens : List Token) → (m : Progress) × EmitsText s tokens m
-  some_run s tokens =
-      let e = expansions s.macros s.env s.meter tokens in
-      (record { state = emitted (with_meter s e.0.meter) (map item.Token e.0.tokens); fault = e.0.fault }, record { expanded = e.0; expands = e.1; is = refl })
+  some_run : (profile : Profile) (s : State) (tokens : List Token) → (m : Progress) × EmitsText profile s tokens m
+  some_run profile s tokens =
+      let e = expansions s.macros s.env (meter_at_text s.waiting s.meter) (s.waiting ++ tokens) in
+      (text_emitted s e.0 (waits_in profile (open_expansion e.1)), record { expanded = e.0; expands = e.1; is = refl })
 
   asks_by : (header : Bool) (s : State) (line : List Token) → (include_name : Result IncludeName Fault) × (meter_after : Meter) × NamesHeaderBy header s line meter_after include_name
   asks_by true s line = (name_or (line_fault 30 line []) (if_possible_name (name_of_header (operands line))), s.meter, (refl, refl))
@@ -189,19 +189,25 @@ module _ (expansions : SomeExpansion) (decisions : SomeDecision) where
       some_include : (row : ℕ) (from : Option ℕ) (s : State) (line : LogicalLine) → (m : Progress) × ExecutesInclude context depth row from s line m
       some_include row from s line = let a = some_asking s line.tokens in including row from s line a.1 a.0 a.2
 
-      control_by : (row : ℕ) (s : State) (line : LogicalLine) (q : Option Fault)
+      control_by : (row : ℕ) (s : State) (line : LogicalLine) (q r : Option Fault)
           → unmatched_quote line.tokens ≡ q
+          → refusal s.waiting line.directive (operands line.tokens) ≡ r
           → Sort context.profile row line.directive
           → (m : Progress) × ExecutesControlLine context depth row s line m
-      control_by row s line q e (refuses is) = (stopped s (line_fault 34 line.tokens (message (operands line.tokens))), ExecutesControlLine.error is)
-      control_by row s line q e (does_nothing is) = (running s, ExecutesControlLine.ignored is)
-      control_by row s line (Some f) e (asks next looks is) = (stopped s f, ExecutesControlLine.quote_fault looks e)
-      control_by row s line (Some f) e (does looks by) = (stopped s f, ExecutesControlLine.quote_fault looks e)
-      control_by row s line None e (asks next looks is) = let i = some_include row (if next then s.directory else None) s line in (i.0, ExecutesControlLine.include is e i.1)
-      control_by row s line None e (does looks by) = let m = by s line in (m.0, ExecutesControlLine.executed e m.1)
+      control_by row s line q r e waits (refuses is) = (stopped s (line_fault 34 line.tokens (message (operands line.tokens))), ExecutesControlLine.error is)
+      control_by row s line q r e waits (does_nothing is) = (running s, ExecutesControlLine.ignored is)
+      control_by row s line (Some f) r e waits (asks next looks is) = (stopped s f, ExecutesControlLine.quote_fault looks e)
+      control_by row s line (Some f) r e waits (does looks by) = (stopped s f, ExecutesControlLine.quote_fault looks e)
+      control_by row s line None (Some f) e waits (asks next looks is) = (stopped s f, ExecutesControlLine.refused looks e waits)
+      control_by row s line None (Some f) e waits (does looks by) = (stopped s f, ExecutesControlLine.refused looks e waits)
+      control_by row s line None None e free (asks next looks is) =
+          let i = some_include row (if next then s.directory else None) s line in (i.0, ExecutesControlLine.include is e free i.1)
+      control_by row s line None None e free (does looks by) = let m = by s line in (m.0, ExecutesControlLine.executed e free m.1)
 
       some_control : (row : ℕ) (s : State) (line : LogicalLine) → role line ≡ ControlLine → (m : Progress) × ExecutesControlLine context depth row s line m
-      some_control row s line is = control_by row s line (unmatched_quote line.tokens) refl (sort_of context.profile row line.directive is)
+      some_control row s line is =
+          control_by row s line (unmatched_quote line.tokens) (refusal s.waiting line.directive (operands line.tokens)) refl refl
+          (sort_of context.profile row line.directive is)
 
       -- a group has an outcome, after a state or a fault
       abbrev SomeGroup : ℕ → Progress → GroupParts → Type 0
@@ -219,7 +225,7 @@ module _ (expansions : SomeExpansion) (decisions : SomeDecision) where
 
       at_run : (row : ℕ) (s : State) (lines : List LogicalLine) (ps : GroupParts) → ((t : State) → SomeGroup row (running t) ps) → SomeGroup row (running s) (TextLines lines ps)
       at_run row s lines ps rest =
-          let m = some_run s (text_tokens lines) in
+          let m = some_run context.profile s (text_tokens lines) in
           let g = goes_on row ps rest m.0 in
           (g.0, ExecutesGroup.text_lines m.1 g.1)
 
@@ -305,7 +311,7 @@ module _ (expansions : SomeExpansion) (decisions : SomeDecision) where
       reading_file at s row directory bytes fits some new is (Ok lines) reads =
           let t = tree_of context.profile row bytes lines reads in
           let g = some_group t.0 t.1.each row (entering context (with_one_spent s) row directory) in
-          (leaving s g.0, OpensFile.read fits some new is reads t.1 g.1)
+          (leaving s (at_end g.0), OpensFile.read fits some new is reads t.1 g.1)
 
       at_content : (at : Place) (s : State) (row : ℕ) (directory : Option ℕ)
           → depth ≤ depth_limit
@@ -362,7 +368,7 @@ module _ (expansions : SomeExpansion) (decisions : SomeDecision) where
     defining defines s (Ok lines) reads =
         let t = tree_of 0 deeper_ones context.profile command_file (command_text defines) lines reads in
         let g = some_group 0 deeper_ones t.0 t.1.each command_file s in
-        (g.0, processed reads t.1 g.1)
+        (at_end g.0, processed reads t.1 g.1)
 
     after_defines : (defines : List (List ℕ)) (row : ℕ)
         → row < length context.names

@@ -1,136 +1,15 @@
--- Over the same files a unit reaches one state, with one meter after it: it has one value and one count.
-use Rattle.std.proofs.Common.{◌≡◌, ℕ, List, Option, Some, None, Result, Ok, Err, refl, sym, ap, ◌∙◌, subst, ◌+◌, arith}
-use Rattle.pptext.specs.declared.tokens.Place.{Place}
-use Rattle.pptext.specs.declared.tokens.Fault.{Fault}
-use Rattle.pptext.specs.Lines.{LogicalLine}
-use Rattle.pptext.specs.Sources.{Reads}
-use Rattle.pptext.specs.Tree.{GroupParts, Branches, Tree}
+-- Over the same files a unit has one value and one count.
+use Rattle.std.proofs.Common.{◌≡◌, ℕ, List, Option, Some, None, refl, sym, ap, ◌∙◌, ◌+◌, arith}
 use Rattle.ppshelf.specs.Names.{AreNames}
-use Rattle.ppunit.specs.States.{State, Context, Progress, running, stopped, leaving, output}
-use Rattle.ppunit.specs.DirectiveLines.{text_tokens}
-use Rattle.ppunit.specs.Group.{ExecutesGroup, ExecutesBranches, ExecutesControlLine, ExecutesInclude, OpensFile}
-use Rattle.ppunit.specs.Unit.{Defines, unread, processed, Translates, definitions_fault, translated, command_file, command_text, first_place, context_of_unit, count_translates}
-use Rattle.ppunit.proofs.LineUniqueness.{OneExpansion, OneDecision, OneReading, OneTree, OneRow, run_once}
-use Rattle.ppunit.proofs.SectionUniqueness.{AfterRun, at_run, AfterControl, at_control, at_done, at_stop, at_section, at_end, at_branch, after_taken, after_skipped, after_refused, after_else, after_elif, after_passed}
-use Rattle.ppunit.proofs.SectionUniqueness.{after_faulty}
-use Rattle.ppunit.proofs.ControlLineUniqueness.{at_error, at_ignored, at_quote, at_other, at_include, after_operand_fault, after_missing, after_included}
-use Rattle.ppunit.proofs.OpeningUniqueness.{at_deep, at_over, at_known, at_unreadable, at_reading, after_fault, AfterLines, after_lines}
+use Rattle.ppunit.specs.States.{State, Context, Progress, output}
+use Rattle.ppunit.specs.Unit.{Translates, context_of_unit, count_translates}
+use Rattle.ppunit.proofs.LineUniqueness.{OneExpansion, OneDecision, OneReading, OneTree, OneRow}
+use Rattle.ppunit.proofs.GroupUniqueness.{translates_once}
 use Rattle.ppexpand.specs.Laws.{plus}
 use Rattle.ppunit.specs.Laws.{HasOneValue}
+use Rattle.ppunit.proofs.WaitingInvocations.{WaitsIn, nothing_waits}
 use Rattle.ppunit.proofs.BudgetSums.{unit_spends}
 use Rattle.ppunit.proofs.SufficientBudgets.{holding, unit_enough}
-
--- ---- over the same files a unit reaches one state, with one meter after it
-
-module _ (expansions : OneExpansion) (decisions : OneDecision) (readings : OneReading) (trees : OneTree) (rows : OneRow) where
-  module _ (context : Context) (once : AreNames context.names) where
-    mutual
-      pub group_once : {depth row : ℕ} {r : Progress} {ps : GroupParts} {y : Progress} → ExecutesGroup context depth row r ps y → (z : Progress) → ExecutesGroup context depth row r ps z → y ≡ z
-      group_once ExecutesGroup.already_stopped z d = at_stop expansions decisions context d
-      group_once ExecutesGroup.no_parts z d = at_done expansions decisions context d
-      group_once {depth} {row} (ExecutesGroup.text_lines {s = s} {lines = rs} {ps = ps} {m = m} gives rest) z d =
-          let h : AfterRun expansions decisions context depth row s rs ps z = at_run expansions decisions context d in
-          group_once rest z (subst (λ x. ExecutesGroup context depth row x ps z) (run_once expansions decisions s (text_tokens rs) h.0 m h.1 gives) h.2)
-      group_once {depth} {row} (ExecutesGroup.control {s = s} {line = line} {ps = ps} here rest) z d =
-          let h : AfterControl expansions decisions context depth row s line ps z = at_control expansions decisions context d in
-          group_once rest z (subst (λ x. ExecutesGroup context depth row x ps z) (sym (control_once here h.0 h.1)) h.2)
-      group_once (ExecutesGroup.taken decides here rest) z d =
-          after_taken expansions decisions context decides (λ n g. group_once here n g) (λ n g. group_once rest n g) z (at_section expansions decisions context d)
-      group_once (ExecutesGroup.skipped decides here rest) z d =
-          after_skipped expansions decisions context decides (λ n g. branches_once here n g) (λ n g. group_once rest n g) z (at_section expansions decisions context d)
-      group_once (ExecutesGroup.condition_fault decides) z d = after_refused expansions decisions context decides z (at_section expansions decisions context d)
-
-      branches_once : {depth row : ℕ} {s : State} {bs : Branches} {y : Progress} → ExecutesBranches context depth row s bs y → (z : Progress) → ExecutesBranches context depth row s bs z → y ≡ z
-      branches_once ExecutesBranches.no_branch_taken z d = at_end expansions decisions context d
-      branches_once (ExecutesBranches.else_group is here) z d = after_else expansions decisions context is (λ n g. group_once here n g) z (at_branch expansions decisions context d)
-      branches_once (ExecutesBranches.branch_taken is decides here) z d = after_elif expansions decisions context is decides (λ n g. group_once here n g) z (at_branch expansions decisions context d)
-      branches_once (ExecutesBranches.branch_skipped is decides rest) z d =
-          after_passed expansions decisions context is decides (λ n g. branches_once rest n g) z (at_branch expansions decisions context d)
-      branches_once (ExecutesBranches.branch_condition_fault is decides) z d = after_faulty expansions decisions context is decides z (at_branch expansions decisions context d)
-
-      control_once : {depth row : ℕ} {s : State} {line : LogicalLine} {y : Progress} → ExecutesControlLine context depth row s line y → (z : Progress) → ExecutesControlLine context depth row s line z → y ≡ z
-      control_once (ExecutesControlLine.error is) z d = at_error expansions decisions rows context once is d
-      control_once (ExecutesControlLine.ignored is) z d = at_ignored expansions decisions rows context once is d
-      control_once (ExecutesControlLine.quote_fault is q) z d = at_quote expansions decisions rows context once is q d
-      control_once (ExecutesControlLine.executed q does) z d = at_other expansions decisions rows context once q does d
-      control_once (ExecutesControlLine.include is q here) z d = includes_once here z (at_include expansions decisions rows context once is q d)
-
-      includes_once : {depth row : ℕ} {following : Option ℕ} {s : State} {line : LogicalLine} {y : Progress}
-          → ExecutesInclude context depth row following s line y
-          → (z : Progress)
-          → ExecutesInclude context depth row following s line z
-          → y ≡ z
-      includes_once (ExecutesInclude.operand_fault asks) z d = after_operand_fault expansions decisions rows context once asks d
-      includes_once (ExecutesInclude.missing a asks finds) z d = after_missing expansions decisions rows context once a asks finds d
-      includes_once (ExecutesInclude.included a found asks finds opens) z d = opened_once opens z (after_included expansions decisions rows context once a found asks finds d)
-
-      pub opened_once : {depth row : ℕ} {directory : Option ℕ} {at : Place} {s : State} {y : Progress} → OpensFile context depth at s row directory y → (z : Progress) → OpensFile context depth at s row directory z → y ≡ z
-      opened_once (OpensFile.too_deep deep) z d = at_deep readings trees context deep d
-      opened_once (OpensFile.exhausted fits spent) z d = at_over readings trees context fits spent d
-      opened_once (OpensFile.not_read_again fits some known) z d = at_known readings trees context fits some known d
-      opened_once (OpensFile.not_readable fits some new is) z d = at_unreadable readings trees context fits some new is d
-      opened_once (OpensFile.content_fault {bytes = bytes} {f = f} fits some new is reads) z d =
-          after_fault readings trees context refl (at_reading readings trees context bytes (Err f) fits some new is reads d)
-      opened_once {depth} {row} {directory} {at} {s} (OpensFile.read {bytes = bytes} {lines = lines} {parts = parts} fits some new is reads tree here) z d =
-          let h : AfterLines readings trees context depth s row directory parts z = after_lines readings trees context refl tree (at_reading readings trees context bytes (Ok lines) fits some new is reads d) in
-          ap (λ x. leaving s x) (group_once here h.0 h.2) ∙ sym h.1
-
-    command_reading : (defines : List (List ℕ)) (x y : Result (List LogicalLine) Fault)
-        → Reads context.profile command_file (command_text defines) x
-        → Reads context.profile command_file (command_text defines) y
-        → x ≡ y
-    command_reading defines x y p q = readings context.profile command_file (command_text defines) x y p q
-
-    data AfterCommands (s : State) : Result (List LogicalLine) Fault → Progress → Type 0 where
-      is_unread : {f : Fault} → AfterCommands s (Err f) (stopped s f)
-      is_processed : {lines : List LogicalLine} {parts : GroupParts} {m : Progress} → Tree lines parts → ExecutesGroup context 0 command_file (running s) parts m → AfterCommands s (Ok lines) m
-
-    at_commands : {defines : List (List ℕ)} {s : State} {m : Progress} (x : Result (List LogicalLine) Fault)
-        → Reads context.profile command_file (command_text defines) x
-        → Defines context defines s m → AfterCommands s x m
-    at_commands {defines = defines} {s = s} x p (unread {f = f} reads) = subst (λ z. AfterCommands s z (stopped s f)) (command_reading defines (Err f) x reads p) is_unread
-    at_commands {defines = defines} {s = s} x p (processed {lines = lines} {m = m} reads tree here) =
-        subst (λ z. AfterCommands s z m) (command_reading defines (Ok lines) x reads p) (is_processed tree here)
-
-    unread_once : {s : State} {f : Fault} {x : Result (List LogicalLine) Fault} {m : Progress} → Err f ≡ x → AfterCommands s x m → stopped s f ≡ m
-    unread_once {s = s} {f = f} e (is_unread {f = g}) = let same : f ≡ g = cc in ap (λ x. stopped s x) same
-    unread_once e (is_processed tree here) = absurd (cc)
-
-    processed_once : {s : State} {lines : List LogicalLine} {parts : GroupParts} {y : Progress} {x : Result (List LogicalLine) Fault} {m : Progress}
-        → Ok lines ≡ x
-        → Tree lines parts
-        → ExecutesGroup context 0 command_file (running s) parts y
-        → AfterCommands s x m
-        → y ≡ m
-    processed_once e tree here is_unread = absurd (cc)
-    processed_once {s = s} {lines = lines} {parts = parts} {m = m} e tree here (is_processed {lines = lines'} {parts = parts'} tree' here') =
-        let same : lines' ≡ lines = cc in
-        group_once here m (subst (λ z. ExecutesGroup context 0 command_file (running s) z m) (trees lines parts' parts (subst (λ z. Tree z parts') same tree') tree) here')
-
-    defines_once : {defines : List (List ℕ)} {s : State} {y : Progress} → Defines context defines s y → (z : Progress) → Defines context defines s z → y ≡ z
-    defines_once (unread {f = f} reads) z d = unread_once refl (at_commands (Err f) reads d)
-    defines_once (processed {lines = lines} reads tree here) z d = processed_once refl tree here (at_commands (Ok lines) reads d)
-
-    undefined_once : {defines : List (List ℕ)} {row : ℕ} {s t : State} {f : Fault} {m : Progress} → Defines context defines s (stopped t f) → Translates context defines row s m → stopped t f ≡ m
-    undefined_once here (definitions_fault {t = t'} {f = f'} here') = defines_once here (stopped t' f') here'
-    undefined_once {f = f} here (translated {t = t'} here' opens) =
-        let one = defines_once here (running t') here' in
-        let no_fault : Some f ≡ None = λ i. (one i).fault in absurd (cc)
-
-    translated_once : {defines : List (List ℕ)} {row : ℕ} {s t : State} {y m : Progress} → Defines context defines s (running t) → OpensFile context 0 (first_place row) t row None y → Translates context defines row s m → y ≡ m
-    translated_once here opens (definitions_fault {t = t'} {f = f'} here') =
-        let one = defines_once here (stopped t' f') here' in
-        let no_fault : None ≡ Some f' = λ i. (one i).fault in absurd (cc)
-    translated_once {row = row} {t = t} {m = m} here opens (translated {t = t'} here' opens') =
-        let one = defines_once here (running t') here' in
-        let states : t' ≡ t = λ i. ((sym one) i).state in
-        opened_once opens m (subst (λ z. OpensFile context 0 (first_place row) z row None m) states opens')
-
-    pub translates_once : {defines : List (List ℕ)} {row : ℕ} {s : State} {y : Progress} → Translates context defines row s y → (z : Progress) → Translates context defines row s z → y ≡ z
-    translates_once (definitions_fault here) z d = undefined_once here d
-    translates_once (translated here opens) z d = translated_once here opens d
-
--- ---- over the same files a unit has one value and one count
 
 -- Amounts that leave the same rest of one budget are equal.
 spent_once : (b m n : ℕ) (rest : Option ℕ) → Some b ≡ plus m rest → Some b ≡ plus n rest → m ≡ n
@@ -145,16 +24,17 @@ module _ (expansions : OneExpansion) (decisions : OneDecision) (readings : OneRe
     -- Without a budget, both derivations are compared with a budget that suffices for both.
     counted_once : {defines : List (List ℕ)} {row : ℕ} {s : State} {y z : Progress} (budget : Option ℕ)
         → s.meter.remaining ≡ budget
+        → WaitsIn s
         → (d : Translates context defines row s y) (e : Translates context defines row s z)
         → count_translates d ≡ count_translates e
-    counted_once {y = y} (Some b) is d e =
+    counted_once {y = y} (Some b) is w d e =
         let remainders = ap (λ (r : Progress). r.state.meter.remaining) (progress_once d e) in
-        spent_once b (count_translates d) (count_translates e) y.state.meter.remaining (sym is ∙ unit_spends context d)
-        (sym is ∙ unit_spends context e ∙ ap (plus (count_translates e)) (sym remainders))
-    counted_once {y = y} {z = z} None is d e =
+        spent_once b (count_translates d) (count_translates e) y.state.meter.remaining (sym is ∙ unit_spends context w d)
+        (sym is ∙ unit_spends context w e ∙ ap (plus (count_translates e)) (sym remainders))
+    counted_once {y = y} {z = z} None is w d e =
         let m = count_translates d in
         let n = count_translates e in
-        let same : holding n y ≡ holding m z = progress_once (unit_enough context is d (m + n) n refl) (unit_enough context is e (m + n) m (omega arith)) in
+        let same : holding n y ≡ holding m z = progress_once (unit_enough context is w d (m + n) n refl) (unit_enough context is w e (m + n) m (omega arith)) in
         let remainders : Some n ≡ Some m = ap (λ (r : Progress). r.state.meter.remaining) same in
         let counts : n ≡ m = cc in
         sym counts
@@ -163,5 +43,5 @@ module _ (expansions : OneExpansion) (decisions : OneDecision) (readings : OneRe
   unit_once names files setting unit a b once p q =
       let context = context_of_unit names files setting unit in (
         p.is_output ∙ ap output (progress_once context once p.translates q.translates) ∙ sym q.is_output,
-        counted_once context once setting.budget refl p.translates q.translates,
+        counted_once context once setting.budget refl nothing_waits p.translates q.translates,
       )

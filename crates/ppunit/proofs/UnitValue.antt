@@ -1,5 +1,6 @@
 -- The value of a unit, from the reading of its definitions and the walk over its lines.
-use Rattle.std.proofs.Common.{◌≡◌, ◌↔◌, ℕ, List, [], Option, None, Result, Ok, Err, ap, ◌∙◌, subst}
+use Rattle.std.proofs.Common.{◌≡◌, ◌↔◌, ℕ, List, [], Option, None, Result, Ok, Err, refl, sym, ap, ◌∙◌, subst}
+use Rattle.std.specs.Result.{result_err}
 use Rattle.pptext.specs.declared.tokens.Fault.{Fault}
 use Rattle.pptext.specs.declared.error.Error.{Error}
 use Rattle.pptext.specs.declared.error.Error.TheVariants.{Fault as Faulted, Memory as OutOfMemory}
@@ -14,9 +15,9 @@ use Rattle.ppunit.specs.declared.units.Unit.{Unit as UnitOfList}
 use Rattle.ppunit.specs.declared.units.Setting.{Setting}
 use Rattle.ppunit.specs.declared.units.UnitOut.{UnitOut}
 use Rattle.ppunit.specs.Group.{OpensFile}
-use Rattle.ppunit.specs.Unit.{IsUnit, initial_state, command_file, command_text, unread, processed, Translates, definitions_fault, translated, first_place}
+use Rattle.ppunit.specs.Unit.{IsUnit, initial_state, command_file, command_text, Defines, unread, processed, Translates, definitions_fault, translated, first_place}
 use Rattle.ppunit.specs.code.Opening.{Entered}
-use Rattle.ppunit.specs.code.Walk.{EntersFile, Walks, DefinesOver}
+use Rattle.ppunit.specs.code.Walk.{EntersFile, Walks, restored, DefinesOver}
 use Rattle.ppunit.proofs.FileWalk.{extends_trans}
 
 -- Lines have a group tree exactly if their grouping has no fault.
@@ -39,8 +40,10 @@ pub defines_walked : TreesUnlessFault → (context : Files → Context) (files :
 defines_walked trees context files profile defines x lines s r one is reads walks =
     let reads' : Reads profile command_file (command_text defines) (Ok lines) = subst (Reads profile command_file (command_text defines)) is reads in
     let tree = source_tree trees profile command_file (command_text defines) lines reads' in
-    λ more grows. processed (subst (λ (z : Profile). Reads z command_file (command_text defines) (Ok lines)) (one more) reads') tree.1
-    (walks tree.0 tree.1 more grows)
+    λ more grows.
+    let ends = walks tree.0 tree.1 more grows in
+    subst (Defines (context more) defines s) (sym ends.2)
+    (processed (subst (λ (z : Profile). Reads z command_file (command_text defines) (Ok lines)) (one more) reads') tree.1 ends.1)
 
 pub defines_unread : (context : Files → Context) (files : Files) (profile : Profile) (defines : List (List ℕ))
     (x : Result (List LogicalLine) Fault) (s : State) (f : Fault)
@@ -60,6 +63,11 @@ on_settled (Ok a) expansion_step p = expansion_step (Ok a) p
 on_settled (Err (Faulted f)) expansion_step p = expansion_step (Err f) p
 on_settled (Err OutOfMemory) expansion_step p = tt
 
+-- A step that returns no error has no fault.
+pub ends_quietly : (r : Result (Unit {0}) Error) (f : Option Fault) → ((e : Error) → r ≡ Err e → ⊥) → UnlessOutOfMemory r (λ x. result_err x ≡ f) → f ≡ None
+ends_quietly (Ok done) f never is = sym is
+ends_quietly (Err e) f never is = absurd (never e refl)
+
 extends_itself : (files : Files) → Extends files files
 extends_itself files row c e = e
 
@@ -72,7 +80,8 @@ pub entered_file : (context : Files → Context) (files new : Files) (depth : �
     → Extends more new
     → whole more (record { state = in_file_context e.outer u; fault = fault })
 entered_file context files new depth whole t u e fault wider takes_branch walks more grows =
-    takes_branch.group more (extends_trans more new files grows wider) (record { state = u; fault = fault }) (walks takes_branch.parts takes_branch.tree more grows)
+    let ends = walks takes_branch.parts takes_branch.tree more grows in
+    subst (λ (z : Progress). whole more (restored e.outer z)) (sym ends.2) (takes_branch.group more (extends_trans more new files grows wider) ends.0 ends.1)
 
 pub undefined_unit : (context : Files → Context) (files : Files) (defines : List (List ℕ)) (row : ℕ) (s t : State) (f : Fault)
     → DefinesOver context files defines s (stopped t f)

@@ -32,9 +32,9 @@ abbrev pub with_items : Bool → List Item → Progress → Progress
 with_items keeps items m = record { state = holding_items keeps items m.state; fault = m.fault }
 
 module _ (keeps : Bool) where
-  text_any : (items : List Item) (s : State) (tokens : List Token) (m : Progress) → EmitsText s tokens m
-      → (more : List Item) × EmitsText (holding_items keeps items s) tokens (with_items keeps more m)
-  text_any items s tokens m g =
+  text_any : (profile : Profile) (items : List Item) (s : State) (tokens : List Token) (m : Progress) → EmitsText profile s tokens m
+      → (more : List Item) × EmitsText profile (holding_items keeps items s) tokens (with_items keeps more m)
+  text_any profile items s tokens m g =
       let more : List Item = kept keeps items (map item.Token g.expanded.tokens) in
       (more, record { expanded = g.expanded; expands = g.expands; is = ap (with_items keeps more) g.is })
 
@@ -95,7 +95,7 @@ module _ (keeps : Bool) where
       group_any items ExecutesGroup.already_stopped = (items, ExecutesGroup.already_stopped)
       group_any items ExecutesGroup.no_parts = (items, ExecutesGroup.no_parts)
       group_any items (ExecutesGroup.text_lines {s = s} {lines = lines} {m = m} gives rest) =
-          let here = text_any items s (text_tokens lines) m gives in
+          let here = text_any context.profile items s (text_tokens lines) m gives in
           let more = group_any here.0 rest in
           (more.0, ExecutesGroup.text_lines here.1 more.1)
       group_any items (ExecutesGroup.control line rest) =
@@ -133,12 +133,13 @@ module _ (keeps : Bool) where
       control_any items (ExecutesControlLine.error e) = (items, ExecutesControlLine.error e)
       control_any items (ExecutesControlLine.ignored e) = (items, ExecutesControlLine.ignored e)
       control_any items (ExecutesControlLine.quote_fault e q) = (items, ExecutesControlLine.quote_fault e q)
-      control_any {row = row} items (ExecutesControlLine.executed {s = s} {line = line} {m = m} q does) =
+      control_any items (ExecutesControlLine.refused e q waits) = (items, ExecutesControlLine.refused e q waits)
+      control_any {row = row} items (ExecutesControlLine.executed {s = s} {line = line} {m = m} q free does) =
           let here = directive_any context.profile row line.directive s line m items does in
-          (here.0, ExecutesControlLine.executed q here.1)
-      control_any items (ExecutesControlLine.include e q line) =
+          (here.0, ExecutesControlLine.executed q free here.1)
+      control_any items (ExecutesControlLine.include e q free line) =
           let here = includes_any items line in
-          (here.0, ExecutesControlLine.include e q here.1)
+          (here.0, ExecutesControlLine.include e q free here.1)
 
       includes_any : {depth row : ℕ} {previous : Option ℕ} {s : State} {line : LogicalLine} {m : Progress} (items : List Item)
           → ExecutesInclude context depth row previous s line m

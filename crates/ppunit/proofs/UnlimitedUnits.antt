@@ -15,7 +15,9 @@ use Rattle.ppexpand.specs.declared.meter.Meter.{Meter}
 use Rattle.ppexpand.specs.declared.env.Env.{Env}
 use Rattle.ppexpand.specs.Expansion.{Expansion}
 use Rattle.ppexpand.specs.Expansion.{IsExpansion, count_expansion}
+use Rattle.ppexpand.specs.OpenInvocations.{open_expansion}
 use Rattle.ppexpand.proofs.BudgetFaults.{expansion_never_refused}
+use Rattle.ppexpand.proofs.BudgetLemmas.{expansion_spends}
 use Rattle.ppexpr.proofs.ConditionBudgets.{IsOther as IsOtherOr, condition_never_refused}
 use Rattle.ppunit.specs.States.{State, Context, Progress, Search}
 use Rattle.ppunit.specs.DirectiveLines.{operands, line_fault, one_identifier, text_tokens}
@@ -23,12 +25,14 @@ use Rattle.ppunit.specs.Quotes.{unmatched_quote}
 use Rattle.ppunit.specs.Including.{IncludeName, begins_with_header, name_of_header, name_of_expansion, if_possible_name, name_or, name_of_expansion_or}
 use Rattle.ppunit.specs.Probing.{probed, tokens_or, condition_tokens}
 use Rattle.ppunit.specs.Conditions.{by_name, Decides}
-use Rattle.ppunit.specs.Directives.{EmitsText, NamesHeaderBy, NamesHeader, ExecutesDirective}
+use Rattle.ppunit.specs.Directives as directives
+use Rattle.ppunit.specs.Directives.{EmitsText, NamesHeaderBy, NamesHeader, ExecutesDirective, waits_in, fault_unless, waiting_fault, is_refused, refusal, or_fault}
 use Rattle.ppunit.specs.Group.{ExecutesGroup, ExecutesBranches, ExecutesControlLine, ExecutesInclude, OpensFile}
-use Rattle.ppunit.specs.Unit.{count_defines, Defines, context_of_unit, unread, processed, Translates, definitions_fault, translated}
-use Rattle.ppunit.specs.Counts.{count_decides, count_names_header, count_group, count_branches, count_control}
+use Rattle.ppunit.specs.Unit.{Defines, context_of_unit, unread, processed, Translates, definitions_fault, translated}
+use Rattle.ppunit.specs.Counts.{count_decides, count_names_header, count_control_by}
 use Rattle.ppunit.proofs.DirectiveEffects.{IsOther, effect_of, effect_other}
-use Rattle.ppunit.proofs.BudgetSums.{still_none, asks_spends, decides_spends, run_spends, group_spends, branches_spend, control_spends, defines_spends}
+use Rattle.ppunit.proofs.BudgetSums.{still_none, asks_spends, decides_spends, control_by_spends}
+use Rattle.ppunit.proofs.TextBudgets.{none_at_text}
 use Rattle.ppexpand.specs.Budget.{is_exhausted, is_used_up, one_less}
 use Rattle.ppunit.specs.Capped.{OnlyBudgetsRefuse}
 
@@ -45,21 +49,68 @@ pub decides_none : {search : Search} {row : ℕ} {s : State} {line : LogicalLine
     → meter_after.remaining ≡ None
 decides_none is g = still_none (count_decides g) is (decides_spends g)
 
-pub run_none : (s : State) (tokens : List Token) (m : Progress) → s.meter.remaining ≡ None → EmitsText s tokens m → m.state.meter.remaining ≡ None
-run_none s tokens m is g = still_none (count_expansion g.expands) is (run_spends s tokens m g)
+pub run_none : (profile : Profile) (s : State) (tokens : List Token) (m : Progress) → s.meter.remaining ≡ None → EmitsText profile s tokens m
+    → m.state.meter.remaining ≡ None
+run_none profile s tokens m is g =
+    ap (λ x. x.state.meter.remaining) g.is
+    ∙ still_none (count_expansion g.expands) (none_at_text s.waiting s.meter is) (expansion_spends s.macros s.env g.expands)
+
+control_by_none : (profile : Profile) (row : ℕ) (d : Option Directive) (s : State) (line : LogicalLine) (m : Progress) → s.meter.remaining ≡ None
+    → ExecutesDirective profile row d s line m → m.state.meter.remaining ≡ None
+control_by_none profile row d s line m is g = still_none (count_control_by profile row d s line m g) is (control_by_spends profile row d s line m g)
 
 module _ (context : Context) where
-  pub group_none : {depth row : ℕ} {r : Progress} {ps : GroupParts} {end : Progress} → r.state.meter.remaining ≡ None → ExecutesGroup context depth row r ps end → end.state.meter.remaining ≡ None
-  group_none is d = still_none (count_group d) is (group_spends context d)
+  mutual
+    pub group_none : {depth row : ℕ} {r : Progress} {ps : GroupParts} {end : Progress} → r.state.meter.remaining ≡ None
+        → ExecutesGroup context depth row r ps end → end.state.meter.remaining ≡ None
+    group_none is ExecutesGroup.already_stopped = is
+    group_none is ExecutesGroup.no_parts = is
+    group_none is (ExecutesGroup.text_lines {s = s} {lines = lines} {m = m} gives rest) =
+        group_none (run_none context.profile s (text_tokens lines) m is gives) rest
+    group_none is (ExecutesGroup.control here rest) = group_none (control_none is here) rest
+    group_none is (ExecutesGroup.taken decides here rest) = group_none (group_none (decides_none is decides) here) rest
+    group_none is (ExecutesGroup.skipped decides here rest) = group_none (branches_none (decides_none is decides) here) rest
+    group_none is (ExecutesGroup.condition_fault decides) = decides_none is decides
 
-  pub branches_none : {depth row : ℕ} {s : State} {bs : Branches} {m : Progress} → s.meter.remaining ≡ None → ExecutesBranches context depth row s bs m → m.state.meter.remaining ≡ None
-  branches_none is d = still_none (count_branches d) is (branches_spend context d)
+    pub branches_none : {depth row : ℕ} {s : State} {bs : Branches} {m : Progress} → s.meter.remaining ≡ None → ExecutesBranches context depth row s bs m
+        → m.state.meter.remaining ≡ None
+    branches_none is ExecutesBranches.no_branch_taken = is
+    branches_none is (ExecutesBranches.else_group e here) = group_none is here
+    branches_none is (ExecutesBranches.branch_taken e decides here) = group_none (decides_none is decides) here
+    branches_none is (ExecutesBranches.branch_skipped e decides rest) = branches_none (decides_none is decides) rest
+    branches_none is (ExecutesBranches.branch_condition_fault e decides) = decides_none is decides
 
-  pub control_none : {depth row : ℕ} {s : State} {line : LogicalLine} {m : Progress} → s.meter.remaining ≡ None → ExecutesControlLine context depth row s line m → m.state.meter.remaining ≡ None
-  control_none is d = still_none (count_control d) is (control_spends context d)
+    pub control_none : {depth row : ℕ} {s : State} {line : LogicalLine} {m : Progress} → s.meter.remaining ≡ None
+        → ExecutesControlLine context depth row s line m → m.state.meter.remaining ≡ None
+    control_none is (ExecutesControlLine.error e) = is
+    control_none is (ExecutesControlLine.ignored e) = is
+    control_none is (ExecutesControlLine.quote_fault e q) = is
+    control_none is (ExecutesControlLine.refused e q waits) = is
+    control_none {row = row} is (ExecutesControlLine.executed {s = s} {line = line} {m = m} q free does) =
+        control_by_none context.profile row line.directive s line m is does
+    control_none is (ExecutesControlLine.include e q free here) = includes_none is here
+
+    includes_none : {depth row : ℕ} {following : Option ℕ} {s : State} {line : LogicalLine} {m : Progress} → s.meter.remaining ≡ None
+        → ExecutesInclude context depth row following s line m → m.state.meter.remaining ≡ None
+    includes_none is (ExecutesInclude.operand_fault {s = s} {line = line} {meter_after = meter_after} {f = f} asks) =
+        asks_none s line.tokens meter_after (Err f) is asks
+    includes_none is (ExecutesInclude.missing {s = s} {line = line} {meter_after = meter_after} a asks finds) =
+        asks_none s line.tokens meter_after (Ok a) is asks
+    includes_none is (ExecutesInclude.included {s = s} {line = line} {meter_after = meter_after} a found asks finds opens) =
+        opened_none (asks_none s line.tokens meter_after (Ok a) is asks) opens
+
+    opened_none : {depth row : ℕ} {directory : Option ℕ} {at : Place} {s : State} {m : Progress} → s.meter.remaining ≡ None
+        → OpensFile context depth at s row directory m → m.state.meter.remaining ≡ None
+    opened_none is (OpensFile.too_deep deep) = is
+    opened_none is (OpensFile.exhausted fits spent) = is
+    opened_none is (OpensFile.not_read_again fits more once) = ap one_less is
+    opened_none is (OpensFile.not_readable fits more once file) = ap one_less is
+    opened_none is (OpensFile.content_fault fits more once file reads) = ap one_less is
+    opened_none is (OpensFile.read fits more once file reads tree here) = group_none (ap one_less is) here
 
   pub defines_none : {defines : List (List ℕ)} {s : State} {m : Progress} → s.meter.remaining ≡ None → Defines context defines s m → m.state.meter.remaining ≡ None
-  defines_none is d = still_none (count_defines d) is (defines_spends context d)
+  defines_none is (unread reads) = is
+  defines_none is (processed reads tree here) = group_none is here
 
 each_other : (o : Option Fault) → ((f : Fault) → o ≡ Some f → f.number ≢ 35) → IsOther o
 each_other None h = tt
@@ -101,8 +152,29 @@ reads_other {profile} (IsFaultOf.bad_groups {lexemes = lexemes} e c g) = subst I
 expansion_other : {macros : Macros} {env : Env} {meter : Meter} {tokens : List Token} {e : Expansion} → meter.remaining ≡ None → IsExpansion macros env meter tokens e → IsOther e.fault
 expansion_other {macros} {env} {e = e} is x = each_other e.fault (λ f content_fault. expansion_never_refused macros env is x content_fault)
 
-pub run_other : (s : State) (tokens : List Token) (m : Progress) → s.meter.remaining ≡ None → EmitsText s tokens m → IsOther m.fault
-run_other s tokens m is g = subst (λ r. IsOther r.fault) (sym g.is) (expansion_other is g.expands)
+unless_other : (waiting : List Token) (f : Option Fault) → IsOther f → IsOther (fault_unless waiting f)
+unless_other [] f h = h
+unless_other (t ∷ ts) f h = tt
+
+pub run_other : (profile : Profile) (s : State) (tokens : List Token) (m : Progress) → s.meter.remaining ≡ None → EmitsText profile s tokens m → IsOther m.fault
+run_other profile s tokens m is g =
+    let waiting : List Token = waits_in profile (open_expansion g.expands) in
+    subst (λ r. IsOther r.fault) (sym g.is) (unless_other waiting g.expanded.fault (expansion_other (none_at_text s.waiting s.meter is) g.expands))
+
+-- ---- an invocation that waits: fault 17
+
+refusal_other : (waiting : List Token) (d : Option Directive) (os : List Token) → IsOther (refusal waiting d os)
+refusal_other [] d os = tt
+refusal_other (t ∷ ts) d os = chosen (is_refused t d os)
+  where
+    chosen : (b : Bool) → IsOther (if b then Some (waiting_fault t) else None)
+    chosen true = λ e. absurd (omega arith)
+    chosen false = tt
+
+end_of_file_other : (f : Option Fault) (waiting : List Token) → IsOther f → IsOther (or_fault f (directives.fault_at_end waiting))
+end_of_file_other None [] h = tt
+end_of_file_other None (t ∷ ts) h = λ e. absurd (omega arith)
+end_of_file_other (Some f) waiting h = h
 
 -- ---- lines: faults 7, 30 and those of conditions
 
@@ -175,7 +247,8 @@ module _ (context : Context) where
     group_other : {depth row : ℕ} {r : Progress} {ps : GroupParts} {end : Progress} → r.state.meter.remaining ≡ None → IsOther r.fault → ExecutesGroup context depth row r ps end → IsOther end.fault
     group_other is h ExecutesGroup.already_stopped = h
     group_other is h ExecutesGroup.no_parts = tt
-    group_other is h (ExecutesGroup.text_lines {s = s} {lines = lines} {m = m} gives rest) = group_other (run_none s (text_tokens lines) m is gives) (run_other s (text_tokens lines) m is gives) rest
+    group_other is h (ExecutesGroup.text_lines {s = s} {lines = lines} {m = m} gives rest) =
+        group_other (run_none context.profile s (text_tokens lines) m is gives) (run_other context.profile s (text_tokens lines) m is gives) rest
     group_other is h (ExecutesGroup.control here rest) = group_other (control_none context is here) (control_other is here) rest
     group_other is h (ExecutesGroup.taken decides here rest) =
         let covers = decides_none is decides in
@@ -196,8 +269,11 @@ module _ (context : Context) where
     control_other is (ExecutesControlLine.error e) = λ h. absurd (omega arith)
     control_other is (ExecutesControlLine.ignored e) = tt
     control_other is (ExecutesControlLine.quote_fault {line = line} e q) = subst IsOther q (quote_other line.tokens)
-    control_other {row = row} is (ExecutesControlLine.executed {s = s} {line = line} {m = m} q does) = control_by_other context.profile row line.directive s line m is does
-    control_other is (ExecutesControlLine.include e q here) = includes_other is here
+    control_other is (ExecutesControlLine.refused {s = s} {line = line} e q waits) =
+        subst IsOther waits (refusal_other s.waiting line.directive (operands line.tokens))
+    control_other {row = row} is (ExecutesControlLine.executed {s = s} {line = line} {m = m} q free does) =
+        control_by_other context.profile row line.directive s line m is does
+    control_other is (ExecutesControlLine.include e q free here) = includes_other is here
 
     includes_other : {depth row : ℕ} {following : Option ℕ} {s : State} {line : LogicalLine} {m : Progress} → s.meter.remaining ≡ None → ExecutesInclude context depth row following s line m → IsOther m.fault
     includes_other is (ExecutesInclude.operand_fault {s = s} {line = line} {meter_after = meter_after} {f = f} asks) = asks_other s line.tokens meter_after f is asks
@@ -211,11 +287,12 @@ module _ (context : Context) where
     opened_other is (OpensFile.not_read_again fits more once) = tt
     opened_other is (OpensFile.not_readable fits more once file) = λ e. absurd (omega arith)
     opened_other is (OpensFile.content_fault fits more once file reads) = reads_other reads
-    opened_other is (OpensFile.read fits more once file reads tree here) = group_other (ap one_less is) tt here
+    opened_other is (OpensFile.read {m = m} fits more once file reads tree here) =
+        end_of_file_other m.fault m.state.waiting (group_other (ap one_less is) tt here)
 
   defines_other : {defines : List (List ℕ)} {s : State} {m : Progress} → s.meter.remaining ≡ None → Defines context defines s m → IsOther m.fault
   defines_other is (unread reads) = reads_other reads
-  defines_other is (processed reads tree here) = group_other is tt here
+  defines_other is (processed {m = m} reads tree here) = end_of_file_other m.fault m.state.waiting (group_other is tt here)
 
   unit_other : {defines : List (List ℕ)} {row : ℕ} {s : State} {m : Progress} → s.meter.remaining ≡ None → Translates context defines row s m → IsOther m.fault
   unit_other is (definitions_fault here) = defines_other is here

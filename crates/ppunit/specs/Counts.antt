@@ -1,6 +1,6 @@
 -- The work of phase 4: its macro replacements (6.10.3), and its openings of files (6.10.2). An opening that is too deep, or
 -- that the budget refuses, doesn't count; one of a file that can't be read or isn't read again does.
-use Rattle.std.specs.Prelude.{ℕ, suc, ◌+◌, List, Bool, true, false, Option, Some, Result, Ok, Err}
+use Rattle.std.specs.Prelude.{ℕ, suc, ◌+◌, ◌-◌, List, [], ◌∷◌, Bool, true, false, Option, Some, Result, Ok, Err}
 use Rattle.pptext.specs.declared.tokens.Place.{Place}
 use Rattle.pptext.specs.declared.tokens.Token.{Token}
 use Rattle.pptext.specs.declared.tokens.Fault.{Fault}
@@ -44,13 +44,18 @@ abbrev pub count_control_by : (profile : Profile) (row : ℕ) (d : Option Direct
 count_control_by profile row (Some Line) s line m h = count_expansion h.expands
 count_control_by profile row _ s line m h = 0
 
+-- an invocation that waits was counted where it began
+abbrev pub counted_before : List Token → ℕ
+counted_before [] = 0
+counted_before (t ∷ ts) = 1
+
 -- ---- groups: their lines, and the files that they include
 
 abbrev mutual
   pub count_group : {context : Context} {depth row : ℕ} {r : Progress} {ps : GroupParts} {end : Progress} → ExecutesGroup context depth row r ps end → ℕ
   count_group ExecutesGroup.already_stopped = 0
   count_group ExecutesGroup.no_parts = 0
-  count_group (ExecutesGroup.text_lines emits rest) = count_expansion emits.expands + count_group rest
+  count_group (ExecutesGroup.text_lines {s = s} emits rest) = (count_expansion emits.expands - counted_before s.waiting) + count_group rest
   count_group (ExecutesGroup.control here rest) = count_control here + count_group rest
   count_group {context} {depth} {row} (ExecutesGroup.taken decides here rest) =
       count_decides decides + (count_group here + count_group rest)
@@ -75,9 +80,10 @@ abbrev mutual
   count_control (ExecutesControlLine.error is) = 0
   count_control (ExecutesControlLine.ignored is) = 0
   count_control (ExecutesControlLine.quote_fault is q) = 0
-  count_control {context} {depth} {row} (ExecutesControlLine.executed {s = s} {line = line} {m = m} q does) =
+  count_control (ExecutesControlLine.refused is q waits) = 0
+  count_control {context} {depth} {row} (ExecutesControlLine.executed {s = s} {line = line} {m = m} q free does) =
       count_control_by context.profile row line.directive s line m does
-  count_control (ExecutesControlLine.include is q here) = count_includes here
+  count_control (ExecutesControlLine.include is q free here) = count_includes here
 
   pub count_includes : {context : Context} {depth row : ℕ} {previous_directory : Option ℕ} {s : State} {line : LogicalLine} {m : Progress}
       → ExecutesInclude context depth row previous_directory s line m

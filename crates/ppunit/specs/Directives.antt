@@ -6,11 +6,11 @@ use Rattle.pptext.specs.declared.tokens.Token.{Token}
 use Rattle.pptext.specs.declared.tokens.Fault.{Fault}
 use Rattle.pptext.specs.declared.sources.Directive.{Directive}
 use Rattle.pptext.specs.declared.sources.Profile.{Profile}
-use Rattle.pptext.specs.declared.sources.Directive.TheVariants.{Define, Undef, Line, Pragma, Null, Unknown}
+use Rattle.pptext.specs.declared.sources.Directive.TheVariants.{Include, IncludeNext, Define, Undef, Line, Pragma, Null, Unknown}
 use Rattle.pptext.specs.declared.directives.Class.{Class}
 use Rattle.pptext.specs.declared.directives.Class.TheVariants as class
 use Rattle.pptext.specs.Profiles.{has_later, is_gnu}
-use Rattle.pptext.specs.Tokens.{is_punct}
+use Rattle.pptext.specs.Tokens.{fault, is_punct}
 use Rattle.pptext.specs.Lines.{LogicalLine}
 use Rattle.pptext.specs.Tree.{hash_place}
 use Rattle.ppmacro.specs.Names.{Name, Macros}
@@ -18,19 +18,42 @@ use Rattle.ppmacro.specs.Define.{after_define, after_undef}
 use Rattle.ppexpand.specs.declared.meter.Meter.{Meter}
 use Rattle.ppexpand.specs.Expansion.{Expansion}
 use Rattle.ppexpand.specs.Expansion.{IsExpansion}
+use Rattle.ppexpand.specs.Budget.{give_back_one}
+use Rattle.ppexpand.specs.OpenInvocations.{open_expansion}
 use Rattle.ppshelf.specs.Names.{name_in}
 use Rattle.ppshelf.specs.Search.{Candidate, candidates, candidates_after, IsFirstRow}
 use Rattle.ppunit.specs.declared.units.Item.TheVariants as item
-use Rattle.ppunit.specs.States.{State, Context, Progress, running, stopped, emitted, with_once, with_macro_pushed, with_macro_popped, with_meter}
+use Rattle.ppunit.specs.States.{State, Context, Progress, running, stopped, emitted, with_once, with_macro_pushed, with_macro_popped, with_meter, with_waiting}
 use Rattle.ppunit.specs.DirectiveLines.{operands, line_fault, named_fault, spaced}
 use Rattle.ppunit.specs.LineControl.{Presumed, is_plain_string, presumed, renumbered}
 use Rattle.ppunit.specs.Including.{IncludeName, inner, begins_with_header, name_of_header, name_or, name_of_expansion_or, if_possible_name}
 
--- consecutive text lines emit their expansion (6.10.3), up to its first fault
-pub record EmitsText (s : State) (tokens : List Token) (r : Progress) : Type 0 where
+-- the meter at text lines: an invocation that waits is counted already
+abbrev pub meter_at_text : List Token → Meter → Meter
+meter_at_text [] meter = meter
+meter_at_text (t ∷ ts) meter = give_back_one meter
+
+-- the tokens of the open invocation that wait for more text lines: in GNU C all of them, otherwise none
+abbrev pub waits_in : Profile → List Token → List Token
+waits_in profile open' = if is_gnu profile then open' else []
+
+-- the fault of text lines, unless tokens wait for more
+abbrev pub fault_unless : List Token → Option Fault → Option Fault
+fault_unless [] f = f
+fault_unless (t ∷ ts) f = None
+
+abbrev pub text_emitted : State → Expansion → List Token → Progress
+text_emitted s expanded waiting = record {
+  state = with_waiting (emitted (with_meter s expanded.meter) (map item.Token expanded.tokens)) waiting;
+  fault = fault_unless waiting expanded.fault;
+}
+
+-- consecutive text lines, behind the tokens that wait, emit their expansion (6.10.3), up to its first fault; in GNU C an invocation that is open
+-- then waits for its `)`
+pub record EmitsText (profile : Profile) (s : State) (tokens : List Token) (r : Progress) : Type 0 where
   pub expanded : Expansion
-  pub expands : IsExpansion s.macros s.env s.meter tokens expanded
-  pub is : r ≡ record { state = emitted (with_meter s expanded.meter) (map item.Token expanded.tokens); fault = expanded.fault }
+  pub expands : IsExpansion s.macros s.env (meter_at_text s.waiting s.meter) (s.waiting ++ tokens) expanded
+  pub is : r ≡ text_emitted s expanded (waits_in profile (open_expansion expands))
 
 -- ---- `#define`, `#undef`
 
@@ -129,6 +152,48 @@ noting_macro_pragma profile ts s = noting_pop (name_to_pop profile ts) (noting_p
 abbrev pub pragma_emitted : Profile → ℕ → State → List Token → State
 pragma_emitted profile row s line =
     noting_macro_pragma profile (operands line) (noting_pragma_once profile row (operands line) (emitted s (item.Pragma (hash_place line) (operands line) ∷ [])))
+
+-- ---- directives among the arguments of a macro (6.10.3, paragraph 11; gcc executes them)
+
+-- an invocation has no `)`
+abbrev pub waiting_fault : Token → Fault
+waiting_fault t = fault 17 t.used t.text
+
+abbrev pub names_token : Token → List Token → Bool
+names_token t [] = false
+names_token t (o ∷ os) = bytes_eq o.text t.text
+
+abbrev pub is_name : Name → Option Name → Bool
+is_name name None = false
+is_name name (Some other) = bytes_eq other name
+
+-- the lines that are refused while the invocation of this name waits: those that open a file or set the line, definitions of its name, and
+-- `#pragma pop_macro` of it
+abbrev pub is_refused : Token → Option Directive → List Token → Bool
+is_refused t (Some Include) os = true
+is_refused t (Some IncludeNext) os = true
+is_refused t (Some Line) os = true
+is_refused t (Some Define) os = names_token t os
+is_refused t (Some Undef) os = names_token t os
+is_refused t (Some Pragma) os = is_name t.text (name_after (codes "pop_macro") os)
+is_refused t directive os = false
+
+-- the fault of a control line because an invocation waits
+abbrev pub refusal : List Token → Option Directive → List Token → Option Fault
+refusal [] directive os = None
+refusal (t ∷ ts) directive os = if is_refused t directive os then Some (waiting_fault t) else None
+
+-- at the end of a file no invocation may wait
+abbrev pub fault_at_end : List Token → Option Fault
+fault_at_end [] = None
+fault_at_end (t ∷ ts) = Some (waiting_fault t)
+
+abbrev pub or_fault : Option Fault → Option Fault → Option Fault
+or_fault None g = g
+or_fault (Some f) g = Some f
+
+abbrev pub at_end : Progress → Progress
+at_end m = record m { fault = or_fault m.fault (fault_at_end m.state.waiting) }
 
 -- ---- the other control lines
 

@@ -21,7 +21,7 @@ use Rattle.ppunit.specs.DirectiveLines.{operands, line_fault, text_tokens}
 use Rattle.ppunit.specs.Quotes.{unmatched_quote}
 use Rattle.ppunit.specs.Conditions.{Decides}
 use Rattle.ppunit.specs.Including.{IncludeName}
-use Rattle.ppunit.specs.Directives.{EmitsText, ExecutesDirective, NamesHeader, FindsFile, message, checks_quotes}
+use Rattle.ppunit.specs.Directives.{EmitsText, refusal, at_end, ExecutesDirective, NamesHeader, FindsFile, message, checks_quotes}
 
 -- the largest include depth (5.2.4.1 requires at least 15)
 abbrev pub depth_limit : ℕ
@@ -33,7 +33,7 @@ mutual
     already_stopped : {depth row : ℕ} {s : State} {f : Fault} {ps : GroupParts} → ExecutesGroup context depth row (stopped s f) ps (stopped s f)
     no_parts : {depth row : ℕ} {s : State} → ExecutesGroup context depth row (running s) Done (running s)
     text_lines : {depth row : ℕ} {s : State} {lines : List LogicalLine} {ps : GroupParts} {m end : Progress}
-        → EmitsText s (text_tokens lines) m
+        → EmitsText context.profile s (text_tokens lines) m
         → ExecutesGroup context depth row m ps end
         → ExecutesGroup context depth row (running s) (TextLines lines ps) end
     control : {depth row : ℕ} {s : State} {line : LogicalLine} {ps : GroupParts} {m end : Progress}
@@ -89,13 +89,20 @@ mutual
         → checks_quotes (class_by line.directive) ≡ true
         → unmatched_quote line.tokens ≡ Some f
         → ExecutesControlLine context depth row s line (stopped s f)
+    refused : {depth row : ℕ} {s : State} {line : LogicalLine} {f : Fault}
+        → checks_quotes (class_by line.directive) ≡ true
+        → unmatched_quote line.tokens ≡ None
+        → refusal s.waiting line.directive (operands line.tokens) ≡ Some f
+        → ExecutesControlLine context depth row s line (stopped s f)
     executed : {depth row : ℕ} {s : State} {line : LogicalLine} {m : Progress}
         → unmatched_quote line.tokens ≡ None
+        → refusal s.waiting line.directive (operands line.tokens) ≡ None
         → ExecutesDirective context.profile row line.directive s line m
         → ExecutesControlLine context depth row s line m
     include : {depth row : ℕ} {include_next : Bool} {s : State} {line : LogicalLine} {m : Progress}
         → class_by line.directive ≡ Some (class.Includes include_next)
         → unmatched_quote line.tokens ≡ None
+        → refusal s.waiting line.directive (operands line.tokens) ≡ None
         → ExecutesInclude context depth row (if include_next then s.directory else None) s line m
         → ExecutesControlLine context depth row s line m
 
@@ -155,4 +162,4 @@ mutual
         → Reads context.profile row bytes (Ok lines)
         → Tree lines parts
         → ExecutesGroup context depth row (running (entering context (with_one_spent s) row directory)) parts m
-        → OpensFile context depth at s row directory (leaving s m)
+        → OpensFile context depth at s row directory (leaving s (at_end m))

@@ -1,5 +1,5 @@
 -- Skipping a file whose include guard is defined (6.10.1).
-use Rattle.std.specs.Prelude.{◌≡◌, ℕ, ◌≤◌, List, true, false, Option, Some, Ok}
+use Rattle.std.specs.Prelude.{◌≡◌, ℕ, ◌≤◌, List, [], true, false, Option, Some, Ok}
 use Rattle.pptext.specs.declared.tokens.Place.{Place}
 use Rattle.pptext.specs.Lines.{LogicalLine}
 use Rattle.pptext.specs.Sources.{Reads}
@@ -14,7 +14,7 @@ use Rattle.ppunit.specs.Group.{depth_limit, OpensFile}
 use Rattle.ppunit.specs.Counts.{count_opening}
 
 -- opening a file whose guard is defined adds a dependency and spends one of the budget, and does nothing else, if the
--- budget isn't exhausted
+-- budget isn't exhausted and no invocation waits: where one waits, an include line is refused, so no file is opened
 abbrev pub GuardsLeaveOut : Type 0
 GuardsLeaveOut =
     (context : Context) (depth row : ℕ) (directory : Option ℕ) (at : Place) (s : State) (bytes : List ℕ) (lines : List LogicalLine) (x : List ℕ)
@@ -24,6 +24,7 @@ GuardsLeaveOut =
     → GuardedBy lines x
     → is_macro_name s.macros x ≡ true
     → is_exhausted s.meter ≡ false
+    → s.waiting ≡ []
     → (d : OpensFile context depth at s row directory (running (with_dependency (with_one_spent s) row))) × (count_opening d ≡ 1)
 
 -- if file names are also distinct, opening such a file has no other outcome
@@ -38,5 +39,6 @@ GuardsOnlyLeaveOut =
     → GuardedBy lines x
     → is_macro_name s.macros x ≡ true
     → is_exhausted s.meter ≡ false
+    → s.waiting ≡ []
     → OpensFile context depth at s row directory end
     → end ≡ running (with_dependency (with_one_spent s) row)

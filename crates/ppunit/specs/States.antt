@@ -1,5 +1,6 @@
 -- The state of phase 4 in a unit (5.1.1.2, 6.10).
 use Rattle.std.specs.Prelude.{ℕ, pos, Bool, true, false, List, [], ◌∷◌, ◌++◌, Option, Some, None}
+use Rattle.pptext.specs.declared.tokens.Token.{Token}
 use Rattle.pptext.specs.declared.tokens.Fault.{Fault}
 use Rattle.pptext.specs.declared.sources.Profile.{Profile}
 use Rattle.ppmacro.specs.Substitution.{escaped_literal}
@@ -60,6 +61,8 @@ pub record State : Type 0 where
   pub env : Env
   -- the number of the directory in which the current file was found; the main file has none
   pub directory : Option ℕ
+  -- the tokens of an invocation whose `)` is still to come, behind directives (6.10.3, paragraph 11)
+  pub waiting : List Token
 
 -- the context of the current file
 abbrev pub file_context : State → FileContext
@@ -107,6 +110,10 @@ with_macro_popped s name = record s { macros = macros_after_pop s.macros name s.
 -- the state with this meter
 abbrev pub with_meter : State → Meter → State
 with_meter s meter = record s { meter = meter }
+
+-- the state in which these tokens wait
+abbrev pub with_waiting : State → List Token → State
+with_waiting s tokens = record s { waiting = tokens }
 
 -- the state in which one is taken from the budget, for an opened file
 abbrev pub with_one_spent : State → State

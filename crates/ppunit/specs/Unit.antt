@@ -14,6 +14,7 @@ use Rattle.ppunit.specs.declared.units.Unit.{Unit as UnitOfList}
 use Rattle.ppunit.specs.declared.units.Setting.{Setting}
 use Rattle.ppunit.specs.declared.units.UnitOut.{UnitOut}
 use Rattle.ppunit.specs.States.{State, Context, Progress, running, stopped, output}
+use Rattle.ppunit.specs.Directives.{at_end}
 use Rattle.ppunit.specs.Group.{ExecutesGroup, OpensFile}
 use Rattle.ppunit.specs.Counts.{count_group, count_opening}
 
@@ -31,6 +32,7 @@ state_before keeps setting =
       env = record
           { name = []; shift = pos 0; date = setting.date; time = setting.time; profile = setting.profile };
       directory = None;
+      waiting = [];
     }
 
 abbrev pub initial_state : Setting → State
@@ -49,7 +51,7 @@ pub data Defines (context : Context) (defines : List (List ℕ)) : State → Pro
       → Reads context.profile command_file (command_text defines) (Ok lines)
       → Tree lines parts
       → ExecutesGroup context 0 command_file (running s) parts m
-      → Defines context defines s m
+      → Defines context defines s (at_end m)
 
 -- the definitions, and then the unit's file
 pub data Translates (context : Context) (defines : List (List ℕ)) (row : ℕ) : State → Progress → Type 0 where

@@ -6,4 +6,5 @@ pub mod Lines
 pub mod Opening
 pub mod OperandExpansion
 pub mod Preprocessor
+pub mod TextLines
 pub mod Walk

@@ -1,4 +1,4 @@
-//! Control lines that open no file (6.10.3 to 6.10.7), and text lines.
+//! Control lines that open no file (6.10.3 to 6.10.7).
 ghost use Rattle.std.specs.Prelude.{◌≡◌, IfOk, OnOk, Some, true};
 ghost use Rattle.std.specs.Option.{option_copied};
 ghost use Rattle.std.specs.Result.{result_err};
@@ -13,34 +13,9 @@ use crate::directive_line::{DirectiveLine, DirectiveTokens, line_fault, push_spa
 use crate::including::inner;
 use crate::line_control::{is_plain_string, renumber};
 use crate::states::State;
-use ppexpand::{Expanded, expand};
 use ppmacro::{DefineLine, define, define_line, undef};
 use pptext::{Directive, Error, Memory, Profile, Token};
 use std::alloc::Global;
-
-/// Emits the expansion of consecutive text lines, up to its first fault (6.10.3).
-pub(crate) fn emit_text<'x>(state: &mut State<'x>, tokens: &'x [Token]) -> Result<(), Error>
-    ensures { UnlessOutOfMemory result (λ r. spec.EmitsText state.old tokens.now (record { state = state.new; fault = result_err r })) }
-{
-    // Blank lines between directives are text lines too.
-    if tokens.is_empty() {
-        return Ok(());
-    }
-    let Expanded { prefix, fault } = expand(
-        &state.macros,
-        &state.file_context.env,
-        &mut state.meter,
-        tokens,
-        &mut state.scratch,
-    )?;
-    state
-        .items
-        .extend_if(state.keeps, prefix, &mut state.scratch)?;
-    match fault {
-        None => Ok(()),
-        Some(fault) => Err(Error::Fault(fault)),
-    }
-}
 
 /// Returns the message of `#error` (6.10.5): the tokens, with one space where a token other than the first has leading
 /// white space.
@@ -80,7 +55,7 @@ fn is_once(profile: Profile, tokens: &[Token]) -> bool
 }
 
 /// Returns the name in `WORD("NAME")`, with which the tokens after `#pragma` begin.
-fn name_after<'x>(word: &[u8], tokens: &'x [Token]) -> Option<&'x [u8]>
+pub(crate) fn name_after<'x>(word: &[u8], tokens: &'x [Token]) -> Option<&'x [u8]>
     ensures { option_copied result ≡ spec.name_after word.now tokens.now }
 {
     let [first, left, name, right, ..] = tokens else {

@@ -20,6 +20,7 @@ mod preprocessor;
 mod probing;
 mod states;
 mod units;
+mod waiting;
 mod well_formed;
 
 pub use collections::{Items, Rows};

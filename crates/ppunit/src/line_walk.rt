@@ -22,21 +22,23 @@ ghost use Rattle.ppshelf.specs.Files.{Files};
 ghost use Rattle.ppunit.specs.Group.{ExecutesControlLine, ExecutesInclude};
 ghost use Rattle.ppunit.specs.States.{Context, Progress, with_meter};
 ghost use Rattle.ppunit.specs.code.Contexts.{context_over, search_in_unit};
-ghost use Rattle.ppunit.specs.code.Lines.{directed};
+ghost use Rattle.ppunit.specs.code.Lines.{directed, line_refusal};
 ghost use Rattle.ppunit.specs.code.Preprocessor.{KeepsContext};
 ghost use Rattle.ppunit.specs.code.Walk.{line_at, IsTextLine, StartsWithoutTextLine, EnclosingSections, BranchesAt, TakesBranch, FindsBranch, Advances, Leads, Steps, Walks};
 
 use crate::conditions::decide;
 use crate::directive_line::{DirectiveLine, DirectiveTokens, line_fault, refuse_unmatched_quote};
-use crate::directives::{control, define_as_read, emit_text, error};
+use crate::directives::{control, define_as_read, error};
 use crate::include_stack::Stack;
 use crate::including::read_include_name;
 use crate::open_file::{Entered, LocatedFile, OpenFile, UnitContext, find_file};
 use crate::preprocessor::Preprocessor;
 use crate::states::State;
+use crate::waiting::{emit_text, refuse_among_arguments, refuse_at_end};
 use ppmacro::DefineLine;
 use ppshelf::Disk;
-use pptext::{Class, Directive, Error, Source, Token};
+use pptext::{Class, Directive, Error, Profile, Source};
+use std::alloc::Global;
 use std::marker::Model;
 
 /// Returns the index of the line after the text lines that begin at `start`.
@@ -163,6 +165,7 @@ fn execute_if_line<'x, D: Disk>(
 
 /// Expands consecutive text lines and emits their tokens. Returns the index of the line after them.
 fn execute_text_lines<'x>(
+    profile: Profile,
     state: &mut State<'x>,
     source: &'x Source,
     index: usize,
@@ -171,11 +174,20 @@ fn execute_text_lines<'x>(
     requires text { IsTextLine (line_at source.now index) }
     ensures further { IfOk result (λ next. index < next) }
     ensures text_lines { (context : Files → Context) (files : Files) (depth row : ℕ)
+        → ((more : Files) → profile ≡ (context more).profile)
         → UnlessOutOfMemory result (λ next. Advances context files depth row source.now index state.old state.new next) }
 {
     let end = text_end(source, index);
-    emit_text(state, source.tokens_between(index, end))?;
+    emit_text(profile, state, source.tokens_between(index, end))?;
     Ok(end)
+}
+
+/// Fails with fault 7 at an unmatched quote, or else with fault 17 if an invocation waits and the line may not stand among its arguments.
+fn refuse_line(alloc: Global, state: &State, line: &DirectiveLine) -> Result<(), Error>
+    ensures { UnlessOutOfMemory result (λ r. result_err r ≡ line_refusal state.now (directed line.now.directive line.now.tokens line.now.number)) }
+{
+    refuse_unmatched_quote(alloc, &line.tokens)?;
+    refuse_among_arguments(alloc, state, line)
 }
 
 /// For `#include_next`, returns the number of the directory in which the current file was found: only the directories
@@ -267,13 +279,13 @@ impl<'x, 'a: 'x, D: Disk> Preprocessor<'_, 'x, 'a, D> {
             Class::Error => Err(error(context.alloc, &line.tokens)),
             Class::Ignored => Ok(None),
             Class::Includes(include_next) => {
-                refuse_unmatched_quote(context.alloc, &line.tokens)?;
+                refuse_line(context.alloc, &self.state, &line)?;
                 let row = line.row;
                 let directory = previous_directory(include_next, &self.state);
                 self.include(depth, LocatedFile { row, directory }, &line.tokens)
             }
             _ => {
-                refuse_unmatched_quote(context.alloc, &line.tokens)?;
+                refuse_line(context.alloc, &self.state, &line)?;
                 control(context.alloc, &mut self.state, context.profile(), line)?;
                 Ok(None)
             }
@@ -302,6 +314,9 @@ impl<'x, 'a: 'x, D: Disk> Preprocessor<'_, 'x, 'a, D> {
         let Some(define) = define else {
             return self.execute_control_line(depth, line);
         };
+        if self.state.is_waiting() {
+            return self.execute_control_line(depth, line);
+        }
         let context = self.context;
         define_as_read(
             context.alloc,
@@ -330,7 +345,8 @@ impl<'x, 'a: 'x, D: Disk> Preprocessor<'_, 'x, 'a, D> {
         } = *file;
         let context = self.context;
         let Some(directive) = source.line(index).directive else {
-            return Ok(in_same_file(execute_text_lines(&mut self.state, source, index)?));
+            let end = execute_text_lines(context.profile(), &mut self.state, source, index)?;
+            return Ok(in_same_file(end));
         };
         if directive.opens_section() {
             let next = execute_if_line(context, &mut self.state, row, source, directive, index)?;
@@ -383,6 +399,10 @@ impl<'x, 'a: 'x, D: Disk> Preprocessor<'_, 'x, 'a, D> {
                     }
                 }
             } else {
+                if let Err(error) = refuse_at_end(context.alloc, &self.state) {
+                    suspended.unwind(&mut self.state);
+                    return Err(error);
+                }
                 let Some(outer) = suspended.pop() else {
                     return Ok(());
                 };

@@ -279,7 +279,7 @@ fn record_dependency(state: &mut State, row: usize) -> Result<bool, Memory>
 }
 
 /// Enters a file with this name and these lines, before its first line. Returns nothing if its include guard is
-/// defined: then its lines have no effect.
+/// defined: then its lines have no effect, and neither has its end, unless an invocation waits.
 fn begin<'a>(
     alloc: Global,
     state: &mut State,
@@ -289,7 +289,7 @@ fn begin<'a>(
 ) -> Result<Option<Entered<'a>>, Memory>
     ensures { IfOk result (λ entered. Begins name.now opening.row opening.directory source.now state.old state.new entered) }
 {
-    if is_left_out(state, source.source()) {
+    if !state.is_waiting() && is_left_out(state, source.source()) {
         return Ok(None);
     }
     let env = file_env(alloc, &state.file_context.env, name)?;

@@ -142,6 +142,7 @@ fn into_output<'x>(
         items,
         deps,
         file_context: _,
+        waiting: _,
         scratch: _,
     } = state;
     unit_out(items, deps, outcome)

@@ -1,16 +1,16 @@
 //! The state of phase 4 in a unit.
-ghost use Rattle.std.specs.Prelude.{◌≡◌, IfOk, OnOk, [], ◌∷◌, ◌++◌, ◌==◌, ◌||◌, None};
+ghost use Rattle.std.specs.Prelude.{◌≡◌, ◌<◌, IfOk, OnOk, true, false, [], ◌∷◌, ◌++◌, ◌==◌, ◌||◌, None, length};
 ghost use Rattle.std.specs.List.{list_any};
 ghost use Rattle.ppmacro.specs.Substitution.{escaped_literal};
 ghost use Rattle.ppexpand.specs.Budget.{is_exhausted};
-ghost use Rattle.ppunit.specs.States.{file_context, in_file_context, emitted, with_dependency, with_once, with_macro_pushed, with_macro_popped, with_one_spent, literal};
+ghost use Rattle.ppunit.specs.States.{file_context, in_file_context, emitted, with_dependency, with_once, with_macro_pushed, with_macro_popped, with_one_spent, with_waiting, literal};
 ghost use Rattle.ppmacro.specs.Predefined.{initial_macros};
 ghost use Rattle.ppunit.specs.Unit.{initial_state, state_before};
 ghost use Rattle.ppunit.specs.declared.units.Item.TheVariants as item;
 
 use crate::collections::{Items, Rows};
 use crate::units::Setting;
-use ppexpand::{Env, Meter, Scratch};
+use ppexpand::{Env, Meter, Scratch, TokenList, WaitingTokens};
 use ppmacro::{PushedMacros, Table, push_escaped};
 use pptext::{Hashing, Memory, Place, Profile, Spelling, Token};
 use std::alloc::Global;
@@ -27,7 +27,8 @@ pub(crate) struct FileContext {
 
 /// The state of phase 4: the macros, the items that were emitted, the indices of the opened files in the order of their
 /// first opening, those of them that are marked by `#pragma once`, the macros that `#pragma push_macro` keeps, the meter of
-/// the unit, and the context of the file that is being processed. Its model leaves out what expansions reuse, which affects no result.
+/// the unit, the context of the file that is being processed, and the tokens of the invocation that waits for its `)`. Its
+/// model leaves out what expansions reuse, which affects no result.
 #[derive(Drop)]
 pub(crate) struct State<'x> {
     pub macros: Table<'x>,
@@ -39,6 +40,8 @@ pub(crate) struct State<'x> {
     pub pushed: PushedMacros<'x>,
     pub meter: Meter,
     pub file_context: FileContext,
+    /// The tokens of a macro invocation without its `)`, between whose arguments there are directives.
+    pub waiting: WaitingTokens<'x>,
     pub scratch: Scratch<'x>,
 }
 
@@ -67,6 +70,7 @@ impl<'x> Model for State<'x> {
       meter = s.meter;
       env = s.file_context.env;
       directory = s.file_context.directory;
+      waiting = s.waiting;
     } };
 }
 
@@ -94,9 +98,11 @@ impl<'x> State<'x> {
         scratch: Scratch<'x>,
         keeps: bool,
     ) -> State<'x>
-        ensures { result ≡ record { macros = macros.entry.macros; keeps = keeps; items = []; deps = []; once = []; pushed = []; meter = meter; env = env; directory = None } }
+        ensures { result ≡ record { macros = macros.entry.macros; keeps = keeps; items = []; deps = []; once = []; pushed = []; meter = meter; env = env; directory = None; waiting = [] } }
     {
+        let mut scratch = scratch;
         let alloc = scratch.alloc();
+        let waiting = WaitingTokens::of(scratch.list());
         State {
             macros,
             keeps,
@@ -109,6 +115,7 @@ impl<'x> State<'x> {
                 env,
                 directory: None,
             },
+            waiting,
             scratch,
         }
     }
@@ -126,6 +133,21 @@ impl<'x> State<'x> {
         ensures { self.new ≡ in_file_context outer self.old }
     {
         self.file_context = outer;
+    }
+
+    /// Returns whether an invocation waits for its `)`.
+    pub(crate) fn is_waiting(&self) -> bool
+        ensures yes { result ≡ true → 0 < length self.now.waiting }
+        ensures no { result ≡ false → self.now.waiting ≡ [] }
+    {
+        !self.waiting.is_empty()
+    }
+
+    /// Lets the tokens of an open invocation wait, in place of those that waited before.
+    pub(crate) fn keep_waiting(&mut self, tokens: TokenList<'x>)
+        ensures { self.new ≡ with_waiting self.old tokens.entry }
+    {
+        let _before = replace(&mut self.waiting, WaitingTokens::of(tokens));
     }
 
     /// Emits a pragma.

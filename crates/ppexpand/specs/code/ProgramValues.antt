@@ -24,6 +24,7 @@ use Rattle.ppexpand.specs.Budget.{spend_one}
 use Rattle.ppexpand.specs.declared.expand_step.Action.{Action}
 use Rattle.ppexpand.specs.declared.expand_step.Action.TheVariants as action
 use Rattle.ppexpand.specs.Expansion.{Outcome, step_in_budget, Expands, ExpandsArguments}
+use Rattle.ppexpand.specs.Laws.{Leads, LeadsOn}
 
 -- ---- arguments
 
@@ -174,6 +175,7 @@ pub record Advances (macros : Macros) (env : Env) (level : ℕ) (meter : Meter) 
   pub prepends_step : (n : ℕ) (out : Outcome)
       → Expands macros env level meter_after n next out
       → Expands macros env level meter (suc n) list (record { tokens = tokens ++ out.tokens; fault = out.fault; meter = out.meter })
+  pub leads : Leads macros env level meter list meter_after next
 
 -- the list ends here, with this fault or without one, and this is the meter after it
 abbrev pub EndsWith : Macros → Env → ℕ → Meter → List Hiding → Option Fault → Meter → Type 0
@@ -214,3 +216,5 @@ pub record HasPassed (least : ℕ) (macros : Macros) (env : Env) (level : ℕ) (
   pub takes : (n : ℕ) (out : Outcome)
       → Expands macros env level meter_after n next out
       → Takes macros env level meter (least + n) list (record { tokens = tokens ++ out.tokens; fault = out.fault; meter = out.meter })
+  pub number : ℕ
+  pub leads : LeadsOn macros env level number meter list meter_after next

@@ -1,5 +1,5 @@
 -- Directive lines as the code passes them from function to function. Only contracts of private functions cite this.
-use Rattle.std.specs.Prelude.{◌≡◌, ℕ, Bool, List, Some, IsSome, Result, Ok, Err}
+use Rattle.std.specs.Prelude.{◌≡◌, ℕ, Bool, List, Option, Some, IsSome, Result, Ok, Err}
 use Rattle.pptext.specs.declared.tokens.Place.{Place}
 use Rattle.pptext.specs.declared.tokens.Token.{Token}
 use Rattle.pptext.specs.declared.tokens.Fault.{Fault}
@@ -11,10 +11,17 @@ use Rattle.ppexpand.specs.declared.meter.Meter.{Meter}
 use Rattle.ppexpr.specs.Conditions.{IsCondition}
 use Rattle.ppunit.specs.States.{State}
 use Rattle.ppunit.specs.Conditions.{DecidesFreely}
+use Rattle.ppunit.specs.DirectiveLines.{operands}
+use Rattle.ppunit.specs.Directives.{refusal, or_fault}
+use Rattle.ppunit.specs.Quotes.{unmatched_quote}
 
 -- a line of these tokens with this directive
 abbrev pub directed : Directive → List Token → ℕ → LogicalLine
 directed d tokens number = record { tokens = tokens; number = number; directive = Some d }
+
+-- the fault of a control line before it is executed: an unmatched quote, or that an invocation waits
+abbrev pub line_refusal : State → LogicalLine → Option Fault
+line_refusal s line = or_fault (unmatched_quote line.tokens) (refusal s.waiting line.directive (operands line.tokens))
 
 -- the control lines that open no file, except `#error` and those without effect
 abbrev pub IsControl : Directive → Type 0

@@ -49,10 +49,10 @@ HasFault shelf files row at f =
 abbrev pub IsLeftOut : State → List LogicalLine → Type 0
 IsLeftOut s lines = (x : List ℕ) × GuardedBy lines x × (is_macro_name s.macros x ≡ true)
 
--- A file of this name and these lines is skipped, which changes nothing; or it is entered, and the predefined names and
--- the directory number are its own.
+-- A file of this name and these lines is skipped, which changes nothing, where no invocation waits; or it is entered, and the
+-- predefined names and the directory number are its own.
 abbrev pub Begins : List ℕ → ℕ → Option ℕ → List LogicalLine → State → State → Option Entered → Type 0
-Begins name row directory lines s t None = IsLeftOut s lines × (t ≡ s)
+Begins name row directory lines s t None = (s.waiting ≡ []) × IsLeftOut s lines × (t ≡ s)
 Begins name row directory lines s t (Some e) =
     (e ≡ record { file = record { row = row; lines = lines; index = 0 }; outer = file_context s }) × (length lines < 2 ^ 64)
     × (t ≡ record s { env = record s.env { name = literal name; shift = pos 0 }; directory = directory })

@@ -14,6 +14,7 @@ use Rattle.ppshelf.specs.Files.{Files, Extends}
 use Rattle.ppunit.specs.declared.states.FileContext.{FileContext}
 use Rattle.ppunit.specs.States.{Search, State, in_file_context, Context, search_of, Progress, running, stopped}
 use Rattle.ppunit.specs.Conditions.{DecidesFreely, Decides}
+use Rattle.ppunit.specs.Directives.{at_end}
 use Rattle.ppunit.specs.Group.{depth_limit, ExecutesGroup, ExecutesBranches, ExecutesControlLine}
 use Rattle.ppunit.specs.code.Opening.{OpenFile, Entered}
 use Rattle.ppunit.specs.Unit.{Defines}
@@ -65,8 +66,8 @@ Advances context files depth row lines index s t (Err f) =
 abbrev pub restored : FileContext → Progress → Progress
 restored outer m = record m { state = in_file_context outer m.state }
 
--- A file was entered and its first line is next: what its lines reach from this state, with the context of the
--- including file restored, is what the include line reaches.
+-- A file was entered and its first line is next: what its lines reach from this state, up to the file's end and with the context
+-- of the including file restored, is what the include line reaches.
 pub record EntersFile (context : Files → Context) (files : Files) (depth : ℕ) (whole : Files → Progress → Type 0) (t : State) (e : Entered)
     : Type 0 where
   pub fits : depth ≤ depth_limit
@@ -78,7 +79,7 @@ pub record EntersFile (context : Files → Context) (files : Files) (depth : ℕ
       → Extends more files
       → (m : Progress)
       → ExecutesGroup (context more) depth e.file.row (running t) parts m
-      → whole more (restored e.outer m)
+      → whole more (restored e.outer (at_end m))
 
 -- the goal is reached, with or without a fault, or a file was entered whose lines lead to it
 abbrev pub Leads : (Files → Context) → Files → ℕ → (Files → Progress → Type 0) → State → Result (Option Entered) Fault → Type 0
@@ -133,14 +134,18 @@ abbrev pub contexts_restored : List SuspendedFile → State → State
 contexts_restored [] s = s
 contexts_restored (w ∷ ws) s = contexts_restored ws (in_file_context w.file_context s)
 
--- phase 4 of a file's lines, over these files and any larger set
+-- this is where a file ends whose lines meet the goal
+abbrev pub EndsAt : (Files → Progress → Type 0) → Files → Progress → Type 0
+EndsAt whole more end = (m : Progress) × whole more m × (end ≡ at_end m)
+
+-- phase 4 of a file, over these files and any larger set
 abbrev pub Walks : (Files → Context) → Files → ℕ → ℕ → List LogicalLine → State → Progress → Type 0
 Walks context files depth row lines s end =
     (parts : GroupParts)
     → Tree lines parts
     → (more : Files)
     → Extends more files
-    → ExecutesGroup (context more) depth row (running s) parts end
+    → EndsAt (λ more m. ExecutesGroup (context more) depth row (running s) parts m) more end
 
 -- At the index is a line that opens an if-section or a branch with a condition, then the parts of its group, and then
 -- these branches.

@@ -1,22 +1,13 @@
 use Rattle.std.proofs.Common.{◌≡◌, suc, ◌≤◌, [], ◌∷◌, length, sym, ap, ◌∙◌, subst, arith, length-append}
 use Rattle.ppmacro.specs.HideSetPool.{HideSetPool}
 use Rattle.ppmacro.specs.HideSets.{hiding, hidings, AllKnown}
-use Rattle.ppexpand.specs.Arguments.{gather, with_token, argument_role, ArgumentRole, Quote, Open, Close, Comma, Inner}
+use Rattle.ppexpand.specs.Arguments.{gather, with_token, argument_role, Comma}
 use Rattle.ppexpand.specs.code.ProgramValues.{given_in}
-use Rattle.ppexpand.specs.declared.token_roles.ArgumentRole as code
-use Rattle.ppexpand.specs.declared.token_roles.ArgumentRole.TheVariants as variant
+use Rattle.ppexpand.specs.code.OpenSearch.{role_value}
 use Rattle.ppexpand.proofs.Invocations.{at_inner, at_open, at_close, at_separator, at_comma}
 use Rattle.ppexpand.proofs.ResumedSearch.{resumed, resumed-token, resumed-argument, outermost, hidings-push, given-push, known-push, lists_known-push}
 use Rattle.ppexpand.proofs.arguments.gather.Goals as goal
 use Rattle.ppexpand.proofs.arguments.gather.Goals.{in-Close-2, in-Comma+else-separates, in-Open, in-Inner}
-
--- the specification's role for a role of the code
-abbrev shown_mark : code.ArgumentRole → ArgumentRole
-shown_mark variant.Quote = Quote
-shown_mark variant.Open = Open
-shown_mark variant.Close = Close
-shown_mark variant.Comma = Comma
-shown_mark variant.Inner = Inner
 
 pub returns-in-Close-clause-known : goal.returns-in-Close-clause-known
 returns-in-Close-clause-known c = λ sets known.
@@ -29,7 +20,7 @@ returns-in-Close-clause-known c = λ sets known.
 pub loop-hidden-preserved-in-Comma : goal.loop-hidden-preserved-in-Comma
 loop-hidden-preserved-in-Comma c =
     let prefix = c.loop-hidden in
-    let is_comma : argument_role c.in-Some.hidden.token ≡ Comma = sym c.argument_role.ensures ∙ ap shown_mark c.in-Comma.is in
+    let is_comma : argument_role c.in-Some.hidden.token ≡ Comma = sym c.argument_role.ensures ∙ ap role_value c.in-Comma.is in
     let list : (sets : HideSetPool) → AllKnown sets c.args.list.now → AllKnown sets (c.in-Some.hidden ∷ c.next.new.self) = λ sets known. subst (AllKnown sets) c.in-Some.ensures (c.loop-hidden.invariant.list_known sets known) in
     record {
       same = λ sets.
@@ -49,18 +40,18 @@ loop-hidden-preserved-in-Comma c =
 pub loop-hidden-preserved : goal.loop-hidden-preserved
 loop-hidden-preserved c =
     let prefix = c.loop-hidden in
-    let space : argument_role c.in-Some.hidden.token ≡ shown_mark c.argument_role.result = sym c.argument_role.ensures in
+    let space : argument_role c.in-Some.hidden.token ≡ role_value c.argument_role.result = sym c.argument_role.ensures in
     let list : (sets : HideSetPool) → AllKnown sets c.args.list.now → AllKnown sets (c.in-Some.hidden ∷ c.next.new.self) = λ sets known. subst (AllKnown sets) c.in-Some.ensures (c.loop-hidden.invariant.list_known sets known) in
     let step : (sets : HideSetPool)
     → gather prefix.depth prefix.commas (hiding sets c.in-Some.hidden ∷ hidings sets c.next.new.self)
     ≡ with_token (hiding sets c.in-Some.hidden) (gather c.match-argument_role.depth prefix.commas (hidings sets c.next.new.self)) = λ sets.
     elim c.match-argument_role.branch [
       | in-Close-2 w ↦ (let deeper : prefix.depth ≡ suc c.match-argument_role.depth = omega (arith, w.depth-is, w.if-depth-eq0.false) in
-          rw deeper (at_close c.match-argument_role.depth prefix.commas (hiding sets c.in-Some.hidden) (hidings sets c.next.new.self) (space ∙ ap shown_mark w.in-Close.is)))
-      | in-Comma+else-separates w ↦ rw w.depth-is (at_comma prefix.depth prefix.commas (hiding sets c.in-Some.hidden) (hidings sets c.next.new.self) (space ∙ ap shown_mark w.in-Comma.is) (sym w.separates.ensures ∙ w.if-separates.false))
+          rw deeper (at_close c.match-argument_role.depth prefix.commas (hiding sets c.in-Some.hidden) (hidings sets c.next.new.self) (space ∙ ap role_value w.in-Close.is)))
+      | in-Comma+else-separates w ↦ rw w.depth-is (at_comma prefix.depth prefix.commas (hiding sets c.in-Some.hidden) (hidings sets c.next.new.self) (space ∙ ap role_value w.in-Comma.is) (sym w.separates.ensures ∙ w.if-separates.false))
       | in-Open w ↦ (let deeper : c.match-argument_role.depth ≡ suc prefix.depth = omega (arith, w.depth-is) in
-          rw deeper (at_open prefix.depth prefix.commas (hiding sets c.in-Some.hidden) (hidings sets c.next.new.self) (space ∙ ap shown_mark w.in-Open.is)))
-      | in-Inner w ↦ rw w.depth-is (at_inner prefix.depth prefix.commas (hiding sets c.in-Some.hidden) (hidings sets c.next.new.self) (space ∙ ap shown_mark w.in-Inner.is))
+          rw deeper (at_open prefix.depth prefix.commas (hiding sets c.in-Some.hidden) (hidings sets c.next.new.self) (space ∙ ap role_value w.in-Open.is)))
+      | in-Inner w ↦ rw w.depth-is (at_inner prefix.depth prefix.commas (hiding sets c.in-Some.hidden) (hidings sets c.next.new.self) (space ∙ ap role_value w.in-Inner.is))
     ] in
     let within : c.match-argument_role.depth ≤ suc (length prefix.argument.items) = elim c.match-argument_role.branch [
       | in-Close-2 w ↦ omega (arith, w.depth-is, prefix.invariant.within)

@@ -8,6 +8,7 @@ use Rattle.ppexpand.specs.declared.meter.Meter.{Meter}
 use Rattle.ppexpand.specs.Budget.{count_on}
 use Rattle.ppexpand.specs.ExpansionStep.{counter_value}
 use Rattle.ppexpand.specs.Expansion.{Expands, done, emits, replaced, counts}
+use Rattle.ppexpand.specs.Laws.{Leads, by_emitting, by_replacing, by_counting}
 use Rattle.ppexpand.specs.code.ProgramValues.{EndsWith, Advances}
 use Rattle.ppexpand.proofs.LoopInvariants.{failed_ends}
 use Rattle.ppexpand.proofs.expansion.Expander.begin_step.Goals as goal
@@ -49,7 +50,7 @@ returns-in_ok-push_single-in-Emits-clause-progress c =
     λ level. (
       hiding s token ∷ [],
       shown,
-      subst (λ m. Advances macros env level c.args.self.now.meter list m next (hiding s token ∷ [])) (sym acted.1) (record { prepends_step = λ n out d. emits (sym acted.0) d }),
+      subst (λ m. Advances macros env level c.args.self.now.meter list m next (hiding s token ∷ [])) (sym acted.1) (record { prepends_step = λ n out d. emits (sym acted.0) d; leads = by_emitting (sym acted.0) }),
     )
 
 pub returns-in_ok-push_single-in-Emits-clause-emitted_known : goal.returns-in_ok-push_single-in-Emits-clause-emitted_known
@@ -70,7 +71,7 @@ returns-in-Replaced-clause-progress c =
     λ level. (
       [],
       same,
-      subst (λ m. Advances macros env level c.args.self.now.meter list m next []) (sym acted.1) (record { prepends_step = λ n out d. replaced (sym acted.0) d }),
+      subst (λ m. Advances macros env level c.args.self.now.meter list m next []) (sym acted.1) (record { prepends_step = λ n out d. replaced (sym acted.0) d; leads = by_replacing (sym acted.0) }),
     )
 
 pub returns-in-Replaced-clause-emitted_known : goal.returns-in-Replaced-clause-emitted_known
@@ -102,7 +103,10 @@ returns-in_ok-replace_counter-in-Counts-clause-progress c =
     λ level. (
       [],
       same,
-      record { prepends_step = λ n out d. counts (sym acted.0) (subst (λ (p : Meter × List Hiding). Expands macros env level p.0 n p.1 out) (λ i. (meters i, lists i)) d) },
+      record {
+        prepends_step = λ n out d. counts (sym acted.0) (subst (λ (p : Meter × List Hiding). Expands macros env level p.0 n p.1 out) (λ i. (meters i, lists i)) d);
+        leads = subst (λ (p : Meter × List Hiding). Leads macros env level before list p.0 p.1) (λ i. (sym meters i, sym lists i)) (by_counting (sym acted.0));
+      },
     )
 
 pub returns-in_ok-replace_counter-in-Counts-clause-emitted_known : goal.returns-in_ok-replace_counter-in-Counts-clause-emitted_known

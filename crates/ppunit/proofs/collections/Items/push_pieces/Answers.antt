@@ -1,4 +1,4 @@
-use Rattle.ppunit.proofs.EmittedPieces.{appended}
+use Rattle.ppunit.proofs.KeptItems.{appended}
 use Rattle.ppunit.proofs.collections.Items.push_pieces.Goals as goal
 
 pub loop-piece-preserved : goal.loop-piece-preserved

@@ -7,7 +7,7 @@ use Rattle.ppunit.specs.code.Contexts.{context_over}
 use Rattle.ppunit.specs.code.Lines.{directed}
 use Rattle.ppunit.specs.Directives.{checks_quotes}
 use Rattle.ppunit.specs.Group.{ExecutesControlLine}
-use Rattle.ppunit.proofs.ControlLines.{other_control, leads_include}
+use Rattle.ppunit.proofs.ControlLines.{other_control, refused_line, neither, leads_include}
 use Rattle.ppunit.proofs.DirectiveEffects.{other_is_control, other_looks}
 use Rattle.ppunit.proofs.UnitValue.{on_settled}
 use Rattle.ppunit.proofs.preprocessor.Preprocessor.execute_control_line.Goals as goal
@@ -22,50 +22,52 @@ returns-in-Ignored-clause-control g c more grows =
     let is : class_of c.args.line.directive ≡ class.Ignored = sym c.class.ensures ∙ c.in-Ignored.is in
     ExecutesControlLine.ignored (ap (λ (z : Class). Some z) is)
 
-pub returns-in_err-refuse_unmatched_quote-in-Includes-clause-control : goal.returns-in_err-refuse_unmatched_quote-in-Includes-clause-control
-returns-in_err-refuse_unmatched_quote-in-Includes-clause-control g c =
+pub returns-in_err-refuse_line-in-Includes-clause-control : goal.returns-in_err-refuse_line-in-Includes-clause-control
+returns-in_err-refuse_line-in-Includes-clause-control g c =
     let is : class_of c.args.line.directive ≡ class.Includes c.in-Includes.include_next = sym c.class.ensures ∙ c.in-Includes.is in
-    stopped _ _ _ _ c.from_residual.ensures.1 c.in_err-refuse_unmatched_quote-in-Includes.ensures (λ fault quote more grows.
-    ExecutesControlLine.quote_fault (ap (λ (z : Class). checks_quotes (Some z)) is) (sym quote))
+    stopped _ _ _ _ c.from_residual.ensures.1 c.in_err-refuse_line-in-Includes.ensures (λ fault refuses more grows.
+    refused_line (context_over c.args.self.now.context.now more) c.args.depth c.args.line.row c.args.self.now.state
+    (directed c.args.line.directive c.args.line.tokens c.args.line.number) fault (ap (λ (z : Class). checks_quotes (Some z)) is) refuses)
 
-pub returns-in_ok-refuse_unmatched_quote-in-Includes-clause-control : goal.returns-in_ok-refuse_unmatched_quote-in-Includes-clause-control
-returns-in_ok-refuse_unmatched_quote-in-Includes-clause-control g c =
+pub returns-in_ok-refuse_line-in-Includes-clause-control : goal.returns-in_ok-refuse_line-in-Includes-clause-control
+returns-in_ok-refuse_line-in-Includes-clause-control g c =
     let is : class_of c.args.line.directive ≡ class.Includes c.in-Includes.include_next = sym c.class.ensures ∙ c.in-Includes.is in
-    let alone = sym c.in_ok-refuse_unmatched_quote-in-Includes.ensures in
+    let free = neither _ _ c.in_ok-refuse_line-in-Includes.ensures in
     on_settled c.include.result
     (λ r leads. leads_include (context_over c.args.self.now.context.now) c.include.new.self.pass.now.files c.args.depth c.args.line.row c.in-Includes.include_next c.previous_directory-directory.result
     (directed c.args.line.directive c.args.line.tokens c.args.line.number) c.args.self.now.state c.include.new.self.state r
-    c.previous_directory-directory.ensures (ap (λ (z : Class). Some z) is) alone (leads c.args.line.directive c.args.line.number))
+    c.previous_directory-directory.ensures (ap (λ (z : Class). Some z) is) free.0 free.1 (leads c.args.line.directive c.args.line.number))
     c.include.ensures.includes
 
-pub returns-in_err-refuse_unmatched_quote-in_default : goal.returns-in_err-refuse_unmatched_quote-in_default
-returns-in_err-refuse_unmatched_quote-in_default g c = record {
+pub returns-in_err-refuse_line-in_default : goal.returns-in_err-refuse_line-in_default
+returns-in_err-refuse_line-in_default g c = record {
   keeps_context = record { context = refl; pass = refl; grows = λ row content known. known };
-  control = stopped _ _ _ _ c.from_residual-in_err-refuse_unmatched_quote-in_default.ensures.1 c.in_err-refuse_unmatched_quote-in_default.ensures (λ fault quote more grows.
-      ExecutesControlLine.quote_fault
+  control = stopped _ _ _ _ c.from_residual-in_err-refuse_line-in_default.ensures.1 c.in_err-refuse_line-in_default.ensures (λ fault refuses more grows.
+      refused_line (context_over c.args.self.now.context.now more) c.args.depth c.args.line.row c.args.self.now.state
+      (directed c.args.line.directive c.args.line.tokens c.args.line.number) fault
       (other_looks (class_of c.args.line.directive) (λ e. c.in_default.not-Error (c.class.ensures ∙ e)) (λ e. c.in_default.not-Ignored (c.class.ensures ∙ e)))
-      (sym quote));
+      refuses);
 }
 
 pub returns-in_err-control-in_default : goal.returns-in_err-control-in_default
 returns-in_err-control-in_default g c =
-    let alone = sym c.in_ok-refuse_unmatched_quote-in_default.ensures in
+    let free = neither _ _ c.in_ok-refuse_line-in_default.ensures in
     let line = directed c.args.line.directive c.args.line.tokens c.args.line.number in
     record {
       keeps_context = record { context = refl; pass = refl; grows = λ row content known. known };
       control = stopped _ _ _ _ c.from_residual-in_err-control-in_default.ensures.1 c.in_err-control-in_default.ensures (λ fault gives more grows.
           other_control (context_over c.args.self.now.context.now more) c.args.depth c.args.line.row c.profile.result c.args.self.now.state c.control.new.state
-          c.args.line.directive line (Some fault) c.profile.ensures refl alone gives);
+          c.args.line.directive line (Some fault) c.profile.ensures refl free.0 free.1 gives);
     }
 
 pub returns-in_ok-control-in_default : goal.returns-in_ok-control-in_default
 returns-in_ok-control-in_default g c =
-    let alone = sym c.in_ok-refuse_unmatched_quote-in_default.ensures in
+    let free = neither _ _ c.in_ok-refuse_line-in_default.ensures in
     let line = directed c.args.line.directive c.args.line.tokens c.args.line.number in
     record {
       keeps_context = record { context = refl; pass = refl; grows = λ row content known. known };
       control = λ more grows. other_control (context_over c.args.self.now.context.now more) c.args.depth c.args.line.row c.profile.result c.args.self.now.state
-          c.control.new.state c.args.line.directive line None c.profile.ensures refl alone c.in_ok-control-in_default.ensures;
+          c.control.new.state c.args.line.directive line None c.profile.ensures refl free.0 free.1 c.in_ok-control-in_default.ensures;
     }
 
 pub control-requires : goal.control-requires

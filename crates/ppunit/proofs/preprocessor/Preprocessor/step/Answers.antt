@@ -6,17 +6,19 @@ use Rattle.ppunit.proofs.ControlLines.{steps_line, steps_control, stops_control}
 use Rattle.ppunit.proofs.OptionCases.{none_of}
 use Rattle.ppunit.proofs.preprocessor.Preprocessor.step.Goals as goal
 
-pub returns-in_err-execute_text_lines-clause-step : goal.returns-in_err-execute_text_lines-clause-step
-returns-in_err-execute_text_lines-clause-step g c =
+pub returns-in_err-end-clause-step : goal.returns-in_err-end-clause-step
+returns-in_err-end-clause-step g c =
     rw (← c.file.view_is) (stopped _ _ _ _ c.from_residual.ensures.1
-    (c.in_err-execute_text_lines.ensures.text_lines (context_over c.args.self.now.context.now) c.args.self.now.pass.now.files c.args.depth c.file.inside.row)
+    (c.in_err-end.ensures.text_lines (context_over c.args.self.now.context.now) c.args.self.now.pass.now.files c.args.depth c.file.inside.row
+    (λ more. c.profile.ensures))
     (λ fault advances. advances))
 
 pub returns-in_default-clause-step : goal.returns-in_default-clause-step
 returns-in_default-clause-step g c =
     rw (← c.file.view_is) (steps_line (context_over c.args.self.now.context.now) c.args.self.now.pass.now.files c.args.depth c.file.inside.row c.file.inside.source.now
-    c.file.inside.index c.args.self.now.state c.execute_text_lines.new.state c.in_ok-execute_text_lines.field-0 c.in_same_file.result c.in_same_file.ensures
-    (c.in_ok-execute_text_lines.ensures.text_lines (context_over c.args.self.now.context.now) c.args.self.now.pass.now.files c.args.depth c.file.inside.row))
+    c.file.inside.index c.args.self.now.state c.execute_text_lines.new.state c.in_ok-end.end c.in_same_file.result c.in_same_file.ensures
+    (c.in_ok-end.ensures.text_lines (context_over c.args.self.now.context.now) c.args.self.now.pass.now.files c.args.depth c.file.inside.row
+    (λ more. c.profile.ensures)))
 
 pub returns-in_err-next-clause-step : goal.returns-in_err-next-clause-step
 returns-in_err-next-clause-step g c =

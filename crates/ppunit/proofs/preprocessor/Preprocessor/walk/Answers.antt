@@ -5,7 +5,8 @@ use Rattle.ppunit.specs.code.Contexts.{context_over}
 use Rattle.ppunit.specs.code.Opening.{OpenFile}
 use Rattle.ppunit.specs.code.Walk.{SuspendedFile, Walks}
 use Rattle.ppunit.proofs.FileWalk.{continues_on}
-use Rattle.ppunit.proofs.FileStack.{StackSoFar, stack_start, stack_next, next_depth, stack_leaves, stack_stops, stack_done}
+use Rattle.ppunit.proofs.UnitValue.{ends_quietly}
+use Rattle.ppunit.proofs.FileStack.{StackSoFar, stack_start, stack_next, next_depth, stack_leaves, stack_stops, stack_refused, stack_done}
 use Rattle.ppunit.proofs.RemainingWork.{work, work_next, work_leaving}
 use Rattle.ppunit.proofs.preprocessor.Preprocessor.walk.Goals as goal
 
@@ -28,7 +29,7 @@ returns-in_default-pop-clause-walk g c =
     stack_done (context_over c.args.self.now.context.now) c.loop-file.self.pass.now.files c.args.first.row c.args.first.lines c.args.self.now.state c.loop-file.self.state
     c.loop-file.file
     (subst (λ (z : List SuspendedFile). StackSoFar (context_over c.args.self.now.context.now) c.loop-file.self.pass.now.files c.args.first.row c.args.first.lines
-    c.args.self.now.state z c.loop-file.file c.loop-file.self.state) none c.loop-file.invariant.walked) over
+    c.args.self.now.state z c.loop-file.file c.loop-file.self.state) none c.loop-file.invariant.walked) over (ends_quietly c.refuse_at_end.result _ c.in_default-refuse_at_end.not-Err c.refuse_at_end.ensures)
 
 pub loop-file-smaller : goal.loop-file-smaller
 loop-file-smaller g c =
@@ -54,7 +55,7 @@ loop-file-preserved g c =
           (stack_leaves (context_over c.args.self.now.context.now) c.loop-file.self.pass.now.files c.args.first.row c.args.first.lines c.args.self.now.state
           c.loop-file.self.state outer c.pop.new.self c.loop-file.file
           (subst (λ (z : List SuspendedFile). StackSoFar (context_over c.args.self.now.context.now) c.loop-file.self.pass.now.files c.args.first.row c.args.first.lines
-          c.args.self.now.state z c.loop-file.file c.loop-file.self.state) there c.loop-file.invariant.walked) over);
+          c.args.self.now.state z c.loop-file.file c.loop-file.self.state) there c.loop-file.invariant.walked) over (ends_quietly c.refuse_at_end.result _ c.in_default-refuse_at_end.not-Err c.refuse_at_end.ensures));
     }
 
 pub loop-file-smaller-in-Some : goal.loop-file-smaller-in-Some
@@ -124,6 +125,23 @@ returns-in-Err-clause-walk g c =
     (stack_stops (context_over c.args.self.now.context.now) c.loop-file.self.pass.now.files c.step.new.self.pass.now.files c.args.first.row c.args.first.lines
     c.args.self.now.state c.loop-file.self.state c.step.new.self.state fault c.loop-file.suspended c.loop-file.file c.loop-file.invariant.walked
     c.step.ensures.keeps_context.grows steps))
+
+pub returns-in-Err-refuse_at_end-clause-walk : goal.returns-in-Err-refuse_at_end-clause-walk
+returns-in-Err-refuse_at_end-clause-walk g c =
+    let over = subst (λ (z : OpenFile). length z.lines ≤ z.index) c.file.view_is (omega (arith, c.line_count.ensures, c.if-file-line_count.false)) in
+    let waits = rw c.in-Err-refuse_at_end.is at c.refuse_at_end.ensures in
+    halted (Err c.in-Err-refuse_at_end.error) c.in-Err-refuse_at_end.error _ _ refl waits (λ fault waits.
+    subst (λ (z : State). Walks (context_over c.args.self.now.context.now) c.loop-file.self.pass.now.files 0 c.args.first.row c.args.first.lines c.args.self.now.state
+    (stopped z fault)) (sym c.unwind-in-Err-refuse_at_end.ensures)
+    (stack_refused (context_over c.args.self.now.context.now) c.loop-file.self.pass.now.files c.args.first.row c.args.first.lines
+    c.args.self.now.state c.loop-file.self.state fault c.loop-file.suspended c.loop-file.file c.loop-file.invariant.walked over waits))
+
+pub returns-in-Err-refuse_at_end-clause-keeps_context : goal.returns-in-Err-refuse_at_end-clause-keeps_context
+returns-in-Err-refuse_at_end-clause-keeps_context g c = record {
+  context = c.loop-file.invariant.keeps_context.context;
+  pass = c.loop-file.invariant.keeps_context.pass;
+  grows = c.loop-file.invariant.keeps_context.grows;
+}
 
 pub depth-requires : goal.depth-requires
 depth-requires g c = c.loop-file.invariant.depth
